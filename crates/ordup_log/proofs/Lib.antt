@@ -1,0 +1,5 @@
+pub mod SerialLemmas
+pub mod WeightLemmas
+pub mod SpanLemmas
+pub mod GroupLemmas
+pub mod LogLemmas

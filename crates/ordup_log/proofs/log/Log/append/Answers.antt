@@ -1,0 +1,15 @@
+use Rattle.std.proofs.Common.{arith, rules, ◌∙◌, ◌∷◌, [], ◌++◌, ap}
+use Rattle.ordup_log.proofs.LogLemmas.{IsLog-append}
+use Rattle.ordup_log.proofs.log.Log.append.Goals as goal
+
+pub invariant_of-self-2 : goal.invariant_of-self-2
+invariant_of-self-2 g c =
+    IsLog-append c.self.inside c.args.set c.in-Ok.distances c.push_reserved.new.self c.push_reserved-2.new.self c.apply.new.self c.self.invariant
+    (rw c.set.view_is at c.set.invariant)
+    (rw (← c.self.view_is) at c.requires)
+    (search rules)
+    (omega arith)
+    (c.push_reserved.ensures.items ∙ ap (λ xs. xs ++ c.args.set ∷ []) c.reserve.ensures.items)
+    (c.push_reserved-2.ensures.items ∙ ap (λ xs. xs ++ c.in-Ok.distances ∷ []) c.reserve-else-is_err.ensures.items)
+    c.in-Ok.ensures
+    c.in_ok-apply.ensures.ok

@@ -1,0 +1,4 @@
+pub mod Groups
+pub mod Spans
+pub mod Appending
+pub mod LogInside

@@ -1,0 +1,19 @@
+-- What the fields of a log keep.
+use Rattle.std.specs.Prelude.{◌≡◌, ◌≤◌, ◌<◌, ℕ, [], length, vec_len, slice_index_or, Vec}
+use Rattle.ordup_objects.specs.Weights.{distances_of}
+use Rattle.ordup_objects.specs.Serial.{History, serial, IsLegal}
+use Rattle.ordup_log.specs.declared.log.Log.TheInside.{Inside}
+
+module _ {A : Type 0} where
+  abbrev pub history_of : Inside A → History
+  history_of l = record { start = l.start; sets = l.sets.items }
+
+  -- the log is legal, the distances are those of its updates, and the end has the serial result of all of it
+  pub record IsLog (l : Inside A) : Type 0 where
+    pub few : vec_len l.sets ≤ 1000000
+    pub legal : IsLegal (history_of l)
+    pub same : length l.end ≡ length l.start
+    pub kept : vec_len l.distances ≡ vec_len l.sets
+    pub each : (k : ℕ) (d : Vec ℕ A) → k < length l.sets.items →
+        (slice_index_or l.distances.items k d).items ≡ distances_of (serial (history_of l) k) (slice_index_or l.sets.items k [])
+    pub end : l.end ≡ serial (history_of l) (vec_len l.sets)

@@ -1,0 +1,169 @@
+ghost use Rattle.std.specs.Prelude.{◌≡◌, ◌≤◌, ℕ, ◌<◌, None, Some, IfSome, IfOk, IfErr, List, [], ◌∷◌, ◌++◌, length, slice_get, option_map, All, nat_lt, ◌==◌};
+ghost use Rattle.std.specs.List.{list_all, list_any};
+ghost use Rattle.ordup_objects.specs.Tables.{place_of};
+ghost use Rattle.ordup_objects.specs.Refusals.{IsRefusal};
+ghost use Rattle.ordup_log.specs.Groups.{group_refusal, members_at, are_members_known, repeats_member, IsGroup};
+
+use ordup_objects::sizes::{MOST_GROUPS, MOST_MEMBERS};
+use ordup_objects::{Name, NameTable, ObjectId, ObjectTable, Refusal};
+use std::alloc::{Allocator, Global};
+use std::marker::Model;
+
+/// The place of a group in the order of declaration, counted from 0.
+#[derive(Clone, Copy, Debug, PartialEq, Eq)]
+pub struct GroupId {
+    index: u8,
+}
+
+impl Model for GroupId {
+    ghost use Rattle.std.specs.Prelude.{ℕ};
+
+    ghost Value = { ℕ };
+
+    ghost view = { λ g. g.index };
+
+    ghost inverse = { λ n. record { index = n } };
+}
+
+impl GroupId {
+    /// The group at this place.
+    pub fn new(index: u8) -> Self
+        ensures { result ≡ index }
+    {
+        GroupId { index }
+    }
+
+    /// The place of the group.
+    pub fn index(self) -> usize
+        ensures { result ≡ self }
+    {
+        self.index as usize
+    }
+}
+
+/// Groups of objects in order of declaration: at most 32, each with 1 to 64 distinct members.
+#[derive(Drop)]
+pub struct Groups<A: Allocator + Copy = Global> {
+    groups: NameTable<Vec<ObjectId, A>, A>,
+}
+
+impl<A: Allocator + Copy> Model for Groups<A> {
+    ghost use Rattle.std.specs.Prelude.{List, ℕ, length, map, All, ◌≤◌};
+    ghost use Rattle.ordup_log.specs.Groups.{IsGroup};
+
+    ghost Value = { List (List ℕ × List ℕ) };
+
+    ghost view = { λ t. map (λ g. (g.0, g.1.items)) t.groups };
+
+    ghost invariant = { λ t. (length t.groups ≤ 32) × All (λ g. IsGroup g.1.items) t.groups };
+}
+
+impl<A: Allocator + Copy> Groups<A> {
+    /// No groups yet. It takes no memory.
+    pub fn new(alloc: A) -> Self
+        ensures { result ≡ [] }
+    {
+        Groups {
+            groups: NameTable::new(alloc),
+        }
+    }
+
+    /// Declares a group of objects.
+    ///
+    /// It is refused `BadName`, `NameTaken`, `UnknownObject` where a member is not in the table, `TooMany` for a 33rd group
+    /// or a 65th member, `Empty`, `Repeated`, and `NoMemory`.
+    pub fn declare(
+        &mut self,
+        objects: &ObjectTable<A>,
+        name: &[u8],
+        members: &[ObjectId],
+    ) -> Result<GroupId, Refusal>
+        ensures group { IfOk result (λ group. group ≡ length self.old) }
+        ensures declared { IfOk result (λ _. self.new ≡ self.old ++ (name.now, members.now) ∷ []) }
+        ensures allowed { IfOk result (λ _. group_refusal (length objects.now) self.old name.now members.now ≡ None) }
+        ensures refused { IfErr result (λ e. IsRefusal (group_refusal (length objects.now) self.old name.now members.now) e) }
+        ensures err { IfErr result (λ _. self.new ≡ self.old) }
+    {
+        let name = Name::new(name)?;
+        if self.find(name.as_bytes()).is_some() {
+            return Err(Refusal::NameTaken);
+        }
+        if !are_known(objects.len(), members) {
+            return Err(Refusal::UnknownObject);
+        }
+        let place = self.len();
+        if place == MOST_GROUPS || members.len() > MOST_MEMBERS {
+            return Err(Refusal::TooMany);
+        }
+        if members.is_empty() {
+            return Err(Refusal::Empty);
+        }
+        if has_repeat(members) {
+            return Err(Refusal::Repeated);
+        }
+        let Ok(members) = Vec::from_slice(*self.groups.allocator(), members) else {
+            return Err(Refusal::NoMemory);
+        };
+        match self.groups.push(name, members) {
+            Ok(()) => Ok(GroupId::new(place as u8)),
+            Err(_) => Err(Refusal::NoMemory),
+        }
+    }
+
+    /// The group of this name, if there is one.
+    pub fn find(&self, name: &[u8]) -> Option<GroupId>
+        ensures place { option_map (λ g. g) result ≡ place_of name.now self.now }
+        ensures within { IfSome result (λ g. g < length self.now) }
+    {
+        let place = self.groups.find(name)?;
+        Some(GroupId::new(place as u8))
+    }
+
+    /// How many groups there are, at most 32.
+    pub fn len(&self) -> usize
+        ensures len { result ≡ length self.now }
+        ensures few { length self.now ≤ 32 }
+    {
+        self.groups.len()
+    }
+
+    /// The name of a group.
+    pub fn name(&self, group: GroupId) -> &Name
+        requires { group < length self.now }
+        ensures { option_map (λ e. e.0) (slice_get self.now group) ≡ Some result.now }
+    {
+        self.groups.at(group.index()).0
+    }
+
+    /// The members of a group, in the order given.
+    pub fn members(&self, group: GroupId) -> &[ObjectId]
+        requires { group < length self.now }
+        ensures members { result.now ≡ members_at self.now group }
+        ensures group { IsGroup result.now }
+    {
+        self.groups.at(group.index()).1.as_slice()
+    }
+}
+
+fn are_known(objects: usize, members: &[ObjectId]) -> bool
+    ensures { result ≡ are_members_known objects members.now }
+{
+    members.iter().all(|x| x.index() < objects)
+}
+
+fn is_member(object: ObjectId, members: &[ObjectId]) -> bool
+    ensures { result ≡ list_any (λ y. y == object) members.now }
+{
+    members.iter().any(|y| *y == object)
+}
+
+fn has_repeat(members: &[ObjectId]) -> bool
+    ensures { result ≡ repeats_member members.now }
+{
+    for (i, member) in members.iter().enumerate() {
+        if is_member(*member, &members[i + 1..]) {
+            return true;
+        }
+    }
+    false
+}

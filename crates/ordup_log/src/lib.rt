@@ -1,0 +1,14 @@
+//! The log: the updates in their global order, groups of objects, and what updates weigh.
+//!
+//! The one contract above this layer: each place of the log is a set that is legal there, and spans are sums of weights.
+#![tactic(auto)]
+
+mod groups;
+mod laws;
+mod log;
+mod scope;
+
+pub use groups::{GroupId, Groups};
+pub use laws::{inner_spans_weigh_less, values_move_by_spans};
+pub use log::Log;
+pub use scope::Scope;

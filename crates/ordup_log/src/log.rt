@@ -1,0 +1,215 @@
+ghost use Rattle.std.specs.Prelude.{◌≡◌, ◌≤◌, ◌+◌, ◌-◌, ℕ, ◌<◌, None, IfOk, IfErr, List, [], ◌∷◌, ◌++◌, length, sum, sum_by, ◌^◌, ◌*◌};
+ghost use Rattle.ordup_objects.specs.Tables.{initial_state};
+ghost use Rattle.ordup_objects.specs.Weights.{distance_beside, distances_of};
+
+use crate::groups::Groups;
+use crate::scope::Scope;
+use ordup_objects::sizes::MOST_UPDATES;
+use ordup_objects::{Change, MessageSet, ObjectId, ObjectTable, Refusal, Values};
+use std::alloc::{Allocator, Global};
+use std::marker::Model;
+
+/// The updates in their global order: each is a message set, legal on the serial result of those before it.
+///
+/// Updates are numbered 1, 2, 3 and so on, at most 1,000,000, and never taken back. The number of an update is its place.
+#[derive(Debug, Drop)]
+pub struct Log<A: Allocator + Copy = Global> {
+    start: Values<A>,
+    sets: Vec<MessageSet<A>, A>,
+    /// How far each change of each set moved its object's value.
+    distances: Vec<Vec<u64, A>, A>,
+    end: Values<A>,
+}
+
+impl<A: Allocator + Copy> Model for Log<A> {
+    ghost use Rattle.ordup_objects.specs.Serial.{History};
+
+    ghost Value = { History };
+
+    ghost view = { λ l. record { start = l.start; sets = l.sets.items } };
+
+    ghost use Rattle.ordup_log.specs.LogInside.{IsLog};
+
+    ghost invariant = { IsLog };
+}
+
+impl<A: Allocator + Copy> Log<A> {
+    ghost use Rattle.ordup_objects.specs.Serial.{History, serial, set_at, IsLegal};
+    ghost use Rattle.ordup_objects.specs.States.{value_at};
+    ghost use Rattle.ordup_objects.specs.Sets.{IsOver, IsSet};
+    ghost use Rattle.ordup_objects.specs.Refusals.{IsRefusal};
+    ghost use Rattle.ordup_log.specs.Appending.{append_refusal};
+    ghost use Rattle.ordup_log.specs.Spans.{weight, span, IsScopeOver};
+
+    /// A log without updates, over the initial values of the objects. It is refused `NoMemory` alone.
+    pub fn new(alloc: A, objects: &ObjectTable<A>) -> Result<Self, Refusal>
+        ensures empty { IfOk result (λ log. log ≡ record { start = initial_state objects.now; sets = [] }) }
+        ensures refused { IfErr result (λ e. e ≡ Refusal.NoMemory) }
+    {
+        let _count = objects.len();
+        let start = Values::initial(alloc, objects)?;
+        let end = Values::initial(alloc, objects)?;
+        Ok(Log {
+            start,
+            sets: Vec::new(alloc),
+            distances: Vec::new(alloc),
+            end,
+        })
+    }
+
+    /// How many updates there are.
+    pub fn len(&self) -> u64
+        ensures len { result ≡ length self.now.sets }
+        ensures few { length self.now.sets ≤ 1000000 }
+        ensures legal { IsLegal self.now }
+    {
+        self.sets.len() as u64
+    }
+
+    /// How many objects the log is over.
+    pub fn objects(&self) -> usize
+        ensures { result ≡ length self.now.start }
+    {
+        self.start.len()
+    }
+
+    /// Adds a message set as the last update, and answers its number.
+    ///
+    /// It is refused `LogFull` after 1,000,000 updates, `OutOfRange` where a result is out of range, and `NoMemory`.
+    pub fn append(&mut self, set: MessageSet<A>) -> Result<u64, Refusal>
+        requires { IsOver (length self.old.start) set }
+        ensures number { IfOk result (λ k. k ≡ length self.old.sets + 1) }
+        ensures added { IfOk result (λ _. self.new ≡ record { start = self.old.start; sets = self.old.sets ++ set ∷ [] }) }
+        ensures allowed { IfOk result (λ _. append_refusal self.old set ≡ None) }
+        ensures refused { IfErr result (λ e. IsRefusal (append_refusal self.old set) e) }
+        ensures err { IfErr result (λ _. self.new ≡ self.old) }
+    {
+        if self.sets.len() == MOST_UPDATES {
+            return Err(Refusal::LogFull);
+        }
+        if !self.end.allows(&set) {
+            return Err(Refusal::OutOfRange);
+        }
+        let alloc = *self.sets.allocator();
+        let Ok(distances) = self.end.distances(alloc, &set) else {
+            return Err(Refusal::NoMemory);
+        };
+        if self.sets.reserve(1).is_err() || self.distances.reserve(1).is_err() {
+            return Err(Refusal::NoMemory);
+        }
+        self.end.apply(&set)?;
+        self.sets.push_reserved(set);
+        self.distances.push_reserved(distances);
+        Ok(self.sets.len() as u64)
+    }
+
+    /// The set of the update with this number.
+    pub fn set(&self, number: u64) -> &MessageSet<A>
+        requires first { 0 < number }
+        requires last { number ≤ length self.now.sets }
+        ensures set { result.now ≡ set_at self.now number }
+        ensures legal { IsLegal self.now }
+    {
+        &self.sets[number as usize - 1]
+    }
+
+    /// The set of the update with this number, once more. It is refused `NoMemory` alone.
+    pub fn copy_set(&self, number: u64) -> Result<MessageSet<A>, Refusal>
+        requires first { 0 < number }
+        requires last { number ≤ length self.now.sets }
+        ensures copied { IfOk result (λ set. set ≡ set_at self.now number) }
+        ensures refused { IfErr result (λ e. e ≡ Refusal.NoMemory) }
+    {
+        let alloc = *self.sets.allocator();
+        self.set(number).copy(alloc)
+    }
+
+    /// The value of an object after all updates.
+    pub fn end_value(&self, object: ObjectId) -> i64
+        requires { object < length self.now.start }
+        ensures { result ≡ value_at (serial self.now (length self.now.sets)) object }
+    {
+        self.end.get(object)
+    }
+
+    /// The weight of an update on a scope: the distance that values travelled, or 1 on `Count`.
+    pub fn weight(&self, number: u64, scope: Scope, groups: &Groups<A>) -> u64
+        requires first { 0 < number }
+        requires last { number ≤ length self.now.sets }
+        requires known { IsScopeOver (length self.now.start) groups.now scope }
+        ensures weight { result ≡ weight self.now groups.now scope (number - 1) }
+        ensures few { result ≤ 128000000000 }
+    {
+        let distances = self.distances_at(number);
+        match scope {
+            Scope::Object(object) => distance_beside(self.set(number).changes(), distances, object),
+            Scope::Group(group) => {
+                let members = groups.members(group);
+                distance_beside_members(self.set(number).changes(), distances, members)
+            }
+            Scope::All => total(distances),
+            Scope::Count => 1,
+        }
+    }
+
+    /// The weight of the span from a place to another: the sum over the updates after the first, up to the second.
+    pub fn span(&self, scope: Scope, groups: &Groups<A>, from: u64, to: u64) -> u64
+        requires forward { from ≤ to }
+        requires last { to ≤ length self.now.sets }
+        requires known { IsScopeOver (length self.now.start) groups.now scope }
+        ensures span { result ≡ span self.now groups.now scope from to }
+        ensures few { result ≤ 128000000000000000 }
+    {
+        let scope = &scope;
+        let _updates = self.len();
+        let mut total = 0;
+        for place in from..to {
+            total += self.weight(place + 1, *scope, groups);
+        }
+        total
+    }
+
+    /// How far each change of an update moved its object's value.
+    fn distances_at(&self, number: u64) -> &[u64]
+        requires first { 0 < number }
+        requires last { number ≤ length self.now.sets }
+        ensures distances { result.now ≡ distances_of (serial self.now (number - 1)) (set_at self.now number) }
+        ensures legal { IsLegal self.now }
+    {
+        &self.distances[number as usize - 1]
+    }
+}
+
+/// The number beside the change of an object, 0 where it has none.
+fn distance_beside(changes: &[Change], distances: &[u64], object: ObjectId) -> u64
+    requires { length distances.now ≡ length changes.now }
+    ensures { result ≡ distance_beside changes.now distances.now object }
+{
+    for (i, change) in changes.iter().enumerate() {
+        if change.object == object {
+            return distances[i];
+        }
+    }
+    0
+}
+
+/// The numbers beside the changes of several objects, added up.
+fn distance_beside_members(changes: &[Change], distances: &[u64], members: &[ObjectId]) -> u64
+    requires len { length distances.now ≡ length changes.now }
+    requires few { (x : ℕ) → distance_beside changes.now distances.now x ≤ 2000000000 }
+    requires members { length members.now ≤ 64 }
+    ensures { result ≡ sum_by (λ x. distance_beside changes.now distances.now x) members.now }
+{
+    let mut total = 0;
+    for member in members {
+        total += distance_beside(changes, distances, *member);
+    }
+    total
+}
+
+fn total(distances: &[u64]) -> u64
+    requires { sum distances.now < 2 ^ 64 }
+    ensures { result ≡ sum distances.now }
+{
+    distances.iter().sum()
+}

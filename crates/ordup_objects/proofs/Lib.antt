@@ -1,0 +1,4 @@
+pub mod NameLemmas
+pub mod SetLemmas
+pub mod TableLemmas
+pub mod SpanLemmas

@@ -1,0 +1,7 @@
+use Rattle.std.proofs.Common.{◌≡◌, take}
+use Rattle.ordup_objects.specs.Tables.{initial_state}
+use Rattle.ordup_objects.proofs.values.initial_values.Given as goal
+
+-- the values so far
+abbrev pub invariant-loop-place : goal.invariant-loop-place
+invariant-loop-place g l = l.values.items ≡ take l.place (initial_state l.objects)

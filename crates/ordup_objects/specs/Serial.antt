@@ -1,0 +1,25 @@
+-- Serial results.
+use Rattle.std.specs.Prelude.{◌≡◌, ℕ, ◌-◌, ◌<◌, true, List, [], length, take, slice_index_or, All, fold, ℤ}
+use Rattle.ordup_objects.specs.declared.change.Change.{Change}
+use Rattle.ordup_objects.specs.States.{State, is_legal, after, IsState}
+use Rattle.ordup_objects.specs.Sets.{IsSet, IsOver}
+
+-- the initial state, and the message sets in their order
+pub record History : Type 0 where
+  pub start : List ℤ
+  pub sets : List (List Change)
+
+-- the serial result: the state after the first j updates
+abbrev pub serial : History → ℕ → State
+serial h j = fold (λ v m. after m v) h.start (take j h.sets)
+
+-- the set of the update with this number, from 1
+abbrev pub set_at : History → ℕ → List Change
+set_at h k = slice_index_or h.sets (k - 1) []
+
+-- each update is a message set over the objects, and legal on the serial result before it
+pub record IsLegal (h : History) : Type 0 where
+  pub start : IsState h.start
+  pub sets : All IsSet h.sets
+  pub known : All (IsOver (length h.start)) h.sets
+  pub legal : (k : ℕ) → k < length h.sets → is_legal (slice_index_or h.sets k []) (serial h k) ≡ true

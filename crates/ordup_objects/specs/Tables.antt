@@ -1,0 +1,41 @@
+-- Tables of names, in order of declaration.
+use Rattle.std.specs.Prelude.{◌≡◌, ℕ, ℤ, ◌==◌, not, true, if◌then◌else◌, Option, Some, None, List, length, map, position, is_some, nat_eq, All}
+use Rattle.std.specs.Cmp.Lexicographic.{pointwise}
+use Rattle.ordup_objects.specs.declared.refusal.Refusal.{Refusal}
+use Rattle.ordup_objects.specs.declared.refusal.Refusal.TheVariants.{BadName, NameTaken, OutOfRange, TooMany}
+use Rattle.ordup_objects.specs.Names.{is_name}
+use Rattle.ordup_objects.specs.States.{State, in_range}
+
+-- the names of a table
+abbrev pub names_of : {V : Type 0} → List (List ℕ × V) → List (List ℕ)
+names_of table = map (λ e. e.0) table
+
+-- the place of a name in a table, if it is there
+abbrev pub place_of : {V : Type 0} → List ℕ → List (List ℕ × V) → Option ℕ
+place_of name table = position (pointwise nat_eq name) (names_of table)
+
+-- each name of a table is a name
+abbrev pub AreNames : {V : Type 0} → List (List ℕ × V) → Type 0
+AreNames table = All (λ e. is_name e.0 ≡ true) table
+
+-- the objects, with their initial values
+abbrev pub Objects : Type 0
+Objects = List (List ℕ × ℤ)
+
+-- the initial state
+abbrev pub initial_state : Objects → State
+initial_state objects = map (λ e. e.1) objects
+
+-- why a name is refused for one more entry of a table, if it is
+abbrev pub name_refusal : {V : Type 0} → List (List ℕ × V) → List ℕ → Option Refusal
+name_refusal table name =
+    if not (is_name name) then Some BadName else
+    if is_some (place_of name table) then Some NameTaken else None
+
+-- why an object is refused, if it is
+abbrev pub object_refusal : Objects → List ℕ → ℤ → Option Refusal
+object_refusal objects name initial =
+    if not (is_name name) then Some BadName else
+    if is_some (place_of name objects) then Some NameTaken else
+    if not (in_range initial) then Some OutOfRange else
+    if length objects == 256 then Some TooMany else None

@@ -1,0 +1,61 @@
+ghost use Rattle.std.specs.Prelude.{◌≡◌};
+
+use std::marker::Model;
+
+/// The place of an object in the order of declaration, counted from 0.
+#[derive(Clone, Copy, Debug, PartialEq, Eq)]
+pub struct ObjectId {
+    index: u16,
+}
+
+impl Model for ObjectId {
+    ghost use Rattle.std.specs.Prelude.{ℕ};
+
+    ghost Value = { ℕ };
+
+    ghost view = { λ o. o.index };
+
+    ghost inverse = { λ n. record { index = n } };
+}
+
+impl ObjectId {
+    /// The object at this place.
+    pub fn new(index: u16) -> Self
+        ensures { result ≡ index }
+    {
+        ObjectId { index }
+    }
+
+    /// The place of the object.
+    pub fn index(self) -> usize
+        ensures { result ≡ self }
+    {
+        self.index as usize
+    }
+}
+
+/// What becomes of an object's value. Numbers lie from -1,000,000,000 to 1,000,000,000.
+#[derive(Clone, Copy, Debug, PartialEq, Eq)]
+pub enum Op {
+    /// The value plus the number.
+    Add(i64),
+    /// The number.
+    Set(i64),
+    /// The value times the number.
+    Mul(i64),
+    /// The greater of the value and the number.
+    Max(i64),
+    /// The lesser of the value and the number.
+    Min(i64),
+    /// The value that an object, this one or another, had before the message set.
+    Take(ObjectId),
+}
+
+/// A change of one object.
+#[derive(Clone, Copy, Debug, PartialEq, Eq)]
+pub struct Change {
+    /// The object that changes.
+    pub object: ObjectId,
+    /// What becomes of its value.
+    pub op: Op,
+}

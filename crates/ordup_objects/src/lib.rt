@@ -1,0 +1,23 @@
+//! The objects of the store: their names, changes, message sets and values.
+//!
+//! The one contract above this layer: a message set applies to the values as its meaning says, as a whole or not at all.
+#![tactic(auto)]
+
+mod change;
+mod laws;
+mod message_set;
+mod name;
+mod name_table;
+mod object_table;
+mod refusal;
+pub mod sizes;
+mod values;
+
+pub use change::{Change, ObjectId, Op};
+pub use laws::values_move_by_their_weights;
+pub use message_set::MessageSet;
+pub use name::Name;
+pub use name_table::NameTable;
+pub use object_table::ObjectTable;
+pub use refusal::{Refusal, SiteId};
+pub use values::Values;

@@ -1,0 +1,144 @@
+ghost use Rattle.std.specs.Prelude.{◌≡◌, ◌≤◌, ℕ, ◌<◌, None, Some, IsTrue, IfOk, IfErr, List, length, nat_lt, ◌&&◌, ◌==◌};
+ghost use Rattle.std.specs.List.{list_all, list_any};
+ghost use Rattle.ordup_objects.specs.Sets.{is_known, is_over, repeats, reads_known, is_op_in_range, set_refusal, IsSet, IsOver};
+
+use crate::change::{Change, ObjectId, Op};
+use crate::object_table::ObjectTable;
+use crate::refusal::Refusal;
+use crate::sizes::MOST_CHANGES;
+use crate::values::is_in_range;
+use std::alloc::{Allocator, Global};
+use std::marker::Model;
+
+/// 1 to 64 changes of distinct objects, which apply as a whole: all read the state before the set.
+///
+/// It is the message set of Pu and Leff, in which an update is propagated to the replicas.
+#[derive(Debug, Drop)]
+pub struct MessageSet<A: Allocator + Copy = Global> {
+    changes: Vec<Change, A>,
+}
+
+impl<A: Allocator + Copy> Model for MessageSet<A> {
+    ghost use Rattle.std.specs.Prelude.{List};
+    ghost use Rattle.ordup_objects.specs.declared.change.Change.{Change};
+    ghost use Rattle.ordup_objects.specs.Sets.{IsSet};
+
+    ghost Value = { List Change };
+
+    ghost view = { λ s. s.changes.items };
+
+    ghost invariant = { λ s. IsSet s.changes.items };
+}
+
+impl<A: Allocator + Copy> MessageSet<A> {
+    /// The set of these changes.
+    ///
+    /// It is refused `UnknownObject` where an object is not in the table, `OutOfRange` where a number is out of range,
+    /// `TooMany` above 64 changes, `Empty` without one, and `Repeated` where two change one object.
+    pub fn new(objects: &ObjectTable<A>, changes: Vec<Change, A>) -> Result<Self, Refusal>
+        ensures set { IfOk result (λ set. set ≡ changes.items) }
+        ensures over { IfOk result (λ set. IsOver (length objects.now) set) }
+        ensures allowed { IfOk result (λ _. set_refusal (length objects.now) changes.items ≡ None) }
+        ensures refused { IfErr result (λ e. set_refusal (length objects.now) changes.items ≡ Some e) }
+    {
+        if !is_over(objects.len(), &changes) {
+            return Err(Refusal::UnknownObject);
+        }
+        if !are_in_range(&changes) {
+            return Err(Refusal::OutOfRange);
+        }
+        if changes.len() > MOST_CHANGES {
+            return Err(Refusal::TooMany);
+        }
+        if changes.is_empty() {
+            return Err(Refusal::Empty);
+        }
+        if has_repeat(&changes) {
+            return Err(Refusal::Repeated);
+        }
+        Ok(MessageSet { changes })
+    }
+
+    /// The same set once more. It is refused `NoMemory` alone.
+    pub fn copy(&self, alloc: A) -> Result<Self, Refusal>
+        ensures copied { IfOk result (λ set. set ≡ self.now) }
+        ensures refused { IfErr result (λ e. e ≡ Refusal.NoMemory) }
+    {
+        match Vec::from_slice(alloc, self.changes.as_slice()) {
+            Ok(changes) => Ok(MessageSet { changes }),
+            Err(_) => Err(Refusal::NoMemory),
+        }
+    }
+
+    /// The changes, in the order given.
+    pub fn changes(&self) -> &[Change]
+        ensures changes { result.now ≡ self.now }
+        ensures set { IsSet self.now }
+    {
+        self.changes.as_slice()
+    }
+
+    /// Whether the objects of each change are among the first so many.
+    pub fn is_over(&self, objects: usize) -> bool
+        ensures { result ≡ is_over objects self.now }
+    {
+        is_over(objects, self.changes.as_slice())
+    }
+}
+
+fn reads_known(objects: usize, op: Op) -> bool
+    ensures { result ≡ reads_known objects op }
+{
+    match op {
+        Op::Take(object) => object.index() < objects,
+        _ => true,
+    }
+}
+
+fn is_known(objects: usize, change: Change) -> bool
+    ensures { result ≡ is_known objects change }
+{
+    change.object.index() < objects && reads_known(objects, change.op)
+}
+
+fn is_over(objects: usize, changes: &[Change]) -> bool
+    ensures { result ≡ is_over objects changes.now }
+{
+    changes.iter().all(|c| is_known(objects, *c))
+}
+
+fn is_op_in_range(op: Op) -> bool
+    ensures { result ≡ is_op_in_range op }
+{
+    match op {
+        Op::Add(n) => is_in_range(n),
+        Op::Set(n) => is_in_range(n),
+        Op::Mul(n) => is_in_range(n),
+        Op::Max(n) => is_in_range(n),
+        Op::Min(n) => is_in_range(n),
+        Op::Take(_) => true,
+    }
+}
+
+fn are_in_range(changes: &[Change]) -> bool
+    ensures { result ≡ list_all (λ c. is_op_in_range c.op) changes.now }
+{
+    changes.iter().all(|c| is_op_in_range(c.op))
+}
+
+fn is_changed(object: ObjectId, changes: &[Change]) -> bool
+    ensures { result ≡ list_any (λ c. c.object == object) changes.now }
+{
+    changes.iter().any(|c| c.object == object)
+}
+
+fn has_repeat(changes: &[Change]) -> bool
+    ensures { result ≡ repeats changes.now }
+{
+    for (i, change) in changes.iter().enumerate() {
+        if is_changed(change.object, &changes[i + 1..]) {
+            return true;
+        }
+    }
+    false
+}

@@ -1,0 +1,116 @@
+ghost use Rattle.std.specs.Prelude.{◌≡◌, ℕ, ◌<◌, ◌≤◌, ◌↔◌, IsOk, IfOk, IfErr, IsTrue, length, nat_eq, ◌++◌, ◌∷◌, []};
+ghost use Rattle.std.specs.List.{list_all};
+ghost use Rattle.std.specs.Cmp.Lexicographic.{pointwise};
+ghost use Rattle.std.specs.Cmp.Rules.{comparing, hashing};
+ghost use Rattle.std.specs.Hash as fed;
+ghost use Rattle.std.proofs.Common.{rules};
+ghost use Rattle.ordup_objects.specs.Names.{is_letter, is_name_byte, is_name};
+
+use crate::refusal::Refusal;
+use crate::sizes::MOST_NAME_BYTES;
+use std::hash::{Hash, Hasher};
+use std::marker::Model;
+
+/// The name of an object, a group, a site or a query: 1 to 16 bytes of a to z, 0 to 9 and `_` that begin with a letter.
+#[derive(Clone, Copy, Debug)]
+pub struct Name {
+    bytes: [u8; MOST_NAME_BYTES],
+    len: u8,
+}
+
+impl Model for Name {
+    ghost use Rattle.std.specs.Prelude.{ℕ, List};
+
+    ghost Value = { List ℕ };
+
+    ghost use Rattle.ordup_objects.specs.NameInside.{bytes_of, IsPadded, inside_of, inside_of-bytes_of};
+
+    ghost view = { bytes_of };
+
+    ghost invariant = { IsPadded };
+
+    ghost inverse = { inside_of };
+
+    ghost inverse_ok = { inside_of-bytes_of };
+}
+
+impl Name {
+    /// The name that these bytes spell. Other bytes than a name's are refused `BadName`.
+    pub fn new(bytes: &[u8]) -> Result<Self, Refusal>
+        ensures name { IfOk result (λ n. n ≡ bytes.now) }
+        ensures ok { IsOk result ↔ IsTrue (is_name bytes.now) }
+        ensures err { IfErr result (λ e. e ≡ Refusal.BadName) }
+    {
+        if !is_name(bytes) {
+            return Err(Refusal::BadName);
+        }
+        let mut padded = [0; MOST_NAME_BYTES];
+        padded[..bytes.len()].copy_from_slice(bytes);
+        Ok(Name {
+            bytes: padded,
+            len: bytes.len() as u8,
+        })
+    }
+
+    /// The bytes of the name.
+    pub fn as_bytes(&self) -> &[u8]
+        ensures bytes { result.now ≡ self.now }
+        ensures name { IsTrue (is_name self.now) }
+    {
+        &self.bytes[..self.len as usize]
+    }
+}
+
+fn is_letter(byte: u8) -> bool
+    ensures { result ≡ is_letter byte }
+{
+    97 <= byte && byte <= 122
+}
+
+fn is_name_byte(byte: u8) -> bool
+    ensures { result ≡ is_name_byte byte }
+{
+    is_letter(byte) || (48 <= byte && byte <= 57) || byte == 95
+}
+
+fn are_name_bytes(bytes: &[u8]) -> bool
+    ensures { result ≡ list_all is_name_byte bytes.now }
+{
+    bytes.iter().all(|b| is_name_byte(*b))
+}
+
+fn is_name(bytes: &[u8]) -> bool
+    ensures { result ≡ is_name bytes.now }
+{
+    match bytes {
+        [first, ..] => {
+            is_letter(*first) && bytes.len() <= MOST_NAME_BYTES && are_name_bytes(bytes)
+        }
+        [] => false,
+    }
+}
+
+impl PartialEq for Name {
+    ghost eq = { λ x y. pointwise nat_eq x y };
+
+    ghost laws = { Prim.search (comparing, rules) };
+
+    fn eq(&self, other: &Name) -> bool {
+        self.as_bytes() == other.as_bytes()
+    }
+}
+
+impl Eq for Name {
+    ghost laws = { Prim.search (comparing, rules) };
+}
+
+impl Hash for Name {
+    ghost hash_input = { λ x. fed.u8 (length x) ++ (x ∷ []) };
+
+    ghost respects_eq = { Prim.search (hashing, rules) };
+
+    fn hash<H: Hasher>(&self, state: &mut H) {
+        state.write_u8(self.len);
+        state.write(self.as_bytes());
+    }
+}

@@ -1,0 +1,84 @@
+ghost use Rattle.std.specs.Prelude.{◌≡◌, ℕ, ◌<◌, None, Some, IfSome, IfOk, OnErr, List, [], ◌∷◌, ◌++◌, length, true, slice_get, option_map};
+ghost use Rattle.ordup_objects.specs.Names.{is_name};
+ghost use Rattle.ordup_objects.specs.Tables.{names_of, place_of, AreNames};
+
+use crate::name::Name;
+use indexmap::IndexMap;
+use std::alloc::{AllocError, Allocator, Global};
+use std::hash::{BuildHasherDefault, FoldHasher};
+use std::marker::Model;
+
+/// Names in order of declaration, each with an entry of its own.
+#[derive(Drop)]
+pub struct NameTable<V, A: Allocator + Copy = Global> {
+    entries: IndexMap<Name, V, BuildHasherDefault<FoldHasher>, A>,
+}
+
+impl<V, A: Allocator + Copy> Model for NameTable<V, A> {
+    ghost use Rattle.std.specs.Prelude.{List, ℕ};
+    ghost use Rattle.ordup_objects.specs.Tables.{AreNames};
+
+    ghost Value = { List (List ℕ × V) };
+
+    ghost view = { λ t. t.entries.entries };
+
+    ghost invariant = { λ t. AreNames t.entries.entries };
+}
+
+impl<V, A: Allocator + Copy> NameTable<V, A> {
+    /// A table without names.
+    pub fn new(alloc: A) -> Self
+        ensures { result ≡ [] }
+    {
+        NameTable {
+            entries: IndexMap::new(alloc),
+        }
+    }
+
+    /// The allocator that the table takes its memory from.
+    pub fn allocator(&self) -> &A {
+        self.entries.allocator()
+    }
+
+    /// How many names there are.
+    pub fn len(&self) -> usize
+        ensures len { result ≡ length self.now }
+        ensures names { AreNames self.now }
+    {
+        self.entries.len()
+    }
+
+    /// The place of the name that these bytes spell, if it is there.
+    pub fn find(&self, name: &[u8]) -> Option<usize>
+        ensures place { result ≡ place_of name.now self.now }
+        ensures within { IfSome result (λ i. i < length self.now) }
+    {
+        match Name::new(name) {
+            Ok(name) => self.entries.get_index_of(&name),
+            Err(_) => None,
+        }
+    }
+
+    /// The name and the entry at a place.
+    pub fn at(&self, place: usize) -> (&Name, &V)
+        requires { place < length self.now }
+        ensures { slice_get self.now place ≡ Some (result.0.now, result.1.now) }
+    {
+        self.entries.get_index(place).unwrap()
+    }
+
+    /// Adds a name that is not there.
+    pub fn push(&mut self, name: Name, entry: V) -> Result<(), AllocError>
+    where
+        V: Drop,
+        requires { place_of name self.old ≡ None }
+        ensures ok { IfOk result (λ _. self.new ≡ self.old ++ (name, entry) ∷ []) }
+        ensures err { OnErr result (self.new ≡ self.old) }
+    {
+        let _bytes = name.as_bytes();
+        let Ok(_) = self.entries.insert(name, entry) else {
+            return Err(AllocError);
+        };
+        Ok(())
+    }
+}

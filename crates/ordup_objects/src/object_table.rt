@@ -1,0 +1,104 @@
+ghost use Rattle.std.specs.Prelude.{◌≡◌, ℕ, ◌<◌, ◌≤◌, None, Some, IfSome, IfOk, IfErr, List, [], ◌∷◌, ◌++◌, length, slice_get, option_map};
+ghost use Rattle.ordup_objects.specs.Tables.{place_of, object_refusal, initial_state};
+ghost use Rattle.ordup_objects.specs.Refusals.{IsRefusal};
+ghost use Rattle.ordup_objects.specs.States.{value_at, IsState};
+
+use crate::change::ObjectId;
+use crate::name::Name;
+use crate::name_table::NameTable;
+use crate::refusal::Refusal;
+use crate::sizes::MOST_OBJECTS;
+use crate::values::is_in_range;
+use std::alloc::{Allocator, Global};
+use std::marker::Model;
+
+/// The objects of a store in order of declaration: at most 256, each with its name and its initial value.
+#[derive(Drop)]
+pub struct ObjectTable<A: Allocator + Copy = Global> {
+    objects: NameTable<i64, A>,
+}
+
+impl<A: Allocator + Copy> Model for ObjectTable<A> {
+    ghost use Rattle.std.specs.Prelude.{List, ℕ, ℤ, ◌≤◌, length};
+    ghost use Rattle.ordup_objects.specs.Tables.{initial_state};
+    ghost use Rattle.ordup_objects.specs.States.{IsState};
+
+    ghost Value = { List (List ℕ × ℤ) };
+
+    ghost view = { λ t. t.objects };
+
+    ghost invariant = { λ t. (length t.objects ≤ 256) × IsState (initial_state t.objects) };
+}
+
+impl<A: Allocator + Copy> ObjectTable<A> {
+    /// A table without objects. It takes no memory.
+    pub fn new(alloc: A) -> Self
+        ensures { result ≡ [] }
+    {
+        ObjectTable {
+            objects: NameTable::new(alloc),
+        }
+    }
+
+    /// Declares an object with its initial value, which lies from -1,000,000,000 to 1,000,000,000.
+    ///
+    /// It is refused `BadName`, `NameTaken`, `OutOfRange` for the value, `TooMany` for a 257th object, and `NoMemory`.
+    pub fn declare(&mut self, name: &[u8], initial: i64) -> Result<ObjectId, Refusal>
+        ensures object { IfOk result (λ object. object ≡ length self.old) }
+        ensures declared { IfOk result (λ _. self.new ≡ self.old ++ (name.now, initial) ∷ []) }
+        ensures allowed { IfOk result (λ _. object_refusal self.old name.now initial ≡ None) }
+        ensures refused { IfErr result (λ e. IsRefusal (object_refusal self.old name.now initial) e) }
+        ensures err { IfErr result (λ _. self.new ≡ self.old) }
+    {
+        let name = Name::new(name)?;
+        if self.objects.find(name.as_bytes()).is_some() {
+            return Err(Refusal::NameTaken);
+        }
+        if !is_in_range(initial) {
+            return Err(Refusal::OutOfRange);
+        }
+        let place = self.objects.len();
+        if place == MOST_OBJECTS {
+            return Err(Refusal::TooMany);
+        }
+        match self.objects.push(name, initial) {
+            Ok(()) => Ok(ObjectId::new(place as u16)),
+            Err(_) => Err(Refusal::NoMemory),
+        }
+    }
+
+    /// The object of this name, if there is one.
+    pub fn find(&self, name: &[u8]) -> Option<ObjectId>
+        ensures place { option_map (λ o. o) result ≡ place_of name.now self.now }
+        ensures within { IfSome result (λ o. o < length self.now) }
+    {
+        let place = self.objects.find(name)?;
+        let _few = &self.objects;
+        Some(ObjectId::new(place as u16))
+    }
+
+    /// How many objects there are, at most 256.
+    pub fn len(&self) -> usize
+        ensures len { result ≡ length self.now }
+        ensures few { length self.now ≤ 256 }
+        ensures state { IsState (initial_state self.now) }
+    {
+        self.objects.len()
+    }
+
+    /// The name of an object.
+    pub fn name(&self, object: ObjectId) -> &Name
+        requires { object < length self.now }
+        ensures { option_map (λ e. e.0) (slice_get self.now object) ≡ Some result.now }
+    {
+        self.objects.at(object.index()).0
+    }
+
+    /// The initial value of an object.
+    pub fn initial(&self, object: ObjectId) -> i64
+        requires { object < length self.now }
+        ensures { result ≡ value_at (initial_state self.now) object }
+    {
+        *self.objects.at(object.index()).1
+    }
+}

@@ -1,0 +1,198 @@
+ghost use Rattle.std.specs.Prelude.{◌≡◌};
+
+use std::marker::Model;
+use thiserror::Error;
+
+/// The place of a site in the order of declaration, counted from 0.
+#[derive(Clone, Copy, Debug, PartialEq, Eq)]
+pub struct SiteId {
+    index: u8,
+}
+
+impl Model for SiteId {
+    ghost use Rattle.std.specs.Prelude.{ℕ};
+
+    ghost Value = { ℕ };
+
+    ghost view = { λ s. s.index };
+
+    ghost inverse = { λ n. record { index = n } };
+}
+
+impl SiteId {
+    /// The site at this place.
+    pub fn new(index: u8) -> Self
+        ensures { result ≡ index }
+    {
+        SiteId { index }
+    }
+
+    /// The place of the site.
+    pub fn index(self) -> usize
+        ensures { result ≡ self }
+    {
+        self.index as usize
+    }
+}
+
+/// Why a call was refused. A refused call leaves everything as it was.
+///
+/// Each refusal has a number and a name, by which answers show it.
+#[derive(Clone, Copy, Debug, PartialEq, Eq, Error)]
+pub enum Refusal {
+    /// The line is no command.
+    #[error("Syntax")]
+    Syntax,
+    /// The store has not been started.
+    #[error("NotStarted")]
+    NotStarted,
+    /// The store was started before.
+    #[error("AlreadyStarted")]
+    AlreadyStarted,
+    /// A name is not 1 to 16 bytes of a to z, 0 to 9 and `_` that begin with a letter.
+    #[error("BadName")]
+    BadName,
+    /// The name is declared already.
+    #[error("NameTaken")]
+    NameTaken,
+    /// There is no such object.
+    #[error("UnknownObject")]
+    UnknownObject,
+    /// There is no such group.
+    #[error("UnknownGroup")]
+    UnknownGroup,
+    /// There is no such site.
+    #[error("UnknownSite")]
+    UnknownSite,
+    /// A number, or the result of a change, is out of range.
+    #[error("OutOfRange")]
+    OutOfRange,
+    /// A size would be passed.
+    #[error("TooMany")]
+    TooMany,
+    /// Something that must have a member has none.
+    #[error("Empty")]
+    Empty,
+    /// Something comes twice.
+    #[error("Repeated")]
+    Repeated,
+    /// The log has all the updates that it may have.
+    #[error("LogFull")]
+    LogFull,
+    /// All updates were sent to the site.
+    #[error("NothingToSend")]
+    NothingToSend,
+    /// The site's feed is full.
+    #[error("FeedFull")]
+    FeedFull,
+    /// The site's feed is empty.
+    #[error("NothingToApply")]
+    NothingToApply,
+    /// All updates are acknowledged.
+    #[error("NothingToSettle")]
+    NothingToSettle,
+    /// There is no open query of this name.
+    #[error("UnknownQuery")]
+    UnknownQuery,
+    /// A query of this name is open.
+    #[error("QueryOpen")]
+    QueryOpen,
+    /// The read would bring the query over its import limit.
+    #[error("OverImport")]
+    OverImport,
+    /// The site has applied only this many updates, fewer than the session has seen.
+    #[error("Behind {applied}")]
+    Behind { applied: u64 },
+    /// The update with this number is not acknowledged yet.
+    #[error("NotYet {number}")]
+    NotYet { number: u64 },
+    /// The store was stopped.
+    #[error("Stopped")]
+    Stopped,
+    /// The head is decided and not acknowledged.
+    #[error("HeadPending")]
+    HeadPending,
+    /// The site lags by more than the new limit.
+    #[error("LagOver")]
+    LagOver,
+    /// There was no memory for it.
+    #[error("NoMemory")]
+    NoMemory,
+    /// The site does not hold what its log says.
+    #[error("Mixed {}", site.index())]
+    Mixed { site: SiteId },
+}
+
+impl Refusal {
+    ghost use Rattle.ordup_objects.specs.Refusals.{refusal_number, refusal_name};
+
+    /// The number by which answers show the refusal, from 1 to 27.
+    pub fn number(&self) -> u8
+        ensures { result ≡ refusal_number self.now }
+    {
+        match self {
+            Refusal::Syntax => 1,
+            Refusal::NotStarted => 2,
+            Refusal::AlreadyStarted => 3,
+            Refusal::BadName => 4,
+            Refusal::NameTaken => 5,
+            Refusal::UnknownObject => 6,
+            Refusal::UnknownGroup => 7,
+            Refusal::UnknownSite => 8,
+            Refusal::OutOfRange => 9,
+            Refusal::TooMany => 10,
+            Refusal::Empty => 11,
+            Refusal::Repeated => 12,
+            Refusal::LogFull => 13,
+            Refusal::NothingToSend => 14,
+            Refusal::FeedFull => 15,
+            Refusal::NothingToApply => 16,
+            Refusal::NothingToSettle => 17,
+            Refusal::UnknownQuery => 18,
+            Refusal::QueryOpen => 19,
+            Refusal::OverImport => 20,
+            Refusal::Behind { .. } => 21,
+            Refusal::NotYet { .. } => 22,
+            Refusal::Stopped => 23,
+            Refusal::HeadPending => 24,
+            Refusal::LagOver => 25,
+            Refusal::NoMemory => 26,
+            Refusal::Mixed { .. } => 27,
+        }
+    }
+
+    /// The name by which answers show the refusal.
+    pub fn name(&self) -> &'static str
+        ensures { result.now ≡ refusal_name self.now }
+    {
+        match self {
+            Refusal::Syntax => "Syntax",
+            Refusal::NotStarted => "NotStarted",
+            Refusal::AlreadyStarted => "AlreadyStarted",
+            Refusal::BadName => "BadName",
+            Refusal::NameTaken => "NameTaken",
+            Refusal::UnknownObject => "UnknownObject",
+            Refusal::UnknownGroup => "UnknownGroup",
+            Refusal::UnknownSite => "UnknownSite",
+            Refusal::OutOfRange => "OutOfRange",
+            Refusal::TooMany => "TooMany",
+            Refusal::Empty => "Empty",
+            Refusal::Repeated => "Repeated",
+            Refusal::LogFull => "LogFull",
+            Refusal::NothingToSend => "NothingToSend",
+            Refusal::FeedFull => "FeedFull",
+            Refusal::NothingToApply => "NothingToApply",
+            Refusal::NothingToSettle => "NothingToSettle",
+            Refusal::UnknownQuery => "UnknownQuery",
+            Refusal::QueryOpen => "QueryOpen",
+            Refusal::OverImport => "OverImport",
+            Refusal::Behind { .. } => "Behind",
+            Refusal::NotYet { .. } => "NotYet",
+            Refusal::Stopped => "Stopped",
+            Refusal::HeadPending => "HeadPending",
+            Refusal::LagOver => "LagOver",
+            Refusal::NoMemory => "NoMemory",
+            Refusal::Mixed { .. } => "Mixed",
+        }
+    }
+}

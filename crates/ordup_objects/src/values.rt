@@ -1,0 +1,211 @@
+ghost use Rattle.std.specs.Prelude.{◌≡◌, ◌≤◌, ℕ, ◌<◌, ◌↔◌, IsTrue, IsOk, IfOk, IfErr, OnOk, OnErr, length, All, take, map, sum};
+ghost use Rattle.ordup_objects.specs.States.{value_at, result_of, result_at, in_range, is_legal, after, IsInRange, IsState};
+ghost use Rattle.ordup_objects.specs.Sets.{ReadsKnown, IsOpInRange, IsKnownChange, IsOver};
+ghost use Rattle.ordup_objects.specs.Tables.{initial_state};
+ghost use Rattle.ordup_objects.specs.Weights.{distances_of};
+
+use crate::change::{Change, ObjectId, Op};
+use crate::message_set::MessageSet;
+use crate::object_table::ObjectTable;
+use crate::refusal::Refusal;
+use crate::sizes::{GREATEST_VALUE, MOST_CHANGES};
+use std::alloc::{AllocError, Allocator, Global};
+use std::marker::Model;
+
+/// A state: the value of each object, in order of declaration. Values lie from -1,000,000,000 to 1,000,000,000.
+#[derive(Debug, Drop)]
+pub struct Values<A: Allocator + Copy = Global> {
+    values: Vec<i64, A>,
+}
+
+impl<A: Allocator + Copy> Model for Values<A> {
+    ghost use Rattle.std.specs.Prelude.{List, ℤ};
+    ghost use Rattle.ordup_objects.specs.States.{IsState};
+
+    ghost Value = { List ℤ };
+
+    ghost view = { λ s. s.values.items };
+
+    ghost invariant = { λ s. IsState s.values.items };
+}
+
+impl<A: Allocator + Copy> Values<A> {
+    /// The initial values of the objects. It is refused `NoMemory` alone.
+    pub fn initial(alloc: A, objects: &ObjectTable<A>) -> Result<Self, Refusal>
+        ensures initial { IfOk result (λ values. values ≡ initial_state objects.now) }
+        ensures refused { IfErr result (λ e. e ≡ Refusal.NoMemory) }
+    {
+        match initial_values(alloc, objects) {
+            Ok(values) => Ok(Values { values }),
+            Err(_) => Err(Refusal::NoMemory),
+        }
+    }
+
+    /// The same values once more. It is refused `NoMemory` alone.
+    pub fn copy(&self, alloc: A) -> Result<Self, Refusal>
+        ensures copied { IfOk result (λ values. values ≡ self.now) }
+        ensures refused { IfErr result (λ e. e ≡ Refusal.NoMemory) }
+    {
+        match Vec::from_slice(alloc, self.values.as_slice()) {
+            Ok(values) => Ok(Values { values }),
+            Err(_) => Err(Refusal::NoMemory),
+        }
+    }
+
+    /// How many objects have a value.
+    pub fn len(&self) -> usize
+        ensures len { result ≡ length self.now }
+        ensures state { IsState self.now }
+    {
+        self.values.len()
+    }
+
+    /// The value of an object.
+    pub fn get(&self, object: ObjectId) -> i64
+        requires { object < length self.now }
+        ensures value { result ≡ value_at self.now object }
+        ensures range { IsInRange result }
+    {
+        self.values[object.index()]
+    }
+
+    /// The values in order of declaration.
+    pub fn as_slice(&self) -> &[i64]
+        ensures { result.now ≡ self.now }
+    {
+        self.values.as_slice()
+    }
+
+    /// Applies a message set as a whole: all its changes read the values before it.
+    ///
+    /// Where a result is out of range it is refused `OutOfRange`, and no value changes.
+    pub fn apply(&mut self, set: &MessageSet<A>) -> Result<(), Refusal>
+        requires { IsOver (length self.old) set.now }
+        ensures ok { OnOk result (self.new ≡ after set.now self.old) }
+        ensures legal { IsOk result ↔ IsTrue (is_legal set.now self.old) }
+        ensures len { length self.new ≡ length self.old }
+        ensures err { IfErr result (λ e. (e ≡ Refusal.OutOfRange) × (self.new ≡ self.old)) }
+    {
+        let changes = set.changes();
+        let mut results = [0; MOST_CHANGES];
+        results_of(self.values.as_slice(), changes, &mut results)?;
+        put_results(&mut self.values, changes, &results);
+        Ok(())
+    }
+
+    /// Whether a message set is legal on these values: whether each result is in range.
+    pub fn allows(&self, set: &MessageSet<A>) -> bool
+        requires { IsOver (length self.now) set.now }
+        ensures { result ≡ is_legal set.now self.now }
+    {
+        allows_all(self.values.as_slice(), set.changes())
+    }
+
+    /// How far each change of a set would move its object's value. It is refused memory alone.
+    pub fn distances(&self, alloc: A, set: &MessageSet<A>) -> Result<Vec<u64, A>, AllocError>
+        requires { IsOver (length self.now) set.now }
+        ensures { IfOk result (λ r. r.items ≡ distances_of self.now set.now) }
+    {
+        distances_in(alloc, self.values.as_slice(), set.changes())
+    }
+}
+
+/// Whether a value lies from -1,000,000,000 to 1,000,000,000.
+pub(crate) fn is_in_range(value: i64) -> bool
+    ensures { result ≡ in_range value }
+{
+    value.unsigned_abs() <= GREATEST_VALUE
+}
+
+fn initial_values<A: Allocator + Copy>(
+    alloc: A,
+    objects: &ObjectTable<A>,
+) -> Result<Vec<i64, A>, AllocError>
+    ensures initial { IfOk result (λ v. v.items ≡ initial_state objects.now) }
+    ensures state { IfOk result (λ v. IsState v.items) }
+{
+    let count = objects.len();
+    let mut values = Vec::with_capacity(alloc, count)?;
+    for place in 0..count {
+        values.push(objects.initial(ObjectId::new(place as u16)))?;
+    }
+    Ok(values)
+}
+
+/// What an operation makes of a value.
+fn result_of(values: &[i64], value: i64, op: Op) -> i64
+    requires state { IsState values.now }
+    requires value { IsInRange value }
+    requires reads { ReadsKnown (length values.now) op }
+    requires number { IsOpInRange op }
+    ensures { result ≡ result_of values.now value op }
+{
+    match op {
+        Op::Add(n) => value + n,
+        Op::Set(n) => n,
+        Op::Mul(n) => value * n,
+        Op::Max(n) => value.max(n),
+        Op::Min(n) => value.min(n),
+        Op::Take(object) => values[object.index()],
+    }
+}
+
+/// Computes each change's result in the values before the set.
+fn results_of(values: &[i64], changes: &[Change], results: &mut [i64]) -> Result<(), Refusal>
+    requires state { IsState values.now }
+    requires changes { All (IsKnownChange (length values.now)) changes.now }
+    requires room { length changes.now ≤ length results.old }
+    ensures legal { IsOk result ↔ IsTrue (is_legal changes.now values.now) }
+    ensures results { OnOk result (take (length changes.now) results.new ≡ map (result_at values.now) changes.now) }
+    ensures err { IfErr result (λ e. e ≡ Refusal.OutOfRange) }
+{
+    for (i, change) in changes.iter().enumerate() {
+        let value = result_of(values, values[change.object.index()], change.op);
+        if !is_in_range(value) {
+            return Err(Refusal::OutOfRange);
+        }
+        results[i] = value;
+    }
+    Ok(())
+}
+
+/// Puts each result in the place of its change's object.
+fn put_results(values: &mut [i64], changes: &[Change], results: &[i64])
+    requires objects { All (λ c. c.object < length values.old) changes.now }
+    requires results { take (length changes.now) results.now ≡ map (result_at values.old) changes.now }
+    requires room { length changes.now ≤ length results.now }
+    requires state { IsState values.old }
+    requires legal { IsTrue (is_legal changes.now values.old) }
+    ensures after { values.new ≡ after changes.now values.old }
+    ensures state { IsState values.new }
+{
+    for (i, change) in changes.iter().enumerate() {
+        values[change.object.index()] = results[i];
+    }
+}
+
+/// How far each change moves its object's value.
+fn distances_in<A: Allocator + Copy>(
+    alloc: A,
+    values: &[i64],
+    changes: &[Change],
+) -> Result<Vec<u64, A>, AllocError>
+    requires state { IsState values.now }
+    requires changes { All (IsKnownChange (length values.now)) changes.now }
+    ensures { IfOk result (λ r. r.items ≡ distances_of values.now changes.now) }
+{
+    let mut distances = Vec::with_capacity(alloc, changes.len())?;
+    for change in changes {
+        let value = values[change.object.index()];
+        distances.push(result_of(values, value, change.op).abs_diff(value))?;
+    }
+    Ok(distances)
+}
+
+fn allows_all(values: &[i64], changes: &[Change]) -> bool
+    requires state { IsState values.now }
+    requires changes { All (IsKnownChange (length values.now)) changes.now }
+    ensures { result ≡ is_legal changes.now values.now }
+{
+    changes.iter().all(|c| is_in_range(result_of(values, values[c.object.index()], c.op)))
+}

@@ -1,0 +1,30 @@
+use Rattle.std.proofs.Common.{arith, ◌≡◌, ◌++◌, ◌∷◌, [], ◌∙◌, sym, ap, append_assoc}
+use Rattle.std.specs.Vec.Iter.{into_iter_items}
+use Rattle.ordup_world.specs.Events.{past_after}
+use Rattle.ordup_world.proofs.RunLemmas.{all_yielded, past_after-push, AreAnswers-push}
+use Rattle.ordup_world.proofs.runs.run.Goals as goal
+
+pub loop-event-preserved : goal.loop-event-preserved
+loop-event-preserved g c =
+    let before = c.loop-event.invariant in
+    let mid = past_after {A = g.row.A.Denot} [] c.loop-event.yielded c.loop-event.answers.items in
+    record {
+      left = append_assoc c.loop-event.yielded (c.in-Some.event ∷ []) (into_iter_items c.next.new.self) ∙ ap (λ xs. c.loop-event.yielded ++ xs) (sym c.in-Some.ensures.steps.0) ∙ before.left;
+      room = omega (arith, before.room, c.in-Some.ensures.steps.1, c.push_reserved.ensures.len, c.push_reserved.ensures.capacity);
+      setup = c.step.ensures.setup ∙ before.setup;
+      sound = c.step.ensures.sound;
+      answers = rw c.push_reserved.ensures.items (AreAnswers-push c.args.setup [] c.loop-event.yielded c.loop-event.answers.items c.in-Some.event c.step.result before.answers (rw before.setup at (c.step.ensures.answer mid before.state)));
+      state = rw (c.push_reserved.ensures.items, past_after-push c.args.setup [] c.loop-event.yielded c.loop-event.answers.items c.in-Some.event c.step.result before.answers) (c.step.ensures.state mid before.state);
+    }
+
+pub returns-clause-answers : goal.returns-clause-answers
+returns-clause-answers g c =
+    let before = c.loop-event.invariant in
+    let all : c.loop-event.yielded ≡ c.args.events.items = all_yielded c.loop-event.yielded (into_iter_items c.loop-event.event-iterator) c.args.events.items (omega (arith, c.in-None.ensures.steps.0, c.loop-event.event-iterator.rest.ok)) before.left in
+    rw all at before.answers
+
+pub returns-clause-state : goal.returns-clause-state
+returns-clause-state g c =
+    let before = c.loop-event.invariant in
+    let all : c.loop-event.yielded ≡ c.args.events.items = all_yielded c.loop-event.yielded (into_iter_items c.loop-event.event-iterator) c.args.events.items (omega (arith, c.in-None.ensures.steps.0, c.loop-event.event-iterator.rest.ok)) before.left in
+    rw all at before.state

@@ -1,0 +1,109 @@
+-- Events, what they are answered, and the numbers of a list of accepted events.
+use Rattle.std.specs.Prelude.{◌≡◌, ◌⊎◌, ℕ, ◌+◌, ◌-◌, ◌==◌, not, if◌then◌else◌, nat_lt, Bool, true, false, Option, Some, None, List, [], ◌∷◌, ◌++◌, length}
+use Rattle.ordup_objects.specs.declared.change.Change.{Change}
+use Rattle.ordup_objects.specs.declared.refusal.Refusal.{Refusal}
+use Rattle.ordup_objects.specs.declared.refusal.Refusal.TheVariants.{UnknownObject, UnknownSite, NothingToSend, FeedFull, NothingToApply, NoMemory}
+use Rattle.ordup_objects.specs.Tables.{initial_state}
+use Rattle.ordup_objects.specs.Sets.{is_over}
+use Rattle.ordup_objects.specs.Serial.{History, serial}
+use Rattle.ordup_log.specs.Appending.{append_refusal}
+use Rattle.ordup_world.specs.Declarations.{Declared, capacity_of}
+use Rattle.ordup_world.specs.declared.event.Event.{Event}
+use Rattle.ordup_world.specs.declared.event.Event.TheVariants.{Propose, Send, Apply, Show}
+use Rattle.ordup_world.specs.declared.event.Answer.{Answer}
+use Rattle.ordup_world.specs.declared.event.Answer.TheVariants.{Proposed, Sent, Applied, Shown, Refused}
+
+-- the accepted events, the newest first
+abbrev pub Past : Type 0 → Type 0
+Past A = List (Event A)
+
+module _ {A : Type 0} where
+  -- the proposed message sets, in their order
+  abbrev pub sets_of : Past A → List (List Change)
+  sets_of [] = []
+  sets_of (Propose m ∷ past) = sets_of past ++ m ∷ []
+  sets_of (_ ∷ past) = sets_of past
+
+  -- how many updates were sent to a site: the count of its Send events
+  abbrev pub sent : ℕ → Past A → ℕ
+  sent s [] = 0
+  sent s (Send t ∷ past) = if t == s then sent s past + 1 else sent s past
+  sent s (_ ∷ past) = sent s past
+
+  -- how many updates a site applied: the count of its Apply events
+  abbrev pub applied : ℕ → Past A → ℕ
+  applied s [] = 0
+  applied s (Apply t ∷ past) = if t == s then applied s past + 1 else applied s past
+  applied s (_ ∷ past) = applied s past
+
+  -- what a site had applied at its last report: 0, since no event is a report
+  abbrev pub reported : ℕ → Past A → ℕ
+  reported s [] = 0
+  reported s (_ ∷ past) = reported s past
+
+  -- the log: the proposed message sets over the initial state
+  abbrev pub log_of : Declared → Past A → History
+  log_of setup past = record { start = initial_state setup.objects; sets = sets_of past }
+
+  -- a refusal, or else an answer
+  abbrev pub refused_or : Option Refusal → Answer A → Answer A
+  refused_or None answer = answer
+  refused_or (Some r) answer = Refused r
+
+  -- the reply to an event after the past: the first refusal that applies, or else the answer
+  abbrev pub reply : Declared → Past A → Event A → Answer A
+  reply setup past (Propose m) =
+      if not (is_over (length setup.objects) m) then Refused UnknownObject else
+      refused_or (append_refusal (log_of setup past) m) (Proposed (length (sets_of past) + 1))
+  reply setup past (Send s) =
+      if not (nat_lt s (length setup.sites)) then Refused UnknownSite else
+      if sent s past == length (sets_of past) then Refused NothingToSend else
+      if sent s past - applied s past == capacity_of setup s then Refused FeedFull else
+      Sent s (sent s past + 1)
+  reply setup past (Apply s) =
+      if not (nat_lt s (length setup.sites)) then Refused UnknownSite else
+      if applied s past == sent s past then Refused NothingToApply else
+      Applied s (applied s past + 1)
+  reply setup past (Show s) =
+      if not (nat_lt s (length setup.sites)) then Refused UnknownSite else
+      Shown (sent s past) (applied s past) (reported s past) 0 (serial (log_of setup past) (applied s past))
+
+  -- whether an answer is a refusal
+  abbrev pub is_refused : Answer A → Bool
+  is_refused (Refused r) = true
+  is_refused _ = false
+
+  -- the past after an event with this answer
+  abbrev pub later : Past A → Event A → Answer A → Past A
+  later past e (Refused r) = past
+  later past e _ = e ∷ past
+
+  -- whether an event may be refused memory
+  abbrev pub takes_memory : Event A → Bool
+  takes_memory (Propose m) = true
+  takes_memory (Send s) = true
+  takes_memory (Apply s) = false
+  takes_memory (Show s) = true
+
+  -- an event after the past may be answered so: by the reply, or by NoMemory where the event takes memory and the reply is no refusal
+  abbrev pub IsAnswer : Declared → Past A → Event A → Answer A → Type 0
+  IsAnswer setup past e answer =
+      (answer ≡ reply setup past e) ⊎ ((takes_memory e ≡ true) × (is_refused (reply setup past e) ≡ false) × (answer ≡ Refused NoMemory))
+
+  -- a fact where an answer is a refusal
+  abbrev pub OnRefused : Answer A → Type 0 → Type 0
+  OnRefused answer P = is_refused answer ≡ true → P
+
+  -- the past after these events with these answers
+  abbrev pub past_after : Past A → List (Event A) → List (Answer A) → Past A
+  past_after past [] answers = past
+  past_after past (e ∷ events) [] = past
+  past_after past (e ∷ events) (a ∷ answers) = past_after (later past e a) events answers
+
+  -- each event is answered after those before it
+  abbrev pub AreAnswers : Declared → Past A → List (Event A) → List (Answer A) → Type 0
+  AreAnswers setup past [] [] = Unit {0}
+  AreAnswers setup past [] (a ∷ answers) = ⊥
+  AreAnswers setup past (e ∷ events) [] = ⊥
+  AreAnswers setup past (e ∷ events) (a ∷ answers) =
+      IsAnswer setup past e a × AreAnswers setup (later past e a) events answers

@@ -1,0 +1,3 @@
+pub mod Declarations
+pub mod Events
+pub mod Standings

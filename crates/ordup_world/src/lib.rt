@@ -1,0 +1,18 @@
+//! The world: a primary with its log and its sites, stepped by events.
+//!
+//! The one contract above this layer: for every list of events the answers are the model's, and the world at the end stands
+//! for the accepted events.
+#![tactic(auto)]
+
+mod event;
+mod outcome;
+mod replica;
+mod runs;
+mod setup;
+mod world;
+
+pub use event::{Answer, Event};
+pub use outcome::Run;
+pub use runs::run;
+pub use setup::Setup;
+pub use world::World;

@@ -1,0 +1,38 @@
+ghost use Rattle.std.specs.Prelude.{◌≡◌, None, [], IfOk, IfErr};
+ghost use Rattle.ordup_objects.specs.Refusals.{IsRefusal};
+ghost use Rattle.ordup_world.specs.Declarations.{start_refusal};
+ghost use Rattle.ordup_world.specs.Events.{AreAnswers, past_after};
+ghost use Rattle.ordup_world.specs.Standings.{StandsFor, IsSound};
+
+use crate::event::Event;
+use crate::outcome::Run;
+use crate::setup::Setup;
+use crate::world::World;
+use ordup_objects::Refusal;
+use std::alloc::{Allocator, Global};
+
+/// Starts a store and takes the events in their order. An event that is refused leaves all as it was.
+///
+/// It is refused `Empty` where the setup lacks an object or a site, and `NoMemory` where there is none for the start or for
+/// the list of answers, whose room it takes before the first event.
+pub fn run<A: Allocator + Copy>(
+    alloc: A,
+    setup: Setup<A>,
+    events: Vec<Event<A>, A>,
+) -> Result<Run<A>, Refusal>
+    ensures answers { IfOk result (λ run. AreAnswers setup [] events.items run.answers.items) }
+    ensures state { IfOk result (λ run. StandsFor run.world (past_after [] events.items run.answers.items)) }
+    ensures setup { IfOk result (λ run. run.world.setup ≡ setup) }
+    ensures sound { IfOk result (λ run. IsSound run.world) }
+    ensures allowed { IfOk result (λ _. start_refusal setup ≡ None) }
+    ensures refused { IfErr result (λ e. IsRefusal (start_refusal setup) e) }
+{
+    let mut world = World::start(alloc, setup)?;
+    let Ok(mut answers) = Vec::with_capacity(alloc, events.len()) else {
+        return Err(Refusal::NoMemory);
+    };
+    for event in events {
+        answers.push_reserved(world.step(event));
+    }
+    Ok(Run { world, answers })
+}

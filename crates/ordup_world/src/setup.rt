@@ -1,0 +1,129 @@
+ghost use Rattle.std.specs.Prelude.{◌≡◌, ◌≤◌, ℕ, ◌<◌, None, Some, IfSome, IfOk, IfErr, [], ◌∷◌, ◌++◌, length, slice_get, option_map};
+ghost use Rattle.ordup_objects.specs.Tables.{place_of, object_refusal};
+ghost use Rattle.ordup_objects.specs.Refusals.{IsRefusal};
+ghost use Rattle.ordup_world.specs.Declarations.{Declared, is_ready, site_refusal, capacity_of};
+
+use ordup_objects::sizes::{GREATEST_CAPACITY, MOST_SITES};
+use ordup_objects::{Name, NameTable, ObjectId, ObjectTable, Refusal, SiteId};
+use std::alloc::{Allocator, Global};
+use std::marker::Model;
+
+/// What is declared of a store before its start: the objects with their initial values, and the sites with the capacities
+/// of their feeds.
+#[derive(Drop)]
+pub struct Setup<A: Allocator + Copy = Global> {
+    objects: ObjectTable<A>,
+    capacities: NameTable<u64, A>,
+}
+
+impl<A: Allocator + Copy> Model for Setup<A> {
+    ghost use Rattle.std.specs.Prelude.{◌≤◌, length};
+    ghost use Rattle.ordup_world.specs.Declarations.{Declared, AreCapacities};
+
+    ghost Value = { Declared };
+
+    ghost view = { λ s. record { objects = s.objects; sites = s.capacities } };
+
+    ghost invariant = { λ s. (length s.capacities ≤ 16) × AreCapacities s.capacities };
+}
+
+impl<A: Allocator + Copy> Setup<A> {
+    /// Nothing declared yet. It takes no memory.
+    pub fn new(alloc: A) -> Self
+        ensures { result ≡ record { objects = []; sites = [] } }
+    {
+        Setup {
+            objects: ObjectTable::new(alloc),
+            capacities: NameTable::new(alloc),
+        }
+    }
+
+    /// Declares an object with its initial value, which lies from -1,000,000,000 to 1,000,000,000.
+    ///
+    /// It is refused `BadName`, `NameTaken`, `OutOfRange` for the value, `TooMany` for a 257th object, and `NoMemory`.
+    pub fn object(&mut self, name: &[u8], initial: i64) -> Result<ObjectId, Refusal>
+        ensures object { IfOk result (λ object. object ≡ length self.old.objects) }
+        ensures declared { IfOk result (λ _. self.new ≡ record self.old { objects = self.old.objects ++ (name.now, initial) ∷ [] }) }
+        ensures allowed { IfOk result (λ _. object_refusal self.old.objects name.now initial ≡ None) }
+        ensures refused { IfErr result (λ e. IsRefusal (object_refusal self.old.objects name.now initial) e) }
+        ensures err { IfErr result (λ _. self.new ≡ self.old) }
+    {
+        self.objects.declare(name, initial)
+    }
+
+    /// Declares a site with the capacity of its feed, 1 to 1,024 updates.
+    ///
+    /// It is refused `BadName`, `NameTaken`, `OutOfRange` for the capacity, `TooMany` for a 17th site, and `NoMemory`.
+    pub fn site(&mut self, name: &[u8], capacity: u64) -> Result<SiteId, Refusal>
+        ensures site { IfOk result (λ site. site ≡ length self.old.sites) }
+        ensures declared { IfOk result (λ _. self.new ≡ record self.old { sites = self.old.sites ++ (name.now, capacity) ∷ [] }) }
+        ensures allowed { IfOk result (λ _. site_refusal self.old.sites name.now capacity ≡ None) }
+        ensures refused { IfErr result (λ e. IsRefusal (site_refusal self.old.sites name.now capacity) e) }
+        ensures err { IfErr result (λ _. self.new ≡ self.old) }
+    {
+        let name = Name::new(name)?;
+        if self.capacities.find(name.as_bytes()).is_some() {
+            return Err(Refusal::NameTaken);
+        }
+        if capacity == 0 || capacity > GREATEST_CAPACITY {
+            return Err(Refusal::OutOfRange);
+        }
+        let place = self.capacities.len();
+        if place == MOST_SITES {
+            return Err(Refusal::TooMany);
+        }
+        match self.capacities.push(name, capacity) {
+            Ok(()) => Ok(SiteId::new(place as u8)),
+            Err(_) => Err(Refusal::NoMemory),
+        }
+    }
+
+    /// Whether a store can start: whether there is at least one object and one site.
+    pub fn is_ready(&self) -> bool
+        ensures { result ≡ is_ready self.now }
+    {
+        self.objects.len() > 0 && self.capacities.len() > 0
+    }
+
+    /// The objects.
+    pub fn objects(&self) -> &ObjectTable<A>
+        ensures { result.now ≡ self.now.objects }
+    {
+        &self.objects
+    }
+
+    /// How many sites there are, at most 16.
+    pub fn sites(&self) -> usize
+        ensures sites { result ≡ length self.now.sites }
+        ensures few { length self.now.sites ≤ 16 }
+    {
+        self.capacities.len()
+    }
+
+    /// The site of this name, if there is one.
+    pub fn find_site(&self, name: &[u8]) -> Option<SiteId>
+        ensures place { option_map (λ s. s) result ≡ place_of name.now self.now.sites }
+        ensures within { IfSome result (λ s. s < length self.now.sites) }
+    {
+        match self.capacities.find(name) {
+            Some(place) => Some(SiteId::new(place as u8)),
+            None => None,
+        }
+    }
+
+    /// The name of a site.
+    pub fn site_name(&self, site: SiteId) -> &Name
+        requires { site < length self.now.sites }
+        ensures { option_map (λ e. e.0) (slice_get self.now.sites site) ≡ Some result.now }
+    {
+        self.capacities.at(site.index()).0
+    }
+
+    /// How many updates the feed of a site holds at most, 1 to 1,024.
+    pub fn capacity(&self, site: SiteId) -> u64
+        requires { site < length self.now.sites }
+        ensures { result ≡ capacity_of self.now site }
+    {
+        *self.capacities.at(site.index()).1
+    }
+}

@@ -1,5 +1,5 @@
 -- Weights and spans on every scope.
-use Rattle.std.specs.Prelude.{ℕ, ◌-◌, ◌<◌, ◌≤◌, length, sum_by, All}
+use Rattle.std.specs.Prelude.{ℕ, ◌-◌, ◌<◌, ◌≤◌, length, sum_by}
 use Rattle.ordup_objects.specs.States.{value_at}
 use Rattle.ordup_objects.specs.Serial.{History, serial}
 use Rattle.ordup_objects.specs.Weights.{distance, object_weight, sum_from, sum_below}
@@ -24,10 +24,6 @@ IsScopeOver n groups (Object x) = x < n
 IsScopeOver n groups (Group g) = g < length groups
 IsScopeOver n groups Everything = Unit {0}
 IsScopeOver n groups Count = Unit {0}
-
--- the members of each group are among the first n objects
-abbrev pub AreOver : ℕ → GroupList → Type 0
-AreOver n groups = All (λ g. All (λ x. x < n) g.1) groups
 
 -- a span inside another weighs no more
 abbrev pub InnerSpansWeighLess : Type 0

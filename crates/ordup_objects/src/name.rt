@@ -41,15 +41,24 @@ impl Name {
         ensures ok { IsOk result ↔ IsTrue (is_name bytes.now) }
         ensures err { IfErr result (λ e. e ≡ Refusal.BadName) }
     {
-        if !is_name(bytes) {
-            return Err(Refusal::BadName);
+        if is_name(bytes) {
+            Ok(Name::padded(bytes))
+        } else {
+            Err(Refusal::BadName)
         }
+    }
+
+    /// The name that these bytes spell, which are known to be a name.
+    pub(crate) fn padded(bytes: &[u8]) -> Self
+        requires { IsTrue (is_name bytes.now) }
+        ensures { result ≡ bytes.now }
+    {
         let mut padded = [0; MOST_NAME_BYTES];
         padded[..bytes.len()].copy_from_slice(bytes);
-        Ok(Name {
+        Name {
             bytes: padded,
             len: bytes.len() as u8,
-        })
+        }
     }
 
     /// The bytes of the name.
@@ -79,7 +88,7 @@ fn are_name_bytes(bytes: &[u8]) -> bool
     bytes.iter().all(|b| is_name_byte(*b))
 }
 
-fn is_name(bytes: &[u8]) -> bool
+pub(crate) fn is_name(bytes: &[u8]) -> bool
     ensures { result ≡ is_name bytes.now }
 {
     match bytes {

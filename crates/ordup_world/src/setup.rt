@@ -68,7 +68,7 @@ impl<A: Allocator + Copy> Setup<A> {
         if capacity == 0 || capacity > GREATEST_CAPACITY {
             return Err(Refusal::OutOfRange);
         }
-        let place = self.capacities.len();
+        let place = self.sites();
         if place == MOST_SITES {
             return Err(Refusal::TooMany);
         }
@@ -82,7 +82,7 @@ impl<A: Allocator + Copy> Setup<A> {
     pub fn is_ready(&self) -> bool
         ensures { result ≡ is_ready self.now }
     {
-        self.objects.len() > 0 && self.capacities.len() > 0
+        self.objects.len() > 0 && self.sites() > 0
     }
 
     /// The objects.

@@ -1,0 +1,43 @@
+use clap::{ArgMatches, Command};
+use std::alloc::{AllocError, Global};
+
+/// What the words ask for.
+#[derive(Clone, Copy, Debug, PartialEq, Eq)]
+pub(crate) enum Job {
+    /// Runs a script.
+    Run,
+}
+
+/// The words that the program takes, with their help.
+pub(crate) fn command<'a>(alloc: Global) -> Result<Command<'a>, AllocError> {
+    let run = Command::new(alloc, "run")
+        .about("Runs a script: answers each command that it reads")
+        .after_help(RUN_HELP);
+    Command::new(alloc, "ordup")
+        .about("A replicated store whose replicas may lag, but only so far")
+        .after_help(HELP)
+        .subcommand_required(true)
+        .subcommand(run)
+}
+
+/// The job that the words name.
+pub(crate) fn job_of(matches: &ArgMatches<'_>) -> Option<Job> {
+    let (name, _) = matches.subcommand()?;
+    if name == "run" { Some(Job::Run) } else { None }
+}
+
+const HELP: &str = "\
+Exit statuses: 0 done, 2 wrong words, 3 input or output failed, 4 no memory.
+The commands of a script and their answers: docs/FORMATS.md.
+A first script: ./ordup run < examples/first.ordup";
+
+const RUN_HELP: &str = "\
+Reads lines from standard input to its end: `object x 0`, `site a 4`, `start`,
+then `propose add:x:5`, `send a`, `apply a`, `show a`. Prints an answer line for
+each, on standard output: `ok ..`, or `refused N NAME`, after which all is as it
+was. Blank lines and lines that begin with # are skipped.
+
+Exit statuses: 0 for every script that was read to its end, also where commands
+were refused. 3 with `read fault`, `write fault` or `input too long` (more than
+1,073,741,824 bytes) on standard error, 4 with `no memory`.
+The commands and their answers: docs/FORMATS.md";

@@ -1,0 +1,43 @@
+//! The program `ordup`: its words on the command line, and what they do.
+#![tactic(auto)]
+
+mod act;
+mod command_line;
+#[cfg(test)]
+mod tests;
+
+pub use act::act;
+
+use std::alloc::{AllocError, Global};
+use std::io;
+use std::process::ExitCode;
+use std::rt::Env;
+
+fn main(rt: HostRuntime) -> ExitCode {
+    let alloc = rt.alloc();
+    let Ok(words) = arguments(&rt, alloc) else {
+        return ExitCode::from(act::WRONG_WORDS);
+    };
+    let words: Result<Vec<&str>, AllocError> = words
+        .iter()
+        .map(|word| word.as_str())
+        .collect(alloc);
+    let Ok(words) = words else {
+        return ExitCode::from(act::NO_MEMORY);
+    };
+    let mut input = rt.stdin();
+    let mut output = rt.stdout();
+    let mut faults = rt.stderr();
+    ExitCode::from(act(
+        alloc,
+        words.as_slice(),
+        &mut input,
+        &mut output,
+        &mut faults,
+    ))
+}
+
+/// The words that the program was started with. An argument that is no text is an error.
+fn arguments<R: Env + AllocGlobal>(rt: &R, alloc: Global) -> io::Result<Vec<String>> {
+    Ok(std::env::args(rt)?.collect(alloc)?)
+}

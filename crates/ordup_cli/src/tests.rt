@@ -1,0 +1,388 @@
+//! The program from the outside: scripts with the answers that a person works out, words, and faults.
+ghost use Rattle.std.specs.Prelude.{Some};
+
+use crate::act::act;
+use std::alloc::Global;
+use std::io::{self, ErrorKind, Read, Write};
+use std::test::Fail;
+
+/// Transcripts: a line that begins with `> ` is a line of the script, any other is the answer that must come there.
+const TRANSCRIPTS: [&str; 7] = [
+    "",
+    // The first run.
+    "\
+> object x 0
+ok object x
+> site a 4
+ok site a
+> start
+ok start
+> propose add:x:5
+ok proposed 1
+> send a
+ok sent a 1
+> apply a
+ok applied a 1
+> show a
+ok show a sent 1 applied 1 reported 0 rounds 0 x=5
+",
+    // A feed of one update.
+    "\
+> object x 0
+ok object x
+> object y 10
+ok object y
+> site a 1
+ok site a
+> start
+ok start
+> propose add:x:1
+ok proposed 1
+> propose add:x:1
+ok proposed 2
+> send a
+ok sent a 1
+> send a
+refused 15 FeedFull
+> apply a
+ok applied a 1
+> send a
+ok sent a 2
+> apply a
+ok applied a 2
+> apply a
+refused 16 NothingToApply
+> send a
+refused 14 NothingToSend
+",
+    // A result out of range leaves the log as it was.
+    "\
+> object x 1000000000
+ok object x
+> object y 10
+ok object y
+> site a 4
+ok site a
+> start
+ok start
+> propose add:x:1
+refused 9 OutOfRange
+> propose set:x:-1000000000
+ok proposed 1
+> propose add:x:-1
+refused 9 OutOfRange
+> propose add:z:1000000001
+refused 6 UnknownObject
+> propose add:x:1000000001
+refused 9 OutOfRange
+> send b
+refused 8 UnknownSite
+> apply Z
+refused 8 UnknownSite
+> show b
+refused 8 UnknownSite
+",
+    // Before the start.
+    "\
+> propose add:x:1
+refused 2 NotStarted
+> send a
+refused 2 NotStarted
+> apply a
+refused 2 NotStarted
+> show a
+refused 2 NotStarted
+",
+    // Declarations, from nothing.
+    "\
+> object 9x 1
+refused 4 BadName
+> object x 1000000001
+refused 9 OutOfRange
+> object x 1
+ok object x
+> object x 2
+refused 5 NameTaken
+> start
+refused 11 Empty
+> site a 0
+refused 9 OutOfRange
+> site a 1025
+refused 9 OutOfRange
+> site a -1
+refused 9 OutOfRange
+> site a 1024
+ok site a
+> site x 1
+ok site x
+> start
+ok start
+> start
+refused 3 AlreadyStarted
+> object y 1
+refused 3 AlreadyStarted
+> site b 1
+refused 3 AlreadyStarted
+",
+    // Lines that are no commands, numbers at their edges, lines that are skipped.
+    "\
+> object x 9999999999999999999
+refused 9 OutOfRange
+> object x -9999999999999999999
+refused 9 OutOfRange
+> object x 10000000000000000000
+refused 1 Syntax
+> object x -0
+refused 1 Syntax
+> object x 01
+refused 1 Syntax
+> object x +1
+refused 1 Syntax
+> object x
+refused 1 Syntax
+> object x 1 2
+refused 1 Syntax
+> object\tx 1
+refused 1 Syntax
+> objéct x 1
+refused 1 Syntax
+> # object x 1
+> 
+>    
+>   object   x   -1000000000  
+ok object x
+> propose
+refused 1 Syntax
+> propose add:x:1 add:x:1
+refused 1 Syntax
+> propose add::1
+refused 1 Syntax
+> propose mul:x:2
+refused 1 Syntax
+> propose add:x:01
+refused 1 Syntax
+> settle
+refused 1 Syntax
+> Object y 1
+refused 1 Syntax
+> start now
+refused 1 Syntax
+",
+];
+
+/// What is left of a run of the program.
+#[derive(Drop)]
+struct Ended {
+    status: u8,
+    output: Vec<u8>,
+    faults: Vec<u8>,
+}
+
+/// Gives at most so many bytes a call, and fails once so many were given.
+#[derive(Drop)]
+struct ShortReader<'a> {
+    left: &'a [u8],
+    at_once: usize,
+    before_failure: usize,
+}
+
+impl<'a> Read for ShortReader<'a> {
+    fn read(&mut self, buffer: &mut [u8]) -> io::Result<usize> {
+        if self.before_failure == 0 {
+            return Err(io::Error::from(ErrorKind::Other));
+        }
+        let count = buffer
+            .len()
+            .min(self.at_once)
+            .min(self.left.len())
+            .min(self.before_failure);
+        let (front, rest) = self.left.split_at(count);
+        buffer[..count].copy_from_slice(front);
+        self.left = rest;
+        self.before_failure -= count;
+        Ok(count)
+    }
+}
+
+/// Takes so many bytes, and then fails.
+#[derive(Drop)]
+struct ShortWriter {
+    taken: Vec<u8>,
+    room: usize,
+}
+
+impl Write for ShortWriter {
+    ghost contents = { λ w. Some w.taken.items };
+
+    fn write(&mut self, bytes: &[u8]) -> io::Result<usize> {
+        if self.room == 0 {
+            return Err(io::Error::from(ErrorKind::Other));
+        }
+        let count = bytes.len().min(self.room);
+        self.taken.extend_from_slice(&bytes[..count])?;
+        self.room -= count;
+        Ok(count)
+    }
+
+    fn flush(&mut self) -> io::Result<()> {
+        Ok(())
+    }
+}
+
+/// More bytes than a test reads or writes.
+const ALL: usize = 1_000_000;
+
+/// Runs the program on words and a script, which a reader gives in short reads and a writer takes up to its room.
+fn run_with(
+    alloc: Global,
+    words: &[&str],
+    script: &[u8],
+    at_once: usize,
+    before_failure: usize,
+    room: usize,
+) -> Ended {
+    let mut input = ShortReader {
+        left: script,
+        at_once,
+        before_failure,
+    };
+    let mut output = ShortWriter {
+        taken: Vec::new(alloc),
+        room,
+    };
+    let mut faults: Vec<u8> = Vec::new(alloc);
+    let status = act(alloc, words, &mut input, &mut output, &mut faults);
+    Ended {
+        status,
+        output: output.taken,
+        faults,
+    }
+}
+
+/// Runs a script whole.
+fn answers(alloc: Global, script: &[u8]) -> Ended {
+    run_with(alloc, &["ordup", "run"], script, ALL, ALL, ALL)
+}
+
+/// The script of a transcript, and the answers in it.
+fn parts(alloc: Global, transcript: &str) -> Result<(Vec<u8>, Vec<u8>), Fail> {
+    let mut script = Vec::new(alloc);
+    let mut wanted = Vec::new(alloc);
+    for line in transcript.lines() {
+        match line.as_bytes() {
+            [b'>', b' ', command @ ..] => {
+                script.extend_from_slice(command)?;
+                script.push(b'\n')?;
+            }
+            answer => {
+                wanted.extend_from_slice(answer)?;
+                wanted.push(b'\n')?;
+            }
+        }
+    }
+    Ok((script, wanted))
+}
+
+#[test]
+fn scripts_are_answered_as_their_transcripts_say(rt: HostRuntime) -> Result<(), Fail> {
+    for (place, transcript) in TRANSCRIPTS.iter().enumerate() {
+        let (script, wanted) = parts(rt.alloc(), transcript)?;
+        let ended = answers(rt.alloc(), &script);
+        assert!(rt; ended.output.as_slice() == wanted.as_slice(), "transcript {place}");
+        assert_eq!(rt; ended.status, 0, "transcript {place}");
+        assert!(rt; ended.faults.is_empty(), "transcript {place}");
+    }
+    Ok(())
+}
+
+#[test]
+fn short_reads_change_no_answer(rt: HostRuntime) -> Result<(), Fail> {
+    for (place, transcript) in TRANSCRIPTS.iter().enumerate() {
+        let (script, wanted) = parts(rt.alloc(), transcript)?;
+        for at_once in 1..4usize {
+            let ended = run_with(rt.alloc(), &["ordup", "run"], &script, at_once, ALL, ALL);
+            assert!(rt; ended.output.as_slice() == wanted.as_slice(), "transcript {place} by {at_once}");
+        }
+    }
+    Ok(())
+}
+
+#[test]
+fn a_last_line_needs_no_line_feed(rt: HostRuntime) {
+    let ended = answers(rt.alloc(), b"object x 1");
+    assert!(rt; ended.output.as_slice() == b"ok object x\n".as_slice());
+}
+
+#[test]
+fn lines_of_4096_bytes_are_read_and_longer_ones_are_not(rt: HostRuntime) -> Result<(), Fail> {
+    for (length, wanted) in [
+        (4_096usize, b"ok object x\n".as_slice()),
+        (4_097, b"refused 1 Syntax\nok object x\n".as_slice()),
+    ] {
+        let mut script = Vec::new(rt.alloc());
+        for _ in 0..length {
+            script.push(b' ')?;
+        }
+        script.extend_from_slice(b"\nobject x 1\n")?;
+        for at_once in [1usize, 4_096, 4_097, ALL] {
+            let ended = run_with(rt.alloc(), &["ordup", "run"], &script, at_once, ALL, ALL);
+            assert!(rt; ended.output.as_slice() == wanted, "{length} spaces by {at_once}");
+        }
+    }
+    Ok(())
+}
+
+#[test]
+fn a_writer_that_fails_has_got_a_front_of_the_answers(rt: HostRuntime) -> Result<(), Fail> {
+    let (script, wanted) = parts(rt.alloc(), TRANSCRIPTS[1])?;
+    assert_eq!(rt; script.len(), 64);
+    assert_eq!(rt; wanted.len(), 123);
+    let seven = run_with(rt.alloc(), &["ordup", "run"], &script, ALL, ALL, 7);
+    assert!(rt; seven.output.as_slice() == b"ok obje".as_slice());
+    for room in 0..wanted.len() {
+        let ended = run_with(rt.alloc(), &["ordup", "run"], &script, ALL, ALL, room);
+        assert!(rt; ended.output.as_slice() == &wanted[..room], "room for {room}");
+        assert_eq!(rt; ended.status, 3, "room for {room}");
+        assert!(rt; ended.faults.as_slice() == b"write fault\n".as_slice(), "room for {room}");
+    }
+    Ok(())
+}
+
+#[test]
+fn a_reader_that_fails_leaves_the_answers_to_the_lines_that_ended(
+    rt: HostRuntime,
+) -> Result<(), Fail> {
+    let (script, wanted) = parts(rt.alloc(), TRANSCRIPTS[1])?;
+    for (given, written) in [(0usize, 0usize), (10, 0), (11, 12), (25, 22), (26, 31)] {
+        let ended = run_with(rt.alloc(), &["ordup", "run"], &script, ALL, given, ALL);
+        assert!(rt; written <= wanted.len());
+        assert!(rt; ended.output.as_slice() == &wanted[..written], "after {given} bytes");
+        assert_eq!(rt; ended.status, 3, "after {given} bytes");
+        assert!(rt; ended.faults.as_slice() == b"read fault\n".as_slice(), "after {given} bytes");
+    }
+    Ok(())
+}
+
+#[test]
+fn wrong_words_end_with_status_2_and_help_with_status_0(rt: HostRuntime) {
+    let wrong: [&[&str]; 5] = [
+        &["ordup"],
+        &["ordup", "nosuch"],
+        &["ordup", "run", "more"],
+        &["ordup", "record", "a"],
+        &["ordup", "--nosuch"],
+    ];
+    for words in wrong {
+        let ended = run_with(rt.alloc(), words, b"object x 1\n", ALL, ALL, ALL);
+        assert_eq!(rt; ended.status, 2);
+        assert!(rt; ended.output.is_empty());
+        assert!(rt; !ended.faults.is_empty());
+    }
+    let help: [&[&str]; 2] = [&["ordup", "--help"], &["ordup", "run", "--help"]];
+    for words in help {
+        let ended = run_with(rt.alloc(), words, b"object x 1\n", ALL, ALL, ALL);
+        assert_eq!(rt; ended.status, 0);
+        assert!(rt; !ended.output.is_empty());
+        assert!(rt; ended.faults.is_empty());
+    }
+}

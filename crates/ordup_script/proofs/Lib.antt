@@ -1,0 +1,9 @@
+pub mod AnsweringLemmas
+pub mod ChangeParts
+pub mod Decimals
+pub mod Splits
+pub mod LongLines
+pub mod Lines
+pub mod Steps
+pub mod Sending
+pub mod Running

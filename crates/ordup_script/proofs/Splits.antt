@@ -1,0 +1,34 @@
+-- The parts of a list, from the place of the first element at which it is cut.
+use Rattle.std.proofs.Common.{◌≡◌, ◌∙◌, ap, ℕ, suc, ◌+◌, ◌-◌, ◌<◌, ◌≤◌, Bool, false, cond, nat_lt, List, [], ◌∷◌, length, take, drop, get_or, Some, None, arith, add-one, position}
+use Rattle.std.proofs.Math.Seq.{split_at}
+use Rattle.std.proofs.lemmas.Bool.Decides.{nat_tests}
+use Rattle.std.proofs.lemmas.List.{get_or-take, length-drop, length-take, take_all}
+use Rattle.std.proofs.lemmas.List.Elements.{All-from_get_or}
+use Rattle.std.proofs.lemmas.List.Quantifiers.{position-Some}
+use Rattle.std.proofs.lemmas.List.Splits.{slice_split_at, slice_split_none}
+use Rattle.std.proofs.lemmas.List.Sums.{fails_before_first}
+use Rattle.std.specs.List.{All, slice_split, position_or_len}
+
+-- a place that is no answer is the end
+at_end : (place len : ℕ) → cond (nat_lt place len) (Some place) None ≡ None → len ≤ place
+at_end place len h = grind (arith, nat_tests)
+
+-- before the first place that passes none does
+front_fails : (p : ℕ → Bool) (xs : List ℕ) (i : ℕ) → ((k : ℕ) → k < i → p (get_or xs k 0) ≡ false) → All (λ x. p x ≡ false) (take i xs)
+front_fails p xs i before =
+    All-from_get_or (λ x. p x ≡ false) (take i xs) 0 (λ k below.
+    let early : k < i = omega (arith, length-take {A = ℕ}) in
+    rw (get_or-take i xs k 0 early) (before k early))
+
+-- the first place at which a list is cut ends its first part
+pub slice_split-position : (p : ℕ → Bool) (xs : List ℕ) (i : ℕ) → position p xs ≡ Some i → slice_split p xs ≡ take i xs ∷ slice_split p (take (length xs - (i + 1)) (drop (i + 1) xs))
+slice_split-position p xs i h =
+    let found = position-Some p xs i 0 h in
+    let rest : take (length xs - (i + 1)) (drop (i + 1) xs) ≡ drop (i + 1) xs = take_all _ _ (rw length-drop (omega arith)) in
+    rw (rest, add-one) (ap (slice_split p) (split_at xs i 0 found.0) ∙ slice_split_at p (take i xs) (get_or xs i 0) (drop (suc i) xs) (front_fails p xs i found.2) found.1)
+
+-- with no such place a list is its one part
+pub slice_split-no_position : (p : ℕ → Bool) (xs : List ℕ) → position p xs ≡ None → slice_split p xs ≡ xs ∷ []
+slice_split-no_position p xs h =
+    let end = at_end (position_or_len p xs) (length xs) h in
+    slice_split_none p xs (λ k d below. fails_before_first p xs k d (omega arith))

@@ -1,0 +1,17 @@
+use Rattle.std.proofs.Common.{◌≡◌, ℕ, ◌+◌, ◌-◌, ◌≤◌, List, length}
+use Rattle.std.specs.Io.KnownBytes.{Appends, Consumes}
+use Rattle.ordup_script.specs.Lines.{Continues, Progress, start}
+use Rattle.ordup_script.specs.declared.stream.TheConstants.{PIECE}
+use Rattle.ordup_script.specs.Held.{IsAt}
+use Rattle.ordup_script.proofs.stream.run_script_within.Given as goal
+
+abbrev pub invariant-pieces : goal.invariant-pieces
+invariant-pieces g l =
+    (l.taken ≤ l.limit) × (length l.piece ≡ PIECE)
+    × (script : List ℕ) × (p : Progress g.row.A.Denot) × (length script ≡ l.taken)
+    × Consumes (g.R.Read.remaining l.fn.input) (g.R.Read.remaining l.input) script
+    × Appends (g.W.Write.contents l.fn.output) (g.W.Write.contents l.output) p.written
+    × IsAt l.engine p.written p × Continues start p script
+
+abbrev pub decreases-pieces : goal.decreases-pieces
+decreases-pieces g l = l.limit + 1 - l.taken

@@ -1,0 +1,20 @@
+-- How far an engine has come.
+use Rattle.std.specs.Prelude.{◌≡◌, ℕ, true, List, []}
+use Rattle.ordup_script.specs.declared.script_end.ScriptEnd.{ScriptEnd}
+use Rattle.ordup_script.specs.declared.engine.Engine.{Engine}
+use Rattle.ordup_script.specs.Sessions.{Stands}
+use Rattle.ordup_script.specs.Lines.{Continues, Progress, held_text, last, total}
+
+-- the engine has come this far, with these bytes written
+pub record IsAt {A : Type 0} (engine : Engine A) (bytes : List ℕ) (p : Progress A) : Type 0 where
+  pub known : Stands engine.store p.known
+  pub held : held_text engine.is_long engine.line.items ≡ p.held
+  pub written : bytes ≡ p.written
+
+-- however far the engine had come, it has come on by this piece of the script
+pub record Feeds {A : Type 0} (before : Engine A) (old : List ℕ) (after : Engine A) (new piece : List ℕ) : Type 0 where
+  pub moves : (p : Progress A) → IsAt before old p → (q : Progress A) × IsAt after new q × Continues p q piece
+
+-- however far the engine had come, all is written, and the end is that of the last session
+pub record Finishes {A : Type 0} (before : Engine A) (old : List ℕ) (end : ScriptEnd A) (new : List ℕ) : Type 0 where
+  pub ends : (p : Progress A) → IsAt before old p → (new ≡ total true p []) × Stands end (last true p [])

@@ -1,0 +1,13 @@
+pub mod NumberInside
+pub mod Numbers
+pub mod Words
+pub mod Commands
+pub mod Texts
+pub mod Sessions
+pub mod Replies
+pub mod Answered
+pub mod Answering
+pub mod Lines
+pub mod Held
+pub mod Sent
+pub mod Runs

@@ -1,0 +1,58 @@
+-- What a run of a script over a reader and a writer leaves.
+use Rattle.std.specs.Prelude.{◌≡◌, ℕ, true, List, [], ◌++◌, ◌<◌, ◌≤◌, length, take, Option, IfSome, Result, Ok, Err}
+use Rattle.std.specs.Io.KnownBytes.{Appends, Consumes, IsAtEnd}
+use Rattle.ordup_script.specs.declared.script_end.ScriptEnd.{ScriptEnd}
+use Rattle.ordup_script.specs.declared.engine.Engine.{Engine}
+use Rattle.ordup_script.specs.declared.stream.ScriptFault.{ScriptFault}
+use Rattle.ordup_script.specs.declared.stream.ScriptFault.TheVariants as fault
+use Rattle.ordup_script.specs.Sessions.{Session, Stands, first_session}
+use Rattle.ordup_script.specs.Lines.{Progress, after_lines, lines_of, out, out_of_ended, total}
+use Rattle.ordup_script.specs.Held.{Feeds, Finishes, IsAt}
+use Rattle.ordup_script.specs.Sent.{AppendsFront}
+
+-- the writer grew by a front of what is written for every script that goes on from here
+abbrev pub Partial : Option (List ℕ) → Option (List ℕ) → (List ℕ → List ℕ) → Type 0
+Partial old new whole = (front : List ℕ) × Appends old new front × ((rest : List ℕ) → (back : List ℕ) × (whole rest ≡ front ++ back))
+
+-- however far the engine had come, the writer grew by a front of what is written from there on
+pub record PartlyFeeds {A : Type 0} (old new : Option (List ℕ)) (before : Engine A) (piece : List ℕ) : Type 0 where
+  pub front : (p : Progress A) → IsAt before [] p → Partial old new (λ rest. total true p (piece ++ rest))
+
+-- however far the engine had come, the writer grew by a front of what is written at the script's end
+pub record PartlyFinishes {A : Type 0} (old new : Option (List ℕ)) (before : Engine A) : Type 0 where
+  pub front : (p : Progress A) → IsAt before [] p → AppendsFront old new (total true p [])
+
+-- the engine was fed a piece, and the writer grew by its answers, or by a front of them
+abbrev pub Passes : {A : Type 0} → Option (List ℕ) → Option (List ℕ) → Engine A → Engine A → List ℕ → Result (Unit {0}) ScriptFault → Type 0
+Passes old new before after piece (Ok done) = (added : List ℕ) × Appends old new added × Feeds before [] after added piece
+Passes old new before after piece (Err fault.Read) = ⊥
+Passes old new before after piece (Err fault.TooLong) = ⊥
+Passes old new before after piece (Err fault.Write) = PartlyFeeds old new before piece
+Passes old new before after piece (Err fault.NoMemory) = PartlyFeeds old new before piece
+
+-- the engine was finished, and the writer grew by its last answer, or by a front of it
+abbrev pub Closes : {A : Type 0} → Option (List ℕ) → Option (List ℕ) → Engine A → Result (ScriptEnd A) ScriptFault → Type 0
+Closes old new before (Ok end) = (added : List ℕ) × Appends old new added × Finishes before [] end added
+Closes old new before (Err fault.Read) = ⊥
+Closes old new before (Err fault.TooLong) = ⊥
+Closes old new before (Err fault.Write) = PartlyFinishes old new before
+Closes old new before (Err fault.NoMemory) = PartlyFinishes old new before
+
+-- the end is that of a run of this script
+abbrev pub EndsAfter : {A : Type 0} → ScriptEnd A → List ℕ → Type 0
+EndsAfter {A} end script = let first : Session A = first_session in Stands end (after_lines first (lines_of true script))
+
+-- what was read, and what was written for it: all of it where the run ended well; after an error of the reader, and
+-- where the script was too long, the answers to the lines that a line feed ended, within the limit; and else a front of
+-- all that is written for what the reader had
+abbrev pub Runs : {A : Type 0} → Option (List ℕ) → Option (List ℕ) → Option (List ℕ) → Option (List ℕ) → ℕ → Result (ScriptEnd A) ScriptFault → Type 0
+Runs {A} had has old new limit (Ok end) =
+    (script : List ℕ) × Consumes had has script × (length script ≤ limit) × IsAtEnd has × Appends old new (out A script) × EndsAfter end script
+Runs {A} had has old new limit (Err fault.Read) =
+    (script : List ℕ) × Consumes had has script × (length script ≤ limit) × Appends old new (out_of_ended A script)
+Runs {A} had has old new limit (Err fault.TooLong) =
+    (script : List ℕ) × Consumes had has script × (limit < length script) × Appends old new (out_of_ended A (take limit script))
+Runs {A} had has old new limit (Err fault.Write) =
+    IfSome had (λ script. AppendsFront old new (out A script))
+Runs {A} had has old new limit (Err fault.NoMemory) =
+    IfSome had (λ script. AppendsFront old new (out A script))

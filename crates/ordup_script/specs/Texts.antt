@@ -1,0 +1,47 @@
+-- The text of answers.
+use Rattle.std.specs.Prelude.{ℕ, ℤ, List, [], ◌∷◌, ◌++◌, codes}
+use Rattle.std.specs.Fmt.{decimal, signed_decimal}
+use Rattle.ordup_objects.specs.declared.refusal.Refusal.{Refusal}
+use Rattle.ordup_objects.specs.Refusals.{refusal_number, refusal_name}
+use Rattle.ordup_world.specs.declared.event.Answer.{Answer}
+use Rattle.ordup_world.specs.declared.event.Answer.TheVariants.{Proposed, Sent, Applied, Shown, Refused}
+
+-- `refused N NAME`
+abbrev pub refused_text : Refusal → List ℕ
+refused_text r = codes "refused " ++ decimal (refusal_number r) ++ 32 ∷ [] ++ refusal_name r ++ 10 ∷ []
+
+-- what was done, and a name
+abbrev pub named_text : List ℕ → List ℕ → List ℕ
+named_text done name = done ++ name ++ 10 ∷ []
+
+-- what was done, and a number
+abbrev pub done_text : List ℕ → ℕ → List ℕ
+done_text done number = done ++ decimal number ++ 10 ∷ []
+
+-- what was done, a name and a number
+abbrev pub numbered_text : List ℕ → List ℕ → ℕ → List ℕ
+numbered_text done name number = done ++ name ++ 32 ∷ [] ++ decimal number ++ 10 ∷ []
+
+-- ` X=V`
+abbrev pub value_text : List ℕ → ℤ → List ℕ
+value_text name value = 32 ∷ [] ++ name ++ 61 ∷ [] ++ signed_decimal value
+
+-- ` X=V` for each object, in order of declaration
+abbrev pub values_text : List (List ℕ × ℤ) → List ℤ → List ℕ
+values_text [] values = []
+values_text (object ∷ objects) [] = []
+values_text (object ∷ objects) (value ∷ values) = value_text object.0 value ++ values_text objects values
+
+-- `ok show S sent A applied B reported C rounds N X=V ..`
+abbrev pub shown_text : List ℕ → ℕ → ℕ → ℕ → ℕ → List (List ℕ × ℤ) → List ℤ → List ℕ
+shown_text site sent applied reported rounds objects values =
+    codes "ok show " ++ site ++ codes " sent " ++ decimal sent ++ codes " applied " ++ decimal applied ++ codes " reported " ++ decimal reported
+    ++ codes " rounds " ++ decimal rounds ++ values_text objects values ++ 10 ∷ []
+
+-- the text of an answer to an event that names this site
+abbrev pub answer_text : {A : Type 0} → List (List ℕ × ℤ) → List ℕ → Answer A → List ℕ
+answer_text objects site (Proposed number) = done_text (codes "ok proposed ") number
+answer_text objects site (Sent s number) = numbered_text (codes "ok sent ") site number
+answer_text objects site (Applied s number) = numbered_text (codes "ok applied ") site number
+answer_text objects site (Shown sent applied reported rounds values) = shown_text site sent applied reported rounds objects values
+answer_text objects site (Refused r) = refused_text r

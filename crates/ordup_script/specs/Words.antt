@@ -1,0 +1,7 @@
+-- The words of a line.
+use Rattle.std.specs.Prelude.{ℕ, not, List, length, filter, ◌==◌}
+use Rattle.std.specs.List.{slice_split}
+
+-- what stands between spaces, where there is a byte
+abbrev pub words_of : List ℕ → List (List ℕ)
+words_of line = filter (λ word. not (length word == 0)) (slice_split (λ byte. byte == 32) line)

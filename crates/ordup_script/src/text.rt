@@ -1,0 +1,191 @@
+//! The text of answers.
+ghost use Rattle.std.specs.Prelude.{◌≡◌, ◌++◌, ◌∷◌, [], OnOk, length};
+ghost use Rattle.std.specs.Fmt.{decimal, signed_decimal};
+ghost use Rattle.ordup_script.specs.Texts.{refused_text, named_text, done_text, numbered_text, value_text, values_text, shown_text, answer_text};
+
+use ordup_objects::{Name, ObjectId, ObjectTable, Refusal};
+use ordup_world::Answer;
+use std::alloc::{AllocError, Allocator};
+use std::io::Write;
+
+/// Adds a number in digits.
+fn push_number<A: Allocator + Copy>(out: &mut Vec<u8, A>, number: u64) -> Result<(), AllocError>
+    ensures { OnOk result (out.new.items ≡ out.old.items ++ decimal number) }
+{
+    match write!(out, "{number}") {
+        Ok(()) => Ok(()),
+        Err(_) => Err(AllocError),
+    }
+}
+
+/// Adds a value in digits, with a minus before one below 0.
+fn push_value<A: Allocator + Copy>(out: &mut Vec<u8, A>, value: i64) -> Result<(), AllocError>
+    ensures { OnOk result (out.new.items ≡ out.old.items ++ signed_decimal value) }
+{
+    match write!(out, "{value}") {
+        Ok(()) => Ok(()),
+        Err(_) => Err(AllocError),
+    }
+}
+
+/// Adds the answer to what was refused. Want of memory is no answer: it ends the run.
+pub(crate) fn push_refused<A: Allocator + Copy>(
+    out: &mut Vec<u8, A>,
+    refusal: Refusal,
+) -> Result<(), AllocError>
+    ensures { OnOk result ((refusal ≡ Refusal.NoMemory → ⊥) × (out.new.items ≡ out.old.items ++ refused_text refusal)) }
+{
+    let number = refusal.number();
+    if number == NO_MEMORY {
+        return Err(AllocError);
+    }
+    out.extend_from_slice(b"refused ")?;
+    push_number(out, u64::from(number))?;
+    out.push(b' ')?;
+    out.extend_from_slice(refusal.name().as_bytes())?;
+    out.push(b'\n')?;
+    Ok(())
+}
+
+/// The number of the refusal for want of memory.
+const NO_MEMORY: u8 = 26;
+
+/// Adds an answer that ends with a name.
+pub(crate) fn push_named<A: Allocator + Copy>(
+    out: &mut Vec<u8, A>,
+    done: &[u8],
+    name: &[u8],
+) -> Result<(), AllocError>
+    ensures { OnOk result (out.new.items ≡ out.old.items ++ named_text done.now name.now) }
+{
+    out.extend_from_slice(done)?;
+    out.extend_from_slice(name)?;
+    out.push(b'\n')?;
+    Ok(())
+}
+
+/// Adds an answer that ends with a name and a number.
+fn push_numbered<A: Allocator + Copy>(
+    out: &mut Vec<u8, A>,
+    done: &[u8],
+    name: &[u8],
+    number: u64,
+) -> Result<(), AllocError>
+    ensures { OnOk result (out.new.items ≡ out.old.items ++ numbered_text done.now name.now number) }
+{
+    out.extend_from_slice(done)?;
+    out.extend_from_slice(name)?;
+    out.push(b' ')?;
+    push_number(out, number)?;
+    out.push(b'\n')?;
+    Ok(())
+}
+
+/// Adds an object's name and value.
+fn push_named_value<A: Allocator + Copy>(
+    out: &mut Vec<u8, A>,
+    name: &Name,
+    value: i64,
+) -> Result<(), AllocError>
+    ensures { OnOk result (out.new.items ≡ out.old.items ++ value_text name.now value) }
+{
+    out.push(b' ')?;
+    out.extend_from_slice(name.as_bytes())?;
+    out.push(b'=')?;
+    push_value(out, value)
+}
+
+/// Adds the names and the values of all objects.
+fn push_values<A: Allocator + Copy>(
+    out: &mut Vec<u8, A>,
+    objects: &ObjectTable<A>,
+    values: &[i64],
+) -> Result<(), AllocError>
+    ensures { OnOk result (out.new.items ≡ out.old.items ++ values_text objects.now values.now) }
+{
+    for place in 0..objects.len().min(values.len()) {
+        let name = objects.name(ObjectId::new(place as u16));
+        push_named_value(out, name, values[place])?;
+    }
+    Ok(())
+}
+
+/// The numbers that a shown site has.
+#[derive(Clone, Copy)]
+struct Numbers {
+    sent: u64,
+    applied: u64,
+    reported: u64,
+    rounds: u64,
+}
+
+/// Adds the answer that shows a site.
+fn push_shown<A: Allocator + Copy>(
+    out: &mut Vec<u8, A>,
+    site: &[u8],
+    numbers: Numbers,
+    objects: &ObjectTable<A>,
+    values: &[i64],
+) -> Result<(), AllocError>
+    ensures { OnOk result (out.new.items ≡ out.old.items ++ shown_text site.now numbers.sent numbers.applied numbers.reported numbers.rounds objects.now values.now) }
+{
+    out.extend_from_slice(b"ok show ")?;
+    out.extend_from_slice(site)?;
+    out.extend_from_slice(b" sent ")?;
+    push_number(out, numbers.sent)?;
+    out.extend_from_slice(b" applied ")?;
+    push_number(out, numbers.applied)?;
+    out.extend_from_slice(b" reported ")?;
+    push_number(out, numbers.reported)?;
+    out.extend_from_slice(b" rounds ")?;
+    push_number(out, numbers.rounds)?;
+    push_values(out, objects, values)?;
+    out.push(b'\n')?;
+    Ok(())
+}
+
+/// Adds the answer to an event that names this site.
+pub(crate) fn push_answer<A: Allocator + Copy>(
+    out: &mut Vec<u8, A>,
+    site: &[u8],
+    objects: &ObjectTable<A>,
+    answer: &Answer<A>,
+) -> Result<(), AllocError>
+    ensures { OnOk result ((answer.now ≡ Answer.Refused Refusal.NoMemory → ⊥) × (out.new.items ≡ out.old.items ++ answer_text objects.now site.now answer.now)) }
+{
+    match answer {
+        Answer::Proposed(number) => push_done(out, b"ok proposed ", *number),
+        Answer::Sent { number, .. } => push_numbered(out, b"ok sent ", site, *number),
+        Answer::Applied { number, .. } => push_numbered(out, b"ok applied ", site, *number),
+        Answer::Shown {
+            sent,
+            applied,
+            reported,
+            rounds,
+            values,
+        } => {
+            let numbers = Numbers {
+                sent: *sent,
+                applied: *applied,
+                reported: *reported,
+                rounds: *rounds,
+            };
+            push_shown(out, site, numbers, objects, values.as_slice())
+        }
+        Answer::Refused(refusal) => push_refused(out, *refusal),
+    }
+}
+
+/// Adds an answer that ends with a number.
+fn push_done<A: Allocator + Copy>(
+    out: &mut Vec<u8, A>,
+    done: &[u8],
+    number: u64,
+) -> Result<(), AllocError>
+    ensures { OnOk result (out.new.items ≡ out.old.items ++ done_text done.now number) }
+{
+    out.extend_from_slice(done)?;
+    push_number(out, number)?;
+    out.push(b'\n')?;
+    Ok(())
+}

@@ -7,7 +7,6 @@ mod command_line;
 mod tests;
 
 pub use act::act;
-
 use std::alloc::{AllocError, Global};
 use std::io;
 use std::process::ExitCode;

@@ -288,7 +288,10 @@ fn scripts_are_answered_as_their_transcripts_say(rt: HostRuntime) -> Result<(), 
     for (place, transcript) in TRANSCRIPTS.iter().enumerate() {
         let (script, wanted) = parts(rt.alloc(), transcript)?;
         let ended = answers(rt.alloc(), &script);
-        assert!(rt; ended.output.as_slice() == wanted.as_slice(), "transcript {place}");
+        assert!(rt;
+            ended.output.as_slice() == wanted.as_slice(),
+            "transcript {place}"
+        );
         assert_eq!(rt; ended.status, 0, "transcript {place}");
         assert!(rt; ended.faults.is_empty(), "transcript {place}");
     }
@@ -301,7 +304,10 @@ fn short_reads_change_no_answer(rt: HostRuntime) -> Result<(), Fail> {
         let (script, wanted) = parts(rt.alloc(), transcript)?;
         for at_once in 1..4usize {
             let ended = run_with(rt.alloc(), &["ordup", "run"], &script, at_once, ALL, ALL);
-            assert!(rt; ended.output.as_slice() == wanted.as_slice(), "transcript {place} by {at_once}");
+            assert!(rt;
+                ended.output.as_slice() == wanted.as_slice(),
+                "transcript {place} by {at_once}"
+            );
         }
     }
     Ok(())
@@ -326,7 +332,10 @@ fn lines_of_4096_bytes_are_read_and_longer_ones_are_not(rt: HostRuntime) -> Resu
         script.extend_from_slice(b"\nobject x 1\n")?;
         for at_once in [1usize, 4_096, 4_097, ALL] {
             let ended = run_with(rt.alloc(), &["ordup", "run"], &script, at_once, ALL, ALL);
-            assert!(rt; ended.output.as_slice() == wanted, "{length} spaces by {at_once}");
+            assert!(rt;
+                ended.output.as_slice() == wanted,
+                "{length} spaces by {at_once}"
+            );
         }
     }
     Ok(())
@@ -341,9 +350,15 @@ fn a_writer_that_fails_has_got_a_front_of_the_answers(rt: HostRuntime) -> Result
     assert!(rt; seven.output.as_slice() == b"ok obje".as_slice());
     for room in 0..wanted.len() {
         let ended = run_with(rt.alloc(), &["ordup", "run"], &script, ALL, ALL, room);
-        assert!(rt; ended.output.as_slice() == &wanted[..room], "room for {room}");
+        assert!(rt;
+            ended.output.as_slice() == &wanted[..room],
+            "room for {room}"
+        );
         assert_eq!(rt; ended.status, 3, "room for {room}");
-        assert!(rt; ended.faults.as_slice() == b"write fault\n".as_slice(), "room for {room}");
+        assert!(rt;
+            ended.faults.as_slice() == b"write fault\n".as_slice(),
+            "room for {room}"
+        );
     }
     Ok(())
 }
@@ -356,9 +371,15 @@ fn a_reader_that_fails_leaves_the_answers_to_the_lines_that_ended(
     for (given, written) in [(0usize, 0usize), (10, 0), (11, 12), (25, 22), (26, 31)] {
         let ended = run_with(rt.alloc(), &["ordup", "run"], &script, ALL, given, ALL);
         assert!(rt; written <= wanted.len());
-        assert!(rt; ended.output.as_slice() == &wanted[..written], "after {given} bytes");
+        assert!(rt;
+            ended.output.as_slice() == &wanted[..written],
+            "after {given} bytes"
+        );
         assert_eq!(rt; ended.status, 3, "after {given} bytes");
-        assert!(rt; ended.faults.as_slice() == b"read fault\n".as_slice(), "after {given} bytes");
+        assert!(rt;
+            ended.faults.as_slice() == b"read fault\n".as_slice(),
+            "after {given} bytes"
+        );
     }
     Ok(())
 }

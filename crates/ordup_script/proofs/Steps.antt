@@ -6,7 +6,7 @@ use Rattle.std.proofs.lemmas.List.Elements.{All-append, All-take}
 use Rattle.ordup_script.specs.declared.script_end.ScriptEnd.{ScriptEnd}
 use Rattle.ordup_script.specs.declared.engine.Engine.{Engine}
 use Rattle.ordup_script.specs.Sessions.{Session, Stands}
-use Rattle.ordup_script.specs.Replies.{reply}
+use Rattle.ordup_script.specs.Replies.{reply, refused_syntax}
 use Rattle.ordup_script.specs.Answered.{Answers}
 use Rattle.ordup_script.specs.Lines.{Continues, IsPart, Progress, held_text, is_line_feed}
 use Rattle.ordup_script.specs.Held.{Feeds, Finishes, IsAt}
@@ -109,11 +109,9 @@ holds e f part kept short fits unended plain room = holds_by (nat_lt kept (lengt
 
 -- ---- the end of a line
 
--- lines that are too long are answered alike
-pub answers_alike : {A : Type 0} (before after : ScriptEnd A) (old new line : List ℕ) → 4096 < length line → Answers before old after new line
-    → (other : List ℕ) → 4096 < length other → Answers before old after new other
-answers_alike before after old new line long answers other other_long s stands =
-    subst (λ r. Stands after r.0 × (new ≡ old ++ r.1)) (reply-long s line long ∙ sym (reply-long s other other_long)) (answers s stands)
+-- a line that is too long is refused, and the store stays
+pub answers_refused : {A : Type 0} (store : ScriptEnd A) (old new line : List ℕ) → 4096 < length line → new ≡ old ++ refused_syntax → Answers store old store new line
+answers_refused store old new line long text s stands = subst (λ r. Stands store r.0 × (new ≡ old ++ r.1)) (sym (reply-long s line long)) (stands, text)
 
 -- the line that is held is answered, and nothing is held
 pub answers_held : {A : Type 0} (e f : Engine A) (old new : List ℕ) → IsPart e.line.items

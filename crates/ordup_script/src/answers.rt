@@ -14,15 +14,13 @@ ghost use Rattle.ordup_script.specs.Answering.{LeavesDeclared, LeavesRunning, Le
 use crate::command::{Command, Operation};
 use crate::number::Number;
 use crate::script_end::ScriptEnd;
+use crate::sizes::MOST_LINE_BYTES;
 use crate::text::{push_answer, push_named, push_refused};
 use crate::words::split_word;
 use ordup_objects::{Change, MessageSet, Op, Refusal, SiteId};
 use ordup_world::{Event, Setup, World};
 use std::alloc::{AllocError, Allocator};
 use std::mem;
-
-/// The most bytes of a line.
-pub(crate) const MOST_LINE_BYTES: usize = 4_096;
 
 /// Answers a line.
 #[tactic(auto, unfolding(crate::specs::Replies::reply))]
@@ -100,6 +98,7 @@ fn carry_out<A: Allocator + Copy>(
     }
 }
 
+/// Declares an object.
 fn object<A: Allocator + Copy>(
     store: &mut ScriptEnd<A>,
     name: &[u8],
@@ -114,6 +113,7 @@ fn object<A: Allocator + Copy>(
     }
 }
 
+/// Declares an object, before the start.
 fn declare_object<A: Allocator + Copy>(
     setup: &mut Setup<A>,
     name: &[u8],
@@ -128,6 +128,7 @@ fn declare_object<A: Allocator + Copy>(
     }
 }
 
+/// Declares a site.
 fn site<A: Allocator + Copy>(
     store: &mut ScriptEnd<A>,
     name: &[u8],
@@ -142,6 +143,7 @@ fn site<A: Allocator + Copy>(
     }
 }
 
+/// Declares a site, before the start.
 fn declare_site<A: Allocator + Copy>(
     setup: &mut Setup<A>,
     name: &[u8],
@@ -156,6 +158,7 @@ fn declare_site<A: Allocator + Copy>(
     }
 }
 
+/// Starts the store.
 fn start<A: Allocator + Copy>(
     alloc: A,
     store: &mut ScriptEnd<A>,
@@ -177,6 +180,7 @@ fn start<A: Allocator + Copy>(
     out.extend_from_slice(b"ok start\n")
 }
 
+/// Proposes a change.
 fn propose<A: Allocator + Copy>(
     alloc: A,
     store: &mut ScriptEnd<A>,
@@ -192,6 +196,7 @@ fn propose<A: Allocator + Copy>(
     }
 }
 
+/// Proposes a change of one object, after the start.
 fn propose_change<A: Allocator + Copy>(
     alloc: A,
     world: &mut World<A>,
@@ -234,6 +239,7 @@ pub(crate) enum AtSite {
 }
 
 impl AtSite {
+    /// The event at this site.
     fn event<A: Allocator + Copy>(self, site: SiteId) -> Event<A>
         ensures { result ≡ event_at self site }
     {
@@ -245,6 +251,7 @@ impl AtSite {
     }
 }
 
+/// Lets an event happen at a site.
 fn at_site<A: Allocator + Copy>(
     store: &mut ScriptEnd<A>,
     kind: AtSite,
@@ -259,6 +266,7 @@ fn at_site<A: Allocator + Copy>(
     }
 }
 
+/// Lets an event happen at a site, after the start.
 fn answer_at_site<A: Allocator + Copy>(
     world: &mut World<A>,
     kind: AtSite,

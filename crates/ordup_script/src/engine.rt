@@ -3,33 +3,20 @@
 ghost use Rattle.std.specs.Prelude.{◌≡◌, ℕ, List, [], ◌∷◌, ◌++◌, ◌<◌, ◌≤◌, IfOk, OnOk, true, false, vec_len, length, position};
 ghost use Rattle.ordup_script.specs.Answered.{Answers};
 ghost use Rattle.ordup_script.specs.Lines.{IsPart, held_text, is_line_feed, start};
-ghost use Rattle.ordup_script.specs.declared.engine.TheConstants.{LONGEST_LINE};
+ghost use Rattle.ordup_script.specs.declared.sizes.TheConstants.{MOST_LINE_BYTES};
 
 use crate::answers::answer_line;
 use crate::script_end::ScriptEnd;
+use crate::sizes::MOST_LINE_BYTES;
+use crate::text::push_refused;
+use ordup_objects::Refusal;
 use std::alloc::{AllocError, Allocator, Global};
-
-/// The most bytes of a line that are kept, and the most that a line may have, not counting its line feed.
-const LONGEST_LINE: usize = 4096;
 
 /// The index of the first line feed.
 fn find_line_feed(bytes: &[u8]) -> Option<usize>
     ensures { result ≡ position is_line_feed bytes.now }
 {
     bytes.iter().position(|byte| *byte == b'\n')
-}
-
-/// Answers a line that is too long, whatever its bytes are.
-fn answer_long<A: Allocator + Copy>(
-    alloc: A,
-    store: &mut ScriptEnd<A>,
-    out: &mut Vec<u8, A>,
-) -> Result<(), AllocError>
-    ensures { OnOk result ((line : List ℕ) → LONGEST_LINE < length line →
-        Answers store.old out.old.items store.new out.new.items line) }
-{
-    let line = [0u8; LONGEST_LINE + 1];
-    answer_line(alloc, store, &line, out)
 }
 
 /// Answers a line of which at most the first 4,096 bytes are held.
@@ -40,12 +27,12 @@ fn answer_held<A: Allocator + Copy>(
     is_long: bool,
     out: &mut Vec<u8, A>,
 ) -> Result<(), AllocError>
-    requires { is_long ≡ true → LONGEST_LINE ≤ length line.now }
+    requires { is_long ≡ true → MOST_LINE_BYTES ≤ length line.now }
     ensures { OnOk result (Answers store.old out.old.items store.new out.new.items
         (held_text is_long line.now)) }
 {
     if is_long {
-        answer_long(alloc, store, out)
+        push_refused(out, Refusal::Syntax)
     } else {
         answer_line(alloc, store, line, out)
     }
@@ -58,8 +45,8 @@ pub(crate) struct Engine<A: Allocator + Copy = Global> {
     line: Vec<u8, A>,
     is_long: bool,
     // What is held is no longer than a line may be, as long where the line is too long, and has no line feed.
-    ghost short: { vec_len line ≤ LONGEST_LINE },
-    ghost full: { is_long ≡ true → LONGEST_LINE ≤ vec_len line },
+    ghost short: { vec_len line ≤ MOST_LINE_BYTES },
+    ghost full: { is_long ≡ true → MOST_LINE_BYTES ≤ vec_len line },
     ghost unended: { IsPart line.items },
 }
 
@@ -85,7 +72,7 @@ impl<A: Allocator + Copy> Engine<A> {
         if self.is_long {
             return Ok(());
         }
-        let kept = part.len().min(LONGEST_LINE - self.line.len());
+        let kept = part.len().min(MOST_LINE_BYTES - self.line.len());
         self.line.extend_from_slice(&part[..kept])?;
         self.is_long = kept < part.len();
         Ok(())

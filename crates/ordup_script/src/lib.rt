@@ -8,6 +8,7 @@ mod command;
 mod engine;
 mod number;
 mod script_end;
+pub mod sizes;
 mod stream;
 mod text;
 mod words;

@@ -6,14 +6,12 @@ ghost use Rattle.ordup_script.specs.Runs.{Closes, Passes, Runs};
 
 use crate::engine::Engine;
 use crate::script_end::ScriptEnd;
+use crate::sizes::MOST_SCRIPT_BYTES;
 use std::alloc::{Allocator, Global};
 use std::io::{Read, Write};
 
 /// How many bytes of a script are read at once.
 const PIECE: usize = 65_536;
-
-/// The most bytes that a script may have.
-const LONGEST_SCRIPT: u64 = 1_073_741_824;
 
 /// Why a script was not run to its end.
 #[derive(Clone, Copy, Debug, PartialEq, Eq)]
@@ -122,7 +120,7 @@ pub fn run_script<A: Allocator + Copy, R: Read, W: Write>(
     output: &mut W,
 ) -> Result<ScriptEnd<A>, ScriptFault>
     ensures { Runs (R.remaining input.old) (R.remaining input.new)
-        (W.contents output.old) (W.contents output.new) LONGEST_SCRIPT result }
+        (W.contents output.old) (W.contents output.new) MOST_SCRIPT_BYTES result }
 {
-    run_script_within(alloc, input, output, LONGEST_SCRIPT)
+    run_script_within(alloc, input, output, MOST_SCRIPT_BYTES)
 }

@@ -112,7 +112,7 @@ fn push_values<A: Allocator + Copy>(
 
 /// The numbers that a shown site has.
 #[derive(Clone, Copy)]
-struct Numbers {
+struct SiteNumbers {
     sent: u64,
     applied: u64,
     reported: u64,
@@ -123,7 +123,7 @@ struct Numbers {
 fn push_shown<A: Allocator + Copy>(
     out: &mut Vec<u8, A>,
     site: &[u8],
-    numbers: Numbers,
+    numbers: SiteNumbers,
     objects: &ObjectTable<A>,
     values: &[i64],
 ) -> Result<(), AllocError>
@@ -164,7 +164,7 @@ pub(crate) fn push_answer<A: Allocator + Copy>(
             rounds,
             values,
         } => {
-            let numbers = Numbers {
+            let numbers = SiteNumbers {
                 sent: *sent,
                 applied: *applied,
                 reported: *reported,

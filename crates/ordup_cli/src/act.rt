@@ -5,16 +5,16 @@ use crate::command_line::{Job, command, job_of};
 use clap::Error;
 use ordup_script::{ScriptFault, run_script};
 use std::alloc::Global;
-use std::io::{Read, Write};
+use std::io::{ErrorKind, Read, Write};
 
 /// The exit status where all was done.
-pub(crate) const DONE: u8 = 0;
+const DONE: u8 = 0;
 /// The exit status where the words ask for nothing that the program does.
-pub(crate) const WRONG_WORDS: u8 = 2;
+const WRONG_WORDS: u8 = 2;
 /// The exit status where the input or the output failed.
-pub(crate) const INPUT_OR_OUTPUT_FAILED: u8 = 3;
+const INPUT_OR_OUTPUT_FAILED: u8 = 3;
 /// The exit status where there was no memory.
-pub(crate) const NO_MEMORY: u8 = 4;
+const NO_MEMORY: u8 = 4;
 
 /// Does what the words ask for, and answers the exit status.
 ///
@@ -55,6 +55,15 @@ fn run<R: Read, W: Write, E: Write>(
         Err(ScriptFault::TooLong) => tell(faults, "input too long\n", INPUT_OR_OUTPUT_FAILED),
         Err(ScriptFault::Write) => tell(faults, "write fault\n", INPUT_OR_OUTPUT_FAILED),
         Err(ScriptFault::NoMemory) => tell(faults, "no memory\n", NO_MEMORY),
+    }
+}
+
+/// Tells why the words could not be had, and answers the status: there was no memory, or one of them is no text.
+pub(crate) fn tell_lost_words<E: Write>(faults: &mut E, why: ErrorKind) -> u8 {
+    if why == ErrorKind::OutOfMemory {
+        tell(faults, "no memory\n", NO_MEMORY)
+    } else {
+        tell(faults, "an argument is no text\n", WRONG_WORDS)
     }
 }
 

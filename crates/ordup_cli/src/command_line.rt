@@ -14,7 +14,7 @@ pub(crate) fn command<'a>(alloc: Global) -> Result<Command<'a>, AllocError> {
         .about("Runs a script: answers each command that it reads")
         .after_help(RUN_HELP);
     Command::new(alloc, "ordup")
-        .about("A replicated store whose replicas may lag, but only so far")
+        .about("A replicated store of whole numbers: every site applies the updates in one order")
         .after_help(HELP)
         .subcommand_required(true)
         .subcommand(run)

@@ -7,26 +7,28 @@ mod command_line;
 mod tests;
 
 pub use act::act;
+use act::tell_lost_words;
 use std::alloc::{AllocError, Global};
-use std::io;
+use std::io::{self, ErrorKind};
 use std::process::ExitCode;
 use std::rt::Env;
 
 fn main(rt: HostRuntime) -> ExitCode {
     let alloc = rt.alloc();
-    let Ok(words) = arguments(&rt, alloc) else {
-        return ExitCode::from(act::WRONG_WORDS);
+    let mut input = rt.stdin();
+    let mut output = rt.stdout();
+    let mut faults = rt.stderr();
+    let words = match arguments(&rt, alloc) {
+        Ok(words) => words,
+        Err(error) => return ExitCode::from(tell_lost_words(&mut faults, error.kind())),
     };
     let words: Result<Vec<&str>, AllocError> = words
         .iter()
         .map(|word| word.as_str())
         .collect(alloc);
     let Ok(words) = words else {
-        return ExitCode::from(act::NO_MEMORY);
+        return ExitCode::from(tell_lost_words(&mut faults, ErrorKind::OutOfMemory));
     };
-    let mut input = rt.stdin();
-    let mut output = rt.stdout();
-    let mut faults = rt.stderr();
     ExitCode::from(act(
         alloc,
         words.as_slice(),

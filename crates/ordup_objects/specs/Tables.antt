@@ -26,12 +26,6 @@ Objects = List (List ℕ × ℤ)
 abbrev pub initial_state : Objects → State
 initial_state objects = map (λ e. e.1) objects
 
--- why a name is refused for one more entry of a table, if it is
-abbrev pub name_refusal : {V : Type 0} → List (List ℕ × V) → List ℕ → Option Refusal
-name_refusal table name =
-    if not (is_name name) then Some BadName else
-    if is_some (place_of name table) then Some NameTaken else None
-
 -- why an object is refused, if it is
 abbrev pub object_refusal : Objects → List ℕ → ℤ → Option Refusal
 object_refusal objects name initial =

@@ -18,7 +18,7 @@ use Rattle.ordup_world.specs.declared.event.Event.{Event}
 use Rattle.ordup_world.specs.declared.event.Answer.{Answer}
 use Rattle.ordup_world.specs.declared.event.Answer.TheVariants.{Refused}
 use Rattle.ordup_script.specs.Sessions.{Session, declaring, running, Declares, IsWorldOf}
-use Rattle.ordup_script.specs.Answering.{LeavesRunning, IsNearest}
+use Rattle.ordup_script.specs.Leaves.{LeavesRunning, IsNearest}
 use Rattle.ordup_script.specs.Commands as asked
 use Rattle.ordup_script.specs.Replies.{op_of, change_reply, request_reply}
 use Rattle.ordup_script.specs.declared.command.Operation.{Operation}

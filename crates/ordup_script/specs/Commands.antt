@@ -11,7 +11,7 @@ use Rattle.ordup_script.specs.declared.command.Operation.{Operation}
 use Rattle.ordup_script.specs.declared.command.Operation.TheVariants.{Add, Set}
 
 -- an object by its name, and what happens to it
-pub record Change : Type 0 where
+pub record NamedChange : Type 0 where
   pub object : List ℕ
   pub operation : Operation
 
@@ -20,13 +20,13 @@ pub data Request : Type 0 where
   object : List ℕ → ℤ → Request
   site : List ℕ → ℤ → Request
   start : Request
-  propose : Change → Request
+  propose : NamedChange → Request
   send : List ℕ → Request
   apply : List ℕ → Request
   show : List ℕ → Request
 
 -- the change that a change word stands for
-abbrev pub change : ChangeWord → Change
+abbrev pub change : ChangeWord → NamedChange
 change word = record { object = word.object.now; operation = word.operation }
 
 -- the request that a command stands for
@@ -47,14 +47,14 @@ operation_of kind number =
     else None
 
 -- the change that exactly three parts spell: a kind, an object's name and a number
-abbrev pub change_of_parts : List (List ℕ) → Option Change
+abbrev pub change_of_parts : List (List ℕ) → Option NamedChange
 change_of_parts (kind ∷ name ∷ number ∷ []) =
     if length name == 0 then None
     else option_map (λ operation. record { object = name; operation = operation }) (operation_of kind number)
 change_of_parts _ = None
 
 -- the change that a word spells, by its parts, which stand between colons
-abbrev pub change_of : List ℕ → Option Change
+abbrev pub change_of : List ℕ → Option NamedChange
 change_of word = change_of_parts (slice_split (λ byte. byte == 58) word)
 
 -- the word, where there is exactly one

@@ -6,7 +6,7 @@ pub mod Texts
 pub mod Sessions
 pub mod Replies
 pub mod Answered
-pub mod Answering
+pub mod Leaves
 pub mod Lines
 pub mod Held
 pub mod Sent

@@ -9,7 +9,7 @@ ghost use Rattle.ordup_script.specs.Words.{words_of};
 ghost use Rattle.ordup_script.specs.Sessions.{Session, Stands};
 ghost use Rattle.ordup_script.specs.Replies.{is_printed, is_comment, op_of, event_reply, site_reply, change_reply, declared_reply, running_reply, request_reply, words_reply, reply};
 ghost use Rattle.ordup_script.specs.Answered.{Answers};
-ghost use Rattle.ordup_script.specs.Answering.{LeavesDeclared, LeavesRunning, Leaves, IsNearest, event_at, asked_at};
+ghost use Rattle.ordup_script.specs.Leaves.{LeavesDeclared, LeavesRunning, Leaves, IsNearest, event_at, asked_at};
 
 use crate::command::{Command, Operation};
 use crate::number::Number;

@@ -1,7 +1,7 @@
 use Rattle.std.proofs.lemmas.Result.{on_ok_weaker}
 use Rattle.ordup_script.specs.Commands as asked
 use Rattle.ordup_script.specs.Replies.{request_reply}
-use Rattle.ordup_script.specs.Answering.{LeavesDeclared}
+use Rattle.ordup_script.specs.Leaves.{LeavesDeclared}
 use Rattle.ordup_script.proofs.AnsweringLemmas.{at_declaring}
 use Rattle.ordup_script.proofs.answers.object.Goals as goal
 

@@ -3,7 +3,7 @@ use Rattle.std.proofs.lemmas.Result.{on_ok_weaker}
 use Rattle.ordup_world.specs.Declarations.{start_refusal}
 use Rattle.ordup_script.specs.Commands as asked
 use Rattle.ordup_script.specs.Replies.{request_reply}
-use Rattle.ordup_script.specs.Answering.{LeavesRunning}
+use Rattle.ordup_script.specs.Leaves.{LeavesRunning}
 use Rattle.ordup_script.proofs.AnsweringLemmas.{added_where_ok, at_declaring, started}
 use Rattle.ordup_script.proofs.answers.start.Goals as goal
 

@@ -1,0 +1,78 @@
+-- Limits and spans.
+use Rattle.std.proofs.Common.{◌≡◌, ℕ, ℤ, zero, suc, take, get_or, ◌-◌, ◌+◌, ◌<◌, ◌≤◌, true, false, not, List, [], ◌∷◌, ◌++◌, length, Some, None, arith, refl, sym, ◌∙◌, inl, inr}
+use Rattle.std.specs.Prelude.{nat_lt, IsTrue}
+use Rattle.std.specs.List.{position_or_len}
+use Rattle.std.proofs.lemmas.Bool.{lt-ltb, le-leb, leb-true, and_parts, le-ltb, false≢true, cases_lt}
+use Rattle.std.proofs.lemmas.List.Folds.{list_all_at, list_all_more}
+use Rattle.ordup_objects.specs.declared.change.Change.{Change}
+use Rattle.ordup_objects.specs.Serial.{History}
+use Rattle.ordup_log.specs.Groups.{GroupList}
+use Rattle.ordup_log.specs.Spans.{span}
+use Rattle.ordup_log.proofs.SpanLemmas.{span-inner, span-append}
+use Rattle.ordup_limits.specs.declared.limit.Limit.{Limit}
+use Rattle.ordup_limits.specs.Limits.{Limits, keeps, within, first_passed}
+
+-- an empty span weighs nothing, so it keeps each limit
+pub within-empty : (h : History) (groups : GroupList) (limits : Limits) (a b : ℕ) → b ≤ a → within h groups limits a b ≡ true
+within-empty h groups [] a b le = refl
+within-empty h groups (limit ∷ limits) a b le =
+    let none : b - a ≡ 0 = omega arith in
+    let rest : within h groups limits a b ≡ true = within-empty h groups limits a b le in
+    rw (none, le-leb 0 limit.amount (omega arith), rest) refl
+
+none_passed : (h : History) (groups : GroupList) (limits : Limits) (a b : ℕ) → within h groups limits a b ≡ true → length limits ≤ position_or_len (λ limit. not (keeps h groups a b limit)) limits
+none_passed h groups [] a b is = omega arith
+none_passed h groups (limit ∷ limits) a b is =
+    let both : keeps h groups a b limit ≡ true × within h groups limits a b ≡ true = and_parts _ _ is in
+    rw both.0 (omega (arith, none_passed h groups limits a b both.1))
+
+-- where a span keeps each limit, it passes none first
+pub first_passed-within : (h : History) (groups : GroupList) (limits : Limits) (a b : ℕ) → within h groups limits a b ≡ true → None ≡ first_passed h groups limits a b
+first_passed-within h groups limits a b is =
+    rw (le-ltb (position_or_len (λ limit. not (keeps h groups a b limit)) limits) (length limits) (none_passed h groups limits a b is)) refl
+
+-- the first limit that is not kept, after such that are
+passed_at : (h : History) (groups : GroupList) (limits : Limits) (a b i : ℕ) (d : Limit) → i < length limits → within h groups (take i limits) a b ≡ true → keeps h groups a b (get_or limits i d) ≡ false
+    → position_or_len (λ limit. not (keeps h groups a b limit)) limits ≡ i
+passed_at h groups [] a b i d lt before over = absurd (omega arith)
+passed_at h groups (limit ∷ limits) a b zero d lt before over = rw over refl
+passed_at h groups (limit ∷ limits) a b (suc i) d lt before over =
+    let both : keeps h groups a b limit ≡ true × within h groups (take i limits) a b ≡ true = and_parts _ _ before in
+    rw both.0 (omega (arith, passed_at h groups limits a b i d (omega arith) both.1 over))
+
+-- it is the first that the span passes
+pub first_passed-at : (h : History) (groups : GroupList) (limits : Limits) (a b i : ℕ) (d : Limit) → i < length limits → within h groups (take i limits) a b ≡ true → keeps h groups a b (get_or limits i d) ≡ false
+    → Some i ≡ first_passed h groups limits a b
+first_passed-at h groups limits a b i d lt before over =
+    let at = passed_at h groups limits a b i d lt before over in
+    let here : nat_lt (position_or_len (λ limit. not (keeps h groups a b limit)) limits) (length limits) ≡ true = rw at (lt-ltb i (length limits) lt) in
+    rw (here, at) refl
+
+-- so the span does not keep all
+pub passed-not_within : (h : History) (groups : GroupList) (limits : Limits) (a b i : ℕ) (d : Limit) → i < length limits → keeps h groups a b (get_or limits i d) ≡ false
+    → (true ≡ false → IsTrue (within h groups limits a b)) × (IsTrue (within h groups limits a b) → true ≡ false)
+passed-not_within h groups limits a b i d lt over =
+    let not_all : within h groups limits a b ≡ false = list_all_at (keeps h groups a b) limits i d lt over in
+    (λ e. absurd (false≢true (sym e)), λ is. sym is ∙ not_all)
+
+-- one limit more that is kept
+pub within-more : (h : History) (groups : GroupList) (limits : Limits) (a b i : ℕ) (d : Limit) → i < length limits → within h groups (take i limits) a b ≡ true → keeps h groups a b (get_or limits i d) ≡ true
+    → within h groups (take (i + 1) limits) a b ≡ true
+within-more h groups limits a b i d lt before here = rw (list_all_more (keeps h groups a b) limits i d lt, before, here) refl
+
+-- the limits that an inner span passes, the outer one passes too
+pub within-inner : (h : History) (groups : GroupList) (limits : Limits) (a b c d : ℕ) → a ≤ b → c ≤ d → within h groups limits a d ≡ true → within h groups limits b c ≡ true
+within-inner h groups [] a b c d below above is = refl
+within-inner h groups (limit ∷ limits) a b c d below above is =
+    let both : keeps h groups a d limit ≡ true × within h groups limits a d ≡ true = and_parts _ _ is in
+    let first : keeps h groups b c limit ≡ true = le-leb (span h groups limit.scope b c) limit.amount (omega (arith, span-inner h groups limit.scope a b c d below above, leb-true (span h groups limit.scope a d) limit.amount both.0)) in
+    rw (first, within-inner h groups limits a b c d below above both.1) refl
+
+-- updates that are added later leave it as it was
+pub within-append : (start : List ℤ) (sets more : List (List Change)) (groups : GroupList) (limits : Limits) (a b : ℕ) → b ≤ length sets
+    → within (record { start = start; sets = sets ++ more }) groups limits a b ≡ within (record { start = start; sets = sets }) groups limits a b
+within-append start sets more groups [] a b le = refl
+within-append start sets more groups (limit ∷ limits) a b le = elim (cases_lt a b) [
+  | inl lt ↦ rw (span-append start sets more groups limit.scope a b (omega arith) le, within-append start sets more groups limits a b le) refl
+  | inr ge ↦ (let none : b - a ≡ 0 = omega arith in rw (none, within-append start sets more groups limits a b le) refl)
+]

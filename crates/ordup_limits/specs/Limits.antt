@@ -1,0 +1,58 @@
+-- Limits, and which of them a span passes.
+use Rattle.std.specs.Prelude.{ℕ, ◌==◌, not, if◌then◌else◌, Option, Some, None, Bool, true, false, List, length, nat_lt, nat_le, All}
+use Rattle.std.specs.List.{list_all, list_any, position}
+use Rattle.std.specs.Option.{option_or}
+use Rattle.ordup_objects.specs.declared.refusal.Refusal.{Refusal}
+use Rattle.ordup_objects.specs.declared.refusal.Refusal.TheVariants.{UnknownObject, UnknownGroup, OutOfRange, TooMany, Repeated}
+use Rattle.ordup_objects.specs.Serial.{History}
+use Rattle.ordup_log.specs.Groups.{GroupList}
+use Rattle.ordup_log.specs.Spans.{span, IsScopeOver}
+use Rattle.ordup_limits.specs.declared.limit.Limit.{Limit}
+use Rattle.ordup_log.specs.declared.scope.Scope.{Scope}
+use Rattle.ordup_log.specs.declared.scope.Scope.TheVariants.{Object, Group, All as Everything, Count}
+
+-- the limits of a site in order of declaration
+abbrev pub Limits : Type 0
+Limits = List Limit
+
+-- a span keeps a limit where it weighs no more than the amount
+abbrev pub keeps : History → GroupList → ℕ → ℕ → Limit → Bool
+keeps h groups a b limit = nat_le (span h groups limit.scope a b) limit.amount
+
+-- the span from a to b passes no limit
+abbrev pub within : History → GroupList → Limits → ℕ → ℕ → Bool
+within h groups limits a b = list_all (keeps h groups a b) limits
+
+-- the place of the first limit that the span from a to b passes
+abbrev pub first_passed : History → GroupList → Limits → ℕ → ℕ → Option ℕ
+first_passed h groups limits a b = position (λ limit. not (keeps h groups a b limit)) limits
+
+-- why a scope over n objects and these groups is refused, if it is
+abbrev pub scope_refusal : ℕ → GroupList → Scope → Option Refusal
+scope_refusal n groups (Object x) = if nat_lt x n then None else Some UnknownObject
+scope_refusal n groups (Group g) = if nat_lt g (length groups) then None else Some UnknownGroup
+scope_refusal n groups Everything = None
+scope_refusal n groups Count = None
+
+-- two scopes are one
+abbrev pub is_same_scope : Scope → Scope → Bool
+is_same_scope (Object x) (Object y) = x == y
+is_same_scope (Group g) (Group h) = g == h
+is_same_scope Everything Everything = true
+is_same_scope Count Count = true
+is_same_scope _ _ = false
+
+-- why an amount on a scope is refused beside these limits, if it is
+abbrev pub amount_refusal : Limits → Scope → ℕ → Option Refusal
+amount_refusal limits scope amount =
+    if nat_lt 1000000000000000000 amount then Some OutOfRange else
+    if length limits == 64 then Some TooMany else
+    if list_any (λ limit. is_same_scope limit.scope scope) limits then Some Repeated else None
+
+-- why a limit is refused beside these, if it is
+abbrev pub limit_refusal : ℕ → GroupList → Limits → Scope → ℕ → Option Refusal
+limit_refusal n groups limits scope amount = option_or (scope_refusal n groups scope) (amount_refusal limits scope amount)
+
+-- the objects and groups of the limits are there
+abbrev pub AreLimitsOver : ℕ → GroupList → Limits → Type 0
+AreLimitsOver n groups limits = All (λ limit. IsScopeOver n groups limit.scope) limits

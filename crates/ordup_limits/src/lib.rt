@@ -1,0 +1,12 @@
+//! Limits on the weight of the updates by which a site may lag.
+//!
+//! The one contract above this layer: which limit a span passes first, in order of declaration.
+#![tactic(auto)]
+
+mod limit;
+mod limit_table;
+pub mod sizes;
+
+pub use limit::Limit;
+pub use limit_table::{LimitTable, check_scope};
+pub use ordup_log::{GroupId, Groups, Scope};

@@ -1,0 +1,180 @@
+ghost use Rattle.std.specs.Prelude.{◌≡◌, ◌≤◌, ◌<◌, ◌↔◌, ◌++◌, ◌∷◌, [], ℕ, None, Some, IfOk, IfErr, IsTrue, IsNone, OnOk, length, slice_get};
+ghost use Rattle.std.specs.List.{list_any};
+ghost use Rattle.ordup_objects.specs.Refusals.{IsRefusal};
+ghost use Rattle.ordup_log.specs.Spans.{span, IsScopeOver};
+ghost use Rattle.ordup_limits.specs.Limits.{scope_refusal, limit_refusal, is_same_scope, keeps, within, first_passed, AreLimitsOver};
+
+use crate::limit::Limit;
+use crate::sizes::{GREATEST_AMOUNT, MOST_LIMITS};
+use ordup_log::{Groups, Log, Scope};
+use ordup_objects::{ObjectTable, Refusal};
+use std::alloc::{Allocator, Global};
+use std::marker::Model;
+
+/// The limits of a site in order of declaration: at most 64, each on a scope of its own.
+///
+/// A limit is a scope and an amount, in the unit of the values, or in updates where the scope is `Count`. A span passes the
+/// limit where it weighs more than the amount; equal is not over.
+#[derive(Debug, Drop)]
+pub struct LimitTable<A: Allocator + Copy = Global> {
+    limits: Vec<Limit, A>,
+}
+
+impl<A: Allocator + Copy> Model for LimitTable<A> {
+    ghost use Rattle.std.specs.Prelude.{List, ℕ, ◌≤◌, length};
+    ghost use Rattle.ordup_limits.specs.declared.limit.Limit.{Limit};
+
+    ghost Value = { List Limit };
+
+    ghost view = { λ t. t.limits.items };
+
+    ghost invariant = { λ t. length t.limits.items ≤ 64 };
+}
+
+impl<A: Allocator + Copy> LimitTable<A> {
+    /// No limits yet. It takes no memory.
+    pub fn new(alloc: A) -> Self
+        ensures { result ≡ [] }
+    {
+        LimitTable {
+            limits: Vec::new(alloc),
+        }
+    }
+
+    /// Adds a limit, whose amount lies from 0 to 10^18.
+    ///
+    /// It is refused `UnknownObject` or `UnknownGroup` where the scope's is not there, `OutOfRange` for the amount, `TooMany`
+    /// for a 65th limit, `Repeated` where the scope has a limit, and `NoMemory`.
+    pub fn add(
+        &mut self,
+        objects: &ObjectTable<A>,
+        groups: &Groups<A>,
+        scope: Scope,
+        amount: u64,
+    ) -> Result<(), Refusal>
+        ensures known { OnOk result (IsScopeOver (length objects.now) groups.now scope) }
+        ensures added { OnOk result (self.new ≡ self.old ++ (record { scope = scope; amount = amount }) ∷ []) }
+        ensures allowed { OnOk result (limit_refusal (length objects.now) groups.now self.old scope amount ≡ None) }
+        ensures refused { IfErr result (λ e. IsRefusal (limit_refusal (length objects.now) groups.now self.old scope amount) e) }
+        ensures err { IfErr result (λ _. self.new ≡ self.old) }
+    {
+        let limit = Limit { scope, amount };
+        check_scope(objects, groups, limit.scope)?;
+        if amount > GREATEST_AMOUNT {
+            return Err(Refusal::OutOfRange);
+        }
+        if self.limits.len() == MOST_LIMITS {
+            return Err(Refusal::TooMany);
+        }
+        if has_scope(self.limits.as_slice(), limit.scope) {
+            return Err(Refusal::Repeated);
+        }
+        match self.limits.push(limit) {
+            Ok(()) => Ok(()),
+            Err(_) => Err(Refusal::NoMemory),
+        }
+    }
+
+    /// How many limits there are, at most 64.
+    pub fn len(&self) -> usize
+        ensures len { result ≡ length self.now }
+        ensures few { length self.now ≤ 64 }
+    {
+        self.limits.len()
+    }
+
+    /// The scope and the amount of a limit, by its place in the order of declaration.
+    pub fn get(&self, place: usize) -> (Scope, u64)
+        requires { place < length self.now }
+        ensures { slice_get self.now place ≡ Some (record { scope = result.0; amount = result.1 }) }
+    {
+        let limit = self.limits[place];
+        (limit.scope, limit.amount)
+    }
+
+    /// The place of the first limit that the span from a place of the log to another passes, if it passes one.
+    ///
+    /// Where the first place is not before the second the span is empty, and passes none.
+    pub fn over(&self, log: &Log<A>, groups: &Groups<A>, from: u64, to: u64) -> Option<usize>
+        requires last { to ≤ length log.now.sets }
+        requires known { AreLimitsOver (length log.now.start) groups.now self.now }
+        ensures over { result ≡ first_passed log.now groups.now self.now from to }
+        ensures within { IsNone result ↔ IsTrue (within log.now groups.now self.now from to) }
+    {
+        if from >= to {
+            return None;
+        }
+        first_passed(self.limits.as_slice(), log, groups, from, to)
+    }
+}
+
+/// The place of the first of these limits that the span passes.
+fn first_passed<A: Allocator + Copy>(
+    limits: &[Limit],
+    log: &Log<A>,
+    groups: &Groups<A>,
+    from: u64,
+    to: u64,
+) -> Option<usize>
+    requires forward { from ≤ to }
+    requires last { to ≤ length log.now.sets }
+    requires known { AreLimitsOver (length log.now.start) groups.now limits.now }
+    ensures over { result ≡ first_passed log.now groups.now limits.now from to }
+    ensures within { IsNone result ↔ IsTrue (within log.now groups.now limits.now from to) }
+{
+    for (place, limit) in limits.iter().enumerate() {
+        if !keeps(log, groups, from, to, *limit) {
+            return Some(place);
+        }
+    }
+    None
+}
+
+/// Whether the span from a place to a later one keeps a limit.
+fn keeps<A: Allocator + Copy>(
+    log: &Log<A>,
+    groups: &Groups<A>,
+    from: u64,
+    to: u64,
+    limit: Limit,
+) -> bool
+    requires forward { from ≤ to }
+    requires last { to ≤ length log.now.sets }
+    requires known { IsScopeOver (length log.now.start) groups.now limit.scope }
+    ensures { result ≡ keeps log.now groups.now from to limit }
+{
+    log.span(limit.scope, groups, from, to) <= limit.amount
+}
+
+/// Tests that the object or group of a scope is there. It is refused `UnknownObject` or `UnknownGroup` where it is not.
+pub fn check_scope<A: Allocator + Copy>(
+    objects: &ObjectTable<A>,
+    groups: &Groups<A>,
+    scope: Scope,
+) -> Result<(), Refusal>
+    ensures known { OnOk result (IsScopeOver (length objects.now) groups.now scope) }
+    ensures allowed { OnOk result (scope_refusal (length objects.now) groups.now scope ≡ None) }
+    ensures refused { IfErr result (λ e. scope_refusal (length objects.now) groups.now scope ≡ Some e) }
+{
+    match scope {
+        Scope::Object(object) => {
+            if object.index() >= objects.len() {
+                return Err(Refusal::UnknownObject);
+            }
+        }
+        Scope::Group(group) => {
+            if group.index() >= groups.len() {
+                return Err(Refusal::UnknownGroup);
+            }
+        }
+        Scope::All => {}
+        Scope::Count => {}
+    }
+    Ok(())
+}
+
+fn has_scope(limits: &[Limit], scope: Scope) -> bool
+    ensures { result ≡ list_any (λ l. is_same_scope l.scope scope) limits.now }
+{
+    limits.iter().any(|l| l.scope == scope)
+}

@@ -1,0 +1,4 @@
+pub mod DecisionLemmas
+pub mod SettlingLemmas
+pub mod PrimaryLemmas
+pub mod SetupLemmas

@@ -1,0 +1,59 @@
+-- Lists of the numbers for which a test passes, and rounds.
+use Rattle.std.proofs.Common.{◌≡◌, ℕ, zero, suc, ◌+◌, ◌<◌, ◌≤◌, ◌==◌, Bool, true, false, [], ◌∷◌, ◌++◌, length, arith, refl, sym, ap, ◌∙◌, inl, inr}
+use Rattle.std.specs.Prelude.{◌||◌, if◌then◌else◌}
+use Rattle.std.specs.List.{list_any}
+use Rattle.std.proofs.lemmas.Bool.{cases_Bool, cases_lt, ne_eqb, eq-eqb}
+use Rattle.std.proofs.lemmas.List.{length_push}
+use Rattle.std.proofs.lemmas.List.Folds.{list_any-append}
+use Rattle.ordup_primary.specs.Settling.{where_below, rounds_upto}
+
+-- one number more
+pub where_below-more : (test : ℕ → Bool) (n : ℕ) → where_below test (n + 1) ≡ (if test n then where_below test n ++ n ∷ [] else where_below test n)
+where_below-more test n = let e : n + 1 ≡ suc n = omega arith in rw e refl
+
+-- where none is listed, the test passes for none
+pub where_below-none : (test : ℕ → Bool) (n s : ℕ) → s < n → where_below test n ≡ [] → test s ≡ false
+where_below-none test zero s lt e = absurd (omega arith)
+where_below-none test (suc n) s lt e = elim (cases_Bool (test n)) [
+  | inl passes ↦ absurd (let more : where_below test n ++ n ∷ [] ≡ [] = rw passes at e in omega (arith, ap length more, length_push (where_below test n) n))
+  | inr fails ↦ elim (cases_lt s n) [
+    | inl before ↦ where_below-none test n s before (rw fails at e)
+    | inr past ↦ (let here : s ≡ n = omega arith in ap test here ∙ fails)
+  ]
+]
+
+or_false : (b : Bool) → (b || false) ≡ b
+or_false true = refl
+or_false false = refl
+
+-- no number from n on is listed
+not_listed : (test : ℕ → Bool) (n s : ℕ) → n ≤ s → list_any (λ t. t == s) (where_below test n) ≡ false
+not_listed test zero s le = refl
+not_listed test (suc n) s le = elim (cases_Bool (test n)) [
+  | inl passes ↦ rw (passes, list_any-append, not_listed test n s (omega arith), ne_eqb n s (omega arith)) refl
+  | inr fails ↦ rw fails (not_listed test n s (omega arith))
+]
+
+-- a number below n is listed where the test passes for it
+pub where_below-listed : (test : ℕ → Bool) (n s : ℕ) → s < n → list_any (λ t. t == s) (where_below test n) ≡ test s
+where_below-listed test zero s lt = absurd (omega arith)
+where_below-listed test (suc n) s lt = elim (cases_lt s n) [
+  | inl before ↦ elim (cases_Bool (test n)) [
+    | inl passes ↦ rw (passes, list_any-append, where_below-listed test n s before, ne_eqb n s (omega arith)) (or_false (test s))
+    | inr fails ↦ rw fails (where_below-listed test n s before)
+  ]
+  | inr past ↦ (let here : s ≡ n = omega arith in elim (cases_Bool (test n)) [
+    | inl passes ↦ rw (passes, list_any-append, not_listed test n s (omega arith), eq-eqb n s (sym here), here, passes) refl
+    | inr fails ↦ rw fails (not_listed test n s (omega arith) ∙ sym (ap test here ∙ fails))
+  ])
+]
+
+-- tests that agree below n list the same
+pub where_below-same : (p q : ℕ → Bool) (n : ℕ) → ((s : ℕ) → s < n → p s ≡ q s) → where_below p n ≡ where_below q n
+where_below-same p q zero same = refl
+where_below-same p q (suc n) same = rw (same n (omega arith), where_below-same p q n (λ s lt. same s (omega arith))) refl
+
+-- tests that agree up to d give the same rounds
+pub rounds_upto-same : (v w : ℕ → ℕ → Bool) (f g : ℕ → ℕ) (d : ℕ) → ((k : ℕ) → 0 < k → k ≤ d → v (f k) k ≡ w (g k) k) → rounds_upto v f d ≡ rounds_upto w g d
+rounds_upto-same v w f g zero same = refl
+rounds_upto-same v w f g (suc d) same = rw (same (suc d) (omega arith) (omega arith), rounds_upto-same v w f g d (λ k some le. same k some (omega arith))) refl

@@ -1,0 +1,23 @@
+use Rattle.std.proofs.Common.{arith, refl, ap, ◌+◌}
+use Rattle.ordup_primary.specs.Primaries.{SiteProgress, PrimaryState}
+use Rattle.ordup_primary.specs.PrimaryInside.{state_of}
+use Rattle.ordup_primary.proofs.PrimaryLemmas.{view_at, view-set, sent_more, IsPrimary-sent}
+use Rattle.ordup_primary.proofs.primary.Primary.mark_sent.Goals as goal
+
+pub overflow_add-index_mut : goal.overflow_add-index_mut
+overflow_add-index_mut g c =
+    let lt = rw (← c.self.view_is) at c.requires.site in
+    let e = view_at c.self.inside c.index.result c.args.site c.index_mut.result.now c.index.ensures lt c.index_mut.ensures.value in
+    omega (arith, ap (λ (site : SiteProgress). site.sent) e, rw (← c.self.view_is) at c.requires.unsent, c.self.invariant.few)
+
+pub invariant_of-self : goal.invariant_of-self
+invariant_of-self g c =
+    let lt = rw (← c.self.view_is) at c.requires.site in
+    let e = view-set c.self.inside c.index.result c.args.site c.index_mut.result.now (record c.index_mut.result.now { sent = c.index_mut.result.now.sent + 1 }) sent_more c.index.ensures lt c.index_mut.ensures.value refl in
+    IsPrimary-sent c.self.inside _ c.args.site c.self.invariant lt (rw (← c.self.view_is) at c.requires.unsent) e
+
+pub returns : goal.returns
+returns g c =
+    let lt = rw (← c.self.view_is) at c.requires.site in
+    let e = view-set c.self.inside c.index.result c.args.site c.index_mut.result.now (record c.index_mut.result.now { sent = c.index_mut.result.now.sent + 1 }) sent_more c.index.ensures lt c.index_mut.ensures.value refl in
+    rw (← c.self.view_is) (ap (λ sites. let p : PrimaryState = record (state_of c.self.inside) { sites = sites } in p) e)

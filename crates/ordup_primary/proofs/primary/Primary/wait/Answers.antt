@@ -1,0 +1,9 @@
+use Rattle.std.proofs.Common.{◌∙◌}
+use Rattle.ordup_primary.specs.PrimaryInside.{state_of}
+use Rattle.ordup_primary.proofs.PrimaryLemmas.{IsPrimary-acked, nil-from_empty}
+use Rattle.ordup_primary.proofs.primary.Primary.wait.Goals as goal
+
+pub invariant_of-self : goal.invariant_of-self
+invariant_of-self g c =
+    let waiting = c.as_slice.ensures ∙ rw (← c.self.view_is) at c.in_ok-waiting.ensures.sites in
+    IsPrimary-acked (state_of c.self.inside) c.as_slice.result.now c.args.head c.self.invariant (rw (← c.self.view_is) at c.requires.later) (rw (← c.self.view_is) at c.requires.head) waiting (nil-from_empty c.as_slice.result.now c.if-is_empty.ensures)

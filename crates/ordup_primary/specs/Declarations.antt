@@ -1,0 +1,57 @@
+-- What is declared before a store starts.
+use Rattle.std.specs.Prelude.{◌≡◌, ℕ, ℤ, ◌≤◌, ◌==◌, ◌&&◌, ◌||◌, not, if◌then◌else◌, Option, Some, None, Bool, List, [], length, nat_lt, is_some, slice_index_or, All}
+use Rattle.std.specs.Option.{option_or}
+use Rattle.ordup_objects.specs.declared.refusal.Refusal.{Refusal}
+use Rattle.ordup_objects.specs.declared.refusal.Refusal.TheVariants.{BadName, NameTaken, UnknownSite, OutOfRange, TooMany, Empty}
+use Rattle.ordup_objects.specs.Names.{is_name}
+use Rattle.ordup_objects.specs.Tables.{place_of}
+use Rattle.ordup_log.specs.declared.scope.Scope.{Scope}
+use Rattle.ordup_limits.specs.Limits.{Limits, scope_refusal, amount_refusal, AreLimitsOver}
+
+-- the objects with their initial values, the groups with their members, the sites with the capacities of their feeds, and the limits of each site, in order of declaration
+pub record Declared : Type 0 where
+  pub objects : List (List ℕ × ℤ)
+  pub groups : List (List ℕ × List ℕ)
+  pub sites : List (List ℕ × ℕ)
+  pub limits : List Limits
+
+-- the capacity of a site's feed
+abbrev pub capacity_of : Declared → ℕ → ℕ
+capacity_of d s = (slice_index_or d.sites s ([], 0)).1
+
+-- the limits of a site
+abbrev pub limits_of : Declared → ℕ → Limits
+limits_of d s = slice_index_or d.limits s []
+
+-- each feed has room for an update
+abbrev pub AreCapacities : List (List ℕ × ℕ) → Type 0
+AreCapacities sites = All (λ e. 1 ≤ e.1) sites
+
+-- at least one object and one site
+abbrev pub is_ready : Declared → Bool
+is_ready d = nat_lt 0 (length d.objects) && nat_lt 0 (length d.sites)
+
+-- why a start is refused, if it is
+abbrev pub start_refusal : Declared → Option Refusal
+start_refusal d = if not (is_ready d) then Some Empty else None
+
+-- why a site is refused, if it is
+abbrev pub site_refusal : List (List ℕ × ℕ) → List ℕ → ℕ → Option Refusal
+site_refusal sites name capacity =
+    if not (is_name name) then Some BadName else
+    if is_some (place_of name sites) then Some NameTaken else
+    if capacity == 0 || nat_lt 1024 capacity then Some OutOfRange else
+    if length sites == 16 then Some TooMany else None
+
+-- why a limit of a site is refused, if it is
+abbrev pub site_limit_refusal : Declared → ℕ → Scope → ℕ → Option Refusal
+site_limit_refusal d s scope amount =
+    option_or (scope_refusal (length d.objects) d.groups scope) (
+    if not (nat_lt s (length d.sites)) then Some UnknownSite else amount_refusal (limits_of d s) scope amount)
+
+-- what the declarations keep: each site has its limits, and their objects and groups are there
+pub record AreDeclared (d : Declared) : Type 0 where
+  pub few : length d.sites ≤ 16
+  pub capacities : AreCapacities d.sites
+  pub count : length d.limits ≡ length d.sites
+  pub known : All (AreLimitsOver (length d.objects) d.groups) d.limits

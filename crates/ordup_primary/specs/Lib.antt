@@ -1,0 +1,4 @@
+pub mod Declarations
+pub mod Settling
+pub mod Primaries
+pub mod PrimaryInside

@@ -1,0 +1,113 @@
+-- What a primary holds, and what a settlement makes of it.
+use Rattle.std.specs.Prelude.{◌≡◌, ℕ, ◌+◌, ◌-◌, ◌<◌, ◌≤◌, ◌==◌, Bool, true, if◌then◌else◌, Option, Some, None, List, [], ◌∷◌, ◌++◌, length, slice_index_or}
+use Rattle.ordup_objects.specs.declared.refusal.Refusal.{Refusal}
+use Rattle.ordup_objects.specs.declared.refusal.Refusal.TheVariants.{NothingToSend, NothingToSettle}
+use Rattle.ordup_objects.specs.Tables.{initial_state}
+use Rattle.ordup_objects.specs.Serial.{History, IsLegal}
+use Rattle.ordup_limits.specs.Limits.{within}
+use Rattle.ordup_primary.specs.Declarations.{Declared, limits_of, is_ready}
+use Rattle.ordup_primary.specs.Settling.{forced_sites, waiting_sites, rounds_upto}
+use Rattle.ordup_primary.specs.declared.settled.Settled.{Settled}
+use Rattle.ordup_primary.specs.declared.settled.Settled.TheVariants.{Acked, Round, Waiting}
+
+-- what the primary knows of a site: how many updates were sent to it, how many it last reported, what it had reported at the decision of each place, and its rounds
+pub record SiteProgress : Type 0 where
+  pub sent : ℕ
+  pub reported : ℕ
+  pub reports : List ℕ
+  pub rounds : List ℕ
+
+-- the declarations, the log, how many updates are acknowledged and how many are decided, and the sites in order of declaration
+pub record PrimaryState : Type 0 where
+  pub setup : Declared
+  pub log : History
+  pub acked : ℕ
+  pub decided : ℕ
+  pub sites : List SiteProgress
+
+-- a site at the start
+abbrev pub first_progress : SiteProgress
+first_progress = record { sent = 0; reported = 0; reports = []; rounds = [] }
+
+abbrev pub progress_at : PrimaryState → ℕ → SiteProgress
+progress_at p s = slice_index_or p.sites s first_progress
+
+-- what a site had reported at the decision of place k
+abbrev pub reported_at : SiteProgress → ℕ → ℕ
+reported_at site k = slice_index_or site.reports (k - 1) 0
+
+-- the span from a to b passes no limit of site s
+abbrev pub is_within : PrimaryState → ℕ → ℕ → ℕ → Bool
+is_within p s a b = within p.log p.setup.groups (limits_of p.setup s) a b
+
+-- the sites that hold the head up: at its first settlement those that it forces, later those that it waits for
+abbrev pub forced_now : PrimaryState → List ℕ
+forced_now p = forced_sites (is_within p) (λ s. (progress_at p s).reported) (length p.sites) (p.acked + 1)
+
+abbrev pub waiting_now : PrimaryState → List ℕ
+waiting_now p = waiting_sites (is_within p) (λ s. reported_at (progress_at p s) (p.acked + 1)) (λ s. (progress_at p s).reported) (length p.sites) (p.acked + 1)
+
+-- an acknowledgement where no site holds the head up
+abbrev pub acked_or_round : {A : Type 0} → ℕ → List ℕ → Settled A
+acked_or_round k [] = Acked k
+acked_or_round k (s ∷ sites) = Round k (s ∷ sites)
+
+abbrev pub acked_or_waiting : {A : Type 0} → ℕ → List ℕ → Settled A
+acked_or_waiting k [] = Acked k
+acked_or_waiting k (s ∷ sites) = Waiting k (s ∷ sites)
+
+-- what a settlement of the head answers
+abbrev pub settled_as : {A : Type 0} → PrimaryState → Settled A
+settled_as p = if p.acked == p.decided then acked_or_round (p.acked + 1) (forced_now p) else acked_or_waiting (p.acked + 1) (waiting_now p)
+
+-- how many updates are acknowledged where these sites hold the head up
+abbrev pub acked_after : ℕ → List ℕ → ℕ
+acked_after acked [] = acked + 1
+acked_after acked (s ∷ sites) = acked
+
+-- why there is nothing to send to a site, if there is not
+abbrev pub send_refusal : PrimaryState → ℕ → Option Refusal
+send_refusal p s = if (progress_at p s).sent == length p.log.sets then Some NothingToSend else None
+
+-- why there is nothing to settle, if there is not
+abbrev pub settle_refusal : PrimaryState → Option Refusal
+settle_refusal p = if p.acked == length p.log.sets then Some NothingToSettle else None
+
+-- a site once place k is decided
+abbrev pub decided_at : Bool → ℕ → SiteProgress → SiteProgress
+decided_at is_kept k site = record {
+  sent = site.sent;
+  reported = site.reported;
+  reports = site.reports ++ site.reported ∷ [];
+  rounds = if is_kept then site.rounds else site.rounds ++ k ∷ [];
+}
+
+-- The first settlement of the head leaves it decided: at each site its report is put down, and a round where the span from it to the head passes a limit. It is acknowledged where no site is forced.
+pub record Decides (p q : PrimaryState) : Type 0 where
+  pub setup : q.setup ≡ p.setup
+  pub log : q.log ≡ p.log
+  pub acked : q.acked ≡ acked_after p.acked (forced_now p)
+  pub decided : q.decided ≡ p.acked + 1
+  pub count : length q.sites ≡ length p.sites
+  pub sites : (s : ℕ) (d : SiteProgress) → s < length p.sites → slice_index_or q.sites s d ≡ decided_at (is_within p s (progress_at p s).reported (p.acked + 1)) (p.acked + 1) (slice_index_or p.sites s d)
+
+-- What a primary keeps of a site, where `keeps a b` says whether the span from a to b passes no limit of the site: what is acknowledged and the site has not reported passes none.
+pub record IsSiteSound (keeps : ℕ → ℕ → Bool) (updates acked decided : ℕ) (site : SiteProgress) : Type 0 where
+  pub reported : site.reported ≤ site.sent
+  pub sent : site.sent ≤ updates
+  pub count : length site.reports ≡ decided
+  pub risen : (k : ℕ) → slice_index_or site.reports k 0 ≤ site.reported
+  pub rounds : site.rounds ≡ rounds_upto keeps (reported_at site) decided
+  pub within : keeps site.reported acked ≡ true
+
+-- what each primary keeps
+pub record IsPrimary (p : PrimaryState) : Type 0 where
+  pub ready : is_ready p.setup ≡ true
+  pub start : p.log.start ≡ initial_state p.setup.objects
+  pub legal : IsLegal p.log
+  pub few : length p.log.sets ≤ 1000000
+  pub count : length p.sites ≡ length p.setup.sites
+  pub acked : p.acked ≤ p.decided
+  pub next : p.decided ≤ p.acked + 1
+  pub decided : p.decided ≤ length p.log.sets
+  pub sites : (s : ℕ) (d : SiteProgress) → s < length p.sites → IsSiteSound (is_within p s) (length p.log.sets) p.acked p.decided (slice_index_or p.sites s d)

@@ -1,0 +1,16 @@
+-- A primary in the fields of a `Primary`.
+use Rattle.std.specs.Prelude.{map, ◌<◌, vec_len, vec_capacity}
+use Rattle.ordup_primary.specs.Primaries.{PrimaryState, SiteProgress}
+use Rattle.ordup_primary.specs.declared.progress.Progress.{Progress}
+use Rattle.ordup_primary.specs.declared.primary.Primary.TheInside.{Inside}
+
+module _ {A : Type 0} where
+  abbrev pub progress_of : Progress A → SiteProgress
+  progress_of site = record { sent = site.sent; reported = site.reported; reports = site.reports.items; rounds = site.rounds.items }
+
+  abbrev pub state_of : Inside A → PrimaryState
+  state_of p = record { setup = p.setup; log = p.log; acked = p.acked; decided = p.decided; sites = map progress_of p.sites.items }
+
+  -- room for one report and one round more
+  abbrev pub HasRoom : Progress A → Type 0
+  HasRoom site = (vec_len site.reports < vec_capacity site.reports) × (vec_len site.rounds < vec_capacity site.rounds)

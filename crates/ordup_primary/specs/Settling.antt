@@ -1,0 +1,22 @@
+-- Which sites a settlement forces, and for which it waits.
+use Rattle.std.specs.Prelude.{ℕ, zero, suc, ◌&&◌, not, if◌then◌else◌, nat_lt, Bool, List, [], ◌∷◌, ◌++◌}
+
+-- the numbers below n for which the test passes, in order
+abbrev pub where_below : (ℕ → Bool) → ℕ → List ℕ
+where_below test zero = []
+where_below test (suc n) = if test n then where_below test n ++ n ∷ [] else where_below test n
+
+-- Below, `within s a b` says whether the span from a to b passes no limit of site s.
+
+-- the sites that the first settlement of place k forces: by what each has reported now, the span to k passes a limit
+abbrev pub forced_sites : (ℕ → ℕ → ℕ → Bool) → (ℕ → ℕ) → ℕ → ℕ → List ℕ
+forced_sites within now n k = where_below (λ s. not (within s (now s) k)) n
+
+-- the sites that were forced at place k, by what each had reported then, and have not reported k by now
+abbrev pub waiting_sites : (ℕ → ℕ → ℕ → Bool) → (ℕ → ℕ) → (ℕ → ℕ) → ℕ → ℕ → List ℕ
+waiting_sites within before now n k = where_below (λ s. not (within s (before s) k) && nat_lt (now s) k) n
+
+-- a site's rounds: the places up to d for which the span from what it had reported at the decision passes a limit
+abbrev pub rounds_upto : (ℕ → ℕ → Bool) → (ℕ → ℕ) → ℕ → List ℕ
+rounds_upto within reported_at zero = []
+rounds_upto within reported_at (suc d) = if within (reported_at (suc d)) (suc d) then rounds_upto within reported_at d else rounds_upto within reported_at d ++ suc d ∷ []

@@ -1,0 +1,84 @@
+ghost use Rattle.std.specs.Prelude.{◌≡◌, ◌<◌, ◌==◌, ℕ, not, All, OnOk, IfErr, length, map, replicate, slice_index_or, IfOk};
+ghost use Rattle.std.specs.List.{list_any};
+ghost use Rattle.ordup_primary.specs.Primaries.{first_progress, decided_at};
+ghost use Rattle.ordup_primary.specs.PrimaryInside.{progress_of, HasRoom};
+ghost use Rattle.ordup_primary.specs.declared.progress.Progress.{Progress};
+
+use crate::progress::Progress;
+use ordup_objects::{Refusal, SiteId};
+use std::alloc::Allocator;
+
+/// So many sites at the start: nothing was sent to them, and nothing is decided.
+pub(crate) fn first_sites<A: Allocator + Copy>(
+    alloc: A,
+    count: usize,
+) -> Result<Vec<Progress<A>, A>, Refusal>
+    ensures sites { IfOk result (λ sites. map progress_of sites.items ≡ replicate count first_progress) }
+    ensures refused { IfErr result (λ e. e ≡ Refusal.NoMemory) }
+{
+    let Ok(mut sites) = Vec::with_capacity(alloc, count) else {
+        return Err(Refusal::NoMemory);
+    };
+    for _site in 0..count {
+        let site = Progress {
+            sent: 0,
+            reported: 0,
+            reports: Vec::new(alloc),
+            rounds: Vec::new(alloc),
+        };
+        if sites.push(site).is_err() {
+            return Err(Refusal::NoMemory);
+        }
+    }
+    Ok(sites)
+}
+
+/// Takes the room in which a decision is put down.
+pub(crate) fn take_room<A: Allocator + Copy>(sites: &mut Vec<Progress<A>, A>) -> Result<(), Refusal>
+    ensures same { map progress_of sites.new.items ≡ map progress_of sites.old.items }
+    ensures room { OnOk result (All HasRoom sites.new.items) }
+    ensures refused { IfErr result (λ e. e ≡ Refusal.NoMemory) }
+{
+    for place in 0..sites.len() {
+        take_room_at(&mut sites[place])?;
+    }
+    Ok(())
+}
+
+fn take_room_at<A: Allocator + Copy>(site: &mut Progress<A>) -> Result<(), Refusal>
+    ensures same { progress_of site.new ≡ progress_of site.old }
+    ensures room { OnOk result (HasRoom site.new) }
+    ensures refused { IfErr result (λ e. e ≡ Refusal.NoMemory) }
+{
+    if site.reports.reserve(1).is_err() || site.rounds.reserve(1).is_err() {
+        return Err(Refusal::NoMemory);
+    }
+    Ok(())
+}
+
+/// Puts down the decision of a place: at each site its report, and a round at those that are forced.
+pub(crate) fn put_down<A: Allocator + Copy>(
+    sites: &mut Vec<Progress<A>, A>,
+    forced: &[SiteId],
+    number: u64,
+)
+    requires room { All HasRoom sites.old.items }
+    ensures count { length sites.new.items ≡ length sites.old.items }
+    ensures sites { (s : ℕ) (d : Progress A) → s < length sites.old.items →
+        progress_of (slice_index_or sites.new.items s d) ≡ decided_at (not (list_any (λ t. t == s) forced.now)) number (progress_of (slice_index_or sites.old.items s d)) }
+{
+    for place in 0..sites.len() {
+        let is_forced = is_among(place, forced);
+        let site = &mut sites[place];
+        site.reports.push_reserved(site.reported);
+        if is_forced {
+            site.rounds.push_reserved(number);
+        }
+    }
+}
+
+fn is_among(place: usize, sites: &[SiteId]) -> bool
+    ensures { result ≡ list_any (λ t. t == place) sites.now }
+{
+    sites.iter().any(|t| t.index() == place)
+}

@@ -1,0 +1,21 @@
+//! The primary: what is declared, the log, and when an update is acknowledged.
+//!
+//! The one contract above this layer: a settlement decides the head once, by what the sites had reported at that moment, and
+//! acknowledges it exactly when each site that it forced has reported it; so the acknowledged updates that a site has not
+//! reported weigh at most each of its limits.
+#![tactic(auto)]
+
+mod decisions;
+mod parcel;
+mod primary;
+mod progress;
+mod settled;
+mod setup;
+mod site_list;
+
+pub use ordup_limits::{GroupId, Groups, LimitTable, Scope};
+pub use parcel::Parcel;
+pub use primary::Primary;
+pub use settled::Settled;
+pub use setup::Setup;
+pub use site_list::SiteList;

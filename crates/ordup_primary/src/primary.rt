@@ -1,0 +1,324 @@
+ghost use Rattle.std.specs.Prelude.{◌≡◌, ◌≤◌, ◌+◌, ◌-◌, ℕ, ◌<◌, None, Some, List, [], ◌∷◌, ◌++◌, length, map, replicate, slice_set, slice_index_or, IfOk, OnOk, IfErr, not, nat_lt, ◌&&◌, ◌⊎◌};
+ghost use Rattle.ordup_objects.specs.Refusals.{IsRefusal};
+ghost use Rattle.ordup_primary.specs.Declarations.{Declared, start_refusal};
+ghost use Rattle.ordup_primary.specs.Primaries.{first_progress};
+
+use crate::decisions::{first_sites, put_down, take_room};
+use crate::parcel::Parcel;
+use crate::progress::Progress;
+use crate::settled::Settled;
+use crate::setup::Setup;
+use crate::site_list::SiteList;
+use ordup_log::Log;
+use ordup_objects::{MessageSet, Refusal, SiteId};
+use std::alloc::{Allocator, Global};
+use std::marker::Model;
+
+/// The primary of a store: what is declared, the log, what it knows of each site, and how far updates are acknowledged.
+///
+/// Updates are acknowledged in the order of their numbers. The head is the update after the last acknowledged one.
+#[derive(Drop)]
+pub struct Primary<A: Allocator + Copy = Global> {
+    setup: Setup<A>,
+    log: Log<A>,
+    acked: u64,
+    decided: u64,
+    sites: Vec<Progress<A>, A>,
+}
+
+impl<A: Allocator + Copy> Model for Primary<A> {
+    ghost use Rattle.std.specs.Prelude.{map};
+    ghost use Rattle.ordup_primary.specs.Primaries.{PrimaryState, IsPrimary};
+    ghost use Rattle.ordup_primary.specs.PrimaryInside.{state_of};
+
+    ghost Value = { PrimaryState };
+
+    ghost view = { state_of };
+
+    ghost invariant = { λ p. IsPrimary (state_of p) };
+}
+
+impl<A: Allocator + Copy> Primary<A> {
+    ghost use Rattle.ordup_objects.specs.Serial.{set_at, History};
+    ghost use Rattle.ordup_objects.specs.Sets.{IsOver};
+    ghost use Rattle.ordup_objects.specs.Tables.{initial_state};
+    ghost use Rattle.ordup_log.specs.Appending.{append_refusal};
+    ghost use Rattle.ordup_primary.specs.Primaries.{PrimaryState, IsPrimary, progress_at, reported_at, is_within, send_refusal, settle_refusal, forced_now, waiting_now, settled_as, acked_or_round, acked_or_waiting, acked_after, Decides};
+
+    /// A primary with an empty log, to which no site has reported.
+    ///
+    /// The setup is ready: it has an object and a site. It is refused `NoMemory` alone.
+    pub fn new(alloc: A, setup: Setup<A>) -> Result<Self, Refusal>
+        requires { start_refusal setup ≡ None }
+        ensures setup { IfOk result (λ p. p.setup ≡ setup) }
+        ensures log { IfOk result (λ p. p.log ≡ record { start = initial_state setup.objects; sets = [] }) }
+        ensures numbers { IfOk result (λ p. (p.acked ≡ 0) × (p.decided ≡ 0)) }
+        ensures sites { IfOk result (λ p. p.sites ≡ replicate (length setup.sites) first_progress) }
+        ensures refused { IfErr result (λ e. e ≡ Refusal.NoMemory) }
+    {
+        let log = Log::new(alloc, setup.objects())?;
+        let sites = first_sites(alloc, setup.sites())?;
+        Ok(Primary {
+            setup,
+            log,
+            acked: 0,
+            decided: 0,
+            sites,
+        })
+    }
+
+    /// Numbers a message set as the next update.
+    ///
+    /// It is refused `LogFull` after 1,000,000 updates, `OutOfRange` where a result is out of range, and `NoMemory`.
+    pub fn propose(&mut self, set: MessageSet<A>) -> Result<u64, Refusal>
+        requires { IsOver (length self.old.log.start) set }
+        ensures number { IfOk result (λ k. k ≡ length self.old.log.sets + 1) }
+        ensures added { IfOk result (λ _. self.new ≡ record self.old { log = record { start = self.old.log.start; sets = self.old.log.sets ++ set ∷ [] } }) }
+        ensures allowed { IfOk result (λ _. append_refusal self.old.log set ≡ None) }
+        ensures refused { IfErr result (λ e. IsRefusal (append_refusal self.old.log set) e) }
+        ensures err { IfErr result (λ _. self.new ≡ self.old) }
+    {
+        let number = self.log.append(set)?;
+        Ok(number)
+    }
+
+    /// The first update that was not sent to a site, copied.
+    ///
+    /// It is refused `NothingToSend` where all were sent, and `NoMemory`.
+    pub fn next_for(&self, site: SiteId) -> Result<Parcel<A>, Refusal>
+        requires { site < length self.now.sites }
+        ensures number { IfOk result (λ parcel. parcel.number ≡ (progress_at self.now site).sent + 1) }
+        ensures set { IfOk result (λ parcel. parcel.set ≡ set_at self.now.log parcel.number) }
+        ensures allowed { IfOk result (λ _. send_refusal self.now site ≡ None) }
+        ensures refused { IfErr result (λ e. IsRefusal (send_refusal self.now site) e) }
+    {
+        let sent = self.sent(site);
+        if sent == self.log.len() {
+            return Err(Refusal::NothingToSend);
+        }
+        let number = sent + 1;
+        match self.log.copy_set(number) {
+            Ok(set) => Ok(Parcel { number, set }),
+            Err(refusal) => Err(refusal),
+        }
+    }
+
+    /// Notes that the first update that was not sent to a site was sent.
+    pub fn mark_sent(&mut self, site: SiteId)
+        requires site { site < length self.old.sites }
+        requires unsent { (progress_at self.old site).sent < length self.old.log.sets }
+        ensures { self.new ≡ record self.old { sites = slice_set self.old.sites site (record (progress_at self.old site) { sent = (progress_at self.old site).sent + 1 }) } }
+    {
+        self.sites[site.index()].sent += 1;
+    }
+
+    /// Notes that a site reported to have applied the updates up to a place.
+    pub fn report(&mut self, site: SiteId, place: u64)
+        requires site { site < length self.old.sites }
+        requires risen { (progress_at self.old site).reported ≤ place }
+        requires sent { place ≤ (progress_at self.old site).sent }
+        ensures { self.new ≡ record self.old { sites = slice_set self.old.sites site (record (progress_at self.old site) { reported = place }) } }
+    {
+        self.sites[site.index()].reported = place;
+    }
+
+    /// Settles the head, the update after the last acknowledged one.
+    ///
+    /// The first settlement of the head decides it. A site for which the span from what it has reported to the head passes a
+    /// limit is forced: the update waits for it. Where no site is forced, the head is acknowledged at once, and else by the
+    /// first later settlement at which each forced site has reported it.
+    ///
+    /// It is refused `NothingToSettle` where all updates are acknowledged, and `NoMemory`.
+    pub fn settle(&mut self) -> Result<Settled<A>, Refusal>
+        ensures answer { IfOk result (λ settled. settled ≡ settled_as self.old) }
+        ensures first { IfOk result (λ _. self.old.acked ≡ self.old.decided → Decides self.old self.new) }
+        ensures later { IfOk result (λ _. self.old.acked < self.old.decided → self.new ≡ record self.old { acked = acked_after self.old.acked (waiting_now self.old) }) }
+        ensures allowed { IfOk result (λ _. settle_refusal self.old ≡ None) }
+        ensures refused { IfErr result (λ e. IsRefusal (settle_refusal self.old) e) }
+        ensures err { IfErr result (λ _. self.new ≡ self.old) }
+    {
+        if self.acked == self.log.len() {
+            return Err(Refusal::NothingToSettle);
+        }
+        let head = self.acked + 1;
+        if self.acked == self.decided {
+            self.decide(head)
+        } else {
+            self.wait(head)
+        }
+    }
+
+    /// What was declared.
+    pub fn setup(&self) -> &Setup<A>
+        ensures { result.now ≡ self.now.setup }
+    {
+        &self.setup
+    }
+
+    /// The updates in their order.
+    pub fn log(&self) -> &Log<A>
+        ensures { result.now ≡ self.now.log }
+    {
+        &self.log
+    }
+
+    /// How many updates are acknowledged.
+    pub fn acked(&self) -> u64
+        ensures acked { result ≡ self.now.acked }
+        ensures sound { IsPrimary self.now }
+    {
+        self.acked
+    }
+
+    /// How many updates are decided: those that are acknowledged, and the head where a settlement has decided it.
+    pub fn decided(&self) -> u64
+        ensures { result ≡ self.now.decided }
+    {
+        self.decided
+    }
+
+    /// How many updates were sent to a site.
+    pub fn sent(&self, site: SiteId) -> u64
+        requires { site < length self.now.sites }
+        ensures { result ≡ (progress_at self.now site).sent }
+    {
+        self.sites[site.index()].sent
+    }
+
+    /// How many updates a site last reported as applied.
+    pub fn reported(&self, site: SiteId) -> u64
+        requires { site < length self.now.sites }
+        ensures { result ≡ (progress_at self.now site).reported }
+    {
+        self.sites[site.index()].reported
+    }
+
+    /// What a site had reported at the decision of a decided place.
+    pub fn reported_at(&self, site: SiteId, place: u64) -> u64
+        requires site { site < length self.now.sites }
+        requires some { 0 < place }
+        requires decided { place ≤ self.now.decided }
+        ensures { result ≡ reported_at (progress_at self.now site) place }
+    {
+        self.sites[site.index()].reports[place as usize - 1]
+    }
+
+    /// The places at which a site was forced, in order.
+    pub fn rounds(&self, site: SiteId) -> &[u64]
+        requires { site < length self.now.sites }
+        ensures { result.now ≡ (progress_at self.now site).rounds }
+    {
+        self.sites[site.index()].rounds.as_slice()
+    }
+
+    /// The first settlement of the head, which decides it.
+    fn decide(&mut self, head: u64) -> Result<Settled<A>, Refusal>
+        requires first { self.old.acked ≡ self.old.decided }
+        requires head { head ≡ self.old.acked + 1 }
+        requires some { head ≤ length self.old.log.sets }
+        ensures answer { IfOk result (λ settled. settled ≡ acked_or_round (self.old.acked + 1) (forced_now self.old)) }
+        ensures decides { IfOk result (λ _. Decides self.old self.new) }
+        ensures refused { IfErr result (λ e. e ≡ Refusal.NoMemory) }
+        ensures err { IfErr result (λ _. self.new ≡ self.old) }
+    {
+        let forced = self.forced_now(head)?;
+        take_room(&mut self.sites)?;
+        put_down(&mut self.sites, forced.as_slice(), head);
+        self.decided = head;
+        if forced.as_slice().is_empty() {
+            self.acked = head;
+            return Ok(Settled::Acked(head));
+        }
+        Ok(Settled::Round {
+            k: head,
+            sites: forced,
+        })
+    }
+
+    /// A later settlement of the head.
+    fn wait(&mut self, head: u64) -> Result<Settled<A>, Refusal>
+        requires later { self.old.acked < self.old.decided }
+        requires head { head ≡ self.old.acked + 1 }
+        requires some { head ≤ length self.old.log.sets }
+        ensures answer { IfOk result (λ settled. settled ≡ acked_or_waiting (self.old.acked + 1) (waiting_now self.old)) }
+        ensures later { IfOk result (λ _. self.new ≡ record self.old { acked = acked_after self.old.acked (waiting_now self.old) }) }
+        ensures refused { IfErr result (λ e. e ≡ Refusal.NoMemory) }
+        ensures err { IfErr result (λ _. self.new ≡ self.old) }
+    {
+        let waiting = self.waiting_now(head)?;
+        if waiting.as_slice().is_empty() {
+            self.acked = head;
+            return Ok(Settled::Acked(head));
+        }
+        Ok(Settled::Waiting {
+            k: head,
+            sites: waiting,
+        })
+    }
+
+    /// How many sites there are, at most 16.
+    fn count(&self) -> usize
+        ensures count { result ≡ length self.now.sites }
+        ensures few { length self.now.sites ≤ 16 }
+    {
+        self.setup.sites()
+    }
+
+    /// The sites that a first settlement of the head forces.
+    fn forced_now(&self, head: u64) -> Result<SiteList<A>, Refusal>
+        requires head { head ≡ self.now.acked + 1 }
+        requires some { head ≤ length self.now.log.sets }
+        ensures sites { IfOk result (λ sites. sites ≡ forced_now self.now) }
+        ensures refused { IfErr result (λ e. e ≡ Refusal.NoMemory) }
+    {
+        let mut forced = SiteList::new(*self.sites.allocator());
+        for place in 0..self.count() {
+            let site = SiteId::new(place as u8);
+            if !self.is_within(site, self.reported(site), head) && forced.push(site).is_err() {
+                return Err(Refusal::NoMemory);
+            }
+        }
+        Ok(forced)
+    }
+
+    /// The sites that were forced at the decision of the head and have not reported it.
+    fn waiting_now(&self, head: u64) -> Result<SiteList<A>, Refusal>
+        requires later { self.now.acked < self.now.decided }
+        requires head { head ≡ self.now.acked + 1 }
+        requires some { head ≤ length self.now.log.sets }
+        ensures sites { IfOk result (λ sites. sites ≡ waiting_now self.now) }
+        ensures refused { IfErr result (λ e. e ≡ Refusal.NoMemory) }
+    {
+        let mut waiting = SiteList::new(*self.sites.allocator());
+        for place in 0..self.count() {
+            let site = SiteId::new(place as u8);
+            if self.is_waiting(site, head) && waiting.push(site).is_err() {
+                return Err(Refusal::NoMemory);
+            }
+        }
+        Ok(waiting)
+    }
+
+    /// Whether a site was forced at a decided place and has not reported it.
+    fn is_waiting(&self, site: SiteId, place: u64) -> bool
+        requires site { site < length self.now.sites }
+        requires some { 0 < place }
+        requires decided { place ≤ self.now.decided }
+        requires last { place ≤ length self.now.log.sets }
+        ensures { result ≡ (not (is_within self.now site (reported_at (progress_at self.now site) place) place) && nat_lt (progress_at self.now site).reported place) }
+    {
+        !self.is_within(site, self.reported_at(site, place), place) && self.reported(site) < place
+    }
+
+    /// Whether the span from a place to another passes no limit of a site.
+    fn is_within(&self, site: SiteId, from: u64, to: u64) -> bool
+        requires site { site < length self.now.sites }
+        requires last { to ≤ length self.now.log.sets }
+        ensures { result ≡ is_within self.now site from to }
+    {
+        self.setup
+            .limits(site)
+            .over(&self.log, self.setup.groups(), from, to)
+            .is_none()
+    }
+}

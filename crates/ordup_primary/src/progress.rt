@@ -1,0 +1,14 @@
+use std::alloc::{Allocator, Global};
+
+/// What the primary knows of a site.
+#[derive(Drop)]
+pub(crate) struct Progress<A: Allocator + Copy = Global> {
+    /// How many updates were sent to it.
+    pub(crate) sent: u64,
+    /// How many of them it last reported as applied.
+    pub(crate) reported: u64,
+    /// What it had reported at the decision of each place, in order.
+    pub(crate) reports: Vec<u64, A>,
+    /// The places at which it was forced, in order.
+    pub(crate) rounds: Vec<u64, A>,
+}

@@ -1,0 +1,185 @@
+ghost use Rattle.std.specs.Prelude.{◌≡◌, ◌≤◌, ℕ, ◌<◌, None, Some, IfSome, IfOk, IfErr, [], ◌∷◌, ◌++◌, length, slice_get, slice_set, option_map, OnOk};
+ghost use Rattle.ordup_objects.specs.Tables.{place_of, object_refusal};
+ghost use Rattle.ordup_objects.specs.Refusals.{IsRefusal};
+ghost use Rattle.ordup_log.specs.Groups.{group_refusal};
+ghost use Rattle.ordup_limits.specs.Limits.{AreLimitsOver};
+ghost use Rattle.ordup_primary.specs.Declarations.{Declared, AreDeclared, is_ready, site_refusal, site_limit_refusal, capacity_of, limits_of};
+
+use ordup_limits::{GroupId, Groups, LimitTable, Scope, check_scope};
+use ordup_objects::sizes::{GREATEST_CAPACITY, MOST_SITES};
+use ordup_objects::{Name, NameTable, ObjectId, ObjectTable, Refusal, SiteId};
+use std::alloc::{Allocator, Global};
+use std::marker::Model;
+
+/// What is declared of a store before its start: the objects with their initial values, the groups with their members, and
+/// the sites with the capacities of their feeds and their limits.
+#[derive(Drop)]
+pub struct Setup<A: Allocator + Copy = Global> {
+    objects: ObjectTable<A>,
+    groups: Groups<A>,
+    capacities: NameTable<u64, A>,
+    limits: Vec<LimitTable<A>, A>,
+}
+
+impl<A: Allocator + Copy> Model for Setup<A> {
+    ghost use Rattle.ordup_primary.specs.Declarations.{Declared, AreDeclared};
+
+    ghost Value = { Declared };
+
+    ghost view = { λ s. record { objects = s.objects; groups = s.groups; sites = s.capacities; limits = s.limits.items } };
+
+    ghost invariant = { λ s. AreDeclared (record { objects = s.objects; groups = s.groups; sites = s.capacities; limits = s.limits.items }) };
+}
+
+impl<A: Allocator + Copy> Setup<A> {
+    /// Nothing declared yet. It takes no memory.
+    pub fn new(alloc: A) -> Self
+        ensures { result ≡ record { objects = []; groups = []; sites = []; limits = [] } }
+    {
+        Setup {
+            objects: ObjectTable::new(alloc),
+            groups: Groups::new(alloc),
+            capacities: NameTable::new(alloc),
+            limits: Vec::new(alloc),
+        }
+    }
+
+    /// Declares an object with its initial value, which lies from -1,000,000,000 to 1,000,000,000.
+    ///
+    /// It is refused `BadName`, `NameTaken`, `OutOfRange` for the value, `TooMany` for a 257th object, and `NoMemory`.
+    pub fn object(&mut self, name: &[u8], initial: i64) -> Result<ObjectId, Refusal>
+        ensures object { IfOk result (λ object. object ≡ length self.old.objects) }
+        ensures declared { IfOk result (λ _. self.new ≡ record self.old { objects = self.old.objects ++ (name.now, initial) ∷ [] }) }
+        ensures allowed { IfOk result (λ _. object_refusal self.old.objects name.now initial ≡ None) }
+        ensures refused { IfErr result (λ e. IsRefusal (object_refusal self.old.objects name.now initial) e) }
+        ensures err { IfErr result (λ _. self.new ≡ self.old) }
+    {
+        self.objects.declare(name, initial)
+    }
+
+    /// Declares a group of 1 to 64 objects.
+    ///
+    /// It is refused `BadName`, `NameTaken`, `UnknownObject`, `TooMany` for a 33rd group or a 65th member, `Empty`, `Repeated`,
+    /// and `NoMemory`.
+    pub fn group(&mut self, name: &[u8], members: &[ObjectId]) -> Result<GroupId, Refusal>
+        ensures group { IfOk result (λ group. group ≡ length self.old.groups) }
+        ensures declared { IfOk result (λ _. self.new ≡ record self.old { groups = self.old.groups ++ (name.now, members.now) ∷ [] }) }
+        ensures allowed { IfOk result (λ _. group_refusal (length self.old.objects) self.old.groups name.now members.now ≡ None) }
+        ensures refused { IfErr result (λ e. IsRefusal (group_refusal (length self.old.objects) self.old.groups name.now members.now) e) }
+        ensures err { IfErr result (λ _. self.new ≡ self.old) }
+    {
+        self.groups.declare(&self.objects, name, members)
+    }
+
+    /// Declares a site with the capacity of its feed, 1 to 1,024 updates.
+    ///
+    /// It is refused `BadName`, `NameTaken`, `OutOfRange` for the capacity, `TooMany` for a 17th site, and `NoMemory`.
+    pub fn site(&mut self, name: &[u8], capacity: u64) -> Result<SiteId, Refusal>
+        ensures site { IfOk result (λ site. site ≡ length self.old.sites) }
+        ensures declared { IfOk result (λ _. self.new ≡ record self.old { sites = self.old.sites ++ (name.now, capacity) ∷ []; limits = self.old.limits ++ [] ∷ [] }) }
+        ensures allowed { IfOk result (λ _. site_refusal self.old.sites name.now capacity ≡ None) }
+        ensures refused { IfErr result (λ e. IsRefusal (site_refusal self.old.sites name.now capacity) e) }
+        ensures err { IfErr result (λ _. self.new ≡ self.old) }
+    {
+        let name = Name::new(name)?;
+        if self.capacities.find(name.as_bytes()).is_some() {
+            return Err(Refusal::NameTaken);
+        }
+        if capacity == 0 || capacity > GREATEST_CAPACITY {
+            return Err(Refusal::OutOfRange);
+        }
+        let place = self.sites();
+        if place == MOST_SITES {
+            return Err(Refusal::TooMany);
+        }
+        let alloc = *self.limits.allocator();
+        if self.limits.reserve(1).is_err() || self.capacities.push(name, capacity).is_err() {
+            return Err(Refusal::NoMemory);
+        }
+        self.limits.push_reserved(LimitTable::new(alloc));
+        Ok(SiteId::new(place as u8))
+    }
+
+    /// Declares a limit of a site, whose amount lies from 0 to 10^18.
+    ///
+    /// It is refused `UnknownObject`, `UnknownGroup`, `UnknownSite`, `OutOfRange` for the amount, `TooMany` for a 65th limit of
+    /// the site, `Repeated` where the site has a limit on the scope, and `NoMemory`.
+    pub fn limit(&mut self, site: SiteId, scope: Scope, amount: u64) -> Result<(), Refusal>
+        ensures declared { OnOk result (self.new ≡ record self.old { limits = slice_set self.old.limits site (limits_of self.old site ++ (record { scope = scope; amount = amount }) ∷ []) }) }
+        ensures allowed { OnOk result (site_limit_refusal self.old site scope amount ≡ None) }
+        ensures refused { IfErr result (λ e. IsRefusal (site_limit_refusal self.old site scope amount) e) }
+        ensures err { IfErr result (λ _. self.new ≡ self.old) }
+    {
+        let scope = &scope;
+        check_scope(&self.objects, &self.groups, *scope)?;
+        if site.index() >= self.sites() {
+            return Err(Refusal::UnknownSite);
+        }
+        self.limits[site.index()].add(&self.objects, &self.groups, *scope, amount)
+    }
+
+    /// Whether a store can start: whether there is at least one object and one site.
+    pub fn is_ready(&self) -> bool
+        ensures { result ≡ is_ready self.now }
+    {
+        self.objects.len() > 0 && self.sites() > 0
+    }
+
+    /// The objects.
+    pub fn objects(&self) -> &ObjectTable<A>
+        ensures { result.now ≡ self.now.objects }
+    {
+        &self.objects
+    }
+
+    /// The groups.
+    pub fn groups(&self) -> &Groups<A>
+        ensures { result.now ≡ self.now.groups }
+    {
+        &self.groups
+    }
+
+    /// How many sites there are, at most 16.
+    pub fn sites(&self) -> usize
+        ensures sites { result ≡ length self.now.sites }
+        ensures few { length self.now.sites ≤ 16 }
+    {
+        self.capacities.len()
+    }
+
+    /// The site of this name, if there is one.
+    pub fn find_site(&self, name: &[u8]) -> Option<SiteId>
+        ensures place { option_map (λ s. s) result ≡ place_of name.now self.now.sites }
+        ensures within { IfSome result (λ s. s < length self.now.sites) }
+    {
+        match self.capacities.find(name) {
+            Some(place) => Some(SiteId::new(place as u8)),
+            None => None,
+        }
+    }
+
+    /// The name of a site.
+    pub fn site_name(&self, site: SiteId) -> &Name
+        requires { site < length self.now.sites }
+        ensures { option_map (λ e. e.0) (slice_get self.now.sites site) ≡ Some result.now }
+    {
+        self.capacities.at(site.index()).0
+    }
+
+    /// How many updates the feed of a site holds at most, 1 to 1,024.
+    pub fn capacity(&self, site: SiteId) -> u64
+        requires { site < length self.now.sites }
+        ensures { result ≡ capacity_of self.now site }
+    {
+        *self.capacities.at(site.index()).1
+    }
+
+    /// The limits of a site.
+    pub fn limits(&self, site: SiteId) -> &LimitTable<A>
+        requires { site < length self.now.sites }
+        ensures limits { result.now ≡ limits_of self.now site }
+        ensures known { AreLimitsOver (length self.now.objects) self.now.groups result.now }
+    {
+        &self.limits[site.index()]
+    }
+}

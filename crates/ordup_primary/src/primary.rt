@@ -54,6 +54,7 @@ impl<A: Allocator + Copy> Primary<A> {
         ensures log { IfOk result (λ p. p.log ≡ record { start = initial_state setup.objects; sets = [] }) }
         ensures numbers { IfOk result (λ p. (p.acked ≡ 0) × (p.decided ≡ 0)) }
         ensures sites { IfOk result (λ p. p.sites ≡ replicate (length setup.sites) first_progress) }
+        ensures sound { IfOk result (λ p. IsPrimary p) }
         ensures refused { IfErr result (λ e. e ≡ Refusal.NoMemory) }
     {
         let log = Log::new(alloc, setup.objects())?;
@@ -77,6 +78,7 @@ impl<A: Allocator + Copy> Primary<A> {
         ensures allowed { IfOk result (λ _. append_refusal self.old.log set ≡ None) }
         ensures refused { IfErr result (λ e. IsRefusal (append_refusal self.old.log set) e) }
         ensures err { IfErr result (λ _. self.new ≡ self.old) }
+        ensures sound { IsPrimary self.new }
     {
         let number = self.log.append(set)?;
         Ok(number)
@@ -107,7 +109,8 @@ impl<A: Allocator + Copy> Primary<A> {
     pub fn mark_sent(&mut self, site: SiteId)
         requires site { site < length self.old.sites }
         requires unsent { (progress_at self.old site).sent < length self.old.log.sets }
-        ensures { self.new ≡ record self.old { sites = slice_set self.old.sites site (record (progress_at self.old site) { sent = (progress_at self.old site).sent + 1 }) } }
+        ensures sound { IsPrimary self.new }
+        ensures marked { self.new ≡ record self.old { sites = slice_set self.old.sites site (record (progress_at self.old site) { sent = (progress_at self.old site).sent + 1 }) } }
     {
         self.sites[site.index()].sent += 1;
     }
@@ -117,7 +120,8 @@ impl<A: Allocator + Copy> Primary<A> {
         requires site { site < length self.old.sites }
         requires risen { (progress_at self.old site).reported ≤ place }
         requires sent { place ≤ (progress_at self.old site).sent }
-        ensures { self.new ≡ record self.old { sites = slice_set self.old.sites site (record (progress_at self.old site) { reported = place }) } }
+        ensures sound { IsPrimary self.new }
+        ensures noted { self.new ≡ record self.old { sites = slice_set self.old.sites site (record (progress_at self.old site) { reported = place }) } }
     {
         self.sites[site.index()].reported = place;
     }
@@ -136,6 +140,7 @@ impl<A: Allocator + Copy> Primary<A> {
         ensures allowed { IfOk result (λ _. settle_refusal self.old ≡ None) }
         ensures refused { IfErr result (λ e. IsRefusal (settle_refusal self.old) e) }
         ensures err { IfErr result (λ _. self.new ≡ self.old) }
+        ensures sound { IsPrimary self.new }
     {
         if self.acked == self.log.len() {
             return Err(Refusal::NothingToSettle);
@@ -220,6 +225,7 @@ impl<A: Allocator + Copy> Primary<A> {
         ensures decides { IfOk result (λ _. Decides self.old self.new) }
         ensures refused { IfErr result (λ e. e ≡ Refusal.NoMemory) }
         ensures err { IfErr result (λ _. self.new ≡ self.old) }
+        ensures sound { IsPrimary self.new }
     {
         let forced = self.forced_now(head)?;
         take_room(&mut self.sites)?;
@@ -244,6 +250,7 @@ impl<A: Allocator + Copy> Primary<A> {
         ensures later { IfOk result (λ _. self.new ≡ record self.old { acked = acked_after self.old.acked (waiting_now self.old) }) }
         ensures refused { IfErr result (λ e. e ≡ Refusal.NoMemory) }
         ensures err { IfErr result (λ _. self.new ≡ self.old) }
+        ensures sound { IsPrimary self.new }
     {
         let waiting = self.waiting_now(head)?;
         if waiting.as_slice().is_empty() {

@@ -8,3 +8,8 @@ pub invariant_of-self-2 : goal.invariant_of-self-2
 invariant_of-self-2 g c =
     let set : IsSet c.args.set = search rules in
     rw c.in_ok-number.ensures.added (IsPrimary-proposed (state_of c.self.inside) c.args.set c.self.invariant set (rw (← c.self.view_is) at c.requires) c.in_ok-number.ensures.allowed)
+
+pub returns-clause-sound : goal.returns-clause-sound
+returns-clause-sound g c =
+    let set : IsSet c.args.set = search rules in
+    rw c.in_ok-number.ensures.added (IsPrimary-proposed (state_of c.self.inside) c.args.set c.self.invariant set (rw (← c.self.view_is) at c.requires) c.in_ok-number.ensures.allowed)

@@ -11,7 +11,7 @@ use ordup_objects::{ObjectTable, Refusal};
 use std::alloc::{Allocator, Global};
 use std::marker::Model;
 
-/// The limits of a site in order of declaration: at most 64, each on a scope of its own.
+/// The limits of a site in order of declaration, at most 64. `add` takes no second limit on a scope.
 ///
 /// A limit is a scope and an amount, in the unit of the values, or in updates where the scope is `Count`. A span passes the
 /// limit where it weighs more than the amount; equal is not over.

@@ -166,7 +166,7 @@ impl<A: Allocator + Copy> Setup<A> {
         self.capacities.at(site.index()).0
     }
 
-    /// How many updates the feed of a site holds at most, 1 to 1,024.
+    /// How many updates the feed of a site holds at most, as it was declared.
     pub fn capacity(&self, site: SiteId) -> u64
         requires { site < length self.now.sites }
         ensures { result ≡ capacity_of self.now site }

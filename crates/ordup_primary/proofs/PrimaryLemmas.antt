@@ -49,6 +49,7 @@ IsSiteSound-sent keeps updates acked decided site is lt = record {
   count = is.count;
   risen = is.risen;
   rounds = is.rounds;
+  answered = is.answered;
   within = is.within;
 }
 
@@ -61,6 +62,7 @@ IsSiteSound-reported p s place site is risen sent = record {
   count = is.count;
   risen = λ k. omega (arith, is.risen k);
   rounds = is.rounds;
+  answered = λ k some le forced. omega (arith, is.answered k some le forced);
   within = within-inner p.log p.setup.groups (limits_of p.setup s) site.reported place p.acked p.acked risen (omega arith) is.within;
 }
 
@@ -105,6 +107,7 @@ IsPrimary-proposed p m is set over allowed = record {
     count = site.count;
     risen = site.risen;
     rounds = site.rounds ∙ rounds_upto-same (is_within p s) (is_within (record p { log = record { start = p.log.start; sets = p.log.sets ++ m ∷ [] } }) s) (reported_at (get_or p.sites s d)) (reported_at (get_or p.sites s d)) p.decided (λ k some le. sym (is_within-proposed p m s (reported_at (get_or p.sites s d) k) k (omega (arith, is.decided))));
+    answered = λ k some le forced. site.answered k some le (sym (is_within-proposed p m s (reported_at (get_or p.sites s d) k) k (omega (arith, is.acked, is.decided))) ∙ forced);
     within = is_within-proposed p m s (get_or p.sites s d).reported p.acked (omega (arith, is.acked, is.decided)) ∙ site.within;
   });
 }
@@ -139,6 +142,23 @@ done-at p s site k risen none = elim (cases_Bool (is_within p s (reported_at sit
       ])
 ]
 
+-- a site that is not waited for, and was forced, has reported the place
+reported-at : (p : PrimaryState) (s : ℕ) (site : SiteProgress) (k : ℕ) → is_within p s (reported_at site k) k ≡ false → (not (is_within p s (reported_at site k) k) && nat_lt site.reported k) ≡ false → k ≤ site.reported
+reported-at p s site k forced none =
+    let behind : nat_lt site.reported k ≡ false = rw forced at none in
+    elim (cases_lt site.reported k) [
+      | inl lt ↦ absurd (let is : nat_lt site.reported k ≡ true = lt-ltb site.reported k lt in cc)
+      | inr le ↦ le
+    ]
+
+-- one place more is acknowledged
+answered-more : (keeps : ℕ → ℕ → Bool) (acked : ℕ) (site : SiteProgress) → ((k : ℕ) → 0 < k → k ≤ acked → keeps (reported_at site k) k ≡ false → k ≤ site.reported)
+    → (keeps (reported_at site (acked + 1)) (acked + 1) ≡ false → acked + 1 ≤ site.reported) → (k : ℕ) → 0 < k → k ≤ acked + 1 → keeps (reported_at site k) k ≡ false → k ≤ site.reported
+answered-more keeps acked site before here k some le forced = elim (cases_lt acked k) [
+  | inl past ↦ (let e : k ≡ acked + 1 = omega arith in rw e (here (rw e at forced)))
+  | inr within ↦ before k some within forced
+]
+
 -- a primary after a later settlement of the head
 pub IsPrimary-waited : (p : PrimaryState) → IsPrimary p → p.acked < p.decided → IsPrimary (record p { acked = acked_after p.acked (waiting_now p) })
 IsPrimary-waited p is later = elim (acked_after-some p.acked (waiting_now p)) [
@@ -158,6 +178,8 @@ IsPrimary-waited p is later = elim (acked_after-some p.acked (waiting_now p)) [
       count = site.count;
       risen = site.risen;
       rounds = site.rounds;
+      answered = answered-more (is_within p s) p.acked (get_or p.sites s d) site.answered
+          (λ forced. reported-at p s (get_or p.sites s d) (p.acked + 1) forced (rw (get_or_default p.sites s d first_progress lt) (where_below-none _ (length p.sites) s lt done.1)));
       within = done-at p s (get_or p.sites s d) (p.acked + 1) (site.risen (p.acked + 1 - 1)) (rw (get_or_default p.sites s d first_progress lt) (where_below-none _ (length p.sites) s lt done.1));
     });
   })
@@ -187,13 +209,21 @@ rounds-decided keeps acked site count rounds =
 
 -- a site after the decision of the head
 IsSiteSound-decided : (keeps : ℕ → ℕ → Bool) (updates acked later : ℕ) (site : SiteProgress) → IsSiteSound keeps updates acked acked site → keeps site.reported later ≡ true
-    → IsSiteSound keeps updates later (acked + 1) (decided_at (keeps site.reported (acked + 1)) (acked + 1) site)
-IsSiteSound-decided keeps updates acked later site is within = record {
+    → (later ≡ acked) ⊎ (later ≡ acked + 1) → IsSiteSound keeps updates later (acked + 1) (decided_at (keeps site.reported (acked + 1)) (acked + 1) site)
+IsSiteSound-decided keeps updates acked later site is within step = record {
   reported = is.reported;
   sent = is.sent;
   count = length_push site.reports site.reported ∙ ap (λ n. n + 1) is.count;
   risen = risen-push site.reports site.reported is.risen;
   rounds = rounds-decided keeps acked site is.count is.rounds;
+  answered = λ k some le forced. elim (cases_lt acked k) [
+    | inl past ↦ absurd (let next : k ≡ acked + 1 = elim step [ | inl same ↦ omega (arith, same) | inr one ↦ omega (arith, one) ] in
+        let e : k ≡ later = elim step [ | inl same ↦ omega (arith, same) | inr one ↦ next ∙ sym one ] in
+        let here : get_or (site.reports ++ site.reported ∷ []) (k - 1) 0 ≡ site.reported = get_or_push site.reports site.reported 0 (k - 1) (omega (arith, is.count)) in
+        let kept : keeps site.reported k ≡ true = ap (keeps site.reported) e ∙ within in
+        false≢true (sym (rw here at forced) ∙ kept))
+    | inr before ↦ is.answered k some before (ap (λ r. keeps r k) (sym (get_or-append site.reports (site.reported ∷ []) 0 (k - 1) (omega (arith, is.count)))) ∙ forced)
+  ];
   within = within;
 }
 
@@ -206,6 +236,7 @@ IsPrimary-decided p q is first some decides =
       | inr same ↦ rw same (is.sites s d lt).within
     ]) in
     let acked : (p.acked ≤ q.acked) × (q.acked ≤ p.acked + 1) = rw decides.acked (acked_after-near p.acked (forced_now p)) in
+    let step : (q.acked ≡ p.acked) ⊎ (q.acked ≡ p.acked + 1) = elim (acked_after-some p.acked (forced_now p)) [ | inl done ↦ inr (decides.acked ∙ done.0) | inr same ↦ inl (decides.acked ∙ same) ] in
     record {
       ready = rw decides.setup is.ready;
       start = rw (decides.setup, decides.log) is.start;
@@ -217,7 +248,7 @@ IsPrimary-decided p q is first some decides =
       decided = rw decides.log (omega (arith, decides.decided));
       sites = λ s d lt. (let before : s < length p.sites = omega (arith, decides.count) in
           rw (decides.setup, decides.log, decides.decided, decides.sites s d before, get_or_default p.sites s first_progress d before)
-          (IsSiteSound-decided (is_within p s) (length p.log.sets) p.acked q.acked (get_or p.sites s d) (rw (← first) at (is.sites s d before)) (within_at s d before)));
+          (IsSiteSound-decided (is_within p s) (length p.log.sets) p.acked q.acked (get_or p.sites s d) (rw (← first) at (is.sites s d before)) (within_at s d before) step));
     }
 
 -- elements that are related one by one stay so under a view
@@ -272,6 +303,7 @@ IsPrimary-new p declared ready log legal acked decided sites = record {
         count = refl;
         risen = λ k. omega arith;
         rounds = refl;
+        answered = λ k some le forced. absurd (omega arith);
         within = within-empty p.log p.setup.groups (limits_of p.setup s) 0 0 (omega arith);
       }));
 }

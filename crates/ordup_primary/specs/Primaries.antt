@@ -1,5 +1,5 @@
 -- What a primary holds, and what a settlement makes of it.
-use Rattle.std.specs.Prelude.{◌≡◌, ℕ, ◌+◌, ◌-◌, ◌<◌, ◌≤◌, ◌==◌, Bool, true, if◌then◌else◌, Option, Some, None, List, [], ◌∷◌, ◌++◌, length, slice_index_or}
+use Rattle.std.specs.Prelude.{◌≡◌, ℕ, ◌+◌, ◌-◌, ◌<◌, ◌≤◌, ◌==◌, Bool, true, false, if◌then◌else◌, Option, Some, None, List, [], ◌∷◌, ◌++◌, length, slice_index_or}
 use Rattle.ordup_objects.specs.declared.refusal.Refusal.{Refusal}
 use Rattle.ordup_objects.specs.declared.refusal.Refusal.TheVariants.{NothingToSend, NothingToSettle}
 use Rattle.ordup_objects.specs.Tables.{initial_state}
@@ -91,13 +91,14 @@ pub record Decides (p q : PrimaryState) : Type 0 where
   pub count : length q.sites ≡ length p.sites
   pub sites : (s : ℕ) (d : SiteProgress) → s < length p.sites → slice_index_or q.sites s d ≡ decided_at (is_within p s (progress_at p s).reported (p.acked + 1)) (p.acked + 1) (slice_index_or p.sites s d)
 
--- What a primary keeps of a site, where `keeps a b` says whether the span from a to b passes no limit of the site: what is acknowledged and the site has not reported passes none.
+-- What a primary keeps of a site, where `keeps a b` says whether the span from a to b passes no limit of the site: what is acknowledged and the site has not reported passes none, and each acknowledged round was reported.
 pub record IsSiteSound (keeps : ℕ → ℕ → Bool) (updates acked decided : ℕ) (site : SiteProgress) : Type 0 where
   pub reported : site.reported ≤ site.sent
   pub sent : site.sent ≤ updates
   pub count : length site.reports ≡ decided
   pub risen : (k : ℕ) → slice_index_or site.reports k 0 ≤ site.reported
   pub rounds : site.rounds ≡ rounds_upto keeps (reported_at site) decided
+  pub answered : (k : ℕ) → 0 < k → k ≤ acked → keeps (reported_at site k) k ≡ false → k ≤ site.reported
   pub within : keeps site.reported acked ≡ true
 
 -- what each primary keeps

@@ -10,8 +10,8 @@ use Rattle.ordup_objects.specs.declared.change.Op.TheVariants as op
 use Rattle.ordup_objects.specs.States.{in_range}
 use Rattle.ordup_objects.specs.Sets.{set_refusal, is_known, is_op_in_range}
 use Rattle.ordup_objects.specs.Tables.{place_of, object_refusal}
-use Rattle.ordup_world.specs.Declarations.{Declared, start_refusal}
-use Rattle.ordup_world.specs.Events.{Past, IsAnswer}
+use Rattle.ordup_primary.specs.Declarations.{Declared, start_refusal}
+use Rattle.ordup_world.specs.Events.{later, Past, IsAnswer}
 use Rattle.ordup_world.specs.Events.{reply as event_answer}
 use Rattle.ordup_world.specs.Standings.{Standing, StandsFor}
 use Rattle.ordup_world.specs.declared.event.Event.{Event}
@@ -20,9 +20,9 @@ use Rattle.ordup_world.specs.declared.event.Answer.TheVariants.{Refused}
 use Rattle.ordup_script.specs.Sessions.{Session, declaring, running, Declares, IsWorldOf}
 use Rattle.ordup_script.specs.Leaves.{LeavesRunning, IsNearest}
 use Rattle.ordup_script.specs.Commands as asked
-use Rattle.ordup_script.specs.Replies.{op_of, change_reply, request_reply}
+use Rattle.ordup_script.specs.Replies.{op_of, event_reply, change_reply, request_reply}
 use Rattle.ordup_script.specs.declared.command.Operation.{Operation}
-use Rattle.ordup_script.specs.Texts.{refused_text, value_text, values_text}
+use Rattle.ordup_script.specs.Texts.{refused_text, value_text, values_text, answer_text}
 
 -- a refusal that is not for want of memory is the one that applies
 pub refused_by : (o : Option Refusal) (e : Refusal) → IsRefusal o e → (e ≡ NoMemory → ⊥) → o ≡ Some e
@@ -120,7 +120,7 @@ module _ {A : Type 0} where
   at_declaring P setup here (running d past) is = absurd is
 
   -- what holds of each running session of the world's setup and past holds of each session that the world runs
-  pub at_running : (P : Session A → Type 0) (w : Standing) → ((past : Past A) → StandsFor w past → P (running w.setup past)) → (s : Session A) → IsWorldOf w s → P s
+  pub at_running : (P : Session A → Type 0) (w : Standing) → ((past : Past A) → StandsFor w past → P (running w.primary.setup past)) → (s : Session A) → IsWorldOf w s → P s
   at_running P w here (declaring d) is = absurd is
   at_running P w here (running d past) is = subst (λ (e : Declared). P (running e past)) is.0 (here past is.1)
 
@@ -129,14 +129,21 @@ module _ {A : Type 0} where
   answered setup past e answer (inl is) other = is
   answered setup past e answer (inr no_memory) other = absurd (other no_memory.2)
 
+  -- what is left by an event
+  pub left_by_event : (w v : Standing) (past : Past A) (name : List ℕ) (e : Event A) (answer : Answer A) (setup : Declared) (old new : List ℕ) → IsAnswer w.primary.setup past e answer → StandsFor v (later past e answer) → v.primary.setup ≡ w.primary.setup
+      → setup ≡ w.primary.setup → (answer ≡ Refused NoMemory → ⊥) → new ≡ old ++ answer_text setup name answer → LeavesRunning v old new (event_reply w.primary.setup past name e)
+  left_by_event w v past name e answer setup old new is state kept same other text =
+      let replied = answered w.primary.setup past e answer is other in
+      ((kept, subst (λ a. StandsFor v (later past e a)) replied state), text ∙ ap (λ d. old ++ answer_text d name answer) same ∙ ap (λ a. old ++ answer_text w.primary.setup name a) replied)
+
   -- what is left by a start
-  pub started : (d : Declared) (w : Standing) (old new : List ℕ) → start_refusal d ≡ None → w.setup ≡ d → StandsFor {A = A} w [] → new ≡ old ++ (codes "ok start" ++ 10 ∷ [])
+  pub started : (d : Declared) (w : Standing) (old new : List ℕ) → start_refusal d ≡ None → w.primary.setup ≡ d → StandsFor {A = A} w [] → new ≡ old ++ (codes "ok start" ++ 10 ∷ [])
       → LeavesRunning {A = A} w old new (request_reply (declaring d) asked.start)
   started d w old new ready same state text = rw ready ((same, state), text)
 
   -- what is left by a proposal of a change that is no message set
   pub change_refused : (w : Standing) (past : Past A) (name : List ℕ) (x : ℕ) (near : Op) (o : Operation) (r : Refusal) (old new : List ℕ) → StandsFor w past
-      → place_of name w.setup.objects ≡ Some x → IsNearest near (op_of o) → set_refusal (length w.setup.objects) (record { object = x; op = near } ∷ []) ≡ Some r → new ≡ old ++ refused_text r
-      → LeavesRunning w old new (change_reply (place_of name w.setup.objects) w.setup past o)
+      → place_of name w.primary.setup.objects ≡ Some x → IsNearest near (op_of o) → set_refusal (length w.primary.setup.objects) (record { object = x; op = near } ∷ []) ≡ Some r → new ≡ old ++ refused_text r
+      → LeavesRunning w old new (change_reply (place_of name w.primary.setup.objects) w.primary.setup past o)
   change_refused w past name x near o r old new is place nearest refused text =
-      rw (place, sym (set_refusal-near (length w.setup.objects) x near (op_of o) nearest) ∙ refused) ((refl, is), text)
+      rw (place, sym (set_refusal-near (length w.primary.setup.objects) x near (op_of o) nearest) ∙ refused) ((refl, is), text)

@@ -2,7 +2,7 @@
 use Rattle.std.proofs.Common.{◌≡◌, ◌∙◌, sym, refl, ap, subst, ℕ, ◌+◌, ◌-◌, ◌<◌, ◌≤◌, true, false, List, [], ◌++◌, Option, Some, None, IfSome, Result, Ok, Err, length, take, arith, append_assoc, length-append}
 use Rattle.std.proofs.lemmas.List.{append-nil}
 use Rattle.std.proofs.Math.Seq.{take-append-add}
-use Rattle.std.proofs.KnownBytes.{Appends-trans, Consumes-trans, Consumes-kept}
+use Rattle.std.proofs.KnownBytes.{Appends-trans, Consumes-trans, Consumes-kept, Keeps-refl}
 use Rattle.std.specs.Io.KnownBytes.{Appends, Consumes, IsAtEnd, Keeps}
 use Rattle.ordup_script.specs.declared.script_end.ScriptEnd.{ScriptEnd}
 use Rattle.ordup_script.specs.declared.engine.Engine.{Engine}
@@ -12,7 +12,7 @@ use Rattle.ordup_script.specs.Sessions.{Session, Stands, first_session}
 use Rattle.ordup_script.specs.Lines.{Continues, IsPart, Progress, after_lines, answers_to, lines_of, out, out_of_ended, start, total}
 use Rattle.ordup_script.specs.Held.{Feeds, Finishes, IsAt}
 use Rattle.ordup_script.specs.Sent.{AppendsFront}
-use Rattle.ordup_script.specs.Runs.{Closes, Partial, PartlyFeeds, PartlyFinishes, Passes, Runs}
+use Rattle.ordup_script.specs.Runs.{Closes, HasPassed, Partial, PartlyFeeds, PartlyFinishes, Passes, Runs}
 use Rattle.ordup_script.proofs.Lines.{Continues-trans, IsPart-held, ended-none}
 
 -- ---- how far a run has come
@@ -203,3 +203,9 @@ ends_close {A} e had mid has old now new limit script p (Err fault.Write) took k
     told_end A had has old new script (Consumes-kept had mid has script took kept) at_end (partly_ended old now new p script app h (closed.front (unwritten p) (unwritten-IsAt e p.written p at_p)))
 ends_close {A} e had mid has old now new limit script p (Err fault.NoMemory) took kept within at_end app at_p h closed =
     told_end A had has old new script (Consumes-kept had mid has script took kept) at_end (partly_ended old now new p script app h (closed.front (unwritten p) (unwritten-IsAt e p.written p at_p)))
+
+-- all was fed, and the last line was answered
+pub ends_closed : {A : Type 0} (e : Engine A) (had has old now new : Option (List ℕ)) (limit : ℕ) (r : Result (ScriptEnd A) ScriptFault) → HasPassed had has old now limit e
+    → Closes now new e r → Runs had has old new limit r
+ends_closed e had has old now new limit r passed closed =
+    ends_close e had has has old now new limit passed.script passed.come r passed.took (Keeps-refl has) passed.within passed.ended passed.grew passed.is_at passed.continues closed

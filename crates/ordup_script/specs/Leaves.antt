@@ -2,7 +2,7 @@
 use Rattle.std.specs.Prelude.{◌≡◌, ℕ, ℤ, ◌<◌, ◌≤◌, List, ◌++◌, unsigned_abs}
 use Rattle.ordup_objects.specs.declared.change.Op.{Op}
 use Rattle.ordup_objects.specs.declared.change.Op.TheVariants as op
-use Rattle.ordup_world.specs.Declarations.{Declared}
+use Rattle.ordup_primary.specs.Declarations.{Declared}
 use Rattle.ordup_world.specs.Standings.{Standing}
 use Rattle.ordup_world.specs.declared.event.Event.{Event}
 use Rattle.ordup_world.specs.declared.event.Event.TheVariants.{Send, Apply, Show}

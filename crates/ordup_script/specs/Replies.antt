@@ -8,7 +8,7 @@ use Rattle.ordup_objects.specs.declared.refusal.Refusal.{Refusal}
 use Rattle.ordup_objects.specs.declared.refusal.Refusal.TheVariants.{Syntax, NotStarted, AlreadyStarted, UnknownObject, UnknownSite}
 use Rattle.ordup_objects.specs.Tables.{place_of, object_refusal}
 use Rattle.ordup_objects.specs.Sets.{set_refusal}
-use Rattle.ordup_world.specs.Declarations.{Declared, start_refusal, site_refusal}
+use Rattle.ordup_primary.specs.Declarations.{Declared, start_refusal, site_refusal}
 use Rattle.ordup_world.specs.Events.{Past, later}
 use Rattle.ordup_world.specs.Events.{reply as event_answer}
 use Rattle.ordup_world.specs.declared.event.Event.{Event}
@@ -39,7 +39,7 @@ module _ {A : Type 0} where
   -- the reply to an event that names this site
   abbrev pub event_reply : Declared → Past A → List ℕ → Event A → Reply A
   event_reply setup past name e =
-      (running setup (later past e (event_answer setup past e)), answer_text setup.objects name (event_answer setup past e))
+      (running setup (later past e (event_answer setup past e)), answer_text setup name (event_answer setup past e))
 
   -- the reply to an event at a site, where the name is one
   abbrev pub reply_at : Option ℕ → Declared → Past A → List ℕ → (ℕ → Event A) → Reply A
@@ -67,7 +67,7 @@ module _ {A : Type 0} where
       accepted_or (object_refusal d.objects name initial) (declaring d) (declaring (record d { objects = d.objects ++ (name, initial) ∷ [] }))
       (named_text (codes "ok object ") name)
   declared_reply d (site name capacity) =
-      accepted_or (site_refusal d.sites name (amount_of capacity)) (declaring d) (declaring (record d { sites = d.sites ++ (name, amount_of capacity) ∷ [] }))
+      accepted_or (site_refusal d.sites name (amount_of capacity)) (declaring d) (declaring (record d { sites = d.sites ++ (name, amount_of capacity) ∷ []; limits = d.limits ++ [] ∷ [] }))
       (named_text (codes "ok site ") name)
   declared_reply d start = accepted_or (start_refusal d) (declaring d) (running d []) (codes "ok start" ++ 10 ∷ [])
   declared_reply d (propose change) = (declaring d, refused_text NotStarted)

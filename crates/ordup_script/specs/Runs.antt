@@ -6,7 +6,7 @@ use Rattle.ordup_script.specs.declared.engine.Engine.{Engine}
 use Rattle.ordup_script.specs.declared.stream.ScriptFault.{ScriptFault}
 use Rattle.ordup_script.specs.declared.stream.ScriptFault.TheVariants as fault
 use Rattle.ordup_script.specs.Sessions.{Session, Stands, first_session}
-use Rattle.ordup_script.specs.Lines.{Progress, after_lines, lines_of, out, out_of_ended, total}
+use Rattle.ordup_script.specs.Lines.{Progress, Continues, after_lines, lines_of, out, out_of_ended, start, total}
 use Rattle.ordup_script.specs.Held.{Feeds, Finishes, IsAt}
 use Rattle.ordup_script.specs.Sent.{AppendsFront}
 
@@ -56,3 +56,19 @@ Runs {A} had has old new limit (Err fault.Write) =
     IfSome had (λ script. AppendsFront old new (out A script))
 Runs {A} had has old new limit (Err fault.NoMemory) =
     IfSome had (λ script. AppendsFront old new (out A script))
+
+-- a script was read to the reader's end and fed to an engine from the start on, and the writer grew by its answers
+pub record HasPassed {A : Type 0} (had has old new : Option (List ℕ)) (limit : ℕ) (after : Engine A) : Type 0 where
+  pub script : List ℕ
+  pub come : Progress A
+  pub took : Consumes had has script
+  pub within : length script ≤ limit
+  pub ended : IsAtEnd has
+  pub grew : Appends old new come.written
+  pub is_at : IsAt after come.written come
+  pub continues : Continues start come script
+
+-- all of a script was fed and answered, or the run ends with a fault
+abbrev pub PassesAll : {A : Type 0} → Option (List ℕ) → Option (List ℕ) → Option (List ℕ) → Option (List ℕ) → ℕ → Engine A → Result (Unit {0}) ScriptFault → Type 0
+PassesAll had has old new limit after (Ok done) = HasPassed had has old new limit after
+PassesAll {A} had has old new limit after (Err e) = Runs {A = A} had has old new limit (Err e)

@@ -1,6 +1,6 @@
 -- Where a script stands between two lines.
 use Rattle.std.specs.Prelude.{◌≡◌, []}
-use Rattle.ordup_world.specs.Declarations.{Declared}
+use Rattle.ordup_primary.specs.Declarations.{Declared}
 use Rattle.ordup_world.specs.Events.{Past}
 use Rattle.ordup_world.specs.Standings.{Standing, StandsFor}
 use Rattle.ordup_script.specs.declared.script_end.ScriptEnd.{ScriptEnd}
@@ -13,7 +13,7 @@ pub data Session (A : Type 0) : Type 0 where
 
 -- where a script begins
 abbrev pub first_session : {A : Type 0} → Session A
-first_session = declaring (record { objects = []; sites = [] })
+first_session = declaring (record { objects = []; groups = []; sites = []; limits = [] })
 
 -- the setup is that of the session
 abbrev pub Declares : {A : Type 0} → Declared → Session A → Type 0
@@ -23,7 +23,7 @@ Declares setup (running d past) = ⊥
 -- the world was started with the session's setup, and stands for its accepted events
 abbrev pub IsWorldOf : {A : Type 0} → Standing → Session A → Type 0
 IsWorldOf w (declaring d) = ⊥
-IsWorldOf w (running d past) = (w.setup ≡ d) × StandsFor w past
+IsWorldOf w (running d past) = (w.primary.setup ≡ d) × StandsFor w past
 
 -- the script stands where the session does
 abbrev pub Stands : {A : Type 0} → ScriptEnd A → Session A → Type 0

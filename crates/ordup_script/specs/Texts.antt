@@ -1,10 +1,13 @@
 -- The text of answers.
-use Rattle.std.specs.Prelude.{ℕ, ℤ, List, [], ◌∷◌, ◌++◌, codes}
+use Rattle.std.specs.Prelude.{ℕ, ℤ, List, [], ◌∷◌, ◌++◌, codes, slice_index_or}
 use Rattle.std.specs.Fmt.{decimal, signed_decimal}
 use Rattle.ordup_objects.specs.declared.refusal.Refusal.{Refusal}
 use Rattle.ordup_objects.specs.Refusals.{refusal_number, refusal_name}
+use Rattle.ordup_primary.specs.Declarations.{Declared}
+use Rattle.ordup_primary.specs.declared.settled.Settled.{Settled}
+use Rattle.ordup_primary.specs.declared.settled.Settled.TheVariants.{Acked, Round, Waiting}
 use Rattle.ordup_world.specs.declared.event.Answer.{Answer}
-use Rattle.ordup_world.specs.declared.event.Answer.TheVariants.{Proposed, Sent, Applied, Shown, Refused}
+use Rattle.ordup_world.specs.declared.event.Answer.TheVariants.{Proposed, Sent, Applied, Reported, Settlement, Shown, Refused}
 
 -- `refused N NAME`
 abbrev pub refused_text : Refusal → List ℕ
@@ -38,10 +41,27 @@ shown_text site sent applied reported rounds objects values =
     codes "ok show " ++ site ++ codes " sent " ++ decimal sent ++ codes " applied " ++ decimal applied ++ codes " reported " ++ decimal reported
     ++ codes " rounds " ++ decimal rounds ++ values_text objects values ++ 10 ∷ []
 
+-- ` S` for each of these sites
+abbrev pub sites_text : List (List ℕ × ℕ) → List ℕ → List ℕ
+sites_text table [] = []
+sites_text table (s ∷ sites) = 32 ∷ [] ++ (slice_index_or table s ([], 0)).0 ++ sites_text table sites
+
+-- what was done, a number, and sites
+abbrev pub listed_text : List ℕ → ℕ → List (List ℕ × ℕ) → List ℕ → List ℕ
+listed_text done number table sites = done ++ decimal number ++ sites_text table sites ++ 10 ∷ []
+
+-- the text of what came of a settlement
+abbrev pub settled_text : {A : Type 0} → List (List ℕ × ℕ) → Settled A → List ℕ
+settled_text table (Acked k) = done_text (codes "ok acked ") k
+settled_text table (Round k sites) = listed_text (codes "ok round ") k table sites
+settled_text table (Waiting k sites) = listed_text (codes "ok waiting ") k table sites
+
 -- the text of an answer to an event that names this site
-abbrev pub answer_text : {A : Type 0} → List (List ℕ × ℤ) → List ℕ → Answer A → List ℕ
-answer_text objects site (Proposed number) = done_text (codes "ok proposed ") number
-answer_text objects site (Sent s number) = numbered_text (codes "ok sent ") site number
-answer_text objects site (Applied s number) = numbered_text (codes "ok applied ") site number
-answer_text objects site (Shown sent applied reported rounds values) = shown_text site sent applied reported rounds objects values
-answer_text objects site (Refused r) = refused_text r
+abbrev pub answer_text : {A : Type 0} → Declared → List ℕ → Answer A → List ℕ
+answer_text setup site (Proposed number) = done_text (codes "ok proposed ") number
+answer_text setup site (Sent s number) = numbered_text (codes "ok sent ") site number
+answer_text setup site (Applied s number) = numbered_text (codes "ok applied ") site number
+answer_text setup site (Reported s place) = numbered_text (codes "ok reported ") site place
+answer_text setup site (Settlement settled) = settled_text setup.sites settled
+answer_text setup site (Shown sent applied reported rounds values) = shown_text site sent applied reported rounds setup.objects values
+answer_text setup site (Refused r) = refused_text r

@@ -204,9 +204,9 @@ fn propose_change<A: Allocator + Copy>(
     operation: Operation,
     out: &mut Vec<u8, A>,
 ) -> Result<(), AllocError>
-    ensures { OnOk result ((past : Past A) → StandsFor world.old past → LeavesRunning world.new out.old.items out.new.items (change_reply (place_of name.now world.old.setup.objects) world.old.setup past operation)) }
+    ensures { OnOk result ((past : Past A) → StandsFor world.old past → LeavesRunning world.new out.old.items out.new.items (change_reply (place_of name.now world.old.primary.setup.objects) world.old.primary.setup past operation)) }
 {
-    let Some(object) = world.setup().objects().find(name) else {
+    let Some(object) = world.primary().setup().objects().find(name) else {
         return push_refused(out, Refusal::UnknownObject);
     };
     let mut changes = Vec::with_capacity(alloc, 1)?;
@@ -214,7 +214,7 @@ fn propose_change<A: Allocator + Copy>(
         object,
         op: op_of(operation),
     });
-    match MessageSet::new(world.setup().objects(), changes) {
+    match MessageSet::new(world.primary().setup().objects(), changes) {
         Ok(set) => answer_event(world, b"", Event::Propose(set), out),
         Err(refusal) => push_refused(out, refusal),
     }
@@ -273,9 +273,9 @@ fn answer_at_site<A: Allocator + Copy>(
     name: &[u8],
     out: &mut Vec<u8, A>,
 ) -> Result<(), AllocError>
-    ensures { OnOk result ((past : Past A) → StandsFor world.old past → LeavesRunning world.new out.old.items out.new.items (site_reply world.old.setup past name.now (event_at kind))) }
+    ensures { OnOk result ((past : Past A) → StandsFor world.old past → LeavesRunning world.new out.old.items out.new.items (site_reply world.old.primary.setup past name.now (event_at kind))) }
 {
-    match world.setup().find_site(name) {
+    match world.primary().setup().find_site(name) {
         Some(site) => answer_event(world, name, kind.event(site), out),
         None => push_refused(out, Refusal::UnknownSite),
     }
@@ -288,8 +288,8 @@ fn answer_event<A: Allocator + Copy>(
     event: Event<A>,
     out: &mut Vec<u8, A>,
 ) -> Result<(), AllocError>
-    ensures { OnOk result ((past : Past A) → StandsFor world.old past → LeavesRunning world.new out.old.items out.new.items (event_reply world.old.setup past site.now event)) }
+    ensures { OnOk result ((past : Past A) → StandsFor world.old past → LeavesRunning world.new out.old.items out.new.items (event_reply world.old.primary.setup past site.now event)) }
 {
     let answer = world.step(event);
-    push_answer(out, site, world.setup().objects(), &answer)
+    push_answer(out, site, world.primary().setup(), &answer)
 }

@@ -1,8 +1,10 @@
 //! A script from a reader to a writer.
-ghost use Rattle.std.specs.Prelude.{◌≡◌, IfErr, OnOk};
+ghost use Rattle.std.specs.Prelude.{◌≡◌, [], IfErr, OnOk};
 ghost use Rattle.std.specs.Io.KnownBytes.{Appends};
 ghost use Rattle.ordup_script.specs.Sent.{AppendsFront};
-ghost use Rattle.ordup_script.specs.Runs.{Closes, Passes, Runs};
+ghost use Rattle.ordup_script.specs.Lines.{start};
+ghost use Rattle.ordup_script.specs.Held.{IsAt};
+ghost use Rattle.ordup_script.specs.Runs.{Closes, Passes, PassesAll, Runs};
 
 use crate::engine::Engine;
 use crate::script_end::ScriptEnd;
@@ -81,6 +83,38 @@ fn close<A: Allocator + Copy, W: Write>(
     Ok(end)
 }
 
+/// Reads a script of at most so many bytes to its end, feeds it piece by piece, and writes its answers.
+fn pass_all<A: Allocator + Copy, R: Read, W: Write>(
+    alloc: A,
+    engine: &mut Engine<A>,
+    answers: &mut Vec<u8, A>,
+    input: &mut R,
+    output: &mut W,
+    limit: u64,
+) -> Result<(), ScriptFault>
+    requires { IsAt engine.old [] start }
+    ensures { PassesAll (R.remaining input.old) (R.remaining input.new)
+        (W.contents output.old) (W.contents output.new) limit engine.new result }
+{
+    let mut piece = [0u8; PIECE];
+    let mut taken = 0u64;
+    'pieces: loop {
+        let Ok(count) = input.read(&mut piece) else {
+            return Err(ScriptFault::Read);
+        };
+        if count == 0 {
+            return Ok(());
+        }
+        if count as u64 > limit - taken {
+            let room = (limit - taken) as usize;
+            pass(alloc, engine, &piece[..room], answers, output)?;
+            return Err(ScriptFault::TooLong);
+        }
+        pass(alloc, engine, &piece[..count], answers, output)?;
+        taken += count as u64;
+    }
+}
+
 /// Runs a script of at most so many bytes.
 pub fn run_script_within<A: Allocator + Copy, R: Read, W: Write>(
     alloc: A,
@@ -93,23 +127,7 @@ pub fn run_script_within<A: Allocator + Copy, R: Read, W: Write>(
 {
     let mut engine = Engine::new(alloc);
     let mut answers = Vec::new(alloc);
-    let mut piece = [0u8; PIECE];
-    let mut taken = 0u64;
-    'pieces: loop {
-        let Ok(count) = input.read(&mut piece) else {
-            return Err(ScriptFault::Read);
-        };
-        if count == 0 {
-            break;
-        }
-        if count as u64 > limit - taken {
-            let room = (limit - taken) as usize;
-            pass(alloc, &mut engine, &piece[..room], &mut answers, output)?;
-            return Err(ScriptFault::TooLong);
-        }
-        pass(alloc, &mut engine, &piece[..count], &mut answers, output)?;
-        taken += count as u64;
-    }
+    pass_all(alloc, &mut engine, &mut answers, input, output, limit)?;
     close(alloc, engine, answers, output)
 }
 

@@ -1,10 +1,10 @@
 //! The text of answers.
-ghost use Rattle.std.specs.Prelude.{◌≡◌, ◌++◌, ◌∷◌, [], OnOk, length};
+ghost use Rattle.std.specs.Prelude.{◌≡◌, ◌++◌, ◌∷◌, [], OnOk, length, slice_index_or};
 ghost use Rattle.std.specs.Fmt.{decimal, signed_decimal};
-ghost use Rattle.ordup_script.specs.Texts.{refused_text, named_text, done_text, numbered_text, value_text, values_text, shown_text, answer_text};
+ghost use Rattle.ordup_script.specs.Texts.{refused_text, named_text, done_text, numbered_text, value_text, values_text, shown_text, sites_text, listed_text, settled_text, answer_text};
 
-use ordup_objects::{Name, ObjectId, ObjectTable, Refusal};
-use ordup_world::Answer;
+use ordup_objects::{Name, ObjectId, ObjectTable, Refusal, SiteId};
+use ordup_world::{Answer, Settled, Setup};
 use std::alloc::{AllocError, Allocator};
 use std::io::Write;
 
@@ -148,15 +148,17 @@ fn push_shown<A: Allocator + Copy>(
 pub(crate) fn push_answer<A: Allocator + Copy>(
     out: &mut Vec<u8, A>,
     site: &[u8],
-    objects: &ObjectTable<A>,
+    setup: &Setup<A>,
     answer: &Answer<A>,
 ) -> Result<(), AllocError>
-    ensures { OnOk result ((answer.now ≡ Answer.Refused Refusal.NoMemory → ⊥) × (out.new.items ≡ out.old.items ++ answer_text objects.now site.now answer.now)) }
+    ensures { OnOk result ((answer.now ≡ Answer.Refused Refusal.NoMemory → ⊥) × (out.new.items ≡ out.old.items ++ answer_text setup.now site.now answer.now)) }
 {
     match answer {
         Answer::Proposed(number) => push_done(out, b"ok proposed ", *number),
         Answer::Sent { number, .. } => push_numbered(out, b"ok sent ", site, *number),
         Answer::Applied { number, .. } => push_numbered(out, b"ok applied ", site, *number),
+        Answer::Reported { place, .. } => push_numbered(out, b"ok reported ", site, *place),
+        Answer::Settlement(settled) => push_settled(out, setup, settled),
         Answer::Shown {
             sent,
             applied,
@@ -170,10 +172,73 @@ pub(crate) fn push_answer<A: Allocator + Copy>(
                 reported: *reported,
                 rounds: *rounds,
             };
-            push_shown(out, site, numbers, objects, values.as_slice())
+            push_shown(out, site, numbers, setup.objects(), values.as_slice())
         }
         Answer::Refused(refusal) => push_refused(out, *refusal),
     }
+}
+
+/// Adds what came of a settlement.
+fn push_settled<A: Allocator + Copy>(
+    out: &mut Vec<u8, A>,
+    setup: &Setup<A>,
+    settled: &Settled<A>,
+) -> Result<(), AllocError>
+    ensures { OnOk result (out.new.items ≡ out.old.items ++ settled_text setup.now.sites settled.now) }
+{
+    match settled {
+        Settled::Acked(k) => push_done(out, b"ok acked ", *k),
+        Settled::Round { k, sites } => push_listed(out, b"ok round ", *k, setup, sites.as_slice()),
+        Settled::Waiting { k, sites } => {
+            push_listed(out, b"ok waiting ", *k, setup, sites.as_slice())
+        }
+    }
+}
+
+/// Adds an answer that ends with a number and sites.
+fn push_listed<A: Allocator + Copy>(
+    out: &mut Vec<u8, A>,
+    done: &[u8],
+    number: u64,
+    setup: &Setup<A>,
+    sites: &[SiteId],
+) -> Result<(), AllocError>
+    ensures { OnOk result (out.new.items ≡ out.old.items ++ listed_text done.now number setup.now.sites sites.now) }
+{
+    out.extend_from_slice(done)?;
+    push_number(out, number)?;
+    push_sites(out, setup, sites)?;
+    out.push(b'\n')?;
+    Ok(())
+}
+
+/// Adds ` S` for each of these sites.
+fn push_sites<A: Allocator + Copy>(
+    out: &mut Vec<u8, A>,
+    setup: &Setup<A>,
+    sites: &[SiteId],
+) -> Result<(), AllocError>
+    ensures { OnOk result (out.new.items ≡ out.old.items ++ sites_text setup.now.sites sites.now) }
+{
+    for site in sites {
+        push_site(out, setup, *site)?;
+    }
+    Ok(())
+}
+
+/// Adds ` S`: a space, and the name of the site where there is one.
+fn push_site<A: Allocator + Copy>(
+    out: &mut Vec<u8, A>,
+    setup: &Setup<A>,
+    site: SiteId,
+) -> Result<(), AllocError>
+    ensures { OnOk result (out.new.items ≡ out.old.items ++ 32 ∷ [] ++ (slice_index_or setup.now.sites site ([], 0)).0) }
+{
+    out.push(b' ')?;
+    if site.index() < setup.sites() {
+        out.extend_from_slice(setup.site_name(site).as_bytes())?;
+    }
+    Ok(())
 }
 
 /// Adds an answer that ends with a number.

@@ -1,5 +1,5 @@
-//! Tests that cross crates: each public function of the objects, the log and the world on its happy path, the answers
-//! that follow from the store's rules by hand, and scripts over readers and writers that fail.
+//! Tests that cross crates: each public function of the objects, the log and the world on its happy path, and the answers
+//! that follow from the store's rules by hand.
 #![tactic(auto)]
 
 #[cfg(test)]
@@ -8,7 +8,5 @@ mod fixtures;
 mod log;
 #[cfg(test)]
 mod objects;
-#[cfg(test)]
-mod script;
 #[cfg(test)]
 mod world;

@@ -11,6 +11,9 @@ enum Seen {
     Proposed(u64),
     Sent(SiteId, u64),
     Applied(SiteId, u64),
+    Reported(SiteId, u64),
+    /// A settlement, whatever came of it.
+    Settled,
     /// What was sent, applied and reported, the rounds, and the two values.
     Shown([u64; 4], [i64; 2]),
     Refused(Refusal),
@@ -24,6 +27,8 @@ fn view_of(answer: &Answer) -> Seen {
         Answer::Proposed(number) => Seen::Proposed(*number),
         Answer::Sent { site, number } => Seen::Sent(*site, *number),
         Answer::Applied { site, number } => Seen::Applied(*site, *number),
+        Answer::Reported { site, place } => Seen::Reported(*site, *place),
+        Answer::Settlement(_) => Seen::Settled,
         Answer::Shown {
             sent,
             applied,
@@ -243,7 +248,10 @@ fn a_world_steps_one_site_without_another(rt: HostRuntime) -> Result<(), Fail> {
     let objects = x_and_y(alloc)?;
     let mut world = World::start(alloc, setup)?;
     assert_eq!(rt;
-        (world.setup().sites(), world.setup().objects().len()),
+        (
+            world.primary().setup().sites(),
+            world.primary().setup().objects().len()
+        ),
         (2, 2)
     );
     let proposal = propose(alloc, &objects, &[change(1, Op::Mul(-4))])?;
@@ -263,6 +271,6 @@ fn a_world_steps_one_site_without_another(rt: HostRuntime) -> Result<(), Fail> {
         view_of(&world.step(Event::Show(a))),
         Seen::Shown([0, 0, 0, 0], [0, 10])
     );
-    assert_eq!(rt; world.setup().find_site(b"b"), Some(b));
+    assert_eq!(rt; world.primary().setup().find_site(b"b"), Some(b));
     Ok(())
 }

@@ -1,2 +1,4 @@
 pub mod StandingLemmas
+pub mod AfterLemmas
 pub mod RunLemmas
+pub mod AnswerLemmas

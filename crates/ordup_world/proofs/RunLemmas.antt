@@ -1,7 +1,7 @@
 -- Lists of events and their answers, one more at the end.
 use Rattle.std.proofs.Common.{◌≡◌, List, [], ◌∷◌, ◌++◌, length, refl, sym, arith, ◌∙◌}
 use Rattle.std.proofs.lemmas.List.{append-nil}
-use Rattle.ordup_world.specs.Declarations.{Declared}
+use Rattle.ordup_primary.specs.Declarations.{Declared}
 use Rattle.ordup_world.specs.Events.{Past, later, IsAnswer, AreAnswers, past_after}
 use Rattle.ordup_world.specs.declared.event.Event.{Event}
 use Rattle.ordup_world.specs.declared.event.Answer.{Answer}

@@ -1,21 +1,35 @@
 -- Events, what they are answered, and the numbers of a list of accepted events.
-use Rattle.std.specs.Prelude.{◌≡◌, ◌⊎◌, ℕ, ◌+◌, ◌-◌, ◌==◌, not, if◌then◌else◌, nat_lt, Bool, true, false, Option, Some, None, List, [], ◌∷◌, ◌++◌, length}
+use Rattle.std.specs.Prelude.{◌≡◌, ◌⊎◌, ℕ, ◌+◌, ◌-◌, ◌==◌, not, if◌then◌else◌, nat_lt, Bool, true, false, Option, Some, None, List, [], ◌∷◌, ◌++◌, length, slice_index_or}
 use Rattle.ordup_objects.specs.declared.change.Change.{Change}
 use Rattle.ordup_objects.specs.declared.refusal.Refusal.{Refusal}
-use Rattle.ordup_objects.specs.declared.refusal.Refusal.TheVariants.{UnknownObject, UnknownSite, NothingToSend, FeedFull, NothingToApply, NoMemory}
+use Rattle.ordup_objects.specs.declared.refusal.Refusal.TheVariants.{UnknownObject, UnknownSite, NothingToSend, FeedFull, NothingToApply, NothingToSettle, NoMemory}
 use Rattle.ordup_objects.specs.Tables.{initial_state}
 use Rattle.ordup_objects.specs.Sets.{is_over}
 use Rattle.ordup_objects.specs.Serial.{History, serial}
 use Rattle.ordup_log.specs.Appending.{append_refusal}
-use Rattle.ordup_world.specs.Declarations.{Declared, capacity_of}
+use Rattle.ordup_limits.specs.Limits.{within}
+use Rattle.ordup_primary.specs.Declarations.{Declared, capacity_of, limits_of}
+use Rattle.ordup_primary.specs.Settling.{forced_sites, waiting_sites, rounds_upto}
+use Rattle.ordup_primary.specs.Primaries.{acked_after, acked_or_round, acked_or_waiting}
+use Rattle.ordup_primary.specs.declared.settled.Settled.{Settled}
 use Rattle.ordup_world.specs.declared.event.Event.{Event}
-use Rattle.ordup_world.specs.declared.event.Event.TheVariants.{Propose, Send, Apply, Show}
+use Rattle.ordup_world.specs.declared.event.Event.TheVariants.{Propose, Send, Apply, Report, Settle, Show}
 use Rattle.ordup_world.specs.declared.event.Answer.{Answer}
-use Rattle.ordup_world.specs.declared.event.Answer.TheVariants.{Proposed, Sent, Applied, Shown, Refused}
+use Rattle.ordup_world.specs.declared.event.Answer.TheVariants.{Proposed, Sent, Applied, Reported, Settlement, Shown, Refused}
 
 -- the accepted events, the newest first
 abbrev pub Past : Type 0 → Type 0
 Past A = List (Event A)
+
+-- how many updates are acknowledged, how many are decided, and what each site had reported at the decision of each place
+pub record Decisions : Type 0 where
+  pub acked : ℕ
+  pub decided : ℕ
+  pub reports : ℕ → List ℕ
+
+-- what was reported at the decision of place k
+abbrev pub report_at : List ℕ → ℕ → ℕ
+report_at reports k = slice_index_or reports (k - 1) 0
 
 module _ {A : Type 0} where
   -- the proposed message sets, in their order
@@ -36,14 +50,49 @@ module _ {A : Type 0} where
   applied s (Apply t ∷ past) = if t == s then applied s past + 1 else applied s past
   applied s (_ ∷ past) = applied s past
 
-  -- what a site had applied at its last report: 0, since no event is a report
+  -- what a site had applied at its last report, or 0
   abbrev pub reported : ℕ → Past A → ℕ
   reported s [] = 0
+  reported s (Report t ∷ past) = if t == s then applied s past else reported s past
   reported s (_ ∷ past) = reported s past
 
   -- the log: the proposed message sets over the initial state
   abbrev pub log_of : Declared → Past A → History
   log_of setup past = record { start = initial_state setup.objects; sets = sets_of past }
+
+  -- the span from a to b passes no limit of site s
+  abbrev pub is_within_after : Declared → Past A → ℕ → ℕ → ℕ → Bool
+  is_within_after setup past s a b = within (log_of setup past) setup.groups (limits_of setup s) a b
+
+  -- the sites that a first settlement of the head would force
+  abbrev pub forced_after : Declared → Past A → Decisions → List ℕ
+  forced_after setup past ds = forced_sites (is_within_after setup past) (λ s. reported s past) (length setup.sites) (ds.acked + 1)
+
+  -- the sites that were forced at the decision of the head and have not reported it
+  abbrev pub waiting_after : Declared → Past A → Decisions → List ℕ
+  waiting_after setup past ds = waiting_sites (is_within_after setup past) (λ s. report_at (ds.reports s) (ds.acked + 1)) (λ s. reported s past) (length setup.sites) (ds.acked + 1)
+
+  -- The first settlement of the head decides it: what each site has reported then counts from now on. It is acknowledged where no site is forced, and later where no forced site is waited for.
+  abbrev pub settled : Declared → Past A → Decisions → Decisions
+  settled setup past ds = if ds.acked == ds.decided then (record {
+    acked = acked_after ds.acked (forced_after setup past ds);
+    decided = ds.acked + 1;
+    reports = λ s. ds.reports s ++ reported s past ∷ [];
+  }) else (record { acked = acked_after ds.acked (waiting_after setup past ds); decided = ds.decided; reports = ds.reports })
+
+  -- the decisions of the settlements among the accepted events
+  abbrev pub decisions : Declared → Past A → Decisions
+  decisions setup [] = record { acked = 0; decided = 0; reports = λ s. [] }
+  decisions setup (Settle ∷ past) = settled setup past (decisions setup past)
+  decisions setup (_ ∷ past) = decisions setup past
+
+  -- what a settlement answers
+  abbrev pub settlement_of : Declared → Past A → Decisions → Settled A
+  settlement_of setup past ds = if ds.acked == ds.decided then acked_or_round (ds.acked + 1) (forced_after setup past ds) else acked_or_waiting (ds.acked + 1) (waiting_after setup past ds)
+
+  -- the rounds of a site: the decided places for which the span from what it had reported at the decision passes a limit
+  abbrev pub rounds : Declared → ℕ → Past A → List ℕ
+  rounds setup s past = rounds_upto (is_within_after setup past s) (report_at ((decisions setup past).reports s)) (decisions setup past).decided
 
   -- a refusal, or else an answer
   abbrev pub refused_or : Option Refusal → Answer A → Answer A
@@ -64,9 +113,15 @@ module _ {A : Type 0} where
       if not (nat_lt s (length setup.sites)) then Refused UnknownSite else
       if applied s past == sent s past then Refused NothingToApply else
       Applied s (applied s past + 1)
+  reply setup past (Report s) =
+      if not (nat_lt s (length setup.sites)) then Refused UnknownSite else
+      Reported s (applied s past)
+  reply setup past Settle =
+      if (decisions setup past).acked == length (sets_of past) then Refused NothingToSettle else
+      Settlement (settlement_of setup past (decisions setup past))
   reply setup past (Show s) =
       if not (nat_lt s (length setup.sites)) then Refused UnknownSite else
-      Shown (sent s past) (applied s past) (reported s past) 0 (serial (log_of setup past) (applied s past))
+      Shown (sent s past) (applied s past) (reported s past) (length (rounds setup s past)) (serial (log_of setup past) (applied s past))
 
   -- whether an answer is a refusal
   abbrev pub is_refused : Answer A → Bool
@@ -83,6 +138,8 @@ module _ {A : Type 0} where
   takes_memory (Propose m) = true
   takes_memory (Send s) = true
   takes_memory (Apply s) = false
+  takes_memory (Report s) = false
+  takes_memory Settle = true
   takes_memory (Show s) = true
 
   -- an event after the past may be answered so: by the reply, or by NoMemory where the event takes memory and the reply is no refusal

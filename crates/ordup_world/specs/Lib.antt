@@ -1,3 +1,2 @@
-pub mod Declarations
 pub mod Events
 pub mod Standings

@@ -1,4 +1,5 @@
 use ordup_objects::{MessageSet, Refusal, SiteId, Values};
+use ordup_primary::Settled;
 use std::alloc::{Allocator, Global};
 
 /// What may happen to a store.
@@ -10,6 +11,10 @@ pub enum Event<A: Allocator + Copy = Global> {
     Send(SiteId),
     /// The site applies the next update of its feed.
     Apply(SiteId),
+    /// The site reports to the primary how many updates it applied.
+    Report(SiteId),
+    /// The primary settles the head, the update after the last acknowledged one.
+    Settle,
     /// The site is shown.
     Show(SiteId),
 }
@@ -29,6 +34,13 @@ pub enum Answer<A: Allocator + Copy = Global> {
         site: SiteId,
         number: u64,
     },
+    /// The site reported the updates up to this place as applied.
+    Reported {
+        site: SiteId,
+        place: u64,
+    },
+    /// What came of the settlement.
+    Settlement(Settled<A>),
     /// How many updates were sent to the site, were applied by it and were reported by it, how many of its rounds were
     /// forced, and its values.
     Shown {

@@ -1,4 +1,4 @@
-//! The world: a primary with its log and its sites, stepped by events.
+//! The world: a primary and its sites, stepped by events.
 //!
 //! The one contract above this layer: for every list of events the answers are the model's, and the world at the end stands
 //! for the accepted events.
@@ -8,11 +8,10 @@ mod event;
 mod outcome;
 mod replica;
 mod runs;
-mod setup;
 mod world;
 
 pub use event::{Answer, Event};
+pub use ordup_primary::{Primary, Settled, Setup, SiteList};
 pub use outcome::Run;
 pub use runs::run;
-pub use setup::Setup;
 pub use world::World;

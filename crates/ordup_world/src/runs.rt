@@ -1,14 +1,14 @@
 ghost use Rattle.std.specs.Prelude.{◌≡◌, None, [], IfOk, IfErr};
 ghost use Rattle.ordup_objects.specs.Refusals.{IsRefusal};
-ghost use Rattle.ordup_world.specs.Declarations.{start_refusal};
+ghost use Rattle.ordup_primary.specs.Declarations.{start_refusal};
 ghost use Rattle.ordup_world.specs.Events.{AreAnswers, past_after};
-ghost use Rattle.ordup_world.specs.Standings.{StandsFor, IsSound};
+ghost use Rattle.ordup_world.specs.Standings.{StandsFor, IsSound, KeepsLimits};
 
 use crate::event::Event;
 use crate::outcome::Run;
-use crate::setup::Setup;
 use crate::world::World;
 use ordup_objects::Refusal;
+use ordup_primary::Setup;
 use std::alloc::{Allocator, Global};
 
 /// Starts a store and takes the events in their order. An event that is refused leaves all as it was.
@@ -22,8 +22,9 @@ pub fn run<A: Allocator + Copy>(
 ) -> Result<Run<A>, Refusal>
     ensures answers { IfOk result (λ run. AreAnswers setup [] events.items run.answers.items) }
     ensures state { IfOk result (λ run. StandsFor run.world (past_after [] events.items run.answers.items)) }
-    ensures setup { IfOk result (λ run. run.world.setup ≡ setup) }
+    ensures setup { IfOk result (λ run. run.world.primary.setup ≡ setup) }
     ensures sound { IfOk result (λ run. IsSound run.world) }
+    ensures limits { IfOk result (λ run. KeepsLimits run.world) }
     ensures allowed { IfOk result (λ _. start_refusal setup ≡ None) }
     ensures refused { IfErr result (λ e. IsRefusal (start_refusal setup) e) }
 {

@@ -1,6 +1,6 @@
 use Rattle.std.proofs.Common.{◌≡◌, ◌++◌, ◌∷◌, [], ◌∙◌, codes, sym, ap, None}
 use Rattle.std.proofs.lemmas.Result.{on_ok_weaker}
-use Rattle.ordup_world.specs.Declarations.{start_refusal}
+use Rattle.ordup_primary.specs.Declarations.{start_refusal}
 use Rattle.ordup_script.specs.Commands as asked
 use Rattle.ordup_script.specs.Replies.{request_reply}
 use Rattle.ordup_script.specs.Leaves.{LeavesRunning}

@@ -13,6 +13,7 @@ loop-event-preserved g c =
       room = omega (arith, before.room, c.in-Some.ensures.steps.1, c.push_reserved.ensures.len, c.push_reserved.ensures.capacity);
       setup = c.step.ensures.setup ∙ before.setup;
       sound = c.step.ensures.sound;
+      limits = c.step.ensures.limits;
       answers = rw c.push_reserved.ensures.items (AreAnswers-push c.args.setup [] c.loop-event.yielded c.loop-event.answers.items c.in-Some.event c.step.result before.answers (rw before.setup at (c.step.ensures.answer mid before.state)));
       state = rw (c.push_reserved.ensures.items, past_after-push c.args.setup [] c.loop-event.yielded c.loop-event.answers.items c.in-Some.event c.step.result before.answers) (c.step.ensures.state mid before.state);
     }

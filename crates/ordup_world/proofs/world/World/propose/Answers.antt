@@ -1,27 +1,36 @@
-use Rattle.std.proofs.Common.{rules, length}
-use Rattle.std.proofs.lemmas.List.{length-map}
-use Rattle.ordup_objects.specs.Sets.{IsSet, IsOver}
+use Rattle.std.proofs.Common.{◌≡◌, ◌∙◌, true, length, sym, ap}
+use Rattle.ordup_objects.specs.Sets.{is_over}
 use Rattle.ordup_world.specs.Standings.{Standing}
-use Rattle.ordup_world.proofs.StandingLemmas.{is_over-true, IsLegal-added, IsSound-with_update, StandsFor-proposed}
+use Rattle.ordup_world.proofs.StandingLemmas.{IsSound-proposed}
+use Rattle.ordup_world.proofs.AfterLemmas.{StandsFor-proposed}
+use Rattle.ordup_world.proofs.AnswerLemmas.{answer-proposed, answer-propose_refused}
 use Rattle.ordup_world.proofs.world.World.propose.Goals as goal
 
 pub invariant_of-self-2 : goal.invariant_of-self-2
 invariant_of-self-2 g c =
-    let w : Standing = record { setup = c.self.inside.setup; log = c.self.inside.log; sites = c.self.inside.replicas.items } in
-    let set : IsSet c.args.set = search rules in
-    let over : IsOver (length w.log.start) c.args.set = rw (c.self.invariant.start, length-map) (is_over-true _ c.args.set (search rules)) in
-    let legal = IsLegal-added w.log c.append.new.self c.args.set c.self.invariant.legal set over c.in-Ok.ensures.allowed c.in-Ok.ensures.added in
-    IsSound-with_update w c.args.set c.append.new.self c.self.invariant c.in-Ok.ensures.added legal
+    let w : Standing = record { primary = c.self.inside.primary; sites = c.self.inside.replicas.items } in
+    IsSound-proposed w c.propose.new.self c.args.set c.self.invariant c.propose.ensures.sound c.in-Ok.ensures.added
+
+pub returns-clause-answer : goal.returns-clause-answer
+returns-clause-answer g c past is =
+    let w : Standing = record { primary = c.self.inside.primary; sites = c.self.inside.replicas.items } in
+    let count : c.len.result ≡ length w.primary.setup.objects = rw (c.objects.ensures, c.setup.ensures) at c.len.ensures.len in
+    let over : is_over (length w.primary.setup.objects) c.args.set ≡ true = ap (λ n. is_over n c.args.set) (sym count) ∙ sym c.if-not-is_over.ensures in
+    rw (← c.self.view_is) (answer-proposed w past c.args.set c.in-Ok.number (rw (← c.self.view_is) at is) over c.in-Ok.ensures.allowed c.in-Ok.ensures.number)
 
 pub returns-clause-state : goal.returns-clause-state
 returns-clause-state g c past is =
-    let w : Standing = record { setup = c.self.inside.setup; log = c.self.inside.log; sites = c.self.inside.replicas.items } in
-    StandsFor-proposed w past c.args.set c.append.new.self c.self.invariant (rw (← c.self.view_is) at is) c.in-Ok.ensures.added
+    let w : Standing = record { primary = c.self.inside.primary; sites = c.self.inside.replicas.items } in
+    StandsFor-proposed w past c.propose.new.self c.args.set c.self.invariant (rw (← c.self.view_is) at is) (IsSound-proposed w c.propose.new.self c.args.set c.self.invariant c.propose.ensures.sound c.in-Ok.ensures.added) c.in-Ok.ensures.added
 
 pub returns-clause-sound : goal.returns-clause-sound
 returns-clause-sound g c =
-    let w : Standing = record { setup = c.self.inside.setup; log = c.self.inside.log; sites = c.self.inside.replicas.items } in
-    let set : IsSet c.args.set = search rules in
-    let over : IsOver (length w.log.start) c.args.set = rw (c.self.invariant.start, length-map) (is_over-true _ c.args.set (search rules)) in
-    let legal = IsLegal-added w.log c.append.new.self c.args.set c.self.invariant.legal set over c.in-Ok.ensures.allowed c.in-Ok.ensures.added in
-    IsSound-with_update w c.args.set c.append.new.self c.self.invariant c.in-Ok.ensures.added legal
+    let w : Standing = record { primary = c.self.inside.primary; sites = c.self.inside.replicas.items } in
+    IsSound-proposed w c.propose.new.self c.args.set c.self.invariant c.propose.ensures.sound c.in-Ok.ensures.added
+
+pub returns-in-Err-clause-answer : goal.returns-in-Err-clause-answer
+returns-in-Err-clause-answer g c past is =
+    let w : Standing = record { primary = c.self.inside.primary; sites = c.self.inside.replicas.items } in
+    let count : c.len.result ≡ length w.primary.setup.objects = rw (c.objects.ensures, c.setup.ensures) at c.len.ensures.len in
+    let over : is_over (length w.primary.setup.objects) c.args.set ≡ true = ap (λ n. is_over n c.args.set) (sym count) ∙ sym c.if-not-is_over.ensures in
+    rw (← c.self.view_is) (answer-propose_refused w past c.args.set c.in-Err.refusal (rw (← c.self.view_is) at is) over c.in-Err.ensures.refused)

@@ -3,7 +3,7 @@ use Rattle.std.specs.Io.KnownBytes.{Appends, Consumes}
 use Rattle.ordup_script.specs.Lines.{Continues, Progress, start}
 use Rattle.ordup_script.specs.declared.stream.TheConstants.{PIECE}
 use Rattle.ordup_script.specs.Held.{IsAt}
-use Rattle.ordup_script.proofs.stream.run_script_within.Given as goal
+use Rattle.ordup_script.proofs.stream.pass_all.Given as goal
 
 abbrev pub invariant-pieces : goal.invariant-pieces
 invariant-pieces g l =

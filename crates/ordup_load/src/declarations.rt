@@ -1,0 +1,61 @@
+ghost use Rattle.std.specs.Prelude.{◌≡◌, IfOk, OnOk, length};
+
+use crate::kind::Kind;
+use ordup_limits::sizes::GREATEST_AMOUNT;
+use ordup_limits::{GroupId, Scope};
+use ordup_objects::{ObjectId, Refusal, SiteId};
+use ordup_world::Setup;
+use std::alloc::Allocator;
+
+/// How many objects there are.
+pub(crate) const OBJECT_COUNT: u8 = 16;
+/// How many sites there are.
+pub(crate) const SITE_COUNT: u8 = 4;
+/// How many updates the feed of a site holds.
+const CAPACITY: u64 = 4;
+
+/// 16 objects at 0, a group of the first four of them, and 4 sites with their limits. Names are single letters.
+pub(crate) fn setup<A: Allocator + Copy>(alloc: A, kind: Kind) -> Result<Setup<A>, Refusal>
+    ensures objects { IfOk result (λ setup. length setup.objects ≡ OBJECT_COUNT) }
+    ensures sites { IfOk result (λ setup. length setup.sites ≡ SITE_COUNT) }
+{
+    let mut setup = Setup::new(alloc);
+    for place in 0..OBJECT_COUNT {
+        setup.object(&[b'a' + place], 0)?;
+    }
+    let members = [
+        ObjectId::new(0),
+        ObjectId::new(1),
+        ObjectId::new(2),
+        ObjectId::new(3),
+    ];
+    let group = setup.group(b"a", &members)?;
+    for place in 0..SITE_COUNT {
+        let site = setup.site(&[b'a' + place], CAPACITY)?;
+        declare_limits(&mut setup, site, group, kind.lags(site))?;
+    }
+    Ok(setup)
+}
+
+/// A limit on an object, on the group, on all objects and on the count of updates. Wide ones are never passed.
+fn declare_limits<A: Allocator + Copy>(
+    setup: &mut Setup<A>,
+    site: SiteId,
+    group: GroupId,
+    are_wide: bool,
+) -> Result<(), Refusal>
+    ensures objects { setup.new.objects ≡ setup.old.objects }
+    ensures sites { setup.new.sites ≡ setup.old.sites }
+{
+    let limits = [
+        (Scope::Object(ObjectId::new(0)), 2_000),
+        (Scope::Group(group), 3_000),
+        (Scope::All, 5_000),
+        (Scope::Count, 6),
+    ];
+    for (scope, amount) in limits {
+        let amount = if are_wide { GREATEST_AMOUNT } else { amount };
+        setup.limit(site, scope, amount)?;
+    }
+    Ok(())
+}

@@ -1,0 +1,27 @@
+//! The program `ordup_load`: steps a store with limits through events that a small generator makes, and prints what has
+//! become of it. `bench/` measures it beside the same load in plain Rust.
+#![tactic(auto)]
+
+mod declarations;
+mod kind;
+mod load;
+mod random;
+
+use anyhow::{Result, bail};
+use kind::Kind;
+use load::Load;
+use std::env;
+
+fn main(rt: HostRuntime) -> Result<()> {
+    let alloc = rt.alloc();
+    let words: Vec<String> = env::args(&rt)?.collect(alloc)?;
+    let [_, kind, events] = words.as_slice() else {
+        bail!("usage: ordup_load KIND EVENTS");
+    };
+    let (Some(kind), Ok(events)) = (Kind::of(kind.as_str()), events.parse::<u64>()) else {
+        bail!("no load {kind} of {events} events");
+    };
+    let mut load = Load::start(alloc, kind, events)?;
+    load.run()?;
+    load.print(&rt)
+}

@@ -1,0 +1,30 @@
+use Rattle.ordup_world.specs.Standings.{Standing}
+use Rattle.ordup_world.proofs.StandingLemmas.{IsSound-settled}
+use Rattle.ordup_world.proofs.AfterLemmas.{StandsFor-settled}
+use Rattle.ordup_world.proofs.AnswerLemmas.{answer-settled, answer-settle_refused}
+use Rattle.ordup_world.proofs.world.World.settle.Goals as goal
+
+pub invariant_of-self-2 : goal.invariant_of-self-2
+invariant_of-self-2 g c =
+    let w : Standing = record { primary = c.self.inside.primary; sites = c.self.inside.replicas.items } in
+    IsSound-settled w c.settle.new.self c.self.invariant c.settle.ensures.sound c.in-Ok.ensures.first c.in-Ok.ensures.later
+
+pub returns-clause-answer : goal.returns-clause-answer
+returns-clause-answer g c past is =
+    let w : Standing = record { primary = c.self.inside.primary; sites = c.self.inside.replicas.items } in
+    rw (← c.self.view_is) (answer-settled w past c.in-Ok.settled c.self.invariant (rw (← c.self.view_is) at is) c.in-Ok.ensures.allowed c.in-Ok.ensures.answer)
+
+pub returns-clause-state : goal.returns-clause-state
+returns-clause-state g c past is =
+    let w : Standing = record { primary = c.self.inside.primary; sites = c.self.inside.replicas.items } in
+    StandsFor-settled w past c.settle.new.self c.self.invariant (rw (← c.self.view_is) at is) (IsSound-settled w c.settle.new.self c.self.invariant c.settle.ensures.sound c.in-Ok.ensures.first c.in-Ok.ensures.later) c.in-Ok.ensures.first c.in-Ok.ensures.later
+
+pub returns-clause-sound : goal.returns-clause-sound
+returns-clause-sound g c =
+    let w : Standing = record { primary = c.self.inside.primary; sites = c.self.inside.replicas.items } in
+    IsSound-settled w c.settle.new.self c.self.invariant c.settle.ensures.sound c.in-Ok.ensures.first c.in-Ok.ensures.later
+
+pub returns-in-Err-clause-answer : goal.returns-in-Err-clause-answer
+returns-in-Err-clause-answer g c past is =
+    let w : Standing = record { primary = c.self.inside.primary; sites = c.self.inside.replicas.items } in
+    rw (← c.self.view_is) (answer-settle_refused w past c.in-Err.refusal c.self.invariant (rw (← c.self.view_is) at is) c.in-Err.ensures.refused)

@@ -1,4 +1,5 @@
 pub mod DecisionLemmas
 pub mod SettlingLemmas
+pub mod MarkLemmas
 pub mod PrimaryLemmas
 pub mod SetupLemmas

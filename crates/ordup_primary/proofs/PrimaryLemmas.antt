@@ -217,8 +217,8 @@ IsSiteSound-decided keeps updates acked later site is within step = record {
   risen = risen-push site.reports site.reported is.risen;
   rounds = rounds-decided keeps acked site is.count is.rounds;
   answered = λ k some le forced. elim (cases_lt acked k) [
-    | inl past ↦ absurd (let next : k ≡ acked + 1 = elim step [ | inl same ↦ omega (arith, same) | inr one ↦ omega (arith, one) ] in
-        let e : k ≡ later = elim step [ | inl same ↦ omega (arith, same) | inr one ↦ next ∙ sym one ] in
+    | inl past ↦ absurd (let next : k ≡ acked + 1 = elim step [ inl same ↦ omega (arith, same) | inr one ↦ omega (arith, one) ] in
+        let e : k ≡ later = elim step [ inl same ↦ omega (arith, same) | inr one ↦ next ∙ sym one ] in
         let here : get_or (site.reports ++ site.reported ∷ []) (k - 1) 0 ≡ site.reported = get_or_push site.reports site.reported 0 (k - 1) (omega (arith, is.count)) in
         let kept : keeps site.reported k ≡ true = ap (keeps site.reported) e ∙ within in
         false≢true (sym (rw here at forced) ∙ kept))
@@ -236,7 +236,7 @@ IsPrimary-decided p q is first some decides =
       | inr same ↦ rw same (is.sites s d lt).within
     ]) in
     let acked : (p.acked ≤ q.acked) × (q.acked ≤ p.acked + 1) = rw decides.acked (acked_after-near p.acked (forced_now p)) in
-    let step : (q.acked ≡ p.acked) ⊎ (q.acked ≡ p.acked + 1) = elim (acked_after-some p.acked (forced_now p)) [ | inl done ↦ inr (decides.acked ∙ done.0) | inr same ↦ inl (decides.acked ∙ same) ] in
+    let step : (q.acked ≡ p.acked) ⊎ (q.acked ≡ p.acked + 1) = elim (acked_after-some p.acked (forced_now p)) [ inl done ↦ inr (decides.acked ∙ done.0) | inr same ↦ inl (decides.acked ∙ same) ] in
     record {
       ready = rw decides.setup is.ready;
       start = rw (decides.setup, decides.log) is.start;

@@ -1,6 +1,7 @@
 -- A primary in the fields of a `Primary`.
 use Rattle.std.specs.Prelude.{map, ◌<◌, vec_len, vec_capacity}
-use Rattle.ordup_primary.specs.Primaries.{PrimaryState, SiteProgress}
+use Rattle.ordup_primary.specs.Marks.{AreMarks}
+use Rattle.ordup_primary.specs.Primaries.{PrimaryState, SiteProgress, IsPrimary}
 use Rattle.ordup_primary.specs.declared.progress.Progress.{Progress}
 use Rattle.ordup_primary.specs.declared.primary.Primary.TheInside.{Inside}
 
@@ -14,3 +15,8 @@ module _ {A : Type 0} where
   -- room for one report and one round more
   abbrev pub HasRoom : Progress A → Type 0
   HasRoom site = (vec_len site.reports < vec_capacity site.reports) × (vec_len site.rounds < vec_capacity site.rounds)
+
+  -- what the fields keep: they stand for a primary, and the marks are those of the acknowledged updates
+  pub record KeepsMarks (p : Inside A) : Type 0 where
+    pub primary : IsPrimary (state_of p)
+    pub marks : AreMarks p.log p.acked p.marks.items

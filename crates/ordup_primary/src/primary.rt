@@ -1,9 +1,10 @@
-ghost use Rattle.std.specs.Prelude.{◌≡◌, ◌≤◌, ◌+◌, ◌-◌, ℕ, ◌<◌, None, Some, List, [], ◌∷◌, ◌++◌, length, map, replicate, slice_set, slice_index_or, IfOk, OnOk, IfErr, not, nat_lt, ◌&&◌, ◌⊎◌};
+ghost use Rattle.std.specs.Prelude.{◌≡◌, ◌≤◌, ◌+◌, ◌-◌, ℕ, ◌<◌, None, Some, List, [], ◌∷◌, ◌++◌, length, map, replicate, slice_set, slice_index, slice_index_or, IfOk, OnOk, IfErr, not, nat_lt, ◌&&◌, ◌⊎◌};
 ghost use Rattle.ordup_objects.specs.Refusals.{IsRefusal};
 ghost use Rattle.ordup_primary.specs.Declarations.{Declared, start_refusal};
 ghost use Rattle.ordup_primary.specs.Primaries.{first_progress};
 
 use crate::decisions::{first_sites, put_down, take_room};
+use crate::marks::{first_marks, raise};
 use crate::parcel::Parcel;
 use crate::progress::Progress;
 use crate::settled::Settled;
@@ -24,24 +25,27 @@ pub struct Primary<A: Allocator + Copy = Global> {
     acked: u64,
     decided: u64,
     sites: Vec<Progress<A>, A>,
+    /// For each object how much the acknowledged updates weigh on it.
+    marks: Vec<u64, A>,
 }
 
 impl<A: Allocator + Copy> Model for Primary<A> {
     ghost use Rattle.std.specs.Prelude.{map};
-    ghost use Rattle.ordup_primary.specs.Primaries.{PrimaryState, IsPrimary};
-    ghost use Rattle.ordup_primary.specs.PrimaryInside.{state_of};
+    ghost use Rattle.ordup_primary.specs.Primaries.{PrimaryState};
+    ghost use Rattle.ordup_primary.specs.PrimaryInside.{state_of, KeepsMarks};
 
     ghost Value = { PrimaryState };
 
     ghost view = { state_of };
 
-    ghost invariant = { λ p. IsPrimary (state_of p) };
+    ghost invariant = { KeepsMarks };
 }
 
 impl<A: Allocator + Copy> Primary<A> {
     ghost use Rattle.ordup_objects.specs.Serial.{set_at, History};
     ghost use Rattle.ordup_objects.specs.Sets.{IsOver};
     ghost use Rattle.ordup_objects.specs.Tables.{initial_state};
+    ghost use Rattle.ordup_objects.specs.Weights.{object_span};
     ghost use Rattle.ordup_log.specs.Appending.{append_refusal};
     ghost use Rattle.ordup_primary.specs.Primaries.{PrimaryState, IsPrimary, progress_at, reported_at, is_within, send_refusal, settle_refusal, forced_now, waiting_now, settled_as, acked_or_round, acked_or_waiting, acked_after, Decides};
 
@@ -59,12 +63,14 @@ impl<A: Allocator + Copy> Primary<A> {
     {
         let log = Log::new(alloc, setup.objects())?;
         let sites = first_sites(alloc, setup.sites())?;
+        let marks = first_marks(alloc, &log)?;
         Ok(Primary {
             setup,
             log,
             acked: 0,
             decided: 0,
             sites,
+            marks,
         })
     }
 
@@ -216,6 +222,21 @@ impl<A: Allocator + Copy> Primary<A> {
         self.sites[site.index()].rounds.as_slice()
     }
 
+    /// For each object, in order of declaration, how much the acknowledged updates weigh on it.
+    ///
+    /// A query that begins now keeps them as its reference: a read imports the weight of the updates between those that are
+    /// acknowledged now and those that the site has applied then. It is refused `NoMemory` alone.
+    pub fn marks(&self) -> Result<Vec<u64, A>, Refusal>
+        ensures count { IfOk result (λ marks. length marks.items ≡ length self.now.log.start) }
+        ensures marks { IfOk result (λ marks. (x : ℕ) → x < length self.now.log.start → slice_index marks.items x ≡ object_span self.now.log x 0 self.now.acked) }
+        ensures refused { IfErr result (λ e. e ≡ Refusal.NoMemory) }
+    {
+        match Vec::from_slice(*self.marks.allocator(), self.marks.as_slice()) {
+            Ok(marks) => Ok(marks),
+            Err(_) => Err(Refusal::NoMemory),
+        }
+    }
+
     /// The first settlement of the head, which decides it.
     fn decide(&mut self, head: u64) -> Result<Settled<A>, Refusal>
         requires first { self.old.acked ≡ self.old.decided }
@@ -232,6 +253,7 @@ impl<A: Allocator + Copy> Primary<A> {
         put_down(&mut self.sites, forced.as_slice(), head);
         self.decided = head;
         if forced.as_slice().is_empty() {
+            raise(&mut self.marks, &self.log, self.setup.groups(), head);
             self.acked = head;
             return Ok(Settled::Acked(head));
         }
@@ -254,6 +276,7 @@ impl<A: Allocator + Copy> Primary<A> {
     {
         let waiting = self.waiting_now(head)?;
         if waiting.as_slice().is_empty() {
+            raise(&mut self.marks, &self.log, self.setup.groups(), head);
             self.acked = head;
             return Ok(Settled::Acked(head));
         }
@@ -314,7 +337,7 @@ impl<A: Allocator + Copy> Primary<A> {
         requires last { place ≤ length self.now.log.sets }
         ensures { result ≡ (not (is_within self.now site (reported_at (progress_at self.now site) place) place) && nat_lt (progress_at self.now site).reported place) }
     {
-        !self.is_within(site, self.reported_at(site, place), place) && self.reported(site) < place
+        self.reported(site) < place && !self.is_within(site, self.reported_at(site, place), place)
     }
 
     /// Whether the span from a place to another passes no limit of a site.

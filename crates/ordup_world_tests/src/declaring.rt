@@ -1,165 +1,179 @@
 //! What is declared before the start, and what is refused.
-use ordup_limits::{GroupId, Groups, Scope};
-use ordup_objects::{ObjectId, ObjectTable, Refusal, SiteId};
-use ordup_world::Setup;
-use std::alloc::Global;
+use crate::reading::setup_of;
+use crate::transcript::replay;
+use ordup_limits::Scope;
+use ordup_objects::{Refusal, SiteId};
+use ordup_world::World;
 use std::test::Fail;
 
-/// The setup of x 0, y 10 and site a.
-fn ready(alloc: Global) -> Result<Setup, Refusal> {
-    let mut setup = Setup::new(alloc);
-    setup.object(b"x", 0)?;
-    setup.object(b"y", 10)?;
-    setup.site(b"a", 4)?;
-    Ok(setup)
+#[test]
+fn which_declarations_are_refused(rt: HostRuntime) -> Result<(), Fail> {
+    let transcript = "\
+object 9x 1 -> refused 4 BadName
+object x 1000000001 -> refused 9 OutOfRange
+object x 1 -> ok object x
+object x 2 -> refused 5 NameTaken
+group g -> refused 11 Empty
+group g x x -> refused 12 Repeated
+group g x z -> refused 6 UnknownObject
+site a 0 -> refused 9 OutOfRange
+site a 1024 -> ok site a
+limit a group h 1 -> refused 7 UnknownGroup
+limit b all 1 -> refused 8 UnknownSite
+limit a all 1000000000000000000 -> ok limit a
+limit a all 3 -> refused 12 Repeated
+start -> ok start
+";
+    replay(&rt, rt.alloc(), transcript)
 }
 
-/// The first group of another table.
-fn foreign_group(alloc: Global) -> Result<GroupId, Refusal> {
-    let mut objects = ObjectTable::new(alloc);
-    let x = objects.declare(b"x", 0)?;
-    Groups::new(alloc).declare(&objects, b"g", &[x])
+#[test]
+fn which_groups_are_refused(rt: HostRuntime) -> Result<(), Fail> {
+    let transcript = "\
+group g -> refused 11 Empty
+group g x -> refused 6 UnknownObject
+object x 0 -> ok object x
+group g x -> ok group g
+group g x -> refused 5 NameTaken
+group G x -> refused 4 BadName
+";
+    replay(&rt, rt.alloc(), transcript)
 }
 
-/// The scope of the object at this place.
-fn object(place: u16) -> Scope {
-    Scope::Object(ObjectId::new(place))
+#[test]
+fn which_sites_are_refused(rt: HostRuntime) -> Result<(), Fail> {
+    let transcript = "\
+site a 4 -> ok site a
+site b 0 -> refused 9 OutOfRange
+site b 1025 -> refused 9 OutOfRange
+site B 1 -> refused 4 BadName
+site a 1 -> refused 5 NameTaken
+site b 1 -> ok site b
+site c 1024 -> ok site c
+";
+    replay(&rt, rt.alloc(), transcript)
 }
-
-const A: u8 = 0;
-
-const B: u8 = 1;
 
 #[test]
 fn which_limits_are_taken(rt: HostRuntime) -> Result<(), Fail> {
-    let mut setup = ready(rt.alloc())?;
-    let group = foreign_group(rt.alloc())?;
-    let cases = [
-        (A, Scope::Group(group), 0, Err(Refusal::UnknownGroup)),
-        (B, Scope::Group(group), 0, Err(Refusal::UnknownGroup)),
-        (A, object(2), 0, Err(Refusal::UnknownObject)),
-        (B, object(2), 0, Err(Refusal::UnknownObject)),
-        (B, object(1), 0, Err(Refusal::UnknownSite)),
-        (
-            B,
-            Scope::All,
-            1_000_000_000_000_000_001,
-            Err(Refusal::UnknownSite),
-        ),
-        (
-            A,
-            Scope::All,
-            1_000_000_000_000_000_001,
-            Err(Refusal::OutOfRange),
-        ),
-        (A, Scope::All, 1_000_000_000_000_000_000, Ok(())),
-        (
-            A,
-            Scope::All,
-            1_000_000_000_000_000_001,
-            Err(Refusal::OutOfRange),
-        ),
-        (A, Scope::All, 0, Err(Refusal::Repeated)),
-        (A, Scope::Count, 0, Ok(())),
-        (A, object(1), 0, Ok(())),
-        (A, object(0), 0, Ok(())),
-        (A, object(1), 1, Err(Refusal::Repeated)),
-    ];
-    for (site, scope, amount, answer) in cases {
-        assert_eq!(rt;
-            setup.limit(SiteId::new(site), scope, amount),
-            answer,
-            "{site} {scope:?} {amount}"
-        );
-    }
-    Ok(())
-}
-
-/// The setup of sites a and b, with limits on all: 5 at a, 7 at b.
-fn two_limited(alloc: Global) -> Result<Setup, Refusal> {
-    let mut setup = ready(alloc)?;
-    let b = setup.site(b"b", 4)?;
-    setup.limit(b, Scope::All, 7)?;
-    setup.limit(SiteId::new(A), Scope::All, 5)?;
-    Ok(setup)
+    let transcript = "\
+object x 0 -> ok object x
+object y 10 -> ok object y
+site a 4 -> ok site a
+limit a group g 0 -> refused 7 UnknownGroup
+limit b group g 0 -> refused 7 UnknownGroup
+limit a object z 0 -> refused 6 UnknownObject
+limit b object z 0 -> refused 6 UnknownObject
+limit b object y 0 -> refused 8 UnknownSite
+limit b all 1000000000000000001 -> refused 8 UnknownSite
+limit a all 1000000000000000001 -> refused 9 OutOfRange
+limit a all 1000000000000000000 -> ok limit a
+limit a all 1000000000000000001 -> refused 9 OutOfRange
+limit a all 0 -> refused 12 Repeated
+limit a count 0 -> ok limit a
+limit a object y 0 -> ok limit a
+limit a object x 0 -> ok limit a
+limit a object y 1 -> refused 12 Repeated
+";
+    replay(&rt, rt.alloc(), transcript)
 }
 
 #[test]
-fn a_limit_is_taken_at_each_site(rt: HostRuntime) -> Result<(), Fail> {
-    let setup = two_limited(rt.alloc())?;
-    for (site, amount) in [(A, 5), (B, 7)] {
-        let site = SiteId::new(site);
-        assert!(rt; site.index() < setup.sites());
-        let limits = setup.limits(site);
-        assert_eq!(rt; limits.len(), 1);
-        assert_eq!(rt; limits.get(0), (Scope::All, amount));
-    }
-    Ok(())
-}
-
-#[test]
-fn at_most_64_limits(rt: HostRuntime) -> Result<(), Fail> {
-    let alloc = rt.alloc();
-    let mut setup = Setup::new(alloc);
-    let a = setup.site(b"a", 4)?;
-    for place in 0..64 {
-        setup.object(format!(in alloc; "o{place}")?.as_bytes(), 0)?;
-        setup.limit(a, object(place), 5)?;
-    }
-    assert_eq!(rt; setup.limit(a, Scope::All, 5), Err(Refusal::TooMany));
-    assert_eq!(rt; setup.limit(a, object(0), 5), Err(Refusal::TooMany));
-    assert!(rt; a.index() < setup.sites());
-    assert_eq!(rt; setup.limits(a).len(), 64);
-    Ok(())
-}
-
-#[test]
-fn capacities_and_names_of_sites(rt: HostRuntime) -> Result<(), Fail> {
-    let mut setup = ready(rt.alloc())?;
-    let cases = [
-        ("b", 0, Err(Refusal::OutOfRange)),
-        ("b", 1_025, Err(Refusal::OutOfRange)),
-        ("B", 1, Err(Refusal::BadName)),
-        ("a", 1, Err(Refusal::NameTaken)),
-        ("b", 1, Ok(SiteId::new(1))),
-        ("c", 1_024, Ok(SiteId::new(2))),
-    ];
-    for (name, capacity, answer) in cases {
-        assert_eq!(rt;
-            setup.site(name.as_bytes(), capacity),
-            answer,
-            "{name} {capacity}"
-        );
-    }
-    let (b, c) = (SiteId::new(1), SiteId::new(2));
-    assert!(rt; b.index() < setup.sites() && c.index() < setup.sites());
-    assert_eq!(rt; (setup.capacity(b), setup.capacity(c)), (1, 1_024));
-    assert_eq!(rt; setup.site_name(c).as_bytes(), b"c".as_slice());
-    assert_eq!(rt; setup.find_site(b"c"), Some(c));
-    assert_eq!(rt; setup.find_site(b"d"), None);
-    Ok(())
+fn a_store_starts_with_an_object_and_a_site(rt: HostRuntime) -> Result<(), Fail> {
+    replay(&rt, rt.alloc(), "start -> refused 11 Empty\n")?;
+    let objects = "\
+object x 5 -> ok object x
+object x 5 -> refused 5 NameTaken
+start -> refused 11 Empty
+";
+    replay(&rt, rt.alloc(), objects)?;
+    let sites = "\
+site a 4 -> ok site a
+start -> refused 11 Empty
+";
+    replay(&rt, rt.alloc(), sites)
 }
 
 #[test]
 fn at_most_16_sites(rt: HostRuntime) -> Result<(), Fail> {
     let alloc = rt.alloc();
-    let mut setup = Setup::new(alloc);
+    let mut transcript = String::new(alloc);
     for place in 0..16 {
-        setup.site(format!(in alloc; "s{place}")?.as_bytes(), 4)?;
+        writeln!(transcript, "site s{place} 4 -> ok site s{place}")?;
     }
-    assert_eq!(rt; setup.site(b"s16", 4), Err(Refusal::TooMany));
-    assert_eq!(rt; setup.sites(), 16);
+    transcript.push_str("site s16 4 -> refused 10 TooMany\n")?;
+    replay(&rt, alloc, transcript.as_str())
+}
+
+#[test]
+fn at_most_64_limits(rt: HostRuntime) -> Result<(), Fail> {
+    let alloc = rt.alloc();
+    let mut transcript = String::new(alloc);
+    transcript.push_str("site a 4 -> ok site a\n")?;
+    for place in 0..64 {
+        writeln!(transcript, "object o{place} 0 -> ok object o{place}")?;
+        writeln!(transcript, "limit a object o{place} 5 -> ok limit a")?;
+    }
+    transcript.push_str("limit a all 5 -> refused 10 TooMany\n")?;
+    transcript.push_str("limit a object o0 5 -> refused 10 TooMany\n")?;
+    replay(&rt, alloc, transcript.as_str())
+}
+
+/// Sites a and b, each with a limit, that of b declared first.
+const TWO_SITES: &str = "\
+object x 0
+object y 10
+site a 1
+site b 1024
+limit b all 7
+limit a all 5
+";
+
+#[test]
+fn sites_are_found_by_name(rt: HostRuntime) -> Result<(), Fail> {
+    let setup = setup_of(rt.alloc(), TWO_SITES)?;
+    let found = [
+        setup.find_site(b"a"),
+        setup.find_site(b"b"),
+        setup.find_site(b"c"),
+    ];
+    assert_eq!(rt; found, [Some(SiteId::new(0)), Some(SiteId::new(1)), None]);
     Ok(())
 }
 
 #[test]
-fn which_groups_are_refused(rt: HostRuntime) -> Result<(), Fail> {
-    let mut setup = Setup::new(rt.alloc());
-    assert_eq!(rt; setup.group(b"g", &[]), Err(Refusal::Empty));
-    let x = ObjectId::new(0);
-    assert_eq!(rt; setup.group(b"g", &[x]), Err(Refusal::UnknownObject));
-    assert_eq!(rt; setup.object(b"x", 0), Ok(x));
-    assert_eq!(rt; setup.group(b"g", &[x]), Ok(GroupId::new(0)));
-    assert_eq!(rt; setup.groups().len(), 1);
+fn sites_have_names_and_capacities(rt: HostRuntime) -> Result<(), Fail> {
+    let setup = setup_of(rt.alloc(), TWO_SITES)?;
+    let (a, b) = (SiteId::new(0), SiteId::new(1));
+    assert_eq!(rt; setup.sites(), 2);
+    assert_eq!(rt; setup.site_name(b).as_bytes(), b"b".as_slice());
+    assert_eq!(rt; [setup.capacity(a), setup.capacity(b)], [1, 1_024]);
+    Ok(())
+}
+
+#[test]
+fn a_limit_is_taken_at_each_site(rt: HostRuntime) -> Result<(), Fail> {
+    let setup = setup_of(rt.alloc(), TWO_SITES)?;
+    assert_eq!(rt; setup.sites(), 2);
+    let (a, b) = (setup.limits(SiteId::new(0)), setup.limits(SiteId::new(1)));
+    assert_eq!(rt; [a.len(), b.len()], [1, 1]);
+    assert_eq!(rt; a.get(0), (Scope::All, 5));
+    assert_eq!(rt; b.get(0), (Scope::All, 7));
+    Ok(())
+}
+
+#[test]
+fn a_setup_is_ready_with_an_object_and_a_site(rt: HostRuntime) -> Result<(), Fail> {
+    assert!(rt; !setup_of(rt.alloc(), "")?.is_ready());
+    assert!(rt; !setup_of(rt.alloc(), "object x 5")?.is_ready());
+    assert!(rt; !setup_of(rt.alloc(), "site a 4")?.is_ready());
+    assert!(rt; setup_of(rt.alloc(), "object x 5\nsite a 4")?.is_ready());
+    Ok(())
+}
+
+#[test]
+fn no_world_starts_without_an_object(rt: HostRuntime) -> Result<(), Fail> {
+    let setup = setup_of(rt.alloc(), "site a 4")?;
+    assert!(rt; matches!(&World::start(rt.alloc(), setup), Err(Refusal::Empty)));
     Ok(())
 }

@@ -1,7 +1,11 @@
-//! Tests of the world: when an update is acknowledged, as lists of events with their answers, and what is declared before the
-//! start, the limits and the primary by calls.
+//! Tests of limits, of the primary and of the world.
+//!
+//! What happens to a store is told by transcripts: texts in which each step stands beside its answer. What no transcript tells
+//! is tested by calls.
 #![tactic(auto)]
 
+#[cfg(test)]
+mod answering;
 #[cfg(test)]
 mod declaring;
 #[cfg(test)]
@@ -9,6 +13,10 @@ mod limits;
 #[cfg(test)]
 mod primary;
 #[cfg(test)]
-mod runs;
+mod reading;
+#[cfg(test)]
+mod running;
 #[cfg(test)]
 mod settling;
+#[cfg(test)]
+mod transcript;

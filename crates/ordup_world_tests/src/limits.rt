@@ -1,76 +1,92 @@
 //! Limits over a log, by calls.
-use ordup_limits::Scope;
+use crate::reading::{message_set, setup_of};
+use ordup_limits::{LimitTable, Scope, check_scope};
 use ordup_log::Log;
-use ordup_objects::{Change, MessageSet, ObjectId, Op, Refusal, SiteId};
+use ordup_objects::{ObjectId, SiteId};
 use ordup_world::Setup;
 use std::alloc::Global;
+use std::process::Abort;
 use std::test::Fail;
 
-/// The setup of x 0, y 10, and site a with limits of 5 on x, 3 on all and 1 update.
-fn limited(alloc: Global) -> Result<Setup, Refusal> {
-    let mut setup = Setup::new(alloc);
-    let x = setup.object(b"x", 0)?;
-    setup.object(b"y", 10)?;
-    let a = setup.site(b"a", 4)?;
-    setup.limit(a, Scope::Object(x), 5)?;
-    setup.limit(a, Scope::All, 3)?;
-    setup.limit(a, Scope::Count, 1)?;
-    Ok(setup)
-}
+/// Three limits of a site.
+const THREE_LIMITS: &str = "\
+object x 0
+object y 10
+site a 4
+limit a object x 5
+limit a all 3
+limit a count 1
+";
 
-/// The log of two updates: x plus 3, and y from 10 to 14.
-fn log_of_two(alloc: Global, setup: &Setup) -> Result<Log, Fail> {
+/// The log of updates of one change each.
+fn log_of(alloc: Global, setup: &Setup, changes: &[&str]) -> Result<Log, Fail> {
     let mut log = Log::new(alloc, setup.objects())?;
-    for (place, op) in [(0, Op::Add(3)), (1, Op::Set(14))] {
-        let object = ObjectId::new(place);
-        let changes = vec![in alloc; Change { object, op }]?;
-        let set = MessageSet::new(setup.objects(), changes)?;
-        if !set.is_over(log.objects()) {
-            return Err(Refusal::UnknownObject.into());
-        }
-        log.append(set)?;
+    for change in changes {
+        append(alloc, setup, &mut log, change)?;
     }
     Ok(log)
 }
 
-#[test]
-fn limits_in_order_of_declaration(rt: HostRuntime) -> Result<(), Fail> {
-    let setup = limited(rt.alloc())?;
-    let a = SiteId::new(0);
-    assert!(rt; a.index() < setup.sites());
-    let limits = setup.limits(a);
-    assert_eq!(rt; limits.len(), 3);
-    assert_eq!(rt; limits.get(0), (Scope::Object(ObjectId::new(0)), 5));
-    assert_eq!(rt; limits.get(1), (Scope::All, 3));
-    assert_eq!(rt; limits.get(2), (Scope::Count, 1));
+/// Appends an update of one change.
+fn append(alloc: Global, setup: &Setup, log: &mut Log, change: &str) -> Result<(), Fail> {
+    let set = message_set(alloc, setup, setup.objects(), &[change])?;
+    if !set.is_over(log.objects()) {
+        return Err(Fail::new("another number of objects"));
+    }
+    log.append(set)?;
     Ok(())
+}
+
+/// The place of the first limit of the first site that a span passes.
+fn first_passed(rt: &impl Abort, setup: &Setup, log: &Log, from: u64, to: u64) -> Option<usize> {
+    assert!(rt; setup.sites() > 0 && log.objects() == setup.objects().len() && to <= log.len());
+    setup
+        .limits(SiteId::new(0))
+        .over(log, setup.groups(), from, to)
 }
 
 #[test]
 fn the_first_limit_that_is_passed(rt: HostRuntime) -> Result<(), Fail> {
-    let setup = limited(rt.alloc())?;
-    let log = log_of_two(rt.alloc(), &setup)?;
-    let a = SiteId::new(0);
-    assert!(rt; a.index() < setup.sites());
-    assert_eq!(rt; log.objects(), setup.objects().len());
-    let limits = setup.limits(a);
-    let cases = [
+    let setup = setup_of(rt.alloc(), THREE_LIMITS)?;
+    let log = log_of(rt.alloc(), &setup, &["add:x:3", "set:y:14"])?;
+    let passed = [
         // 3 on x, 3 on all, and 1 update.
-        (0, 1, None),
+        first_passed(&rt, &setup, &log, 0, 1),
         // 3 on x, 3 + 4 on all, and 2 updates.
-        (0, 2, Some(1)),
+        first_passed(&rt, &setup, &log, 0, 2),
         // 0 on x, 4 on all, and 1 update.
-        (1, 2, Some(1)),
-        (1, 1, None),
-        (2, 0, None),
+        first_passed(&rt, &setup, &log, 1, 2),
+        first_passed(&rt, &setup, &log, 1, 1),
+        first_passed(&rt, &setup, &log, 2, 0),
     ];
-    for (from, to, passed) in cases {
-        assert!(rt; to <= log.len());
-        assert_eq!(rt;
-            limits.over(&log, setup.groups(), from, to),
-            passed,
-            "{from} {to}"
-        );
-    }
+    assert_eq!(rt; passed, [None, Some(1), Some(1), None, None]);
+    Ok(())
+}
+
+#[test]
+fn limits_in_order_of_declaration(rt: HostRuntime) -> Result<(), Fail> {
+    let setup = setup_of(rt.alloc(), THREE_LIMITS)?;
+    assert_eq!(rt; setup.sites(), 1);
+    let limits = setup.limits(SiteId::new(0));
+    assert_eq!(rt; limits.len(), 3);
+    let listed = [limits.get(0), limits.get(1), limits.get(2)];
+    assert_eq!(rt; listed, [(x(), 5), (Scope::All, 3), (Scope::Count, 1)]);
+    Ok(())
+}
+
+/// The scope of x.
+fn x() -> Scope {
+    Scope::Object(ObjectId::new(0))
+}
+
+#[test]
+fn a_limit_is_added(rt: HostRuntime) -> Result<(), Fail> {
+    let setup = setup_of(rt.alloc(), "object x 0")?;
+    let (objects, groups) = (setup.objects(), setup.groups());
+    assert_eq!(rt; check_scope(objects, groups, x()), Ok(()));
+    let mut limits = LimitTable::new(rt.alloc());
+    limits.add(objects, groups, x(), 5)?;
+    assert_eq!(rt; limits.len(), 1);
+    assert_eq!(rt; limits.get(0), (x(), 5));
     Ok(())
 }

@@ -8,13 +8,13 @@ pub overflow_add-index_mut : goal.overflow_add-index_mut
 overflow_add-index_mut g c =
     let lt = rw (← c.self.view_is) at c.requires.site in
     let e = view_at c.self.inside c.index.result c.args.site c.index_mut.result.now c.index.ensures lt c.index_mut.ensures.value in
-    omega (arith, ap (λ (site : SiteProgress). site.sent) e, rw (← c.self.view_is) at c.requires.unsent, c.self.invariant.few)
+    omega (arith, ap (λ (site : SiteProgress). site.sent) e, rw (← c.self.view_is) at c.requires.unsent, c.self.invariant.primary.few)
 
 pub invariant_of-self : goal.invariant_of-self
 invariant_of-self g c =
     let lt = rw (← c.self.view_is) at c.requires.site in
     let e = view-set c.self.inside c.index.result c.args.site c.index_mut.result.now (record c.index_mut.result.now { sent = c.index_mut.result.now.sent + 1 }) sent_more c.index.ensures lt c.index_mut.ensures.value refl in
-    IsPrimary-sent c.self.inside _ c.args.site c.self.invariant lt (rw (← c.self.view_is) at c.requires.unsent) e
+    record { primary = IsPrimary-sent c.self.inside _ c.args.site c.self.invariant.primary lt (rw (← c.self.view_is) at c.requires.unsent) e; marks = c.self.invariant.marks }
 
 pub returns-clause-marked : goal.returns-clause-marked
 returns-clause-marked g c =
@@ -26,4 +26,4 @@ pub returns-clause-sound : goal.returns-clause-sound
 returns-clause-sound g c =
     let lt = rw (← c.self.view_is) at c.requires.site in
     let e = view-set c.self.inside c.index.result c.args.site c.index_mut.result.now (record c.index_mut.result.now { sent = c.index_mut.result.now.sent + 1 }) sent_more c.index.ensures lt c.index_mut.ensures.value refl in
-    IsPrimary-sent c.self.inside _ c.args.site c.self.invariant lt (rw (← c.self.view_is) at c.requires.unsent) e
+    IsPrimary-sent c.self.inside _ c.args.site c.self.invariant.primary lt (rw (← c.self.view_is) at c.requires.unsent) e

@@ -1,0 +1,31 @@
+-- What a site holds, and which updates it applied.
+use Rattle.std.specs.Prelude.{◌≡◌, ℕ, ◌≤◌, List, [], ◌∷◌, ◌++◌, length, slice_index_or, ℤ}
+use Rattle.ordup_objects.specs.declared.change.Change.{Change}
+use Rattle.ordup_objects.specs.Serial.{History, serial}
+use Rattle.ordup_objects.specs.Weights.{object_span}
+
+-- how many updates a site applied, the value of each object, and how far each value travelled
+pub record SiteState : Type 0 where
+  pub applied : ℕ
+  pub values : List ℤ
+  pub travelled : List ℕ
+
+-- how far the value of an object travelled
+abbrev pub travelled_at : SiteState → ℕ → ℕ
+travelled_at s x = slice_index_or s.travelled x 0
+
+-- the site applied the first j updates of a history and no others: it holds their serial result, and each value travelled their weight on its object
+pub record HasApplied (s : SiteState) (h : History) (j : ℕ) : Type 0 where
+  pub within : j ≤ length h.sets
+  pub applied : s.applied ≡ j
+  pub values : s.values ≡ serial h j
+  pub travelled : (x : ℕ) → travelled_at s x ≡ object_span h x 0 j
+
+-- a history with one update more
+abbrev pub with_update : History → List Change → History
+with_update h m = record { start = h.start; sets = h.sets ++ m ∷ [] }
+
+-- what a site applied of a history it applied of each longer one
+abbrev pub LongerHistoriesKeepWhatWasApplied : Type 0
+LongerHistoriesKeepWhatWasApplied =
+    (s : SiteState) (h : History) (j : ℕ) (more : List (List Change)) → HasApplied s h j → HasApplied s (record { start = h.start; sets = h.sets ++ more }) j

@@ -1,0 +1,169 @@
+ghost use Rattle.std.specs.Prelude.{◌≡◌, ◌≤◌, ◌<◌, ◌+◌, ◌*◌, ℕ, ℤ, List, [], IsTrue, IfOk, IfErr, All, length, map, take, replicate, slice_index_or};
+ghost use Rattle.ordup_objects.specs.Tables.{initial_state};
+ghost use Rattle.ordup_objects.specs.States.{value_at, is_legal, after, IsInRange, IsState};
+ghost use Rattle.ordup_objects.specs.Sets.{IsOver};
+ghost use Rattle.ordup_objects.specs.Serial.{History, set_at};
+ghost use Rattle.ordup_objects.specs.Weights.{distance};
+ghost use Rattle.ordup_site.specs.Sites.{HasApplied, travelled_at, with_update};
+ghost use Rattle.ordup_site.specs.Travelling.{Moves, travelled_on};
+
+use ordup_objects::sizes::MOST_CHANGES;
+use ordup_objects::{Change, MessageSet, ObjectId, ObjectTable, Refusal, Values};
+use std::alloc::{AllocError, Allocator, Global};
+use std::marker::Model;
+
+/// A replica of the objects: it applies message sets one after another, at most 1,000,000.
+///
+/// It keeps the values and not the sets. Beside each value stands how far it travelled, which is the weight on the object of
+/// all updates that the site applied: 3 up and 3 down are 6.
+#[derive(Debug, Drop)]
+pub struct Site<A: Allocator + Copy = Global> {
+    applied: u64,
+    values: Values<A>,
+    travelled: Vec<u64, A>,
+}
+
+impl<A: Allocator + Copy> Model for Site<A> {
+    ghost use Rattle.ordup_site.specs.Sites.{SiteState};
+
+    ghost Value = { SiteState };
+
+    ghost view = { λ s. record { applied = s.applied; values = s.values; travelled = s.travelled.items } };
+
+    ghost use Rattle.ordup_site.specs.SiteInside.{IsSite};
+
+    ghost invariant = { IsSite };
+}
+
+impl<A: Allocator + Copy> Site<A> {
+    /// A site that applied nothing: it holds the initial values of the objects. It is refused `NoMemory` alone.
+    pub fn new(alloc: A, objects: &ObjectTable<A>) -> Result<Self, Refusal>
+        ensures state { IfOk result (λ site. site ≡ record { applied = 0; values = initial_state objects.now; travelled = replicate (length objects.now) 0 }) }
+        ensures start { IfOk result (λ site. (h : History) → h.start ≡ initial_state objects.now → HasApplied site h 0) }
+        ensures refused { IfErr result (λ e. e ≡ Refusal.NoMemory) }
+    {
+        let values = Values::initial(alloc, objects)?;
+        match vec![in alloc; 0; objects.len()] {
+            Ok(travelled) => Ok(Site {
+                applied: 0,
+                values,
+                travelled,
+            }),
+            Err(_) => Err(Refusal::NoMemory),
+        }
+    }
+
+    /// Applies a message set. It takes no memory, and its work grows with the changes of the set alone.
+    ///
+    /// The caller sees to it that the set is over the objects of the site (`MessageSet::is_over`), that it is legal on the values
+    /// (`Values::allows`), and that the site applied fewer than 1,000,000 updates.
+    pub fn apply(&mut self, set: &MessageSet<A>)
+        requires known { IsOver (length self.old.values) set.now }
+        requires legal { IsTrue (is_legal set.now self.old.values) }
+        requires room { self.old.applied < 1000000 }
+        ensures applied { self.new.applied ≡ self.old.applied + 1 }
+        ensures values { self.new.values ≡ after set.now self.old.values }
+        ensures travelled { (x : ℕ) → travelled_at self.new x ≡ travelled_at self.old x + distance (value_at self.new.values x) (value_at self.old.values x) }
+        // The set is now the last of those that the site applied.
+        ensures last { (h : History) → HasApplied self.old h (length h.sets) → HasApplied self.new (with_update h set.now) (length h.sets + 1) }
+        // Where it is the next of a log, the site applied one update more of that log.
+        ensures next { (h : History) (j : ℕ) → HasApplied self.old h j → j < length h.sets → set.now ≡ set_at h (j + 1) → HasApplied self.new h (j + 1) }
+    {
+        move_values(&mut self.values, &mut self.travelled, set);
+        self.applied += 1;
+    }
+
+    /// How many objects there are.
+    pub fn len(&self) -> usize
+        ensures { result ≡ length self.now.values }
+    {
+        self.values.len()
+    }
+
+    /// How many updates the site applied, at most 1,000,000.
+    pub fn applied(&self) -> u64
+        ensures applied { result ≡ self.now.applied }
+        ensures few { result ≤ 1000000 }
+    {
+        self.applied
+    }
+
+    /// The value of an object.
+    pub fn value(&self, object: ObjectId) -> i64
+        requires { object < length self.now.values }
+        ensures value { result ≡ value_at self.now.values object }
+        ensures range { IsInRange result }
+    {
+        self.values.get(object)
+    }
+
+    /// How far the value of an object travelled: the weight on the object of all updates that the site applied.
+    pub fn travelled(&self, object: ObjectId) -> u64
+        requires { object < length self.now.values }
+        ensures travelled { result ≡ travelled_at self.now object }
+        ensures few { result ≤ 2000000000 * self.now.applied }
+    {
+        self.travelled[object.index()]
+    }
+
+    /// The values of the objects.
+    pub fn values(&self) -> &Values<A>
+        ensures { result.now ≡ self.now.values }
+    {
+        &self.values
+    }
+}
+
+/// Applies a legal set to the values, and adds to what each of them travelled how far it moved.
+fn move_values<A: Allocator + Copy>(
+    values: &mut Values<A>,
+    travelled: &mut [u64],
+    set: &MessageSet<A>,
+)
+    requires known { IsOver (length values.old) set.now }
+    requires legal { IsTrue (is_legal set.now values.old) }
+    requires same { length travelled.old ≡ length values.old }
+    requires bounded { All (λ t. t ≤ 2000000000000000) travelled.old }
+    ensures { Moves set.now values.old travelled.old values.new travelled.new }
+{
+    let _objects = values.len();
+    let changes = set.changes();
+    let mut before = [0; MOST_CHANGES];
+    read_values(values, changes, &mut before);
+    let _ = values.apply(set);
+    travel_on(values, changes, &before, travelled);
+}
+
+/// Reads the values of the changed objects.
+fn read_values<A: Allocator + Copy>(values: &Values<A>, changes: &[Change], read: &mut [i64])
+    requires objects { All (λ c. c.object < length values.now) changes.now }
+    requires room { length changes.now ≤ length read.old }
+    requires range { All IsInRange read.old }
+    ensures read { take (length changes.now) read.new ≡ map (λ c. value_at values.now c.object) changes.now }
+    ensures range { All IsInRange read.new }
+{
+    for (i, change) in changes.iter().enumerate() {
+        read[i] = values.get(change.object);
+    }
+}
+
+/// Adds how far each changed object went, from the value beside its change to the one that it has now.
+fn travel_on<A: Allocator + Copy>(
+    values: &Values<A>,
+    changes: &[Change],
+    before: &[i64],
+    travelled: &mut [u64],
+)
+    requires objects { All (λ c. c.object < length values.now) changes.now }
+    requires same { length travelled.old ≡ length values.now }
+    requires few { length changes.now ≤ 64 }
+    requires room { length changes.now ≤ length before.now }
+    requires range { All IsInRange before.now }
+    requires bounded { All (λ t. t ≤ 2000000000000000) travelled.old }
+    ensures { travelled.new ≡ travelled_on values.now changes.now before.now travelled.old }
+{
+    for (i, change) in changes.iter().enumerate() {
+        let moved = values.get(change.object).abs_diff(before[i]);
+        travelled[change.object.index()] += moved;
+    }
+}

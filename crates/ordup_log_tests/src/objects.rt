@@ -1,19 +1,9 @@
-//! Names, tables of objects, message sets and values.
+//! Tables of objects, message sets and values.
 use crate::transcript::{Store, follow, number, place, two};
-use ordup_objects::{
-    Change, Name, NameTable, ObjectId, Op, Refusal, SiteId, Values, values_move_by_their_weights,
-};
-use std::alloc::{AllocError, Global};
+use ordup_objects::{ObjectId, Refusal, Values, values_move_by_their_weights};
 use std::test::Fail;
 
 impl Store {
-    pub(crate) fn name(&self, bytes: &str) -> Result<String, Refusal> {
-        match str::from_utf8(Name::new(bytes.as_bytes())?.as_bytes()) {
-            Ok(name) => self.text(name),
-            Err(_) => Err(Refusal::Syntax),
-        }
-    }
-
     pub(crate) fn declare_object(&mut self, words: &str) -> Result<String, Refusal> {
         let (name, initial) = two(words, ' ')?;
         let object = self.objects.declare(name.as_bytes(), number(initial)?)?;
@@ -80,12 +70,23 @@ impl Store {
         Values::initial(self.alloc, &self.objects)
     }
 
-    /// How many initial values there are, and these values, as they are, one by one, and copied.
+    /// How many initial values there are, and these values, then those of a copy.
     pub(crate) fn values(&self) -> Result<String, Refusal> {
         let values = self.initial()?;
         let copy = values.copy(self.alloc)?;
         let len = values.len();
         self.text(format_args!("{len} {:?} {:?}", values.as_slice(), copy.as_slice()))
+    }
+
+    /// The initial value of an object.
+    pub(crate) fn value(&self, name: &str) -> Result<String, Refusal> {
+        let values = self.initial()?;
+        let object = self.object(name);
+        if object.index() < values.len() {
+            self.text(values.get(object))
+        } else {
+            Err(Refusal::UnknownObject)
+        }
     }
 
     /// What a set makes of the initial values, after its refusal, if any.
@@ -126,33 +127,9 @@ impl Store {
 }
 
 #[test]
-fn which_bytes_are_a_name(rt: HostRuntime) -> Result<(), Fail> {
-    follow(
-        &rt,
-        rt.alloc(),
-        "name a -> a
-name a_9 -> a_9
-name z0_ -> z0_
-name abcdefghijklmnop -> abcdefghijklmnop
-# 17 bytes
-name abcdefghijklmnopq -> BadName
-name -> BadName
-name 9x -> BadName
-name _x -> BadName
-name Q -> BadName
-name aQ -> BadName
-name a-b -> BadName
-name a b -> BadName
-name a{ -> BadName
-name a` -> BadName",
-    )
-}
-
-#[test]
 fn objects_are_found_by_name_and_place(rt: HostRuntime) -> Result<(), Fail> {
     follow(
         &rt,
-        rt.alloc(),
         "objects -> 0
 object x -1000000000 -> 0
 object y 1000000000 -> 1
@@ -169,7 +146,6 @@ object_at 1 -> y 1000000000",
 fn objects_are_refused_in_order(rt: HostRuntime) -> Result<(), Fail> {
     follow(
         &rt,
-        rt.alloc(),
         "object x 0 -> 0
 object y 10 -> 1
 # a bad name and a number out of range
@@ -188,7 +164,6 @@ objects -> 2",
 fn at_most_256_objects(rt: HostRuntime) -> Result<(), Fail> {
     follow(
         &rt,
-        rt.alloc(),
         "many_objects 256 -> 256
 find o255 -> 255
 object O256 0 -> BadName
@@ -203,7 +178,6 @@ objects -> 256",
 fn which_changes_are_no_message_set(rt: HostRuntime) -> Result<(), Fail> {
     follow(
         &rt,
-        rt.alloc(),
         "object x 0 -> 0
 object y 10 -> 1
 set -> Empty
@@ -214,10 +188,35 @@ set take:x:z -> UnknownObject",
 }
 
 #[test]
+fn how_great_the_number_of_a_change_may_be(rt: HostRuntime) -> Result<(), Fail> {
+    follow(
+        &rt,
+        "many_objects 5 -> 5
+set add:o0:1000000000 set:o1:1000000000 mul:o2:1000000000 max:o3:1000000000 min:o4:1000000000 -> 5
+set add:o0:-1000000000 set:o1:-1000000000 mul:o2:-1000000000 max:o3:-1000000000 min:o4:-1000000000 -> 5
+set add:o0:1000000001 -> OutOfRange
+set set:o0:1000000001 -> OutOfRange
+set mul:o0:1000000001 -> OutOfRange
+set max:o0:1000000001 -> OutOfRange
+set min:o0:1000000001 -> OutOfRange
+set add:o0:-1000000001 -> OutOfRange
+set set:o0:-1000000001 -> OutOfRange
+set mul:o0:-1000000001 -> OutOfRange
+set max:o0:-1000000001 -> OutOfRange
+set min:o0:-1000000001 -> OutOfRange
+# the least number that there is
+set add:o0:-9223372036854775808 -> OutOfRange
+set set:o0:-9223372036854775808 -> OutOfRange
+set mul:o0:-9223372036854775808 -> OutOfRange
+set max:o0:-9223372036854775808 -> OutOfRange
+set min:o0:-9223372036854775808 -> OutOfRange",
+    )
+}
+
+#[test]
 fn at_most_64_changes(rt: HostRuntime) -> Result<(), Fail> {
     follow(
         &rt,
-        rt.alloc(),
         "many_objects 65 -> 65
 many_changes 64 -> 64
 many_changes 65 -> TooMany",
@@ -228,7 +227,6 @@ many_changes 65 -> TooMany",
 fn a_set_shows_and_copies_its_changes(rt: HostRuntime) -> Result<(), Fail> {
     follow(
         &rt,
-        rt.alloc(),
         "object x 0 -> 0
 object y 10 -> 1
 copy take:y:x mul:x:3 -> true true
@@ -240,10 +238,22 @@ over 0 take:y:x mul:x:3 -> false",
 }
 
 #[test]
+fn values_begin_as_declared(rt: HostRuntime) -> Result<(), Fail> {
+    values_move_by_their_weights();
+    follow(
+        &rt,
+        "object x 0 -> 0
+object y 10 -> 1
+values -> 2 [0, 10] [0, 10]
+value x -> 0
+value y -> 10",
+    )
+}
+
+#[test]
 fn what_each_change_makes_of_a_value(rt: HostRuntime) -> Result<(), Fail> {
     follow(
         &rt,
-        rt.alloc(),
         "object x 0 -> 0
 object y 10 -> 1
 # 0 + 5
@@ -262,5 +272,64 @@ apply min:y:11 -> [0, 10]
 apply take:x:y -> [10, 10]
 apply take:y:x -> [0, 0]
 apply take:y:y -> [0, 10]",
+    )
+}
+
+#[test]
+fn all_changes_read_the_state_before_the_set(rt: HostRuntime) -> Result<(), Fail> {
+    follow(
+        &rt,
+        "object x 0 -> 0
+object y 10 -> 1
+apply take:x:y take:y:x -> [10, 0]
+# y becomes 10 + 5, and x the 10 before it, in either order
+apply take:x:y add:y:5 -> [10, 15]
+apply add:y:5 take:x:y -> [10, 15]
+# x becomes 7, and y the 0 before it
+apply set:x:7 take:y:x -> [7, 0]
+# taken of itself, a value stays
+apply take:x:x take:y:y -> [0, 10]",
+    )
+}
+
+#[test]
+fn a_result_out_of_range_changes_nothing(rt: HostRuntime) -> Result<(), Fail> {
+    follow(
+        &rt,
+        "object x 0 -> 0
+object y 10 -> 1
+# 10 + 999,999,990 is 1,000,000,000, the greatest value
+apply set:x:7 add:y:999999990 -> [7, 1000000000]
+apply set:x:7 add:y:999999991 -> OutOfRange [0, 10]
+apply set:x:7 add:y:1000000000 -> OutOfRange [0, 10]
+# 10 * -100,000,000 is -1,000,000,000, the least value
+apply set:x:7 mul:y:-100000000 -> [7, -1000000000]
+apply set:x:7 mul:y:-100000001 -> OutOfRange [0, 10]",
+    )
+}
+
+#[test]
+fn values_allow_what_stays_in_range(rt: HostRuntime) -> Result<(), Fail> {
+    follow(
+        &rt,
+        "object x -1000000000 -> 0
+allows add:x:2000 -> true
+allows add:x:-1 -> false
+allows mul:x:-1 -> true
+allows mul:x:2 -> false
+allows set:x:1000000000 -> true",
+    )
+}
+
+#[test]
+fn how_far_each_change_moves_its_value(rt: HostRuntime) -> Result<(), Fail> {
+    follow(
+        &rt,
+        "object x 0 -> 0
+object y 10 -> 1
+# y from 10 to 0, and x from 0 to -7
+distances take:y:x set:x:-7 -> [10, 7]
+# y from 10 to 30, and x from 0 to 0
+distances mul:y:3 max:x:-1 -> [20, 0]",
     )
 }

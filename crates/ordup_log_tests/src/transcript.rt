@@ -42,6 +42,7 @@ impl Store {
             "over" => self.is_over(words),
             "copy" => self.copy(words),
             "values" => self.values(),
+            "value" => self.value(words),
             "apply" => self.apply(words),
             "allows" => self.allows(words),
             "distances" => self.distances(words),
@@ -60,8 +61,11 @@ impl Store {
             "group_at" => self.group_at(words),
             "start" => self.start(),
             "append" => self.append(words),
-            "log" => self.log_now(),
-            "update" => self.update(words),
+            "log" => self.log(),
+            "end_value" => self.end_value(words),
+            "is_update" => self.is_update(words),
+            "weigh" => self.weights(words),
+            "span" => self.spans(words),
             _ => Err(Refusal::Syntax),
         }
     }
@@ -129,8 +133,8 @@ pub(crate) fn place(word: &str) -> Result<u16, Refusal> {
 
 /// Asserts that each call of a transcript, from no objects on, answers what stands beside it: the name of the refusal where
 /// it is refused. A line that begins with `#` is a comment.
-pub(crate) fn follow(rt: &impl Abort, alloc: Global, transcript: &str) -> Result<(), Fail> {
-    let mut store = Store::new(alloc)?;
+pub(crate) fn follow(rt: &(impl Abort + AllocGlobal), transcript: &str) -> Result<(), Fail> {
+    let mut store = Store::new(rt.alloc())?;
     for line in transcript.lines() {
         match line.split_once(" -> ") {
             Some((call, wanted)) => {

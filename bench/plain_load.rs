@@ -222,7 +222,7 @@ impl World {
     /// Whether the site has a forced round at the head, which is decided, and has not
     /// reported it.
     fn is_waited_for(&self, site: &Site, head: usize) -> bool {
-        self.is_over(site, site.reports[head - 1], head) && site.reported < head
+        site.reported < head && self.is_over(site, site.reports[head - 1], head)
     }
 
     /// Whether a span weighs more than one of the site's limits.

@@ -34,7 +34,7 @@ between h x j p = elim (cases_lt j p) [
 ]
 
 -- a value is no further from the one at the reference than the weight between
-moved_between : (h : History) (x j p : ℕ) → distance (value_at (serial h j) x) (value_at (serial h p) x) ≤ import_of h x j p
+pub moved_between : (h : History) (x j p : ℕ) → distance (value_at (serial h j) x) (value_at (serial h p) x) ≤ import_of h x j p
 moved_between h x j p = elim (cases_lt j p) [
   | inl lt ↦ (let low : min j p ≡ j = omega arith in
       let high : max j p ≡ p = omega arith in

@@ -1,4 +1,4 @@
-ghost use Rattle.std.specs.Prelude.{◌≡◌, ◌≤◌, ◌<◌, ◌+◌, ◌+ℤ◌, ℕ, ℤ, pos, None, Some, List, [], ◌∷◌, IfOk, IfErr, OnOk, OnErr, length};
+ghost use Rattle.std.specs.Prelude.{◌≡◌, ◌≤◌, ◌<◌, ◌+◌, ◌+ℤ◌, ℕ, ℤ, pos, None, Some, List, ◌∷◌, IfOk, IfErr, OnOk, OnErr, length};
 ghost use Rattle.ordup_objects.specs.States.{value_at};
 ghost use Rattle.ordup_objects.specs.Serial.{History, serial};
 ghost use Rattle.ordup_objects.specs.Weights.{distance};
@@ -47,7 +47,6 @@ impl<A: Allocator + Copy> Query<A> {
     /// It is refused `OutOfRange` for the limit; the marks are given up then.
     pub fn begin(place: u64, marks: Vec<u64, A>, limit: u64) -> Result<Self, Refusal>
         ensures query { IfOk result (λ query. query ≡ record { place = place; marks = marks.items; limit = limit; sum = pos 0; total = 0; reads = 0 }) }
-        ensures reads { IfOk result (λ query. HasRead query []) }
         ensures allowed { IfOk result (λ _. begin_refusal limit ≡ None) }
         ensures refused { IfErr result (λ e. begin_refusal limit ≡ Some e) }
     {

@@ -131,10 +131,10 @@ module _ {A : Type 0} where
 
   -- what is left by an event
   pub left_by_event : (w v : Standing) (past : Past A) (name : List ℕ) (e : Event A) (answer : Answer A) (setup : Declared) (old new : List ℕ) → IsAnswer w.primary.setup past e answer → StandsFor v (later past e answer) → v.primary.setup ≡ w.primary.setup
-      → setup ≡ w.primary.setup → (answer ≡ Refused NoMemory → ⊥) → new ≡ old ++ answer_text setup name answer → LeavesRunning v old new (event_reply w.primary.setup past name e)
+      → setup ≡ w.primary.setup → (answer ≡ Refused NoMemory → ⊥) → new ≡ old ++ answer_text setup name [] answer → LeavesRunning v old new (event_reply w.primary.setup past name e)
   left_by_event w v past name e answer setup old new is state kept same other text =
       let replied = answered w.primary.setup past e answer is other in
-      ((kept, subst (λ a. StandsFor v (later past e a)) replied state), text ∙ ap (λ d. old ++ answer_text d name answer) same ∙ ap (λ a. old ++ answer_text w.primary.setup name a) replied)
+      ((kept, subst (λ a. StandsFor v (later past e a)) replied state), text ∙ ap (λ d. old ++ answer_text d name [] answer) same ∙ ap (λ a. old ++ answer_text w.primary.setup name [] a) replied)
 
   -- what is left by a start
   pub started : (d : Declared) (w : Standing) (old new : List ℕ) → start_refusal d ≡ None → w.primary.setup ≡ d → StandsFor {A = A} w [] → new ≡ old ++ (codes "ok start" ++ 10 ∷ [])

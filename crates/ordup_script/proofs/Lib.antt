@@ -1,3 +1,4 @@
+pub mod TextLemmas
 pub mod AnsweringLemmas
 pub mod ChangeParts
 pub mod Decimals

@@ -39,7 +39,7 @@ module _ {A : Type 0} where
   -- the reply to an event that names this site
   abbrev pub event_reply : Declared → Past A → List ℕ → Event A → Reply A
   event_reply setup past name e =
-      (running setup (later past e (event_answer setup past e)), answer_text setup name (event_answer setup past e))
+      (running setup (later past e (event_answer setup past e)), answer_text setup name [] (event_answer setup past e))
 
   -- the reply to an event at a site, where the name is one
   abbrev pub reply_at : Option ℕ → Declared → Past A → List ℕ → (ℕ → Event A) → Reply A

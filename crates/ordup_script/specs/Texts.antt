@@ -6,8 +6,10 @@ use Rattle.ordup_objects.specs.Refusals.{refusal_number, refusal_name}
 use Rattle.ordup_primary.specs.Declarations.{Declared}
 use Rattle.ordup_primary.specs.declared.settled.Settled.{Settled}
 use Rattle.ordup_primary.specs.declared.settled.Settled.TheVariants.{Acked, Round, Waiting}
+use Rattle.ordup_query.specs.declared.answer.ReadAnswer.{ReadAnswer}
+use Rattle.ordup_query.specs.declared.answer.QueryAnswer.{QueryAnswer}
 use Rattle.ordup_world.specs.declared.event.Answer.{Answer}
-use Rattle.ordup_world.specs.declared.event.Answer.TheVariants.{Proposed, Sent, Applied, Reported, Settlement, Shown, Refused}
+use Rattle.ordup_world.specs.declared.event.Answer.TheVariants.{Proposed, Sent, Applied, Reported, Settlement, Begun, ReadOut, Ended, Abandoned, Shown, Refused}
 
 -- `refused N NAME`
 abbrev pub refused_text : Refusal → List ℕ
@@ -56,12 +58,26 @@ settled_text table (Acked k) = done_text (codes "ok acked ") k
 settled_text table (Round k sites) = listed_text (codes "ok round ") k table sites
 settled_text table (Waiting k sites) = listed_text (codes "ok waiting ") k table sites
 
--- the text of an answer to an event that names this site
-abbrev pub answer_text : {A : Type 0} → Declared → List ℕ → Answer A → List ℕ
-answer_text setup site (Proposed number) = done_text (codes "ok proposed ") number
-answer_text setup site (Sent s number) = numbered_text (codes "ok sent ") site number
-answer_text setup site (Applied s number) = numbered_text (codes "ok applied ") site number
-answer_text setup site (Reported s place) = numbered_text (codes "ok reported ") site place
-answer_text setup site (Settlement settled) = settled_text setup.sites settled
-answer_text setup site (Shown sent applied reported rounds values) = shown_text site sent applied reported rounds setup.objects values
-answer_text setup site (Refused r) = refused_text r
+-- `ok read Q X value V import I total T`
+abbrev pub read_text : List ℕ → List ℕ → ReadAnswer → List ℕ
+read_text query object a =
+    codes "ok read " ++ query ++ 32 ∷ [] ++ object ++ codes " value " ++ signed_decimal a.value ++ codes " import " ++ decimal a.import ++ codes " total " ++ decimal a.total ++ 10 ∷ []
+
+-- `ok end Q place P sum V total T reads N`
+abbrev pub ended_text : List ℕ → QueryAnswer → List ℕ
+ended_text query a =
+    codes "ok end " ++ query ++ codes " place " ++ decimal a.place ++ codes " sum " ++ signed_decimal a.sum ++ codes " total " ++ decimal a.total ++ codes " reads " ++ decimal a.reads ++ 10 ∷ []
+
+-- the text of an answer to an event that names this subject, a site or a query, and this object
+abbrev pub answer_text : {A : Type 0} → Declared → List ℕ → List ℕ → Answer A → List ℕ
+answer_text setup subject object (Proposed number) = done_text (codes "ok proposed ") number
+answer_text setup subject object (Sent s number) = numbered_text (codes "ok sent ") subject number
+answer_text setup subject object (Applied s number) = numbered_text (codes "ok applied ") subject number
+answer_text setup subject object (Reported s place) = numbered_text (codes "ok reported ") subject place
+answer_text setup subject object (Settlement settled) = settled_text setup.sites settled
+answer_text setup subject object (Begun query place) = numbered_text (codes "ok begun ") query place
+answer_text setup subject object (ReadOut answer) = read_text subject object answer
+answer_text setup subject object (Ended answer) = ended_text subject answer
+answer_text setup subject object (Abandoned query) = named_text (codes "ok abandoned ") query
+answer_text setup subject object (Shown sent applied reported rounds values) = shown_text subject sent applied reported rounds setup.objects values
+answer_text setup subject object (Refused r) = refused_text r

@@ -291,5 +291,5 @@ fn answer_event<A: Allocator + Copy>(
     ensures { OnOk result ((past : Past A) → StandsFor world.old past → LeavesRunning world.new out.old.items out.new.items (event_reply world.old.primary.setup past site.now event)) }
 {
     let answer = world.step(event);
-    push_answer(out, site, world.primary().setup(), &answer)
+    push_answer(out, world.primary().setup(), site, b"", &answer)
 }

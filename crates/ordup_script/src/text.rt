@@ -1,10 +1,10 @@
 //! The text of answers.
 ghost use Rattle.std.specs.Prelude.{◌≡◌, ◌++◌, ◌∷◌, [], OnOk, length, slice_index_or};
 ghost use Rattle.std.specs.Fmt.{decimal, signed_decimal};
-ghost use Rattle.ordup_script.specs.Texts.{refused_text, named_text, done_text, numbered_text, value_text, values_text, shown_text, sites_text, listed_text, settled_text, answer_text};
+ghost use Rattle.ordup_script.specs.Texts.{refused_text, named_text, done_text, numbered_text, value_text, values_text, shown_text, sites_text, listed_text, settled_text, read_text, ended_text, answer_text};
 
 use ordup_objects::{Name, ObjectId, ObjectTable, Refusal, SiteId};
-use ordup_world::{Answer, Settled, Setup};
+use ordup_world::{Answer, QueryAnswer, ReadAnswer, Settled, Setup};
 use std::alloc::{AllocError, Allocator};
 use std::io::Write;
 
@@ -26,6 +26,30 @@ fn push_value<A: Allocator + Copy>(out: &mut Vec<u8, A>, value: i64) -> Result<(
         Ok(()) => Ok(()),
         Err(_) => Err(AllocError),
     }
+}
+
+/// Adds a text and a number.
+fn push_with_number<A: Allocator + Copy>(
+    out: &mut Vec<u8, A>,
+    text: &[u8],
+    number: u64,
+) -> Result<(), AllocError>
+    ensures { OnOk result (out.new.items ≡ out.old.items ++ (text.now ++ decimal number)) }
+{
+    out.extend_from_slice(text)?;
+    push_number(out, number)
+}
+
+/// Adds a text and a value.
+fn push_with_value<A: Allocator + Copy>(
+    out: &mut Vec<u8, A>,
+    text: &[u8],
+    value: i64,
+) -> Result<(), AllocError>
+    ensures { OnOk result (out.new.items ≡ out.old.items ++ (text.now ++ signed_decimal value)) }
+{
+    out.extend_from_slice(text)?;
+    push_value(out, value)
 }
 
 /// Adds the answer to what was refused. Want of memory is no answer: it ends the run.
@@ -131,34 +155,37 @@ fn push_shown<A: Allocator + Copy>(
 {
     out.extend_from_slice(b"ok show ")?;
     out.extend_from_slice(site)?;
-    out.extend_from_slice(b" sent ")?;
-    push_number(out, numbers.sent)?;
-    out.extend_from_slice(b" applied ")?;
-    push_number(out, numbers.applied)?;
-    out.extend_from_slice(b" reported ")?;
-    push_number(out, numbers.reported)?;
-    out.extend_from_slice(b" rounds ")?;
-    push_number(out, numbers.rounds)?;
+    push_with_number(out, b" sent ", numbers.sent)?;
+    push_with_number(out, b" applied ", numbers.applied)?;
+    push_with_number(out, b" reported ", numbers.reported)?;
+    push_with_number(out, b" rounds ", numbers.rounds)?;
     push_values(out, objects, values)?;
     out.push(b'\n')?;
     Ok(())
 }
 
-/// Adds the answer to an event that names this site.
+/// Adds the answer to an event that names this subject, a site or a query, and this object.
 pub(crate) fn push_answer<A: Allocator + Copy>(
     out: &mut Vec<u8, A>,
-    site: &[u8],
     setup: &Setup<A>,
+    subject: &[u8],
+    object: &[u8],
     answer: &Answer<A>,
 ) -> Result<(), AllocError>
-    ensures { OnOk result ((answer.now ≡ Answer.Refused Refusal.NoMemory → ⊥) × (out.new.items ≡ out.old.items ++ answer_text setup.now site.now answer.now)) }
+    ensures { OnOk result ((answer.now ≡ Answer.Refused Refusal.NoMemory → ⊥) × (out.new.items ≡ out.old.items ++ answer_text setup.now subject.now object.now answer.now)) }
 {
     match answer {
         Answer::Proposed(number) => push_done(out, b"ok proposed ", *number),
-        Answer::Sent { number, .. } => push_numbered(out, b"ok sent ", site, *number),
-        Answer::Applied { number, .. } => push_numbered(out, b"ok applied ", site, *number),
-        Answer::Reported { place, .. } => push_numbered(out, b"ok reported ", site, *place),
+        Answer::Sent { number, .. } => push_numbered(out, b"ok sent ", subject, *number),
+        Answer::Applied { number, .. } => push_numbered(out, b"ok applied ", subject, *number),
+        Answer::Reported { place, .. } => push_numbered(out, b"ok reported ", subject, *place),
         Answer::Settlement(settled) => push_settled(out, setup, settled),
+        Answer::Begun { query, place } => {
+            push_numbered(out, b"ok begun ", query.as_bytes(), *place)
+        }
+        Answer::ReadOut(answer) => push_read(out, subject, object, *answer),
+        Answer::Ended(answer) => push_ended(out, subject, *answer),
+        Answer::Abandoned(query) => push_named(out, b"ok abandoned ", query.as_bytes()),
         Answer::Shown {
             sent,
             applied,
@@ -172,10 +199,48 @@ pub(crate) fn push_answer<A: Allocator + Copy>(
                 reported: *reported,
                 rounds: *rounds,
             };
-            push_shown(out, site, numbers, setup.objects(), values.as_slice())
+            push_shown(out, subject, numbers, setup.objects(), values.as_slice())
         }
         Answer::Refused(refusal) => push_refused(out, *refusal),
     }
+}
+
+/// Adds what a read gave.
+fn push_read<A: Allocator + Copy>(
+    out: &mut Vec<u8, A>,
+    query: &[u8],
+    object: &[u8],
+    answer: ReadAnswer,
+) -> Result<(), AllocError>
+    ensures { OnOk result (out.new.items ≡ out.old.items ++ read_text query.now object.now answer) }
+{
+    out.extend_from_slice(b"ok read ")?;
+    out.extend_from_slice(query)?;
+    out.push(b' ')?;
+    out.extend_from_slice(object)?;
+    push_with_value(out, b" value ", answer.value)?;
+    push_with_number(out, b" import ", answer.import)?;
+    push_with_number(out, b" total ", answer.total)?;
+    out.push(b'\n')?;
+    Ok(())
+}
+
+/// Adds what the reads of a query came to.
+fn push_ended<A: Allocator + Copy>(
+    out: &mut Vec<u8, A>,
+    query: &[u8],
+    answer: QueryAnswer,
+) -> Result<(), AllocError>
+    ensures { OnOk result (out.new.items ≡ out.old.items ++ ended_text query.now answer) }
+{
+    out.extend_from_slice(b"ok end ")?;
+    out.extend_from_slice(query)?;
+    push_with_number(out, b" place ", answer.place)?;
+    push_with_value(out, b" sum ", answer.sum)?;
+    push_with_number(out, b" total ", answer.total)?;
+    push_with_number(out, b" reads ", answer.reads)?;
+    out.push(b'\n')?;
+    Ok(())
 }
 
 /// Adds what came of a settlement.

@@ -1,5 +1,5 @@
 -- The events that a world stands for, one more.
-use Rattle.std.proofs.Common.{◌≡◌, ℕ, ◌+◌, ◌-◌, ◌<◌, ◌≤◌, ◌==◌, ℤ, true, false, not, List, [], ◌∷◌, ◌++◌, length, get_or, cond, arith, refl, sym, ap, ◌∙◌, inl, inr}
+use Rattle.std.proofs.Common.{◌≡◌, ℕ, ◌+◌, ◌-◌, ◌<◌, ◌≤◌, ◌==◌, true, false, not, List, [], ◌∷◌, ◌++◌, length, get_or, cond, arith, refl, sym, ap, ◌∙◌, inl, inr}
 use Rattle.std.specs.Prelude.{nat_lt, ◌&&◌, if◌then◌else◌, replicate}
 use Rattle.std.proofs.Math.ListN.{set, length-set}
 use Rattle.std.proofs.lemmas.Bool.{cases_eq, ne_eqb, eq-eqb}
@@ -16,20 +16,21 @@ use Rattle.ordup_primary.specs.Primaries.{PrimaryState, SiteProgress, Decides, f
 use Rattle.ordup_primary.specs.declared.settled.Settled.{Settled}
 use Rattle.ordup_primary.proofs.SettlingLemmas.{where_below-same, rounds_upto-same}
 use Rattle.ordup_world.specs.Events.{Past, sets_of, applied, reported, log_of, report_at, is_within_after, forced_after, waiting_after, decisions, settlement_of}
-use Rattle.ordup_world.specs.Standings.{SiteState, Standing, first_state, IsSound, IsSiteAfter, StandsFor}
+use Rattle.ordup_site.specs.Sites.{SiteState, HasApplied}
+use Rattle.ordup_world.specs.Standings.{StoreState, first_site, IsStore, IsSiteAfter, IsStoreAfter}
 use Rattle.ordup_world.specs.declared.event.Event.TheVariants.{Propose, Send, Apply, Report, Settle, Show}
 
 module _ {A : Type 0} where
   -- the rounds follow from the rest
-  StandsFor-made : (w : Standing) (past : Past A) → IsSound w → w.primary.log ≡ log_of w.primary.setup past → w.primary.acked ≡ (decisions w.primary.setup past).acked → w.primary.decided ≡ (decisions w.primary.setup past).decided
-      → ((s : ℕ) (d : SiteState) → s < length w.sites → IsSiteAfter w.primary.setup past s (progress_at w.primary s) (get_or w.sites s d)) → StandsFor w past
-  StandsFor-made w past is log acked decided sites = record {
+  IsStoreAfter-made : (w : StoreState) (past : Past A) → IsStore w → w.primary.log ≡ log_of w.primary.setup past → w.primary.acked ≡ (decisions w.primary.setup past).acked → w.primary.decided ≡ (decisions w.primary.setup past).decided
+      → ((s : ℕ) (d : SiteState) → s < length w.sites → IsSiteAfter w.primary.setup past s (progress_at w.primary s) (get_or w.sites s d)) → IsStoreAfter w past
+  IsStoreAfter-made w past is log acked decided sites = record {
     log = log;
     acked = acked;
     decided = decided;
     sites = sites;
     rounds = λ s lt. (let known = is.primary.sites s first_progress (omega (arith, is.count)) in
-        let here = sites s (record { applied = 0; values = [] }) lt in
+        let here = sites s (record { applied = 0; values = []; travelled = [] }) lt in
         known.rounds
         ∙ rounds_upto-same (is_within w.primary s) (is_within_after w.primary.setup past s) (reported_at (progress_at w.primary s)) (report_at ((decisions w.primary.setup past).reports s)) w.primary.decided
         (λ k some le. ap (λ h. within h w.primary.setup.groups (limits_of w.primary.setup s) (reported_at (progress_at w.primary s) k) k) log
@@ -38,20 +39,20 @@ module _ {A : Type 0} where
   }
 
   -- how many updates there are
-  pub updates-are : (w : Standing) (past : Past A) → StandsFor w past → length w.primary.log.sets ≡ length (sets_of past)
+  pub updates-are : (w : StoreState) (past : Past A) → IsStoreAfter w past → length w.primary.log.sets ≡ length (sets_of past)
   updates-are w past is = ap (λ (log : History). length log.sets) is.log
 
   -- a site where it was read is that after the accepted events
-  pub after-at : (w : Standing) (past : Past A) (s : ℕ) (site : SiteState) → StandsFor w past → s < length w.sites → site ≡ get_or w.sites s site → IsSiteAfter w.primary.setup past s (progress_at w.primary s) site
+  pub after-at : (w : StoreState) (past : Past A) (s : ℕ) (site : SiteState) → IsStoreAfter w past → s < length w.sites → site ≡ get_or w.sites s site → IsSiteAfter w.primary.setup past s (progress_at w.primary s) site
   after-at w past s site is lt at = rw (← at) at (is.sites s site lt)
 
   -- at the start
-  pub StandsFor-start : (w : Standing) → IsSound w → w.primary.log ≡ record { start = initial_state w.primary.setup.objects; sets = [] } → w.primary.acked ≡ 0 → w.primary.decided ≡ 0 → w.primary.sites ≡ replicate (length w.primary.setup.sites) first_progress
-      → w.sites ≡ replicate (length w.primary.setup.sites) (first_state w.primary.setup) → StandsFor {A = A} w []
-  StandsFor-start w is log acked decided known sites =
+  pub IsStoreAfter-start : (w : StoreState) → IsStore w → w.primary.log ≡ record { start = initial_state w.primary.setup.objects; sets = [] } → w.primary.acked ≡ 0 → w.primary.decided ≡ 0 → w.primary.sites ≡ replicate (length w.primary.setup.sites) first_progress
+      → w.sites ≡ replicate (length w.primary.setup.sites) (first_site w.primary.setup) → IsStoreAfter {A = A} w []
+  IsStoreAfter-start w is log acked decided known sites =
       let n = length w.primary.setup.sites in
-      let count : length w.sites ≡ n = ap length sites ∙ length-replicate n (first_state w.primary.setup) in
-      StandsFor-made w [] is log acked decided (λ s d lt. rw (known, sites, get_or-replicate n s first_progress first_progress (omega (arith, count)), get_or-replicate n s (first_state w.primary.setup) d (omega (arith, count))) (record {
+      let count : length w.sites ≡ n = ap length sites ∙ length-replicate n (first_site w.primary.setup) in
+      IsStoreAfter-made w [] is log acked decided (λ s d lt. rw (known, sites, get_or-replicate n s first_progress first_progress (omega (arith, count)), get_or-replicate n s (first_site w.primary.setup) d (omega (arith, count))) (record {
         values = refl;
         sent = refl;
         applied = refl;
@@ -60,9 +61,9 @@ module _ {A : Type 0} where
       }))
 
   -- one update more was proposed
-  pub StandsFor-proposed : (w : Standing) (past : Past A) (p : PrimaryState) (m : List Change) → IsSound w → StandsFor w past → IsSound (record w { primary = p })
-      → p ≡ record w.primary { log = record { start = w.primary.log.start; sets = w.primary.log.sets ++ m ∷ [] } } → StandsFor (record w { primary = p }) (Propose m ∷ past)
-  StandsFor-proposed w past p m sound is new e = rw e (StandsFor-made (record w { primary = record w.primary { log = record { start = w.primary.log.start; sets = w.primary.log.sets ++ m ∷ [] } } }) (Propose m ∷ past) (rw e at new)
+  pub IsStoreAfter-proposed : (w : StoreState) (past : Past A) (p : PrimaryState) (m : List Change) → IsStore w → IsStoreAfter w past → IsStore (record w { primary = p })
+      → p ≡ record w.primary { log = record { start = w.primary.log.start; sets = w.primary.log.sets ++ m ∷ [] } } → IsStoreAfter (record w { primary = p }) (Propose m ∷ past)
+  IsStoreAfter-proposed w past p m sound is new e = rw e (IsStoreAfter-made (record w { primary = record w.primary { log = record { start = w.primary.log.start; sets = w.primary.log.sets ++ m ∷ [] } } }) (Propose m ∷ past) (rw e at new)
       (ap (λ (l : History). let longer : History = record { start = l.start; sets = l.sets ++ m ∷ [] } in longer) is.log)
       is.acked
       is.decided
@@ -78,12 +79,12 @@ module _ {A : Type 0} where
       })))
 
   -- one update more was sent to a site
-  pub StandsFor-sent : (w : Standing) (past : Past A) (p : PrimaryState) (s : ℕ) → IsSound w → StandsFor w past → IsSound (record w { primary = p })
-      → p ≡ record w.primary { sites = set w.primary.sites s (record (progress_at w.primary s) { sent = (progress_at w.primary s).sent + 1 }) } → s < length w.sites → StandsFor (record w { primary = p }) (Send s ∷ past)
-  StandsFor-sent w past p s sound is new e lt =
+  pub IsStoreAfter-sent : (w : StoreState) (past : Past A) (p : PrimaryState) (s : ℕ) → IsStore w → IsStoreAfter w past → IsStore (record w { primary = p })
+      → p ≡ record w.primary { sites = set w.primary.sites s (record (progress_at w.primary s) { sent = (progress_at w.primary s).sent + 1 }) } → s < length w.sites → IsStoreAfter (record w { primary = p }) (Send s ∷ past)
+  IsStoreAfter-sent w past p s sound is new e lt =
       let there : s < length w.primary.sites = omega (arith, sound.count) in
       let x : SiteProgress = record (progress_at w.primary s) { sent = (progress_at w.primary s).sent + 1 } in
-      rw e (StandsFor-made (record w { primary = record w.primary { sites = set w.primary.sites s x } }) (Send s ∷ past) (rw e at new) is.log is.acked is.decided (λ t d below. elim (cases_eq t s) [
+      rw e (IsStoreAfter-made (record w { primary = record w.primary { sites = set w.primary.sites s x } }) (Send s ∷ past) (rw e at new) is.log is.acked is.decided (λ t d below. elim (cases_eq t s) [
         | inl same ↦ (let here = is.sites s d lt in
             rw (get_or-set_at w.primary.sites s t x first_progress same there, same) (record {
               values = here.values;
@@ -104,12 +105,12 @@ module _ {A : Type 0} where
       ]))
 
   -- a site reported what it applied
-  pub StandsFor-reported : (w : Standing) (past : Past A) (p : PrimaryState) (s : ℕ) (site : SiteState) → IsSound w → StandsFor w past → IsSound (record w { primary = p })
-      → p ≡ record w.primary { sites = set w.primary.sites s (record (progress_at w.primary s) { reported = site.applied }) } → s < length w.sites → site ≡ get_or w.sites s site → StandsFor (record w { primary = p }) (Report s ∷ past)
-  StandsFor-reported w past p s site sound is new e lt at =
+  pub IsStoreAfter-reported : (w : StoreState) (past : Past A) (p : PrimaryState) (s : ℕ) (site : SiteState) → IsStore w → IsStoreAfter w past → IsStore (record w { primary = p })
+      → p ≡ record w.primary { sites = set w.primary.sites s (record (progress_at w.primary s) { reported = site.applied }) } → s < length w.sites → site ≡ get_or w.sites s site → IsStoreAfter (record w { primary = p }) (Report s ∷ past)
+  IsStoreAfter-reported w past p s site sound is new e lt at =
       let there : s < length w.primary.sites = omega (arith, sound.count) in
       let x : SiteProgress = record (progress_at w.primary s) { reported = site.applied } in
-      rw e (StandsFor-made (record w { primary = record w.primary { sites = set w.primary.sites s x } }) (Report s ∷ past) (rw e at new) is.log is.acked is.decided (λ t d below. elim (cases_eq t s) [
+      rw e (IsStoreAfter-made (record w { primary = record w.primary { sites = set w.primary.sites s x } }) (Report s ∷ past) (rw e at new) is.log is.acked is.decided (λ t d below. elim (cases_eq t s) [
         | inl same ↦ (let here = is.sites s d lt in
             rw (get_or-set_at w.primary.sites s t x first_progress same there, same) (record {
               values = here.values;
@@ -130,18 +131,15 @@ module _ {A : Type 0} where
       ]))
 
   -- one update more was applied by a site
-  pub StandsFor-applied : (w : Standing) (past : Past A) (s : ℕ) (site : SiteState) (values : List ℤ) → StandsFor w past → IsSound (record w { sites = set w.sites s (record { applied = site.applied + 1; values = values }) })
-      → s < length w.sites → site ≡ get_or w.sites s site → StandsFor (record w { sites = set w.sites s (record { applied = site.applied + 1; values = values }) }) (Apply s ∷ past)
-  StandsFor-applied w past s site values is new lt at =
-      let x : SiteState = record { applied = site.applied + 1; values = values } in
-      StandsFor-made (record w { sites = set w.sites s x }) (Apply s ∷ past) new is.log is.acked is.decided (λ t d below. elim (cases_eq t s) [
+  pub IsStoreAfter-applied : (w : StoreState) (past : Past A) (s : ℕ) (site new : SiteState) → IsStoreAfter w past → IsStore (record w { sites = set w.sites s new })
+      → s < length w.sites → site ≡ get_or w.sites s site → HasApplied new w.primary.log (site.applied + 1) → IsStoreAfter (record w { sites = set w.sites s new }) (Apply s ∷ past)
+  IsStoreAfter-applied w past s site x is new lt at next =
+      IsStoreAfter-made (record w { sites = set w.sites s x }) (Apply s ∷ past) new is.log is.acked is.decided (λ t d below. elim (cases_eq t s) [
         | inl same ↦ (let here = after-at w past s site is lt at in
-            let holds = new.prefixes s d (rw (length-set w.sites s x) lt) in
-            let next : values ≡ serial w.primary.log (site.applied + 1) = rw (get_or-set_at w.sites s s x d refl lt) at holds.values in
             rw (get_or-set_at w.sites s t x d same lt, same) (record {
-              values = rw (eq-eqb s s refl) (next ∙ ap (λ k. serial w.primary.log (k + 1)) here.applied ∙ ap (λ (log : History). serial log (applied s past + 1)) is.log);
+              values = rw (eq-eqb s s refl) (next.values ∙ ap (λ k. serial w.primary.log (k + 1)) here.applied ∙ ap (λ (log : History). serial log (applied s past + 1)) is.log);
               sent = here.sent;
-              applied = rw (eq-eqb s s refl) (ap (λ n. n + 1) here.applied);
+              applied = rw (eq-eqb s s refl) (next.applied ∙ ap (λ n. n + 1) here.applied);
               reported = here.reported;
               reports = here.reports;
             }))
@@ -159,25 +157,25 @@ module _ {A : Type 0} where
   -- ---- settlements
 
   -- the sites that hold the head up are those after the accepted events
-  forced-same : (w : Standing) (past : Past A) → IsSound w → StandsFor w past → forced_now w.primary ≡ forced_after w.primary.setup past (decisions w.primary.setup past)
+  forced-same : (w : StoreState) (past : Past A) → IsStore w → IsStoreAfter w past → forced_now w.primary ≡ forced_after w.primary.setup past (decisions w.primary.setup past)
   forced-same w past sound is =
       where_below-same (λ s. not (is_within w.primary s (progress_at w.primary s).reported (w.primary.acked + 1))) (λ s. not (is_within_after w.primary.setup past s (reported s past) ((decisions w.primary.setup past).acked + 1))) (length w.primary.sites)
-      (λ s lt. (let here = is.sites s (record { applied = 0; values = [] }) (omega (arith, sound.count)) in rw (is.log, here.reported, is.acked) refl))
+      (λ s lt. (let here = is.sites s (record { applied = 0; values = []; travelled = [] }) (omega (arith, sound.count)) in rw (is.log, here.reported, is.acked) refl))
       ∙ ap (where_below (λ s. not (is_within_after w.primary.setup past s (reported s past) ((decisions w.primary.setup past).acked + 1)))) sound.primary.count
 
-  waiting-same : (w : Standing) (past : Past A) → IsSound w → StandsFor w past → waiting_now w.primary ≡ waiting_after w.primary.setup past (decisions w.primary.setup past)
+  waiting-same : (w : StoreState) (past : Past A) → IsStore w → IsStoreAfter w past → waiting_now w.primary ≡ waiting_after w.primary.setup past (decisions w.primary.setup past)
   waiting-same w past sound is =
       let ds = decisions w.primary.setup past in
       where_below-same (λ s. not (is_within w.primary s (reported_at (progress_at w.primary s) (w.primary.acked + 1)) (w.primary.acked + 1)) && nat_lt (progress_at w.primary s).reported (w.primary.acked + 1))
       (λ s. not (is_within_after w.primary.setup past s (report_at (ds.reports s) (ds.acked + 1)) (ds.acked + 1)) && nat_lt (reported s past) (ds.acked + 1)) (length w.primary.sites)
-      (λ s lt. (let here = is.sites s (record { applied = 0; values = [] }) (omega (arith, sound.count)) in rw (is.log, here.reported, here.reports, is.acked) refl))
+      (λ s lt. (let here = is.sites s (record { applied = 0; values = []; travelled = [] }) (omega (arith, sound.count)) in rw (is.log, here.reported, here.reports, is.acked) refl))
       ∙ ap (where_below (λ s. not (is_within_after w.primary.setup past s (report_at (ds.reports s) (ds.acked + 1)) (ds.acked + 1)) && nat_lt (reported s past) (ds.acked + 1))) sound.primary.count
 
   settled_by : ℕ → ℕ → List ℕ → List ℕ → Settled A
   settled_by acked decided forced waiting = if acked == decided then acked_or_round (acked + 1) forced else acked_or_waiting (acked + 1) waiting
 
   -- what a settlement answers is what it would answer after the accepted events
-  pub settled-same : (w : Standing) (past : Past A) → IsSound w → StandsFor w past → settled_as {A = A} w.primary ≡ settlement_of w.primary.setup past (decisions w.primary.setup past)
+  pub settled-same : (w : StoreState) (past : Past A) → IsStore w → IsStoreAfter w past → settled_as {A = A} w.primary ≡ settlement_of w.primary.setup past (decisions w.primary.setup past)
   settled-same w past sound is =
       let ds = decisions w.primary.setup past in
       ap (λ a. cond (a == w.primary.decided) (acked_or_round (a + 1) (forced_now w.primary)) (acked_or_waiting (a + 1) (waiting_now w.primary))) is.acked
@@ -186,14 +184,14 @@ module _ {A : Type 0} where
       ∙ ap (λ f. cond (ds.acked == ds.decided) (acked_or_round (ds.acked + 1) (forced_after w.primary.setup past ds)) (acked_or_waiting (ds.acked + 1) f)) (waiting-same w past sound is)
 
   -- the head was settled for the first time
-  pub StandsFor-decided : (w : Standing) (past : Past A) (p : PrimaryState) → IsSound w → StandsFor w past → IsSound (record w { primary = p }) → w.primary.acked ≡ w.primary.decided → Decides w.primary p
-      → StandsFor (record w { primary = p }) (Settle ∷ past)
-  StandsFor-decided w past p sound is new first decides =
+  pub IsStoreAfter-decided : (w : StoreState) (past : Past A) (p : PrimaryState) → IsStore w → IsStoreAfter w past → IsStore (record w { primary = p }) → w.primary.acked ≡ w.primary.decided → Decides w.primary p
+      → IsStoreAfter (record w { primary = p }) (Settle ∷ past)
+  IsStoreAfter-decided w past p sound is new first decides =
       let ds = decisions w.primary.setup past in
       let test : (ds.acked == ds.decided) ≡ true = eq-eqb ds.acked ds.decided (sym is.acked ∙ first ∙ is.decided) in
       let q : PrimaryState = record w.primary { acked = p.acked; decided = p.decided; sites = p.sites } in
       let e : p ≡ q = ap (λ (d : Declared). let r : PrimaryState = record p { setup = d } in r) decides.setup ∙ ap (λ (h : History). let r : PrimaryState = record q { log = h } in r) decides.log in
-      rw e (StandsFor-made (record w { primary = q }) (Settle ∷ past) (rw e at new)
+      rw e (IsStoreAfter-made (record w { primary = q }) (Settle ∷ past) (rw e at new)
       is.log
       (rw test (decides.acked ∙ ap (acked_after w.primary.acked) (forced-same w past sound is) ∙ ap (λ a. acked_after a (forced_after w.primary.setup past ds)) is.acked))
       (rw test (decides.decided ∙ ap (λ a. a + 1) is.acked))
@@ -207,12 +205,12 @@ module _ {A : Type 0} where
       }))))
 
   -- the head was settled later
-  pub StandsFor-waited : (w : Standing) (past : Past A) (p : PrimaryState) → IsSound w → StandsFor w past → IsSound (record w { primary = p }) → w.primary.acked < w.primary.decided → p ≡ record w.primary { acked = acked_after w.primary.acked (waiting_now w.primary) }
-      → StandsFor (record w { primary = p }) (Settle ∷ past)
-  StandsFor-waited w past p sound is new later e =
+  pub IsStoreAfter-waited : (w : StoreState) (past : Past A) (p : PrimaryState) → IsStore w → IsStoreAfter w past → IsStore (record w { primary = p }) → w.primary.acked < w.primary.decided → p ≡ record w.primary { acked = acked_after w.primary.acked (waiting_now w.primary) }
+      → IsStoreAfter (record w { primary = p }) (Settle ∷ past)
+  IsStoreAfter-waited w past p sound is new later e =
       let ds = decisions w.primary.setup past in
       let test : (ds.acked == ds.decided) ≡ false = ne_eqb ds.acked ds.decided (λ same. omega (arith, is.acked, is.decided, same)) in
-      rw e (StandsFor-made (record w { primary = record w.primary { acked = acked_after w.primary.acked (waiting_now w.primary) } }) (Settle ∷ past) (rw e at new)
+      rw e (IsStoreAfter-made (record w { primary = record w.primary { acked = acked_after w.primary.acked (waiting_now w.primary) } }) (Settle ∷ past) (rw e at new)
       is.log
       (rw test (ap (acked_after w.primary.acked) (waiting-same w past sound is) ∙ ap (λ a. acked_after a (waiting_after w.primary.setup past ds)) is.acked))
       (rw test is.decided)
@@ -226,16 +224,16 @@ module _ {A : Type 0} where
       })))
 
   -- the head was settled
-  pub StandsFor-settled : (w : Standing) (past : Past A) (p : PrimaryState) → IsSound w → StandsFor w past → IsSound (record w { primary = p }) → (w.primary.acked ≡ w.primary.decided → Decides w.primary p)
-      → (w.primary.acked < w.primary.decided → p ≡ record w.primary { acked = acked_after w.primary.acked (waiting_now w.primary) }) → StandsFor (record w { primary = p }) (Settle ∷ past)
-  StandsFor-settled w past p sound is new first later = elim (cases_eq w.primary.acked w.primary.decided) [
-    | inl same ↦ StandsFor-decided w past p sound is new same (first same)
-    | inr other ↦ (let less : w.primary.acked < w.primary.decided = omega (arith, sound.primary.acked, other) in StandsFor-waited w past p sound is new less (later less))
+  pub IsStoreAfter-settled : (w : StoreState) (past : Past A) (p : PrimaryState) → IsStore w → IsStoreAfter w past → IsStore (record w { primary = p }) → (w.primary.acked ≡ w.primary.decided → Decides w.primary p)
+      → (w.primary.acked < w.primary.decided → p ≡ record w.primary { acked = acked_after w.primary.acked (waiting_now w.primary) }) → IsStoreAfter (record w { primary = p }) (Settle ∷ past)
+  IsStoreAfter-settled w past p sound is new first later = elim (cases_eq w.primary.acked w.primary.decided) [
+    | inl same ↦ IsStoreAfter-decided w past p sound is new same (first same)
+    | inr other ↦ (let less : w.primary.acked < w.primary.decided = omega (arith, sound.primary.acked, other) in IsStoreAfter-waited w past p sound is new less (later less))
   ]
 
   -- a site was shown
-  pub StandsFor-shown : (w : Standing) (past : Past A) (s : ℕ) → StandsFor w past → StandsFor w (Show s ∷ past)
-  StandsFor-shown w past s is = record {
+  pub IsStoreAfter-shown : (w : StoreState) (past : Past A) (s : ℕ) → IsStoreAfter w past → IsStoreAfter w (Show s ∷ past)
+  IsStoreAfter-shown w past s is = record {
     log = is.log;
     acked = is.acked;
     decided = is.decided;

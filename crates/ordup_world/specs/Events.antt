@@ -1,8 +1,10 @@
 -- Events, what they are answered, and the numbers of a list of accepted events.
-use Rattle.std.specs.Prelude.{◌≡◌, ◌⊎◌, ℕ, ◌+◌, ◌-◌, ◌==◌, not, if◌then◌else◌, nat_lt, Bool, true, false, Option, Some, None, List, [], ◌∷◌, ◌++◌, length, slice_index_or}
+use Rattle.std.specs.Prelude.{◌≡◌, ◌⊎◌, ℕ, ◌+◌, ◌-◌, ◌==◌, not, if◌then◌else◌, nat_eq, nat_lt, Bool, true, false, Option, Some, None, option_map, is_some, List, [], ◌∷◌, ◌++◌, length, slice_index_or}
+use Rattle.std.specs.Cmp.Lexicographic.{pointwise}
 use Rattle.ordup_objects.specs.declared.change.Change.{Change}
 use Rattle.ordup_objects.specs.declared.refusal.Refusal.{Refusal}
-use Rattle.ordup_objects.specs.declared.refusal.Refusal.TheVariants.{UnknownObject, UnknownSite, NothingToSend, FeedFull, NothingToApply, NothingToSettle, NoMemory}
+use Rattle.ordup_objects.specs.declared.refusal.Refusal.TheVariants.{UnknownObject, UnknownSite, OutOfRange, TooMany, NothingToSend, FeedFull, NothingToApply, NothingToSettle, UnknownQuery, QueryOpen, NoMemory}
+use Rattle.ordup_objects.specs.States.{value_at}
 use Rattle.ordup_objects.specs.Tables.{initial_state}
 use Rattle.ordup_objects.specs.Sets.{is_over}
 use Rattle.ordup_objects.specs.Serial.{History, serial}
@@ -12,10 +14,12 @@ use Rattle.ordup_primary.specs.Declarations.{Declared, capacity_of, limits_of}
 use Rattle.ordup_primary.specs.Settling.{forced_sites, waiting_sites, rounds_upto}
 use Rattle.ordup_primary.specs.Primaries.{acked_after, acked_or_round, acked_or_waiting}
 use Rattle.ordup_primary.specs.declared.settled.Settled.{Settled}
+use Rattle.ordup_query.specs.Imports.{import_of}
+use Rattle.ordup_world.specs.Queries.{ReadMade, Opened, import_total, value_sum, values_read, read_refusal}
 use Rattle.ordup_world.specs.declared.event.Event.{Event}
-use Rattle.ordup_world.specs.declared.event.Event.TheVariants.{Propose, Send, Apply, Report, Settle, Show}
+use Rattle.ordup_world.specs.declared.event.Event.TheVariants.{Propose, Send, Apply, Report, Settle, Begin, Read, End, Abandon, Show}
 use Rattle.ordup_world.specs.declared.event.Answer.{Answer}
-use Rattle.ordup_world.specs.declared.event.Answer.TheVariants.{Proposed, Sent, Applied, Reported, Settlement, Shown, Refused}
+use Rattle.ordup_world.specs.declared.event.Answer.TheVariants.{Proposed, Sent, Applied, Reported, Settlement, Begun, ReadOut, Ended, Abandoned, Shown, Refused}
 
 -- the accepted events, the newest first
 abbrev pub Past : Type 0 → Type 0
@@ -26,6 +30,10 @@ pub record Decisions : Type 0 where
   pub acked : ℕ
   pub decided : ℕ
   pub reports : ℕ → List ℕ
+
+-- the same name
+abbrev pub is_same : List ℕ → List ℕ → Bool
+is_same = pointwise nat_eq
 
 -- what was reported at the decision of place k
 abbrev pub report_at : List ℕ → ℕ → ℕ
@@ -94,10 +102,50 @@ module _ {A : Type 0} where
   abbrev pub rounds : Declared → ℕ → Past A → List ℕ
   rounds setup s past = rounds_upto (is_within_after setup past s) (report_at ((decisions setup past).reports s)) (decisions setup past).decided
 
+  -- a read of object x at site s by the reference p: the value that the site holds, and the weight on the object of the span between the two places
+  abbrev pub read_now : Declared → Past A → ℕ → ℕ → ℕ → ReadMade
+  read_now setup past s p x = record {
+    object = x;
+    value = value_at (serial (log_of setup past) (applied s past)) x;
+    import = import_of (log_of setup past) x (applied s past) p;
+  }
+
+  -- a query with one read more
+  abbrev pub with_read : Declared → Past A → ℕ → Opened → Opened
+  with_read setup past x o = record { site = o.site; place = o.place; limit = o.limit; reads = read_now setup past o.site o.place x ∷ o.reads }
+
+  -- the query of a name, where it is open: where its last Begin has no End or Abandon after it. Its reference is what was acknowledged at that Begin.
+  abbrev pub opened : Declared → List ℕ → Past A → Option Opened
+  opened setup q [] = None
+  opened setup q (Begin r s limit ∷ past) = if is_same r q then Some (record { site = s; place = (decisions setup past).acked; limit = limit; reads = [] }) else opened setup q past
+  opened setup q (Read r x ∷ past) = if is_same r q then option_map (with_read setup past x) (opened setup q past) else opened setup q past
+  opened setup q (End r ∷ past) = if is_same r q then None else opened setup q past
+  opened setup q (Abandon r ∷ past) = if is_same r q then None else opened setup q past
+  opened setup q (_ ∷ past) = opened setup q past
+
+  -- how many queries are open: one more with each Begin, one fewer with each End and each Abandon
+  abbrev pub open_count : Past A → ℕ
+  open_count [] = 0
+  open_count (Begin q s limit ∷ past) = open_count past + 1
+  open_count (End q ∷ past) = open_count past - 1
+  open_count (Abandon q ∷ past) = open_count past - 1
+  open_count (_ ∷ past) = open_count past
+
   -- a refusal, or else an answer
   abbrev pub refused_or : Option Refusal → Answer A → Answer A
   refused_or None answer = answer
   refused_or (Some r) answer = Refused r
+
+  -- what a read is answered by the query of its name
+  abbrev pub read_reply : Option Opened → (Opened → ReadMade) → Answer A
+  read_reply None now = Refused UnknownQuery
+  read_reply (Some o) now =
+      refused_or (read_refusal o (now o)) (ReadOut (record { value = (now o).value; import = (now o).import; total = import_total o.reads + (now o).import }))
+
+  -- what the end of a query is answered
+  abbrev pub end_reply : Option Opened → Answer A
+  end_reply None = Refused UnknownQuery
+  end_reply (Some o) = Ended (record { place = o.place; sum = value_sum (values_read o.reads); total = import_total o.reads; reads = length o.reads })
 
   -- the reply to an event after the past: the first refusal that applies, or else the answer
   abbrev pub reply : Declared → Past A → Event A → Answer A
@@ -119,6 +167,17 @@ module _ {A : Type 0} where
   reply setup past Settle =
       if (decisions setup past).acked == length (sets_of past) then Refused NothingToSettle else
       Settlement (settlement_of setup past (decisions setup past))
+  reply setup past (Begin q s limit) =
+      if not (nat_lt s (length setup.sites)) then Refused UnknownSite else
+      if nat_lt 1000000000000000000 limit then Refused OutOfRange else
+      if open_count past == 64 then Refused TooMany else
+      if is_some (opened setup q past) then Refused QueryOpen else
+      Begun q (decisions setup past).acked
+  reply setup past (Read q x) =
+      if not (nat_lt x (length setup.objects)) then Refused UnknownObject else
+      read_reply (opened setup q past) (λ o. read_now setup past o.site o.place x)
+  reply setup past (End q) = end_reply (opened setup q past)
+  reply setup past (Abandon q) = if is_some (opened setup q past) then Abandoned q else Refused UnknownQuery
   reply setup past (Show s) =
       if not (nat_lt s (length setup.sites)) then Refused UnknownSite else
       Shown (sent s past) (applied s past) (reported s past) (length (rounds setup s past)) (serial (log_of setup past) (applied s past))
@@ -140,6 +199,10 @@ module _ {A : Type 0} where
   takes_memory (Apply s) = false
   takes_memory (Report s) = false
   takes_memory Settle = true
+  takes_memory (Begin q s limit) = true
+  takes_memory (Read q x) = false
+  takes_memory (End q) = false
+  takes_memory (Abandon q) = false
   takes_memory (Show s) = true
 
   -- an event after the past may be answered so: by the reply, or by NoMemory where the event takes memory and the reply is no refusal

@@ -1,24 +1,47 @@
 -- What a world holds, and for which accepted events it stands.
-use Rattle.std.specs.Prelude.{◌≡◌, ℕ, ℤ, ◌+◌, ◌<◌, ◌≤◌, true, List, length, slice_index_or}
+use Rattle.std.specs.Prelude.{◌≡◌, ℕ, ℤ, ◌+◌, ◌<◌, ◌≤◌, true, Option, Some, option_map, List, length, replicate, slice_index_or}
+use Rattle.std.specs.Map.{lookup}
 use Rattle.ordup_objects.specs.Tables.{initial_state}
 use Rattle.ordup_objects.specs.Serial.{History, serial}
 use Rattle.ordup_primary.specs.Declarations.{Declared, capacity_of}
 use Rattle.ordup_primary.specs.Primaries.{PrimaryState, SiteProgress, IsPrimary, progress_at, is_within}
-use Rattle.ordup_world.specs.Events.{Past, sent, applied, reported, log_of, decisions, rounds}
-
--- how many updates a site applied, and its values
-pub record SiteState : Type 0 where
-  pub applied : ℕ
-  pub values : List ℤ
+use Rattle.ordup_site.specs.Sites.{SiteState, HasApplied}
+use Rattle.ordup_query.specs.Imports.{AreMarks}
+use Rattle.ordup_query.specs.Queries.{QueryState}
+use Rattle.ordup_world.specs.Queries.{Opened, import_total, value_sum, values_read}
+use Rattle.ordup_world.specs.Events.{Past, is_same, sent, applied, reported, log_of, decisions, rounds, opened, open_count}
 
 -- the primary, and the sites in order of declaration
-pub record Standing : Type 0 where
+pub record StoreState : Type 0 where
   pub primary : PrimaryState
   pub sites : List SiteState
 
+-- an open query and its site
+pub record OpenState : Type 0 where
+  pub site : ℕ
+  pub query : QueryState
+
+-- the open queries by their names
+abbrev pub Queries : Type 0
+Queries = List (List ℕ × OpenState)
+
+-- the open query of a name, if there is one
+abbrev pub find_query : List ℕ → Queries → Option OpenState
+find_query q queries = lookup (is_same q) queries
+
+-- the primary, the sites in order of declaration, and the open queries
+pub record Standing : Type 0 where
+  pub primary : PrimaryState
+  pub sites : List SiteState
+  pub queries : Queries
+
+-- a world without its queries
+abbrev pub store_of : Standing → StoreState
+store_of w = record { primary = w.primary; sites = w.sites }
+
 -- a site at the start
-abbrev pub first_state : Declared → SiteState
-first_state setup = record { applied = 0; values = initial_state setup.objects }
+abbrev pub first_site : Declared → SiteState
+first_site setup = record { applied = 0; values = initial_state setup.objects; travelled = replicate (length setup.objects) 0 }
 
 -- a site holds the serial result of a prefix of the log; it applied what it reported, and no more than was sent to it; its feed holds no more than it may
 pub record HoldsPrefix (log : History) (capacity : ℕ) (known : SiteProgress) (site : SiteState) : Type 0 where
@@ -26,17 +49,46 @@ pub record HoldsPrefix (log : History) (capacity : ℕ) (known : SiteProgress) (
   pub applied : site.applied ≤ known.sent
   pub sent : known.sent ≤ length log.sets
   pub feed : known.sent ≤ site.applied + capacity
-  pub values : site.values ≡ serial log site.applied
+  pub prefix : HasApplied site log site.applied
 
--- what each world keeps: each site holds the serial result of a prefix of the log
-pub record IsSound (w : Standing) : Type 0 where
+-- what the primary and the sites keep: each site holds the serial result of a prefix of the log
+pub record IsStore (w : StoreState) : Type 0 where
   pub primary : IsPrimary w.primary
   pub count : length w.sites ≡ length w.primary.sites
   pub prefixes : (s : ℕ) (d : SiteState) → s < length w.sites → HoldsPrefix w.primary.log (capacity_of w.primary.setup s) (progress_at w.primary s) (slice_index_or w.sites s d)
 
+-- what a world keeps of an open query: its reference was acknowledged, its marks are those of the reference, and what it imported is within its limit
+pub record IsOpenSound (w : StoreState) (o : OpenState) : Type 0 where
+  pub site : o.site < length w.sites
+  pub place : o.query.place ≤ w.primary.acked
+  pub count : length o.query.marks ≡ length w.primary.setup.objects
+  pub marks : AreMarks w.primary.log o.query.place o.query.marks
+  pub within : o.query.total ≤ o.query.limit
+
+-- what each world keeps
+pub record IsSound (w : Standing) : Type 0 where
+  pub store : IsStore (store_of w)
+  pub few : length w.queries ≤ 64
+  pub queries : (q : List ℕ) (o : OpenState) → find_query q w.queries ≡ Some o → IsOpenSound (store_of w) o
+
 -- the acknowledged updates that a site has not applied weigh at most each of its limits
 abbrev pub KeepsLimits : Standing → Type 0
 KeepsLimits w = (s : ℕ) (d : SiteState) → s < length w.sites → is_within w.primary s (slice_index_or w.sites s d).applied w.primary.acked ≡ true
+
+-- what is known of an open query: its site, its reference, its limit, and what its reads added up to
+pub record OpenNumbers : Type 0 where
+  pub site : ℕ
+  pub place : ℕ
+  pub limit : ℕ
+  pub sum : ℤ
+  pub total : ℕ
+  pub reads : ℕ
+
+abbrev pub numbers_of : OpenState → OpenNumbers
+numbers_of o = record { site = o.site; place = o.query.place; limit = o.query.limit; sum = o.query.sum; total = o.query.total; reads = o.query.reads }
+
+abbrev pub numbers_after : Opened → OpenNumbers
+numbers_after o = record { site = o.site; place = o.place; limit = o.limit; sum = value_sum (values_read o.reads); total = import_total o.reads; reads = length o.reads }
 
 module _ {A : Type 0} where
   -- the numbers and the values of a site are those after the accepted events
@@ -47,10 +99,16 @@ module _ {A : Type 0} where
     pub reported : known.reported ≡ reported s past
     pub reports : known.reports ≡ (decisions setup past).reports s
 
-  -- the world is the one after the accepted events
-  pub record StandsFor (w : Standing) (past : Past A) : Type 0 where
+  -- the primary and the sites are those after the accepted events
+  pub record IsStoreAfter (w : StoreState) (past : Past A) : Type 0 where
     pub log : w.primary.log ≡ log_of w.primary.setup past
     pub acked : w.primary.acked ≡ (decisions w.primary.setup past).acked
     pub decided : w.primary.decided ≡ (decisions w.primary.setup past).decided
     pub sites : (s : ℕ) (d : SiteState) → s < length w.sites → IsSiteAfter w.primary.setup past s (progress_at w.primary s) (slice_index_or w.sites s d)
     pub rounds : (s : ℕ) → s < length w.sites → (progress_at w.primary s).rounds ≡ rounds w.primary.setup s past
+
+  -- the world is the one after the accepted events
+  pub record StandsFor (w : Standing) (past : Past A) : Type 0 where
+    pub store : IsStoreAfter (store_of w) past
+    pub queries : (q : List ℕ) → option_map numbers_of (find_query q w.queries) ≡ option_map numbers_after (opened w.primary.setup q past)
+    pub count : length w.queries ≡ open_count past

@@ -1,5 +1,6 @@
-use ordup_objects::{MessageSet, Refusal, SiteId, Values};
+use ordup_objects::{MessageSet, Name, ObjectId, Refusal, SiteId, Values};
 use ordup_primary::Settled;
+use ordup_query::{QueryAnswer, ReadAnswer};
 use std::alloc::{Allocator, Global};
 
 /// What may happen to a store.
@@ -15,6 +16,21 @@ pub enum Event<A: Allocator + Copy = Global> {
     Report(SiteId),
     /// The primary settles the head, the update after the last acknowledged one.
     Settle,
+    /// A query begins at the site, with a limit on what its reads may import, 0 to 10^18.
+    Begin {
+        query: Name,
+        site: SiteId,
+        limit: u64,
+    },
+    /// The query reads an object at its site.
+    Read {
+        query: Name,
+        object: ObjectId,
+    },
+    /// The query ends, and is answered what its reads added up to.
+    End(Name),
+    /// The query ends without an answer.
+    Abandon(Name),
     /// The site is shown.
     Show(SiteId),
 }
@@ -41,6 +57,17 @@ pub enum Answer<A: Allocator + Copy = Global> {
     },
     /// What came of the settlement.
     Settlement(Settled<A>),
+    /// The query began: its reference is the last update that was acknowledged then, or 0.
+    Begun {
+        query: Name,
+        place: u64,
+    },
+    /// What the read gave.
+    ReadOut(ReadAnswer),
+    /// What the reads of the query added up to.
+    Ended(QueryAnswer),
+    /// The query with this name is given up.
+    Abandoned(Name),
     /// How many updates were sent to the site, were applied by it and were reported by it, how many of its rounds were
     /// forced, and its values.
     Shown {

@@ -6,12 +6,14 @@
 
 mod event;
 mod outcome;
-mod replica;
+mod queries;
 mod runs;
+mod store;
 mod world;
 
 pub use event::{Answer, Event};
 pub use ordup_primary::{Primary, Settled, Setup, SiteList};
+pub use ordup_query::{QueryAnswer, ReadAnswer};
 pub use outcome::Run;
 pub use runs::run;
 pub use world::World;

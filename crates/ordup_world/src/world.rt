@@ -1,20 +1,26 @@
-ghost use Rattle.std.specs.Prelude.{◌≡◌, ◌≤◌, ◌+◌, ℕ, ◌<◌, None, List, [], ◌∷◌, length, replicate, IfOk, OnOk, IfErr};
+ghost use Rattle.std.specs.Prelude.{◌≡◌, ◌≤◌, None, [], IfOk, IfErr};
 ghost use Rattle.ordup_objects.specs.Refusals.{IsRefusal};
 ghost use Rattle.ordup_primary.specs.Declarations.{start_refusal};
-ghost use Rattle.ordup_world.specs.Standings.{first_state};
+ghost use Rattle.ordup_world.specs.Reading.{IsBegun};
 
 use crate::event::{Answer, Event};
-use crate::replica::Replica;
-use ordup_objects::{MessageSet, Refusal, SiteId, Values};
+use crate::queries::{OpenQueries, OpenQuery};
+use crate::store::Store;
+use ordup_objects::{Name, ObjectId, Refusal, SiteId};
 use ordup_primary::{Primary, Setup};
+use ordup_query::Query;
+use ordup_query::sizes::GREATEST_IMPORT_LIMIT;
 use std::alloc::{Allocator, Global};
 use std::marker::Model;
 
-/// A running store: its primary and its sites. It is stepped by events and waits for nobody.
+/// The most queries that are open at a time.
+pub const MOST_QUERIES: usize = 64;
+
+/// A running store: its primary, its sites and its open queries. It is stepped by events and waits for nobody.
 #[derive(Drop)]
 pub struct World<A: Allocator + Copy = Global> {
-    primary: Primary<A>,
-    replicas: Vec<Replica<A>, A>,
+    store: Store<A>,
+    queries: OpenQueries<A>,
 }
 
 impl<A: Allocator + Copy> Model for World<A> {
@@ -22,9 +28,9 @@ impl<A: Allocator + Copy> Model for World<A> {
 
     ghost Value = { Standing };
 
-    ghost view = { λ w. record { primary = w.primary; sites = w.replicas.items } };
+    ghost view = { λ w. record { primary = w.store.primary; sites = w.store.sites; queries = w.queries } };
 
-    ghost invariant = { λ w. IsSound (record { primary = w.primary; sites = w.replicas.items }) };
+    ghost invariant = { λ w. IsSound (record { primary = w.store.primary; sites = w.store.sites; queries = w.queries }) };
 }
 
 impl<A: Allocator + Copy> World<A> {
@@ -45,9 +51,11 @@ impl<A: Allocator + Copy> World<A> {
         if !setup.is_ready() {
             return Err(Refusal::Empty);
         }
-        let replicas = replicas(alloc, &setup)?;
-        let primary = Primary::new(alloc, setup)?;
-        Ok(World { primary, replicas })
+        let store = Store::start(alloc, setup)?;
+        Ok(World {
+            store,
+            queries: OpenQueries::new(alloc),
+        })
     }
 
     /// Takes one event and answers it. A refused event leaves all as it was.
@@ -60,12 +68,16 @@ impl<A: Allocator + Copy> World<A> {
         ensures limits { KeepsLimits self.new }
     {
         match event {
-            Event::Propose(set) => self.propose(set),
-            Event::Send(site) => self.send(site),
-            Event::Apply(site) => self.apply(site),
-            Event::Report(site) => self.report(site),
-            Event::Settle => self.settle(),
-            Event::Show(site) => self.show(site),
+            Event::Propose(set) => self.store.propose(set),
+            Event::Send(site) => self.store.send(site),
+            Event::Apply(site) => self.store.apply(site),
+            Event::Report(site) => self.store.report(site),
+            Event::Settle => self.store.settle(),
+            Event::Begin { query, site, limit } => self.begin(query, site, limit),
+            Event::Read { query, object } => self.read(query, object),
+            Event::End(query) => self.end(query),
+            Event::Abandon(query) => self.abandon(query),
+            Event::Show(site) => self.store.show(site),
         }
     }
 
@@ -73,145 +85,99 @@ impl<A: Allocator + Copy> World<A> {
     pub fn primary(&self) -> &Primary<A>
         ensures { result.now ≡ self.now.primary }
     {
-        &self.primary
+        self.store.primary()
     }
 
-    /// The primary numbers a message set as the next update.
-    fn propose(&mut self, set: MessageSet<A>) -> Answer<A>
-        ensures answer { (past : Past A) → StandsFor self.old past → IsAnswer self.old.primary.setup past (Event.Propose set) result }
-        ensures state { (past : Past A) → StandsFor self.old past → StandsFor self.new (later past (Event.Propose set) result) }
+    /// A query begins at the site, with what is acknowledged now as its reference.
+    fn begin(&mut self, name: Name, site: SiteId, limit: u64) -> Answer<A>
+        ensures answer { (past : Past A) → StandsFor self.old past → IsAnswer self.old.primary.setup past (Event.Begin name site limit) result }
+        ensures state { (past : Past A) → StandsFor self.old past → StandsFor self.new (later past (Event.Begin name site limit) result) }
         ensures setup { self.new.primary.setup ≡ self.old.primary.setup }
         ensures refused { OnRefused result (self.new ≡ self.old) }
         ensures sound { IsSound self.new }
     {
-        if !set.is_over(self.primary.setup().objects().len()) {
+        if site.index() >= self.store.primary().setup().sites() {
+            return Answer::Refused(Refusal::UnknownSite);
+        }
+        if limit > GREATEST_IMPORT_LIMIT {
+            return Answer::Refused(Refusal::OutOfRange);
+        }
+        if self.queries.len() == MOST_QUERIES {
+            return Answer::Refused(Refusal::TooMany);
+        }
+        if self.queries.contains(name) {
+            return Answer::Refused(Refusal::QueryOpen);
+        }
+        let Ok(open) = open(self.store.primary(), site, limit) else {
+            return Answer::Refused(Refusal::NoMemory);
+        };
+        let Ok(()) = self.queries.insert(name, open) else {
+            return Answer::Refused(Refusal::NoMemory);
+        };
+        Answer::Begun {
+            query: name,
+            place: self.store.primary().acked(),
+        }
+    }
+
+    /// The query reads an object at its site.
+    fn read(&mut self, name: Name, object: ObjectId) -> Answer<A>
+        ensures answer { (past : Past A) → StandsFor self.old past → IsAnswer self.old.primary.setup past (Event.Read name object) result }
+        ensures state { (past : Past A) → StandsFor self.old past → StandsFor self.new (later past (Event.Read name object) result) }
+        ensures setup { self.new.primary.setup ≡ self.old.primary.setup }
+        ensures refused { OnRefused result (self.new ≡ self.old) }
+        ensures sound { IsSound self.new }
+    {
+        if object.index() >= self.store.primary().setup().objects().len() {
             return Answer::Refused(Refusal::UnknownObject);
         }
-        let number = match self.primary.propose(set) {
-            Ok(number) => number,
+        let answer = match self.queries.read(name, self.store.sites(), object) {
+            Ok(answer) => answer,
             Err(refusal) => return Answer::Refused(refusal),
         };
-        Answer::Proposed(number)
+        Answer::ReadOut(answer)
     }
 
-    /// The first update that was not sent to the site goes into its feed.
-    fn send(&mut self, site: SiteId) -> Answer<A>
-        ensures answer { (past : Past A) → StandsFor self.old past → IsAnswer self.old.primary.setup past (Event.Send site) result }
-        ensures state { (past : Past A) → StandsFor self.old past → StandsFor self.new (later past (Event.Send site) result) }
+    /// The query ends, and is answered what its reads added up to.
+    fn end(&mut self, name: Name) -> Answer<A>
+        ensures answer { (past : Past A) → StandsFor self.old past → IsAnswer self.old.primary.setup past (Event.End name) result }
+        ensures state { (past : Past A) → StandsFor self.old past → StandsFor self.new (later past (Event.End name) result) }
         ensures setup { self.new.primary.setup ≡ self.old.primary.setup }
         ensures refused { OnRefused result (self.new ≡ self.old) }
         ensures sound { IsSound self.new }
     {
-        if site.index() >= self.primary.setup().sites() {
-            return Answer::Refused(Refusal::UnknownSite);
-        }
-        let sent = self.primary.sent(site);
-        if sent == self.primary.log().len() {
-            return Answer::Refused(Refusal::NothingToSend);
-        }
-        if sent - self.replicas[site.index()].applied == self.primary.setup().capacity(site) {
-            return Answer::Refused(Refusal::FeedFull);
-        }
-        self.primary.mark_sent(site);
-        Answer::Sent {
-            site,
-            number: sent + 1,
-        }
-    }
-
-    /// The site applies the next update of its feed.
-    fn apply(&mut self, site: SiteId) -> Answer<A>
-        ensures answer { (past : Past A) → StandsFor self.old past → IsAnswer self.old.primary.setup past (Event.Apply site) result }
-        ensures state { (past : Past A) → StandsFor self.old past → StandsFor self.new (later past (Event.Apply site) result) }
-        ensures setup { self.new.primary.setup ≡ self.old.primary.setup }
-        ensures refused { OnRefused result (self.new ≡ self.old) }
-        ensures sound { IsSound self.new }
-    {
-        if site.index() >= self.primary.setup().sites() {
-            return Answer::Refused(Refusal::UnknownSite);
-        }
-        let sent = self.primary.sent(site);
-        let replica = &mut self.replicas[site.index()];
-        if replica.applied == sent {
-            return Answer::Refused(Refusal::NothingToApply);
-        }
-        let number = replica.applied + 1;
-        let _ = replica.values.apply(self.primary.log().set(number));
-        replica.applied = number;
-        Answer::Applied { site, number }
-    }
-
-    /// The site reports how many updates it applied.
-    fn report(&mut self, site: SiteId) -> Answer<A>
-        ensures answer { (past : Past A) → StandsFor self.old past → IsAnswer self.old.primary.setup past (Event.Report site) result }
-        ensures state { (past : Past A) → StandsFor self.old past → StandsFor self.new (later past (Event.Report site) result) }
-        ensures setup { self.new.primary.setup ≡ self.old.primary.setup }
-        ensures refused { OnRefused result (self.new ≡ self.old) }
-        ensures sound { IsSound self.new }
-    {
-        if site.index() >= self.primary.setup().sites() {
-            return Answer::Refused(Refusal::UnknownSite);
-        }
-        let place = self.replicas[site.index()].applied;
-        self.primary.report(site, place);
-        Answer::Reported { site, place }
-    }
-
-    /// The primary settles the head.
-    fn settle(&mut self) -> Answer<A>
-        ensures answer { (past : Past A) → StandsFor self.old past → IsAnswer self.old.primary.setup past Event.Settle result }
-        ensures state { (past : Past A) → StandsFor self.old past → StandsFor self.new (later past Event.Settle result) }
-        ensures setup { self.new.primary.setup ≡ self.old.primary.setup }
-        ensures refused { OnRefused result (self.new ≡ self.old) }
-        ensures sound { IsSound self.new }
-    {
-        let settled = match self.primary.settle() {
-            Ok(settled) => settled,
-            Err(refusal) => return Answer::Refused(refusal),
+        let Some(open) = self.queries.remove(name) else {
+            return Answer::Refused(Refusal::UnknownQuery);
         };
-        Answer::Settlement(settled)
+        Answer::Ended(open.query.end())
     }
 
-    /// The numbers and the values of the site.
-    fn show(&mut self, site: SiteId) -> Answer<A>
-        ensures answer { (past : Past A) → StandsFor self.old past → IsAnswer self.old.primary.setup past (Event.Show site) result }
-        ensures state { (past : Past A) → StandsFor self.old past → StandsFor self.new (later past (Event.Show site) result) }
+    /// The query ends without an answer.
+    fn abandon(&mut self, name: Name) -> Answer<A>
+        ensures answer { (past : Past A) → StandsFor self.old past → IsAnswer self.old.primary.setup past (Event.Abandon name) result }
+        ensures state { (past : Past A) → StandsFor self.old past → StandsFor self.new (later past (Event.Abandon name) result) }
         ensures setup { self.new.primary.setup ≡ self.old.primary.setup }
         ensures refused { OnRefused result (self.new ≡ self.old) }
         ensures sound { IsSound self.new }
     {
-        if site.index() >= self.primary.setup().sites() {
-            return Answer::Refused(Refusal::UnknownSite);
-        }
-        let replica = &self.replicas[site.index()];
-        let values = match replica.values.copy(*self.replicas.allocator()) {
-            Ok(values) => values,
-            Err(refusal) => return Answer::Refused(refusal),
+        let Some(_open) = self.queries.remove(name) else {
+            return Answer::Refused(Refusal::UnknownQuery);
         };
-        Answer::Shown {
-            sent: self.primary.sent(site),
-            applied: replica.applied,
-            reported: self.primary.reported(site),
-            rounds: self.primary.rounds(site).len() as u64,
-            values,
-        }
+        Answer::Abandoned(name)
     }
 }
 
-/// The sites at the start: each holds the initial values.
-fn replicas<A: Allocator + Copy>(alloc: A, setup: &Setup<A>) -> Result<Vec<Replica<A>, A>, Refusal>
-    ensures sites { IfOk result (λ sites. sites.items ≡ replicate (length setup.now.sites) (first_state setup.now)) }
+/// A query that begins at a site now: its reference is what is acknowledged.
+fn open<A: Allocator + Copy>(
+    primary: &Primary<A>,
+    site: SiteId,
+    limit: u64,
+) -> Result<OpenQuery<A>, Refusal>
+    requires { limit ≤ 1000000000000000000 }
+    ensures begun { IfOk result (λ o. IsBegun primary.now site limit o) }
     ensures refused { IfErr result (λ e. e ≡ Refusal.NoMemory) }
 {
-    let count = setup.sites();
-    let Ok(mut replicas) = Vec::with_capacity(alloc, count) else {
-        return Err(Refusal::NoMemory);
-    };
-    for _site in 0..count {
-        let values = Values::initial(alloc, setup.objects())?;
-        if replicas.push(Replica { applied: 0, values }).is_err() {
-            return Err(Refusal::NoMemory);
-        }
-    }
-    Ok(replicas)
+    let marks = primary.marks()?;
+    let query = Query::begin(primary.acked(), marks, limit)?;
+    Ok(OpenQuery { site, query })
 }

@@ -26,6 +26,22 @@ pub(crate) fn write_answer(
         Answer::Applied { site, number } => write_done(setup, "applied", *site, *number, text)?,
         Answer::Reported { site, place } => write_done(setup, "reported", *site, *place, text)?,
         Answer::Settlement(settled) => write_settled(setup, settled, text)?,
+        Answer::Begun { query, place } => {
+            let query = from_utf8(query.as_bytes())?;
+            writeln!(text, "ok begun {query} {place}")?;
+        }
+        Answer::ReadOut(answer) => {
+            write!(text, "ok {step} value {} ", answer.value)?;
+            writeln!(text, "import {} total {}", answer.import, answer.total)?;
+        }
+        Answer::Ended(answer) => {
+            write!(text, "ok {step} place {} sum {} ", answer.place, answer.sum)?;
+            writeln!(text, "total {} reads {}", answer.total, answer.reads)?;
+        }
+        Answer::Abandoned(query) => {
+            let query = from_utf8(query.as_bytes())?;
+            writeln!(text, "ok abandoned {query}")?;
+        }
         Answer::Shown {
             sent,
             applied,

@@ -13,6 +13,8 @@ mod limits;
 #[cfg(test)]
 mod primary;
 #[cfg(test)]
+mod querying;
+#[cfg(test)]
 mod reading;
 #[cfg(test)]
 mod running;

@@ -2,7 +2,7 @@
 use crate::answering::write_refused;
 use crate::transcript::step_of;
 use ordup_limits::{GroupId, Scope};
-use ordup_objects::{Change, MessageSet, ObjectId, ObjectTable, Op, Refusal, SiteId};
+use ordup_objects::{Change, MessageSet, Name, ObjectId, ObjectTable, Op, Refusal, SiteId};
 use ordup_world::{Event, Setup};
 use std::alloc::Global;
 use std::test::Fail;
@@ -100,6 +100,17 @@ fn event(alloc: Global, setup: &Setup, known: &ObjectTable, step: &str) -> Resul
         ["apply", name] => Ok(Event::Apply(site(setup, name))),
         ["report", name] => Ok(Event::Report(site(setup, name))),
         ["settle"] => Ok(Event::Settle),
+        ["begin", query, name, limit] => Ok(Event::Begin {
+            query: Name::new(query.as_bytes())?,
+            site: site(setup, name),
+            limit: limit.parse()?,
+        }),
+        ["read", query, name] => Ok(Event::Read {
+            query: Name::new(query.as_bytes())?,
+            object: object(setup, name),
+        }),
+        ["end", query] => Ok(Event::End(Name::new(query.as_bytes())?)),
+        ["abandon", query] => Ok(Event::Abandon(Name::new(query.as_bytes())?)),
         ["show", name] => Ok(Event::Show(site(setup, name))),
         _ => Err(Fail::new("no event")),
     }

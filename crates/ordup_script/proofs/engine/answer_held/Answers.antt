@@ -1,4 +1,4 @@
-use Rattle.std.proofs.Common.{rules, ◌≡◌, ◌++◌}
+use Rattle.std.proofs.Common.{◌≡◌, ◌++◌}
 use Rattle.std.proofs.lemmas.Result.{on_ok_weaker}
 use Rattle.ordup_objects.specs.declared.refusal.Refusal.TheVariants.{Syntax, NoMemory}
 use Rattle.ordup_script.specs.Replies.{refused_syntax}

@@ -23,3 +23,10 @@ returns-then-is_err g c =
     let sent : AppendsFront (g.W.Write.contents c.args.output.now) (g.W.Write.contents c.flush.new.self) bytes =
     (bytes, [], sym (append-nil bytes), Appends-kept _ _ _ bytes whole c.flush.ensures.bytes) in
     PartlyFinishes-from_front c.args.engine c.in-Ok.end _ _ bytes finishes sent
+
+pub returns : goal.returns
+returns g c =
+    let bytes = c.finish.new.out.items in
+    let finishes : Finishes c.args.engine [] c.in-Ok.end bytes = search rules in
+    let whole : Appends (g.W.Write.contents c.args.output.now) (g.W.Write.contents c.send.new.output) bytes = rw c.deref.ensures.value at c.in_ok-send.ensures.sent in
+    (bytes, Appends-kept _ _ _ bytes whole c.flush.ensures.bytes, finishes)

@@ -2,6 +2,7 @@ use Rattle.std.proofs.Common.{arith, ◌≡◌, ◌++◌, ◌∷◌, [], ◌∙�
 use Rattle.std.specs.Vec.Iter.{into_iter_items}
 use Rattle.ordup_world.specs.Events.{past_after}
 use Rattle.ordup_world.proofs.RunLemmas.{all_yielded, past_after-push, AreAnswers-push}
+use Rattle.ordup_world.proofs.ImportingLemmas.{KeepImportsAlong-answers}
 use Rattle.ordup_world.proofs.runs.run.Goals as goal
 
 pub loop-event-preserved : goal.loop-event-preserved
@@ -29,3 +30,22 @@ returns-clause-state g c =
     let before = c.loop-event.invariant in
     let all : c.loop-event.yielded ≡ c.args.events.items = all_yielded c.loop-event.yielded (into_iter_items c.loop-event.event-iterator) c.args.events.items (omega (arith, c.in-None.ensures.steps.0, c.loop-event.event-iterator.rest.ok)) before.left in
     rw all at before.state
+
+pub returns-clause-imports : goal.returns-clause-imports
+returns-clause-imports g c =
+    let before = c.loop-event.invariant in
+    let all : c.loop-event.yielded ≡ c.args.events.items = all_yielded c.loop-event.yielded (into_iter_items c.loop-event.event-iterator) c.args.events.items (omega (arith, c.in-None.ensures.steps.0, c.loop-event.event-iterator.rest.ok)) before.left in
+    KeepImportsAlong-answers c.args.setup c.args.events.items c.loop-event.answers.items (rw all at before.answers)
+
+pub loop-event-init : goal.loop-event-init
+loop-event-init g c =
+    let gives = c.into_iter-event-iterator.ensures.into_iter_gives in
+    record {
+      left = gives.0;
+      room = omega (arith, gives.1, c.len.ensures, c.in-Ok.ensures.len, c.in-Ok.ensures.capacity);
+      setup = c.in_ok-world.ensures.setup;
+      sound = c.in_ok-world.ensures.sound;
+      limits = c.in_ok-world.ensures.limits;
+      answers = rw c.in-Ok.ensures.items tt;
+      state = c.in_ok-world.ensures.state;
+    }

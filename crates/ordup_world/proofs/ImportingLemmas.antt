@@ -1,0 +1,187 @@
+-- Queries keep their import limits.
+use Rattle.std.proofs.Common.{◌≡◌, ℕ, zero, suc, ◌+◌, ◌≤◌, ◌==◌, ℤ, true, false, List, [], ◌∷◌, length, take, arith, refl, sym, ap, ◌∙◌, inl, inr}
+use Rattle.std.specs.Prelude.{Option, Some, None, option_map, nat_lt, ◌+ℤ◌}
+use Rattle.std.proofs.lemmas.Bool.{cases_Bool, ltb-false, eqb-false}
+use Rattle.std.proofs.lemmas.Int.{ints}
+use Rattle.std.proofs.lemmas.List.{length_push}
+use Rattle.std.proofs.lemmas.List.Elements.{All-nil, All-cons}
+use Rattle.ordup_objects.specs.declared.refusal.Refusal.{Refusal}
+use Rattle.ordup_objects.specs.States.{State, value_at}
+use Rattle.ordup_objects.specs.Serial.{serial}
+use Rattle.ordup_objects.specs.Weights.{distance}
+use Rattle.ordup_log.proofs.SerialLemmas.{serial-append}
+use Rattle.ordup_primary.specs.Declarations.{Declared}
+use Rattle.ordup_primary.specs.Primaries.{acked_after}
+use Rattle.ordup_query.proofs.ImportLemmas.{moved_between}
+use Rattle.ordup_world.specs.Queries.{ReadMade, Opened, import_total, value_sum, values_read, read_refusal}
+use Rattle.ordup_world.specs.Events.{Past, Decisions, is_same, sets_of, log_of, applied, decisions, settled, read_now, with_read, opened, reply, refused_or, is_refused, later, IsAnswer, AreAnswers, past_after}
+use Rattle.ordup_world.specs.Importing.{KeepsImport, values_on, AreAccepted, KeepImportsAlong}
+use Rattle.ordup_world.specs.declared.event.Event.{Event}
+use Rattle.ordup_world.specs.declared.event.Event.TheVariants.{Propose, Send, Apply, Report, Settle, Begin, Read, End, Abandon, Show}
+use Rattle.ordup_world.specs.declared.event.Answer.{Answer}
+use Rattle.ordup_world.specs.declared.event.Answer.TheVariants.{Proposed, Sent, Applied, Reported, Settlement, Begun, ReadOut, Ended, Abandoned, Shown, Refused}
+use Rattle.ordup_world.proofs.QueryLemmas.{some-is}
+use Rattle.ordup_world.proofs.WorldLemmas.{some-none, same-name}
+
+true-false : true ≡ false → ⊥
+true-false e = absurd (cc)
+
+-- ---- one read more
+
+distance-add : (a b c d : ℤ) → distance (a +ℤ b) (c +ℤ d) ≤ distance a c + distance b d
+distance-add a b c d = grind (arith, ints)
+
+distance-zero : (a b : ℤ) → distance a b ≤ 0 → a ≡ b
+distance-zero a b h = grind (arith, ints)
+
+KeepsImport-read : (v : State) (o : Opened) (r : ReadMade) → KeepsImport v o → import_total o.reads + r.import ≤ o.limit → distance r.value (value_at v r.object) ≤ r.import
+    → KeepsImport v (record { site = o.site; place = o.place; limit = o.limit; reads = r ∷ o.reads })
+KeepsImport-read v o r keeps within near = record {
+  total = within;
+  near = All-cons (λ s. distance s.value (value_at v s.object) ≤ s.import) r o.reads near keeps.near;
+  sum = omega (arith, distance-add (value_sum (values_read o.reads)) r.value (value_sum (values_on v o.reads)) (value_at v r.object), keeps.sum, near);
+  exact = λ none. (let here : r.value ≡ value_at v r.object = distance-zero r.value (value_at v r.object) (omega (arith, near, none)) in
+      rw here (ap (λ values. value_at v r.object ∷ values) (keeps.exact (omega (arith, none)))));
+}
+
+KeepsImport-begun : (v : State) (s p limit : ℕ) → KeepsImport v (record { site = s; place = p; limit = limit; reads = [] })
+KeepsImport-begun v s p limit = record { total = omega arith; near = All-nil (λ r. distance r.value (value_at v r.object) ≤ r.import); sum = omega arith; exact = λ none. refl }
+
+acked_after-few : (acked n : ℕ) (sites : List ℕ) → acked + 1 ≤ n → acked_after acked sites ≤ n
+acked_after-few acked n [] le = le
+acked_after-few acked n (s ∷ sites) le = omega arith
+
+within-limit : (k : Opened) (r : ReadMade) → read_refusal k r ≡ None → import_total k.reads + r.import ≤ k.limit
+within-limit k r fine = elim (cases_Bool (length k.reads == 256)) [
+  | inl full ↦ absurd (some-none (rw full at fine))
+  | inr few ↦ elim (cases_Bool (nat_lt k.limit (import_total k.reads + r.import))) [
+    | inl over ↦ absurd (some-none (rw (few, over) at fine))
+    | inr within ↦ ltb-false k.limit (import_total k.reads + r.import) within
+  ]
+]
+
+module _ {A : Type 0} where
+  -- ---- the acknowledged updates are updates of the log
+
+  settled-few : (setup : Declared) (past : Past A) (ds : Decisions) (n : ℕ) → ds.acked + 1 ≤ n → (settled setup past ds).acked ≤ n
+  settled-few setup past ds n le = elim (cases_Bool (ds.acked == ds.decided)) [
+    | inl first ↦ rw first (acked_after-few ds.acked n _ le)
+    | inr later ↦ rw later (acked_after-few ds.acked n _ le)
+  ]
+
+  acked-few : (setup : Declared) (past : Past A) → AreAccepted setup past → (decisions setup past).acked ≤ length (sets_of past)
+  acked-few setup [] are = omega arith
+  acked-few setup (Propose m ∷ past) are = omega (arith, acked-few setup past are.0, length_push (sets_of past) m)
+  acked-few setup (Send s ∷ past) are = acked-few setup past are.0
+  acked-few setup (Apply s ∷ past) are = acked-few setup past are.0
+  acked-few setup (Report s ∷ past) are = acked-few setup past are.0
+  acked-few setup (Settle ∷ past) are = elim (cases_Bool ((decisions setup past).acked == length (sets_of past))) [
+    | inl all ↦ absurd (true-false (rw all at are.1))
+    | inr some ↦ settled-few setup past (decisions setup past) (length (sets_of past)) (omega (arith, acked-few setup past are.0, eqb-false _ _ some))
+  ]
+  acked-few setup (Begin q s limit ∷ past) are = acked-few setup past are.0
+  acked-few setup (Read q x ∷ past) are = acked-few setup past are.0
+  acked-few setup (End q ∷ past) are = acked-few setup past are.0
+  acked-few setup (Abandon q ∷ past) are = acked-few setup past are.0
+  acked-few setup (Show s ∷ past) are = acked-few setup past are.0
+
+  -- ---- what is kept of an open query
+
+  record Kept (setup : Declared) (past : Past A) (o : Opened) : Type 0 where
+    pub place : o.place ≤ length (sets_of past)
+    pub import : KeepsImport (serial (log_of setup past) o.place) o
+
+  abbrev KeptAll : Declared → Past A → Type 0
+  KeptAll setup past = (q : List ℕ) (o : Opened) → opened setup q past ≡ Some o → Kept setup past o
+
+  unrefused : (r : Option Refusal) (a : Answer A) → is_refused (refused_or r a) ≡ false → r ≡ None
+  unrefused None a fine = refl
+  unrefused (Some r) a fine = absurd (true-false fine)
+
+  -- an accepted read is refused by nothing
+  accepted-read : (setup : Declared) (past : Past A) (q : List ℕ) (x : ℕ) (k : Opened) → opened setup q past ≡ Some k → is_refused (reply setup past (Read q x)) ≡ false → read_refusal k (read_now setup past k.site k.place x) ≡ None
+  accepted-read setup past q x k found fine = elim (cases_Bool (nat_lt x (length setup.objects))) [
+    | inl known ↦ unrefused (read_refusal k (read_now setup past k.site k.place x)) _ (rw (known, found) at fine)
+    | inr unknown ↦ absurd (true-false (rw unknown at fine))
+  ]
+
+  kept-read : (setup : Declared) (past : Past A) (q : List ℕ) (x : ℕ) (o : Opened) (m : Option Opened) → KeptAll setup past → opened setup q past ≡ m → is_refused (reply setup past (Read q x)) ≡ false → option_map (with_read setup past x) m ≡ Some o
+      → Kept setup (Read q x ∷ past) o
+  kept-read setup past q x o None all here fine e = absurd (some-none (sym e))
+  kept-read setup past q x o (Some k) all here fine e =
+      let before = all q k here in
+      let now : ReadMade = read_now setup past k.site k.place x in
+      let within : import_total k.reads + now.import ≤ k.limit = within-limit k now (accepted-read setup past q x k here fine) in
+      rw (← some-is (with_read setup past x k) o e) (record {
+        place = before.place;
+        import = KeepsImport-read (serial (log_of setup past) k.place) k now before.import within (moved_between (log_of setup past) x (applied k.site past) k.place);
+      })
+
+  kept : (setup : Declared) (past : Past A) → AreAccepted setup past → KeptAll setup past
+  kept setup [] are q o found = absurd (some-none (sym found))
+  kept setup (Propose m ∷ past) are q o found =
+      let before = kept setup past are.0 q o found in
+      let same : serial (log_of setup (Propose m ∷ past)) o.place ≡ serial (log_of setup past) o.place = serial-append (log_of setup past).start (sets_of past) (m ∷ []) o.place before.place in
+      record { place = omega (arith, before.place, length_push (sets_of past) m); import = rw same before.import }
+  kept setup (Send s ∷ past) are q o found = let before = kept setup past are.0 q o found in record { place = before.place; import = before.import }
+  kept setup (Apply s ∷ past) are q o found = let before = kept setup past are.0 q o found in record { place = before.place; import = before.import }
+  kept setup (Report s ∷ past) are q o found = let before = kept setup past are.0 q o found in record { place = before.place; import = before.import }
+  kept setup (Settle ∷ past) are q o found = let before = kept setup past are.0 q o found in record { place = before.place; import = before.import }
+  kept setup (Show s ∷ past) are q o found = let before = kept setup past are.0 q o found in record { place = before.place; import = before.import }
+  kept setup (Begin r s limit ∷ past) are q o found = elim (cases_Bool (is_same r q)) [
+    | inl same ↦ (let fresh : Opened = record { site = s; place = (decisions setup past).acked; limit = limit; reads = [] } in
+        rw (← some-is fresh o (rw same at found)) (record { place = acked-few setup past are.0; import = KeepsImport-begun (serial (log_of setup past) (decisions setup past).acked) s (decisions setup past).acked limit }))
+    | inr other ↦ (let before = kept setup past are.0 q o (rw other at found) in record { place = before.place; import = before.import })
+  ]
+  kept setup (Read r x ∷ past) are q o found = elim (cases_Bool (is_same r q)) [
+    | inl same ↦ (let e : r ≡ q = same-name r q same in
+        let read = kept-read setup past q x o (opened setup q past) (kept setup past are.0) refl (rw e at are.1) (rw same at found) in
+        record { place = read.place; import = read.import })
+    | inr other ↦ (let before = kept setup past are.0 q o (rw other at found) in record { place = before.place; import = before.import })
+  ]
+  kept setup (End r ∷ past) are q o found = elim (cases_Bool (is_same r q)) [
+    | inl same ↦ absurd (some-none (sym (rw same at found)))
+    | inr other ↦ (let before = kept setup past are.0 q o (rw other at found) in record { place = before.place; import = before.import })
+  ]
+  kept setup (Abandon r ∷ past) are q o found = elim (cases_Bool (is_same r q)) [
+    | inl same ↦ absurd (some-none (sym (rw same at found)))
+    | inr other ↦ (let before = kept setup past are.0 q o (rw other at found) in record { place = before.place; import = before.import })
+  ]
+
+  -- ---- lists of events
+
+  accepted-reply : (setup : Declared) (past : Past A) (e : Event A) (a : Answer A) → is_refused a ≡ false → IsAnswer setup past e a → is_refused (reply setup past e) ≡ false
+  accepted-reply setup past e a fine is = elim is [
+    | inl same ↦ ap is_refused (sym same) ∙ fine
+    | inr h ↦ h.1
+  ]
+
+  AreAccepted-later : (setup : Declared) (past : Past A) (e : Event A) (a : Answer A) → AreAccepted setup past → IsAnswer setup past e a → AreAccepted setup (later past e a)
+  AreAccepted-later setup past e (Proposed number) are is = (are, accepted-reply setup past e (Proposed number) refl is)
+  AreAccepted-later setup past e (Sent s number) are is = (are, accepted-reply setup past e (Sent s number) refl is)
+  AreAccepted-later setup past e (Applied s number) are is = (are, accepted-reply setup past e (Applied s number) refl is)
+  AreAccepted-later setup past e (Reported s place) are is = (are, accepted-reply setup past e (Reported s place) refl is)
+  AreAccepted-later setup past e (Settlement settled) are is = (are, accepted-reply setup past e (Settlement settled) refl is)
+  AreAccepted-later setup past e (Begun q place) are is = (are, accepted-reply setup past e (Begun q place) refl is)
+  AreAccepted-later setup past e (ReadOut answer) are is = (are, accepted-reply setup past e (ReadOut answer) refl is)
+  AreAccepted-later setup past e (Ended answer) are is = (are, accepted-reply setup past e (Ended answer) refl is)
+  AreAccepted-later setup past e (Abandoned q) are is = (are, accepted-reply setup past e (Abandoned q) refl is)
+  AreAccepted-later setup past e (Shown a b c d values) are is = (are, accepted-reply setup past e (Shown a b c d values) refl is)
+  AreAccepted-later setup past e (Refused r) are is = are
+
+  AreAccepted-after : (setup : Declared) (past : Past A) (events : List (Event A)) (answers : List (Answer A)) → AreAccepted setup past → AreAnswers setup past events answers → AreAccepted setup (past_after past events answers)
+  AreAccepted-after setup past [] answers are all = are
+  AreAccepted-after setup past (e ∷ events) [] are all = are
+  AreAccepted-after setup past (e ∷ events) (a ∷ answers) are all = AreAccepted-after setup (later past e a) events answers (AreAccepted-later setup past e a are all.0) all.1
+
+  AreAnswers-take : (n : ℕ) (setup : Declared) (past : Past A) (events : List (Event A)) (answers : List (Answer A)) → AreAnswers setup past events answers → AreAnswers setup past (take n events) (take n answers)
+  AreAnswers-take zero setup past events answers all = tt
+  AreAnswers-take (suc n) setup past [] [] all = tt
+  AreAnswers-take (suc n) setup past [] (a ∷ answers) all = absurd all
+  AreAnswers-take (suc n) setup past (e ∷ events) [] all = absurd all
+  AreAnswers-take (suc n) setup past (e ∷ events) (a ∷ answers) all = (all.0, AreAnswers-take n setup (later past e a) events answers all.1)
+
+  -- each open query keeps its import limit before each event, and at the end
+  pub KeepImportsAlong-answers : (setup : Declared) (events : List (Event A)) (answers : List (Answer A)) → AreAnswers setup [] events answers → KeepImportsAlong setup events answers
+  KeepImportsAlong-answers setup events answers all n q o found =
+      (kept setup (past_after [] (take n events) (take n answers)) (AreAccepted-after setup [] (take n events) (take n answers) tt (AreAnswers-take n setup [] events answers all)) q o found).import

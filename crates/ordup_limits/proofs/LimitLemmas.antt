@@ -1,14 +1,17 @@
 -- Limits and spans.
 use Rattle.std.proofs.Common.{◌≡◌, ℕ, ℤ, zero, suc, take, get_or, ◌-◌, ◌+◌, ◌<◌, ◌≤◌, true, false, not, List, [], ◌∷◌, ◌++◌, length, Some, None, arith, refl, sym, ◌∙◌, inl, inr}
-use Rattle.std.specs.Prelude.{nat_lt, IsTrue}
+use Rattle.std.specs.Prelude.{nat_lt, nat_le, IsTrue, All}
 use Rattle.std.specs.List.{position_or_len}
 use Rattle.std.proofs.lemmas.Bool.{lt-ltb, le-leb, leb-true, and_parts, le-ltb, false≢true, cases_lt}
 use Rattle.std.proofs.lemmas.List.Folds.{list_all_at, list_all_more}
 use Rattle.ordup_objects.specs.declared.change.Change.{Change}
 use Rattle.ordup_objects.specs.Serial.{History}
-use Rattle.ordup_log.specs.Groups.{GroupList}
-use Rattle.ordup_log.specs.Spans.{span}
-use Rattle.ordup_log.proofs.SpanLemmas.{span-inner, span-append}
+use Rattle.ordup_log.specs.Groups.{GroupList, IsGroup}
+use Rattle.ordup_log.specs.Spans.{span, IsScopeOver}
+use Rattle.ordup_log.specs.declared.scope.Scope.{Scope}
+use Rattle.ordup_log.specs.declared.scope.Scope.TheVariants.{Object, Group, All as Everything, Count}
+use Rattle.ordup_log.proofs.MostLemmas.{span-object-most, span-group-most}
+use Rattle.ordup_log.proofs.SpanLemmas.{span-inner, span-append, span-count}
 use Rattle.ordup_limits.specs.declared.limit.Limit.{Limit}
 use Rattle.ordup_limits.specs.Limits.{Limits, keeps, within, first_passed}
 
@@ -76,3 +79,20 @@ within-append start sets more groups (limit ∷ limits) a b le = elim (cases_lt 
   | inl lt ↦ rw (span-append start sets more groups limit.scope a b (omega arith) le, within-append start sets more groups limits a b le) refl
   | inr ge ↦ (let none : b - a ≡ 0 = omega arith in rw (none, within-append start sets more groups limits a b le) refl)
 ]
+
+-- a limit on the count of updates
+pub keeps-count : (h : History) (groups : GroupList) (a b : ℕ) (limit : Limit) → limit.scope ≡ Count → nat_le (b - a) limit.amount ≡ keeps h groups a b limit
+keeps-count h groups a b limit count = rw (count, span-count h groups a b) refl
+
+-- a limit of no less than all objects weigh is kept
+kept_by_all : (h : History) (groups : GroupList) (s : Scope) (a b amount : ℕ) → All (λ g. IsGroup g.1) groups → IsScopeOver (length h.start) groups s → a ≤ b → b ≤ length h.sets
+    → span h groups Everything a b ≤ amount → (s ≡ Count → ⊥) → span h groups s a b ≤ amount
+kept_by_all h groups (Object x) a b amount are known forward last all other = omega (arith, span-object-most h groups x a b known)
+kept_by_all h groups (Group g) a b amount are known forward last all other = omega (arith, span-group-most h groups g a b (are g ([], []) known).distinct forward last)
+kept_by_all h groups Everything a b amount are known forward last all other = all
+kept_by_all h groups Count a b amount are known forward last all other = absurd (other refl)
+
+pub keeps-all : (h : History) (groups : GroupList) (a b : ℕ) (limit : Limit) → All (λ g. IsGroup g.1) groups → IsScopeOver (length h.start) groups limit.scope → a ≤ b → b ≤ length h.sets
+    → span h groups Everything a b ≤ limit.amount → (limit.scope ≡ Count → ⊥) → true ≡ keeps h groups a b limit
+keeps-all h groups a b limit are known forward last all other =
+    sym (le-leb (span h groups limit.scope a b) limit.amount (kept_by_all h groups limit.scope a b limit.amount are known forward last all other))

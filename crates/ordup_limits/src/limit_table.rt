@@ -122,28 +122,40 @@ fn first_passed<A: Allocator + Copy>(
     ensures over { result ≡ first_passed log.now groups.now limits.now from to }
     ensures within { IsNone result ↔ IsTrue (within log.now groups.now limits.now from to) }
 {
+    let all = log.span(Scope::All, groups, from, to);
     for (place, limit) in limits.iter().enumerate() {
-        if !keeps(log, groups, from, to, *limit) {
+        if !keeps(log, groups, from, to, all, *limit) {
             return Some(place);
         }
     }
     None
 }
 
-/// Whether the span from a place to a later one keeps a limit.
+/// Whether the span from a place to a later one, which weighs so much on all objects, keeps a limit.
+///
+/// No object and no group weighs more than all objects do, so most limits are kept without a sum of their own.
 fn keeps<A: Allocator + Copy>(
     log: &Log<A>,
     groups: &Groups<A>,
     from: u64,
     to: u64,
+    all: u64,
     limit: Limit,
 ) -> bool
     requires forward { from ≤ to }
     requires last { to ≤ length log.now.sets }
     requires known { IsScopeOver (length log.now.start) groups.now limit.scope }
+    requires all { all ≡ span log.now groups.now Scope.All from to }
     ensures { result ≡ keeps log.now groups.now from to limit }
 {
-    log.span(limit.scope, groups, from, to) <= limit.amount
+    let _groups = groups.len();
+    match limit.scope {
+        Scope::All => all <= limit.amount,
+        Scope::Count => to - from <= limit.amount,
+        Scope::Object(_) | Scope::Group(_) => {
+            all <= limit.amount || log.span(limit.scope, groups, from, to) <= limit.amount
+        }
+    }
 }
 
 /// Tests that the object or group of a scope is there. It is refused `UnknownObject` or `UnknownGroup` where it is not.

@@ -4,7 +4,7 @@ use Rattle.std.specs.Prelude.{◌||◌, ◌==◌, Option, Some, None, is_some, o
 use Rattle.std.specs.List.{list_any, position}
 use Rattle.std.specs.Cmp.Lexicographic.{pointwise}
 use Rattle.std.proofs.lemmas.List.{length_push}
-use Rattle.std.proofs.lemmas.List.Elements.{All-same, All-push}
+use Rattle.std.proofs.lemmas.List.Elements.{All-map, All-same, All-push}
 use Rattle.ordup_objects.specs.Tables.{names_of, place_of}
 use Rattle.ordup_log.specs.Groups.{repeats_member, IsGroup}
 
@@ -39,3 +39,7 @@ groups-push {Z} groups more name members room are is e = (
   omega (arith, ap length e, length_push groups (name, members)),
   All-same (λ (g : List ℕ × Vec ℕ Z). IsGroup g.1.items) more (groups ++ (name, members) ∷ []) e (All-push (λ (g : List ℕ × Vec ℕ Z). IsGroup g.1.items) groups (name, members) are is),
 )
+
+-- what callers see of groups are groups
+pub are_groups-view : {Z : Type 0} (groups : List (List ℕ × Vec ℕ Z)) (view : List (List ℕ × List ℕ)) → map (λ g. (g.0, g.1.items)) groups ≡ view → All (λ g. IsGroup g.1.items) groups → All (λ g. IsGroup g.1) view
+are_groups-view {Z} groups view e are = rw (← e) (All-map (λ (g : List ℕ × List ℕ). IsGroup g.1) (λ (g : List ℕ × Vec ℕ Z). (g.0, g.1.items)) groups are)

@@ -3,3 +3,4 @@ pub mod WeightLemmas
 pub mod SpanLemmas
 pub mod GroupLemmas
 pub mod LogLemmas
+pub mod MostLemmas

@@ -123,6 +123,7 @@ impl<A: Allocator + Copy> Groups<A> {
     pub fn len(&self) -> usize
         ensures len { result ≡ length self.now }
         ensures few { length self.now ≤ 32 }
+        ensures groups { All (λ g. IsGroup g.1) self.now }
     {
         self.groups.len()
     }

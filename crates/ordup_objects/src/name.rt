@@ -1,13 +1,13 @@
-ghost use Rattle.std.specs.Prelude.{◌≡◌, ℕ, ◌<◌, ◌≤◌, ◌↔◌, IsOk, IfOk, IfErr, IsTrue, length, nat_eq, ◌++◌, ◌∷◌, []};
+ghost use Rattle.std.specs.Prelude.{◌≡◌, ℕ, ◌<◌, ◌≤◌, ◌↔◌, IsOk, IfOk, IfErr, IsTrue, length, nat_eq, ◌∷◌, []};
 ghost use Rattle.std.specs.List.{list_all};
-ghost use Rattle.std.specs.Cmp.Lexicographic.{pointwise};
+ghost use Rattle.std.specs.Cmp.Lexicographic.{pointwise, nat_list_eq_equiv};
 ghost use Rattle.std.specs.Cmp.Rules.{comparing, hashing};
-ghost use Rattle.std.specs.Hash as fed;
 ghost use Rattle.std.proofs.Common.{rules};
 ghost use Rattle.ordup_objects.specs.Names.{is_letter, is_name_byte, is_name};
 
 use crate::refusal::Refusal;
 use crate::sizes::MOST_NAME_BYTES;
+use indexmap::Equivalent;
 use std::hash::{Hash, Hasher};
 use std::marker::Model;
 
@@ -49,7 +49,7 @@ impl Name {
     }
 
     /// The name that these bytes spell, which are known to be a name.
-    pub(crate) fn padded(bytes: &[u8]) -> Self
+    fn padded(bytes: &[u8]) -> Self
         requires { IsTrue (is_name bytes.now) }
         ensures { result ≡ bytes.now }
     {
@@ -88,7 +88,7 @@ fn are_name_bytes(bytes: &[u8]) -> bool
     bytes.iter().all(|b| is_name_byte(*b))
 }
 
-pub(crate) fn is_name(bytes: &[u8]) -> bool
+fn is_name(bytes: &[u8]) -> bool
     ensures { result ≡ is_name bytes.now }
 {
     match bytes {
@@ -114,12 +114,53 @@ impl Eq for Name {
 }
 
 impl Hash for Name {
-    ghost hash_input = { λ x. fed.u8 (length x) ++ (x ∷ []) };
+    ghost hash_input = { λ x. x ∷ [] };
 
     ghost respects_eq = { Prim.search (hashing, rules) };
 
     fn hash<H: Hasher>(&self, state: &mut H) {
-        state.write_u8(self.len);
         state.write(self.as_bytes());
+    }
+}
+
+/// The bytes by which a name is looked up. They may be no name, and then there is none to find.
+#[derive(Clone, Copy)]
+pub(crate) struct NameBytes<'a> {
+    pub(crate) bytes: &'a [u8],
+}
+
+impl PartialEq for NameBytes<'_> {
+    ghost eq = { λ x y. pointwise nat_eq x.bytes.now y.bytes.now };
+
+    ghost laws = { Prim.search (comparing, rules) };
+
+    fn eq(&self, other: &NameBytes<'_>) -> bool {
+        self.bytes == other.bytes
+    }
+}
+
+impl Eq for NameBytes<'_> {
+    ghost laws = { Prim.search (comparing, rules) };
+}
+
+impl Hash for NameBytes<'_> {
+    ghost hash_input = { λ x. x.bytes.now ∷ [] };
+
+    ghost respects_eq = { Prim.search (hashing, rules) };
+
+    fn hash<H: Hasher>(&self, state: &mut H) {
+        state.write(self.bytes);
+    }
+}
+
+impl Equivalent<Name> for NameBytes<'_> {
+    ghost equivalent = { λ q k. pointwise nat_eq q.bytes.now k };
+
+    ghost respects_hash = { Prim.search (hashing, rules) };
+
+    ghost respects_eq = { λ q x y. nat_list_eq_equiv.congr q.bytes.now x y };
+
+    fn equivalent(&self, key: &Name) -> bool {
+        self.bytes == key.as_bytes()
     }
 }

@@ -2,7 +2,7 @@ ghost use Rattle.std.specs.Prelude.{◌≡◌, ℕ, ◌<◌, None, Some, IfSome,
 ghost use Rattle.ordup_objects.specs.Names.{is_name};
 ghost use Rattle.ordup_objects.specs.Tables.{names_of, place_of, AreNames};
 
-use crate::name::{Name, is_name};
+use crate::name::{Name, NameBytes};
 use indexmap::IndexMap;
 use std::alloc::{AllocError, Allocator, Global};
 use std::hash::{BuildHasherDefault, FoldHasher};
@@ -53,11 +53,7 @@ impl<V, A: Allocator + Copy> NameTable<V, A> {
         ensures place { result ≡ place_of name.now self.now }
         ensures within { IfSome result (λ i. i < length self.now) }
     {
-        if is_name(name) {
-            self.entries.get_index_of(&Name::padded(name))
-        } else {
-            None
-        }
+        self.entries.get_index_of(NameBytes { bytes: name })
     }
 
     /// The name and the entry at a place.

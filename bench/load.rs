@@ -111,6 +111,411 @@ fn first<W: Write>(script: &mut Script<W>) -> io::Result<()> {
     Ok(())
 }
 
+#[derive(Clone, Copy)]
+enum Scope {
+    Object(usize),
+    Group(usize),
+    All,
+    Count,
+}
+
+/// A site with limits.
+struct Replica {
+    name: String,
+    capacity: usize,
+    limits: Vec<(Scope, u64)>,
+    sent: usize,
+    applied: usize,
+    reported: usize,
+    /// How far what it applied moved each object.
+    travelled: Vec<u64>,
+}
+
+struct Query {
+    name: String,
+    site: usize,
+    left: u64,
+    marks: Vec<u64>,
+    reads: u64,
+}
+
+/// A store under load, of which so much is known that mostly lines are written that are
+/// accepted, and that a round is met by reports of its sites.
+struct Store<'a, W> {
+    script: &'a mut Script<W>,
+    random: Random,
+    objects: Vec<String>,
+    groups: Vec<(String, Vec<usize>)>,
+    sites: Vec<Replica>,
+    /// The objects' values at the end of the log.
+    values: Vec<i64>,
+    /// Of each update the objects that it moved, and how far.
+    log: Vec<Vec<(usize, u64)>>,
+    acknowledged: usize,
+    /// How far the acknowledged updates moved each object.
+    marks: Vec<u64>,
+    queries: Vec<Option<Query>>,
+    begun: usize,
+}
+
+impl<'a, W: Write> Store<'a, W> {
+    fn new(script: &'a mut Script<W>, objects: Vec<String>, queries: usize) -> Store<'a, W> {
+        let count = objects.len();
+        Store {
+            script,
+            random: Random(1),
+            objects,
+            groups: Vec::new(),
+            sites: Vec::new(),
+            values: (0..count as i64).map(|place| place * 100).collect(),
+            log: Vec::new(),
+            acknowledged: 0,
+            marks: vec![0; count],
+            queries: (0..queries).map(|_| None).collect(),
+            begun: 0,
+        }
+    }
+
+    fn group(&mut self, name: String, members: Vec<usize>) {
+        self.groups.push((name, members));
+    }
+
+    fn site(&mut self, name: String, capacity: usize, limits: Vec<(Scope, u64)>) {
+        let travelled = vec![0; self.objects.len()];
+        self.sites.push(Replica { name, capacity, limits, sent: 0, applied: 0, reported: 0, travelled });
+    }
+
+    fn start(&mut self) -> io::Result<()> {
+        for (name, value) in self.objects.iter().zip(&self.values) {
+            self.script.line(format_args!("object {name} {value}"))?;
+        }
+        for (name, members) in &self.groups {
+            let members: Vec<_> = members.iter().map(|&object| self.objects[object].as_str()).collect();
+            self.script.line(format_args!("group {name} {}", members.join(" ")))?;
+        }
+        for Replica { name, capacity, .. } in &self.sites {
+            self.script.line(format_args!("site {name} {capacity}"))?;
+        }
+        for Replica { name, limits, .. } in &self.sites {
+            for &(scope, amount) in limits {
+                match scope {
+                    Scope::Object(object) => {
+                        self.script.line(format_args!("limit {name} object {} {amount}", self.objects[object]))?
+                    }
+                    Scope::Group(group) => {
+                        self.script.line(format_args!("limit {name} group {} {amount}", self.groups[group].0))?
+                    }
+                    Scope::All => self.script.line(format_args!("limit {name} all {amount}"))?,
+                    Scope::Count => self.script.line(format_args!("limit {name} count {amount}"))?,
+                }
+            }
+        }
+        self.script.line(format_args!("start"))
+    }
+
+    fn any_site(&mut self) -> usize {
+        self.random.below(self.sites.len() as u64) as usize
+    }
+
+    fn any_object(&mut self) -> usize {
+        self.random.below(self.objects.len() as u64) as usize
+    }
+
+    /// Draws a change of the object, as a word and the value that it leads to: half of
+    /// them add, and a tenth each is of one of the other kinds.
+    fn draw_change(&mut self, object: usize) -> (String, i64) {
+        let (name, value) = (&self.objects[object], self.values[object]);
+        let amount = self.random.below(10_000) as i64;
+        match self.random.below(10) {
+            0 => (format!("set:{name}:{amount}"), amount),
+            1 => (format!("max:{name}:{amount}"), value.max(amount)),
+            2 => (format!("min:{name}:{amount}"), value.min(amount)),
+            3 => {
+                let factor = amount % 4 - 1;
+                (format!("mul:{name}:{factor}"), value * factor)
+            }
+            4 => {
+                let source = amount as usize % self.objects.len();
+                (format!("take:{name}:{}", self.objects[source]), self.values[source])
+            }
+            _ => {
+                let amount = amount % 2001 - 1000;
+                (format!("add:{name}:{amount}"), value + amount)
+            }
+        }
+    }
+
+    /// Proposes an update of so many changes at most, which is in range.
+    fn propose(&mut self, most: u64) -> io::Result<()> {
+        let count = self.random.below(most) + 1;
+        let mut line = String::from("propose");
+        let mut results: Vec<(usize, i64)> = Vec::new();
+        while (results.len() as u64) < count {
+            let object = self.any_object();
+            let (word, result) = self.draw_change(object);
+            if result.abs() > 1_000_000_000 || results.iter().any(|&(other, _)| other == object) {
+                continue;
+            }
+            line.push(' ');
+            line.push_str(&word);
+            results.push((object, result));
+        }
+        let distances = results.iter().map(|&(object, result)| (object, self.values[object].abs_diff(result)));
+        self.log.push(distances.collect());
+        for (object, result) in results {
+            self.values[object] = result;
+        }
+        self.script.line(format_args!("{line}"))
+    }
+
+    fn send(&mut self, site: usize) -> io::Result<()> {
+        let site = &mut self.sites[site];
+        let is_accepted = site.sent < self.log.len() && site.sent - site.applied < site.capacity;
+        site.sent += usize::from(is_accepted);
+        self.script.line(format_args!("send {}", site.name))
+    }
+
+    fn apply(&mut self, site: usize) -> io::Result<()> {
+        let site = &mut self.sites[site];
+        if site.applied < site.sent {
+            for &(object, distance) in &self.log[site.applied] {
+                site.travelled[object] += distance;
+            }
+            site.applied += 1;
+        }
+        self.script.line(format_args!("apply {}", site.name))
+    }
+
+    fn report(&mut self, site: usize) -> io::Result<()> {
+        let site = &mut self.sites[site];
+        site.reported = site.applied;
+        self.script.line(format_args!("report {}", site.name))
+    }
+
+    /// Sends the site all that it lacks, of which it applies all but the last few.
+    fn bring_up(&mut self, site: usize, unapplied: usize) -> io::Result<()> {
+        while self.sites[site].sent < self.log.len() {
+            if self.sites[site].sent - self.sites[site].applied == self.sites[site].capacity {
+                self.apply(site)?;
+            }
+            self.send(site)?;
+        }
+        while self.sites[site].applied + unapplied < self.log.len() {
+            self.apply(site)?;
+        }
+        Ok(())
+    }
+
+    fn weight(&self, update: usize, scope: Scope) -> u64 {
+        let moved = self.log[update].iter();
+        match scope {
+            Scope::Object(object) => moved.filter(|moved| moved.0 == object).map(|moved| moved.1).sum(),
+            Scope::Group(group) => {
+                moved.filter(|moved| self.groups[group].1.contains(&moved.0)).map(|moved| moved.1).sum()
+            }
+            Scope::All => moved.map(|moved| moved.1).sum(),
+            Scope::Count => 1,
+        }
+    }
+
+    /// Whether the site has a forced round at the update after the acknowledged ones.
+    fn is_forced(&self, site: &Replica) -> bool {
+        let span = site.reported..self.acknowledged + 1;
+        let is_over =
+            |&(scope, amount): &(Scope, u64)| span.clone().map(|update| self.weight(update, scope)).sum::<u64>() > amount;
+        site.limits.iter().any(is_over)
+    }
+
+    /// Settles the first update that is not acknowledged. Where it has a forced round, the
+    /// sites of the round are brought up and report, and it is settled once more.
+    fn settle(&mut self) -> io::Result<()> {
+        self.script.line(format_args!("settle"))?;
+        if self.acknowledged == self.log.len() {
+            return Ok(());
+        }
+        let forced: Vec<usize> = (0..self.sites.len()).filter(|&site| self.is_forced(&self.sites[site])).collect();
+        if !forced.is_empty() {
+            if self.random.one_in(4) {
+                self.script.line(format_args!("settle"))?;
+            }
+            for site in forced {
+                self.bring_up(site, 0)?;
+                self.report(site)?;
+            }
+            self.script.line(format_args!("settle"))?;
+        }
+        for &(object, distance) in &self.log[self.acknowledged] {
+            self.marks[object] += distance;
+        }
+        self.acknowledged += 1;
+        Ok(())
+    }
+
+    fn begin(&mut self, slot: usize, left: u64) -> io::Result<()> {
+        self.begun += 1;
+        let (name, site) = (format!("cart_{}", self.begun), self.any_site());
+        self.script.line(format_args!("begin {name} {} {left}", self.sites[site].name))?;
+        self.queries[slot] = Some(Query { name, site, left, marks: self.marks.clone(), reads: 0 });
+        Ok(())
+    }
+
+    /// Reads an object, and tells whether the read is accepted.
+    fn read(&mut self, slot: usize) -> io::Result<bool> {
+        let object = self.any_object();
+        let query = self.queries[slot].as_mut().expect("the query is open");
+        let import = self.sites[query.site].travelled[object].abs_diff(query.marks[object]);
+        let is_accepted = import <= query.left && query.reads < 256;
+        if is_accepted {
+            query.left -= import;
+            query.reads += 1;
+        }
+        self.script.line(format_args!("read {} {}", query.name, self.objects[object]))?;
+        Ok(is_accepted)
+    }
+
+    fn close(&mut self, slot: usize, word: &str) -> io::Result<()> {
+        let query = self.queries[slot].take().expect("the query is open");
+        self.script.line(format_args!("{word} {}", query.name))
+    }
+
+    fn show(&mut self) -> io::Result<()> {
+        let site = self.any_site();
+        self.script.line(format_args!("show {}", self.sites[site].name))
+    }
+}
+
+fn goods() -> Vec<String> {
+    OBJECTS.iter().map(|&name| name.to_owned()).collect()
+}
+
+fn four_sites<W: Write>(store: &mut Store<W>, limits: &[(Scope, u64)]) {
+    for (name, capacity) in [("north", 4), ("south", 8), ("east", 16), ("west_depot", 64)] {
+        store.site(name.to_owned(), capacity, limits.to_vec());
+    }
+}
+
+/// 16 objects, a group of four of them, and 4 sites with four limits each. An update of
+/// one to three changes is proposed, mostly sent to and applied at each site, and settled.
+/// Then each site reports, or not, with the same chance. Between updates queries go on,
+/// of which four are open: they begin, read a few times and end.
+fn mixed<W: Write>(script: &mut Script<W>) -> io::Result<()> {
+    let mut store = Store::new(script, goods(), 4);
+    store.group("drinks".to_owned(), vec![9, 10, 11, 12]);
+    let limits = [(Scope::Object(10), 7_000), (Scope::Group(0), 24_000), (Scope::All, 48_000), (Scope::Count, 7)];
+    four_sites(&mut store, &limits);
+    store.start()?;
+    while store.script.left > 0 {
+        store.propose(3)?;
+        for site in 0..4 {
+            match store.random.below(8) {
+                0 => (),
+                1 => store.bring_up(site, 1)?,
+                _ => store.bring_up(site, 0)?,
+            }
+        }
+        store.settle()?;
+        for site in 0..4 {
+            if store.random.one_in(2) {
+                store.report(site)?;
+            }
+        }
+        for _ in 0..3 {
+            let slot = store.random.below(4) as usize;
+            if store.queries[slot].is_none() {
+                let left = store.random.below(100_000);
+                store.begin(slot, left)?;
+            } else if store.random.one_in(4) {
+                store.close(slot, "end")?;
+            } else {
+                store.read(slot)?;
+            }
+        }
+        if store.random.one_in(100) {
+            store.show()?;
+        }
+        if store.random.one_in(50) {
+            let site = store.any_site();
+            store.send(site)?;
+            store.apply(site)?;
+        }
+    }
+    Ok(())
+}
+
+/// 256 objects, 32 groups and 16 sites with 64 limits each. An update of one to four
+/// changes is proposed, sent to and applied at every site, and settled. Then three sites
+/// in four report. After one update in fifty a site is shown.
+fn wide<W: Write>(script: &mut Script<W>) -> io::Result<()> {
+    let objects = (0..256).map(|place| format!("bin_{}_{}", place / 8, place % 8)).collect();
+    let mut store = Store::new(script, objects, 0);
+    for group in 0..32 {
+        let members = (0..16).map(|member| (group * 8 + member) % 256).collect();
+        store.group(format!("shelf_{group}"), members);
+    }
+    for site in 0..16 {
+        let mut limits = vec![(Scope::All, 64_000), (Scope::Count, 6)];
+        limits.extend((0..32).map(|group| (Scope::Group(group), 32_000)));
+        limits.extend((0..30).map(|object| (Scope::Object((site * 16 + object * 5) % 256), 16_000)));
+        store.site(format!("shop_{}", site + 1), 1024, limits);
+    }
+    store.start()?;
+    while store.script.left > 0 {
+        store.propose(4)?;
+        for site in 0..16 {
+            store.bring_up(site, 0)?;
+        }
+        store.settle()?;
+        for site in 0..16 {
+            if store.random.below(4) > 0 {
+                store.report(site)?;
+            }
+        }
+        if store.random.one_in(50) {
+            store.show()?;
+        }
+    }
+    Ok(())
+}
+
+/// 16 objects, 4 sites with four limits each, and up to 64 open queries. Nine lines in ten
+/// belong to queries, nearly all of them reads. A query ends after one to 256 reads, or is
+/// abandoned after a read that was refused. Between the reads updates go on in small steps,
+/// so that sites stand before and behind what a query began with.
+fn queries<W: Write>(script: &mut Script<W>) -> io::Result<()> {
+    let mut store = Store::new(script, goods(), 64);
+    store.group("drinks".to_owned(), vec![9, 10, 11, 12]);
+    let limits = [(Scope::Object(10), 12_000), (Scope::Group(0), 48_000), (Scope::All, 96_000), (Scope::Count, 12)];
+    four_sites(&mut store, &limits);
+    store.start()?;
+    while store.script.left > 0 {
+        if store.random.one_in(9) {
+            let site = store.any_site();
+            let unsettled = store.log.len() - store.acknowledged;
+            let unapplied = store.random.below(3) as usize;
+            match store.random.below(8) {
+                0 if unsettled < 4 => store.propose(3)?,
+                0 | 1 if unsettled > 0 => store.settle()?,
+                2 | 3 => store.report(site)?,
+                _ => store.bring_up(site, unapplied)?,
+            }
+            continue;
+        }
+        let slot = store.random.below(64) as usize;
+        let Some(query) = &store.queries[slot] else {
+            let most = if store.random.one_in(4) { 200_000 } else { 1_000_000_000_000 };
+            let left = store.random.below(most);
+            store.begin(slot, left)?;
+            continue;
+        };
+        if query.reads == 256 || store.random.one_in(128) {
+            store.close(slot, "end")?;
+        } else if !store.read(slot)? && store.random.one_in(2) {
+            store.close(slot, "abandon")?;
+        }
+    }
+    Ok(())
+}
+
 fn main() -> ExitCode {
     let words: Vec<String> = env::args().skip(1).collect();
     let lines = words.get(1).and_then(|word| word.parse().ok());
@@ -121,6 +526,9 @@ fn main() -> ExitCode {
     let mut script = Script { to: BufWriter::new(io::stdout().lock()), left };
     let written = match words[0].as_str() {
         "first" => first(&mut script),
+        "mixed" => mixed(&mut script),
+        "wide" => wide(&mut script),
+        "queries" => queries(&mut script),
         kind => {
             eprintln!("load: no kind of load is named {kind}");
             return ExitCode::from(2);

@@ -27,17 +27,41 @@ pub(crate) fn job_of(matches: &ArgMatches<'_>) -> Option<Job> {
 }
 
 const HELP: &str = "\
+`ordup run` reads a script from standard input, line by line, and prints an
+answer for each command on standard output:
+
+    object x 0         ok object x
+    site a 4           ok site a
+    start              ok start
+    propose add:x:5    ok proposed 1
+    settle             ok acked 1
+
 Exit statuses: 0 done, 2 wrong words, 3 input or output failed, 4 no memory.
-The commands of a script and their answers: docs/FORMATS.md.
+The lines, commands, answers and faults: docs/FORMATS.md.
 A first script: ./ordup run < examples/first.ordup";
 
 const RUN_HELP: &str = "\
-Reads lines from standard input to its end: `object x 0`, `site a 4`, `start`,
-then `propose add:x:5`, `send a`, `apply a`, `show a`. Prints an answer line for
-each, on standard output: `ok ..`, or `refused N NAME`, after which all is as it
-was. Blank lines and lines that begin with # are skipped.
+Reads lines from standard input to its end. A script declares, starts the store,
+and then makes things happen:
+
+    object N V   group G X..   site S CAP   limit S object X N
+    limit S group G N   limit S all N   limit S count N   start
+    propose C..   send S   apply S   report S   settle   show S
+    begin Q S LIMIT   read Q X   end Q   abandon Q
+
+A change C is add:X:n, set:X:n, mul:X:n, max:X:n, min:X:n or take:X:Y.
+
+Prints an answer line for each, on standard output: `ok ..`, or
+`refused N NAME`, after which all is as it was. Blank lines and lines that begin
+with # are skipped. Five lines, and their answers:
+
+    object x 0         ok object x
+    site a 4           ok site a
+    start              ok start
+    propose add:x:5    ok proposed 1
+    settle             ok acked 1
 
 Exit statuses: 0 for every script that was read to its end, also where commands
 were refused. 3 with `read fault`, `write fault` or `input too long` (more than
-1,073,741,824 bytes) on standard error, 4 with `no memory`.
-The commands and their answers: docs/FORMATS.md";
+1,073,741,824 bytes) on standard error, 4 with `no memory`, 2 for wrong words.
+The commands, their refusals and their answers: docs/FORMATS.md";

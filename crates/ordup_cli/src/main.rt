@@ -4,6 +4,8 @@
 mod act;
 mod command_line;
 #[cfg(test)]
+mod rows;
+#[cfg(test)]
 mod tests;
 
 pub use act::act;

@@ -2,15 +2,13 @@
 ghost use Rattle.std.specs.Prelude.{Some};
 
 use crate::act::act;
+use crate::rows::ROWS;
 use std::alloc::Global;
 use std::io::{self, ErrorKind, Read, Write};
 use std::test::Fail;
 
-/// Transcripts: a line that begins with `> ` is a line of the script, any other is the answer that must come there.
-const TRANSCRIPTS: [&str; 7] = [
-    "",
-    // The first run.
-    "\
+/// The script of the first run, and what it is answered.
+const FIRST_RUN: &str = "\
 > object x 0
 ok object x
 > site a 4
@@ -25,150 +23,7 @@ ok sent a 1
 ok applied a 1
 > show a
 ok show a sent 1 applied 1 reported 0 rounds 0 x=5
-",
-    // A feed of one update.
-    "\
-> object x 0
-ok object x
-> object y 10
-ok object y
-> site a 1
-ok site a
-> start
-ok start
-> propose add:x:1
-ok proposed 1
-> propose add:x:1
-ok proposed 2
-> send a
-ok sent a 1
-> send a
-refused 15 FeedFull
-> apply a
-ok applied a 1
-> send a
-ok sent a 2
-> apply a
-ok applied a 2
-> apply a
-refused 16 NothingToApply
-> send a
-refused 14 NothingToSend
-",
-    // A result out of range leaves the log as it was.
-    "\
-> object x 1000000000
-ok object x
-> object y 10
-ok object y
-> site a 4
-ok site a
-> start
-ok start
-> propose add:x:1
-refused 9 OutOfRange
-> propose set:x:-1000000000
-ok proposed 1
-> propose add:x:-1
-refused 9 OutOfRange
-> propose add:z:1000000001
-refused 6 UnknownObject
-> propose add:x:1000000001
-refused 9 OutOfRange
-> send b
-refused 8 UnknownSite
-> apply Z
-refused 8 UnknownSite
-> show b
-refused 8 UnknownSite
-",
-    // Before the start.
-    "\
-> propose add:x:1
-refused 2 NotStarted
-> send a
-refused 2 NotStarted
-> apply a
-refused 2 NotStarted
-> show a
-refused 2 NotStarted
-",
-    // Declarations, from nothing.
-    "\
-> object 9x 1
-refused 4 BadName
-> object x 1000000001
-refused 9 OutOfRange
-> object x 1
-ok object x
-> object x 2
-refused 5 NameTaken
-> start
-refused 11 Empty
-> site a 0
-refused 9 OutOfRange
-> site a 1025
-refused 9 OutOfRange
-> site a -1
-refused 9 OutOfRange
-> site a 1024
-ok site a
-> site x 1
-ok site x
-> start
-ok start
-> start
-refused 3 AlreadyStarted
-> object y 1
-refused 3 AlreadyStarted
-> site b 1
-refused 3 AlreadyStarted
-",
-    // Lines that are no commands, numbers at their edges, lines that are skipped.
-    "\
-> object x 9999999999999999999
-refused 9 OutOfRange
-> object x -9999999999999999999
-refused 9 OutOfRange
-> object x 10000000000000000000
-refused 1 Syntax
-> object x -0
-refused 1 Syntax
-> object x 01
-refused 1 Syntax
-> object x +1
-refused 1 Syntax
-> object x
-refused 1 Syntax
-> object x 1 2
-refused 1 Syntax
-> object\tx 1
-refused 1 Syntax
-> objéct x 1
-refused 1 Syntax
-> # object x 1
-> 
->    
->   object   x   -1000000000  
-ok object x
-> propose
-refused 1 Syntax
-> propose add:x:1 add:x:1
-refused 1 Syntax
-> propose add::1
-refused 1 Syntax
-> propose mul:x:2
-refused 1 Syntax
-> propose add:x:01
-refused 1 Syntax
-> settle
-refused 1 Syntax
-> Object y 1
-refused 1 Syntax
-> start now
-refused 1 Syntax
-",
-];
+";
 
 /// What is left of a run of the program.
 #[derive(Drop)]
@@ -285,28 +140,25 @@ fn parts(alloc: Global, transcript: &str) -> Result<(Vec<u8>, Vec<u8>), Fail> {
 
 #[test]
 fn scripts_are_answered_as_their_transcripts_say(rt: HostRuntime) -> Result<(), Fail> {
-    for (place, transcript) in TRANSCRIPTS.iter().enumerate() {
+    for (name, transcript) in ROWS {
         let (script, wanted) = parts(rt.alloc(), transcript)?;
         let ended = answers(rt.alloc(), &script);
-        assert!(rt;
-            ended.output.as_slice() == wanted.as_slice(),
-            "transcript {place}"
-        );
-        assert_eq!(rt; ended.status, 0, "transcript {place}");
-        assert!(rt; ended.faults.is_empty(), "transcript {place}");
+        assert!(rt; ended.output.as_slice() == wanted.as_slice(), "{name}");
+        assert_eq!(rt; ended.status, 0, "{name}");
+        assert!(rt; ended.faults.is_empty(), "{name}");
     }
     Ok(())
 }
 
 #[test]
 fn short_reads_change_no_answer(rt: HostRuntime) -> Result<(), Fail> {
-    for (place, transcript) in TRANSCRIPTS.iter().enumerate() {
+    for (name, transcript) in ROWS {
         let (script, wanted) = parts(rt.alloc(), transcript)?;
         for at_once in 1..4usize {
             let ended = run_with(rt.alloc(), &["ordup", "run"], &script, at_once, ALL, ALL);
             assert!(rt;
                 ended.output.as_slice() == wanted.as_slice(),
-                "transcript {place} by {at_once}"
+                "{name}, by {at_once}"
             );
         }
     }
@@ -343,7 +195,7 @@ fn lines_of_4096_bytes_are_read_and_longer_ones_are_not(rt: HostRuntime) -> Resu
 
 #[test]
 fn a_writer_that_fails_has_got_a_front_of_the_answers(rt: HostRuntime) -> Result<(), Fail> {
-    let (script, wanted) = parts(rt.alloc(), TRANSCRIPTS[1])?;
+    let (script, wanted) = parts(rt.alloc(), FIRST_RUN)?;
     assert_eq!(rt; script.len(), 64);
     assert_eq!(rt; wanted.len(), 123);
     let seven = run_with(rt.alloc(), &["ordup", "run"], &script, ALL, ALL, 7);
@@ -367,7 +219,7 @@ fn a_writer_that_fails_has_got_a_front_of_the_answers(rt: HostRuntime) -> Result
 fn a_reader_that_fails_leaves_the_answers_to_the_lines_that_ended(
     rt: HostRuntime,
 ) -> Result<(), Fail> {
-    let (script, wanted) = parts(rt.alloc(), TRANSCRIPTS[1])?;
+    let (script, wanted) = parts(rt.alloc(), FIRST_RUN)?;
     for (given, written) in [(0usize, 0usize), (10, 0), (11, 12), (25, 22), (26, 31)] {
         let ended = run_with(rt.alloc(), &["ordup", "run"], &script, ALL, given, ALL);
         assert!(rt; written <= wanted.len());

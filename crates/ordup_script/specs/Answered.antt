@@ -1,9 +1,10 @@
 -- What answering a line does.
 use Rattle.std.specs.Prelude.{◌≡◌, ℕ, List, ◌++◌}
 use Rattle.ordup_script.specs.declared.script_end.ScriptEnd.{ScriptEnd}
+use Rattle.ordup_script.specs.Lines.{Line}
 use Rattle.ordup_script.specs.Sessions.{Session, Stands}
 use Rattle.ordup_script.specs.Replies.{reply}
 
 -- whatever session the store was of, it is of the one after this line, and the answer was added
-abbrev pub Answers : {A : Type 0} → ScriptEnd A → List ℕ → ScriptEnd A → List ℕ → List ℕ → Type 0
+abbrev pub Answers : {A : Type 0} → ScriptEnd A → List ℕ → ScriptEnd A → List ℕ → Line → Type 0
 Answers {A} before old after new line = (s : Session A) → Stands before s → Stands after (reply s line).0 × (new ≡ old ++ (reply s line).1)

@@ -5,8 +5,9 @@ use Rattle.ordup_script.specs.declared.script_end.ScriptEnd.{ScriptEnd}
 use Rattle.ordup_script.specs.declared.engine.Engine.{Engine}
 use Rattle.ordup_script.specs.declared.stream.ScriptFault.{ScriptFault}
 use Rattle.ordup_script.specs.declared.stream.ScriptFault.TheVariants as fault
-use Rattle.ordup_script.specs.Sessions.{Session, Stands, first_session}
-use Rattle.ordup_script.specs.Lines.{Progress, Continues, after_lines, lines_of, out, out_of_ended, start, total}
+use Rattle.ordup_script.specs.Sessions.{Stands}
+use Rattle.ordup_script.specs.Lines.{Progress, Continues, last}
+use Rattle.ordup_script.specs.Written.{Written, answered, out, out_of_ended, session_after, start}
 use Rattle.ordup_script.specs.Held.{Feeds, Finishes, IsAt}
 use Rattle.ordup_script.specs.Sent.{AppendsFront}
 
@@ -16,11 +17,11 @@ Partial old new whole = (front : List ℕ) × Appends old new front × ((rest : 
 
 -- however far the engine had come, the writer grew by a front of what is written from there on
 pub record PartlyFeeds {A : Type 0} (old new : Option (List ℕ)) (before : Engine A) (piece : List ℕ) : Type 0 where
-  pub front : (p : Progress A) → IsAt before [] p → Partial old new (λ rest. total true p (piece ++ rest))
+  pub front : (p : Progress (Written A)) → IsAt before [] p → Partial old new (λ rest. (last answered true p (piece ++ rest)).1)
 
 -- however far the engine had come, the writer grew by a front of what is written at the script's end
 pub record PartlyFinishes {A : Type 0} (old new : Option (List ℕ)) (before : Engine A) : Type 0 where
-  pub front : (p : Progress A) → IsAt before [] p → AppendsFront old new (total true p [])
+  pub front : (p : Progress (Written A)) → IsAt before [] p → AppendsFront old new (last answered true p []).1
 
 -- the engine was fed a piece, and the writer grew by its answers, or by a front of them
 abbrev pub Passes : {A : Type 0} → Option (List ℕ) → Option (List ℕ) → Engine A → Engine A → List ℕ → Result (Unit {0}) ScriptFault → Type 0
@@ -40,7 +41,7 @@ Closes old new before (Err fault.NoMemory) = PartlyFinishes old new before
 
 -- the end is that of a run of this script
 abbrev pub EndsAfter : {A : Type 0} → ScriptEnd A → List ℕ → Type 0
-EndsAfter {A} end script = let first : Session A = first_session in Stands end (after_lines first (lines_of true script))
+EndsAfter {A} end script = Stands end (session_after A script)
 
 -- what was read, and what was written for it: all of it where the run ended well; after an error of the reader, and
 -- where the script was too long, the answers to the lines that a line feed ended, within the limit; and else a front of
@@ -60,13 +61,13 @@ Runs {A} had has old new limit (Err fault.NoMemory) =
 -- a script was read to the reader's end and fed to an engine from the start on, and the writer grew by its answers
 pub record HasPassed {A : Type 0} (had has old new : Option (List ℕ)) (limit : ℕ) (after : Engine A) : Type 0 where
   pub script : List ℕ
-  pub come : Progress A
+  pub come : Progress (Written A)
   pub took : Consumes had has script
   pub within : length script ≤ limit
   pub ended : IsAtEnd has
-  pub grew : Appends old new come.written
-  pub is_at : IsAt after come.written come
-  pub continues : Continues start come script
+  pub grew : Appends old new come.known.1
+  pub is_at : IsAt after come.known.1 come
+  pub continues : Continues answered start come script
 
 -- all of a script was fed and answered, or the run ends with a fault
 abbrev pub PassesAll : {A : Type 0} → Option (List ℕ) → Option (List ℕ) → Option (List ℕ) → Option (List ℕ) → ℕ → Engine A → Result (Unit {0}) ScriptFault → Type 0

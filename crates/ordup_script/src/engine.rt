@@ -2,52 +2,29 @@
 //! unended is held until a later piece ends it.
 ghost use Rattle.std.specs.Prelude.{◌≡◌, ℕ, List, [], ◌∷◌, ◌++◌, ◌<◌, ◌≤◌, IfOk, OnOk, true, false, vec_len, length, position};
 ghost use Rattle.ordup_script.specs.Answered.{Answers};
-ghost use Rattle.ordup_script.specs.Lines.{IsPart, held_text, is_line_feed, start};
-ghost use Rattle.ordup_script.specs.declared.sizes.TheConstants.{MOST_LINE_BYTES};
+ghost use Rattle.ordup_script.specs.Lines.{IsPart, cut, is_line_feed};
+ghost use Rattle.ordup_script.specs.Holding.{Holds};
+ghost use Rattle.ordup_script.specs.Written.{start};
 
-use crate::answers::answer_line;
+use crate::answers::answer;
+use crate::asked::Asked;
+use crate::line_buffer::LineBuffer;
 use crate::script_end::ScriptEnd;
-use crate::sizes::MOST_LINE_BYTES;
-use crate::text::push_refused;
-use ordup_objects::Refusal;
+use memchr::memchr;
 use std::alloc::{AllocError, Allocator, Global};
 
 /// The index of the first line feed.
-fn find_line_feed(bytes: &[u8]) -> Option<usize>
+pub(crate) fn find_line_feed(bytes: &[u8]) -> Option<usize>
     ensures { result ≡ position is_line_feed bytes.now }
 {
-    bytes.iter().position(|byte| *byte == b'\n')
-}
-
-/// Answers a line of which at most the first 4,096 bytes are held.
-fn answer_held<A: Allocator + Copy>(
-    alloc: A,
-    store: &mut ScriptEnd<A>,
-    line: &[u8],
-    is_long: bool,
-    out: &mut Vec<u8, A>,
-) -> Result<(), AllocError>
-    requires { is_long ≡ true → MOST_LINE_BYTES ≤ length line.now }
-    ensures { OnOk result (Answers store.old out.old.items store.new out.new.items
-        (held_text is_long line.now)) }
-{
-    if is_long {
-        push_refused(out, Refusal::Syntax)
-    } else {
-        answer_line(alloc, store, line, out)
-    }
+    memchr(b'\n', bytes)
 }
 
 /// Runs a script that comes in pieces. It holds the part of a line that no piece has ended yet.
 #[derive(Drop)]
 pub(crate) struct Engine<A: Allocator + Copy = Global> {
     store: ScriptEnd<A>,
-    line: Vec<u8, A>,
-    is_long: bool,
-    // What is held is no longer than a line may be, as long where the line is too long, and has no line feed.
-    ghost short: { vec_len line ≤ MOST_LINE_BYTES },
-    ghost full: { is_long ≡ true → MOST_LINE_BYTES ≤ vec_len line },
-    ghost unended: { IsPart line.items },
+    lines: LineBuffer<A>,
 }
 
 impl<A: Allocator + Copy> Engine<A> {
@@ -59,33 +36,15 @@ impl<A: Allocator + Copy> Engine<A> {
     {
         Engine {
             store: ScriptEnd::new(alloc),
-            line: Vec::new(alloc),
-            is_long: false,
+            lines: LineBuffer::new(alloc),
         }
     }
 
-    /// Holds a part of a line that did not end yet: its first bytes, as far as a line may be long.
-    fn hold(&mut self, part: &[u8]) -> Result<(), AllocError>
-        requires { IsPart part.now }
-        ensures { OnOk result ((bytes : List ℕ) → Feeds self.old bytes self.new bytes part.now) }
+    /// Answers the line that is held.
+    fn answer_held(&mut self, alloc: A, out: &mut Vec<u8, A>) -> Result<(), AllocError>
+        ensures { OnOk result ((part : List ℕ) → Holds self.old.lines part → Answers self.old.store out.old.items self.new.store out.new.items (cut part)) }
     {
-        if self.is_long {
-            return Ok(());
-        }
-        let kept = part.len().min(MOST_LINE_BYTES - self.line.len());
-        self.line.extend_from_slice(&part[..kept])?;
-        self.is_long = kept < part.len();
-        Ok(())
-    }
-
-    /// Answers the line that is held, and holds nothing.
-    fn end_held(&mut self, alloc: A, out: &mut Vec<u8, A>) -> Result<(), AllocError>
-        ensures { OnOk result (Feeds self.old out.old.items self.new out.new.items (10 ∷ [])) }
-    {
-        answer_held(alloc, &mut self.store, &self.line, self.is_long, out)?;
-        self.line.clear();
-        self.is_long = false;
-        Ok(())
+        answer(alloc, &mut self.store, &self.lines.asked(), out)
     }
 
     /// Answers the line that this part ends.
@@ -94,11 +53,13 @@ impl<A: Allocator + Copy> Engine<A> {
         ensures { OnOk result (Feeds self.old out.old.items self.new out.new.items
             (part.now ++ 10 ∷ [])) }
     {
-        if self.line.is_empty() {
-            return answer_line(alloc, &mut self.store, part, out);
+        if self.lines.is_empty() {
+            return answer(alloc, &mut self.store, &Asked::by(part), out);
         }
-        self.hold(part)?;
-        self.end_held(alloc, out)
+        self.lines.hold(part)?;
+        self.answer_held(alloc, out)?;
+        self.lines.clear();
+        Ok(())
     }
 
     /// Takes the next piece of the script, and answers the lines that end in it.
@@ -115,22 +76,18 @@ impl<A: Allocator + Copy> Engine<A> {
             self.end_line(alloc, &rest[..end], out)?;
             rest = &rest[end + 1..];
         }
-        self.hold(rest)
+        self.lines.hold(rest)
     }
 
     /// Answers what is left at the end of the script.
     pub(crate) fn finish(self, alloc: A, out: &mut Vec<u8, A>) -> Result<ScriptEnd<A>, AllocError>
         ensures { IfOk result (λ end. Finishes self out.old.items end out.new.items) }
     {
-        let Engine {
-            mut store,
-            line,
-            is_long,
-        } = self;
-        if line.is_empty() {
-            return Ok(store);
+        let mut engine = self;
+        if engine.lines.is_empty() {
+            return Ok(engine.store);
         }
-        answer_held(alloc, &mut store, &line, is_long, out)?;
-        Ok(store)
+        engine.answer_held(alloc, out)?;
+        Ok(engine.store)
     }
 }

@@ -2,18 +2,15 @@
 ghost use Rattle.std.specs.Prelude.{◌≡◌, [], IfErr, OnOk};
 ghost use Rattle.std.specs.Io.KnownBytes.{Appends};
 ghost use Rattle.ordup_script.specs.Sent.{AppendsFront};
-ghost use Rattle.ordup_script.specs.Lines.{start};
+ghost use Rattle.ordup_script.specs.Written.{start};
 ghost use Rattle.ordup_script.specs.Held.{IsAt};
 ghost use Rattle.ordup_script.specs.Runs.{Closes, Passes, PassesAll, Runs};
 
 use crate::engine::Engine;
 use crate::script_end::ScriptEnd;
-use crate::sizes::MOST_SCRIPT_BYTES;
+use crate::sizes::{MOST_SCRIPT_BYTES, PIECE};
 use std::alloc::{Allocator, Global};
 use std::io::{Read, Write};
-
-/// How many bytes of a script are read at once.
-const PIECE: usize = 65_536;
 
 /// Why a script was not run to its end.
 #[derive(Clone, Copy, Debug, PartialEq, Eq)]

@@ -3,29 +3,23 @@ ghost use Rattle.std.specs.Prelude.{◌≡◌, ◌++◌, ◌∷◌, [], OnOk, le
 ghost use Rattle.std.specs.Fmt.{decimal, signed_decimal};
 ghost use Rattle.ordup_script.specs.Texts.{refused_text, named_text, done_text, numbered_text, value_text, values_text, shown_text, sites_text, listed_text, settled_text, read_text, ended_text, answer_text};
 
+use itoa::Buffer;
 use ordup_objects::{Name, ObjectId, ObjectTable, Refusal, SiteId};
 use ordup_world::{Answer, QueryAnswer, ReadAnswer, Settled, Setup};
 use std::alloc::{AllocError, Allocator};
-use std::io::Write;
 
 /// Adds a number in digits.
 fn push_number<A: Allocator + Copy>(out: &mut Vec<u8, A>, number: u64) -> Result<(), AllocError>
     ensures { OnOk result (out.new.items ≡ out.old.items ++ decimal number) }
 {
-    match write!(out, "{number}") {
-        Ok(()) => Ok(()),
-        Err(_) => Err(AllocError),
-    }
+    out.extend_from_slice(Buffer::new().format(number).as_bytes())
 }
 
 /// Adds a value in digits, with a minus before one below 0.
 fn push_value<A: Allocator + Copy>(out: &mut Vec<u8, A>, value: i64) -> Result<(), AllocError>
     ensures { OnOk result (out.new.items ≡ out.old.items ++ signed_decimal value) }
 {
-    match write!(out, "{value}") {
-        Ok(()) => Ok(()),
-        Err(_) => Err(AllocError),
-    }
+    out.extend_from_slice(Buffer::new().format(value).as_bytes())
 }
 
 /// Adds a text and a number.

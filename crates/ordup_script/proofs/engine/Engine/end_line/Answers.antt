@@ -1,14 +1,19 @@
-use Rattle.std.proofs.Common.{◌≡◌, ◌≤◌, length, true, rules, refl}
+use Rattle.std.proofs.Common.{refl}
 use Rattle.std.proofs.lemmas.Result.{on_ok_weaker}
-use Rattle.ordup_script.proofs.Steps.{Feeds-trans, answers_part}
+use Rattle.ordup_script.specs.Lines.{cut}
+use Rattle.ordup_script.specs.declared.engine.Engine.{Engine}
+use Rattle.ordup_script.proofs.AnsweringLemmas.{answers_asked}
+use Rattle.ordup_script.proofs.Steps.{Feeds-trans, answers_held, answers_part, holds}
 use Rattle.ordup_script.proofs.engine.Engine.end_line.Goals as goal
 
 pub returns-then-is_empty : goal.returns-then-is_empty
 returns-then-is_empty g c =
-    let e = c.args.self.now in
-    let full : e.is_long ≡ true → 4096 ≤ length e.line.items = λ long. let high = e.full long in search rules in
-    let none : length e.line.items ≡ 0 = search rules in
-    on_ok_weaker c.answer_line.result (λ answers. answers_part e _ c.args.out.now.items c.answer_line.new.out.items c.args.part.now c.requires full none answers refl refl) c.answer_line.ensures
+    on_ok_weaker c.answer.result (λ h.
+    answers_part c.args.self.now _ c.args.out.now.items c.answer.new.out.items c.args.part.now c.requires (λ held is. c.is_empty.ensures.empty held is c.if-is_empty.true)
+    (answers_asked _ _ _ _ _ (cut c.args.part.now) c.by.ensures h) refl) c.answer.ensures
 
 pub returns : goal.returns
-returns g c = on_ok_weaker c.end_held.result (Feeds-trans (c.in_ok-hold.ensures c.args.out.now.items)) c.end_held.ensures
+returns g c =
+    let held : Engine g.row.A.Denot = record { store = c.args.self.now.store; lines = c.hold.new.self } in
+    Feeds-trans (holds c.args.self.now held c.args.part.now refl c.in_ok-hold.ensures c.args.out.now.items)
+    (answers_held held _ c.args.out.now.items c.answer_held.new.out.items c.in_ok-answer_held.ensures c.clear.ensures)

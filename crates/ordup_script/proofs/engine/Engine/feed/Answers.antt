@@ -1,7 +1,8 @@
-use Rattle.std.proofs.Common.{◌∙◌, ◌++◌, ◌∷◌, [], ℕ, List, ap, append_assoc, take, sym}
+use Rattle.std.proofs.Common.{◌∙◌, ◌++◌, ◌∷◌, [], ℕ, List, ap, append_assoc, take, refl, sym}
 use Rattle.std.proofs.lemmas.Result.{on_ok_weaker}
 use Rattle.ordup_script.proofs.Lines.{at_line_feed, before_line_feed, no_line_feed}
-use Rattle.ordup_script.proofs.Steps.{Feeds-trans}
+use Rattle.ordup_script.specs.declared.engine.Engine.{Engine}
+use Rattle.ordup_script.proofs.Steps.{Feeds-trans, holds}
 use Rattle.ordup_script.proofs.engine.Engine.feed.Goals as goal
 
 pub end_line-requires : goal.end_line-requires
@@ -22,4 +23,5 @@ hold-requires g c = no_line_feed c.loop-end.rest.now c.in_default.ensures
 pub returns : goal.returns
 returns g c =
     let (taken, is, so_far) = c.loop-end.invariant in
-    on_ok_weaker c.hold.result (λ held. rw is (Feeds-trans {g = c.hold.new.self} {c = c.loop-end.out.items} so_far (held c.loop-end.out.items))) c.hold.ensures
+    let held : Engine g.row.A.Denot = record { store = c.loop-end.self.store; lines = c.hold.new.self } in
+    on_ok_weaker c.hold.result (λ h. rw is (Feeds-trans so_far (holds c.loop-end.self held c.loop-end.rest.now refl h c.loop-end.out.items))) c.hold.ensures

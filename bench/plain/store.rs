@@ -1,0 +1,242 @@
+//! The store, the commands, and what is declared.
+
+use crate::answers::{answer, Out, Refusal};
+use crate::lag::{Lag, Limit, Scope};
+use crate::names::{Names, Table};
+use crate::queries::Query;
+use crate::updates::{Held, Log, Site};
+use crate::words::{key, Word, Words};
+
+pub const LARGEST_VALUE: i64 = 1_000_000_000;
+pub const LARGEST_CAPACITY: i64 = 1024;
+pub const LARGEST_AMOUNT: i64 = 1_000_000_000_000_000_000;
+pub const MOST_OBJECTS: usize = 256;
+pub const MOST_GROUPS: usize = 32;
+pub const MOST_MEMBERS: usize = 64;
+pub const MOST_SITES: usize = 16;
+pub const MOST_LIMITS: usize = 64;
+pub const MOST_UPDATES: usize = 1_000_000;
+pub const MOST_CHANGES: usize = 64;
+pub const MOST_QUERIES: usize = 64;
+pub const MOST_READS: usize = 256;
+
+pub fn is_value(number: i64) -> bool {
+    (-LARGEST_VALUE..=LARGEST_VALUE).contains(&number)
+}
+
+pub fn is_amount(number: i64) -> bool {
+    (0..=LARGEST_AMOUNT).contains(&number)
+}
+
+pub fn repeats(objects: impl Iterator<Item = usize>) -> bool {
+    let mut seen = [0_u64; MOST_OBJECTS / 64];
+    let mut repeats = false;
+    for object in objects {
+        let (word, bit) = (object / 64, 1 << (object % 64));
+        repeats |= seen[word] & bit != 0;
+        seen[word] |= bit;
+    }
+    repeats
+}
+
+pub struct Store {
+    pub is_started: bool,
+    pub objects: Names,
+    pub groups: Names,
+    pub members: Vec<Vec<usize>>,
+    pub site_names: Names,
+    pub sites: Vec<Site>,
+    /// The objects at the end of the log; before the start, the first ones.
+    pub held: Vec<Held>,
+    pub log: Log,
+    /// The results of the changes of one update.
+    pub results: [i64; MOST_CHANGES],
+    pub acknowledged: usize,
+    pub decided: usize,
+    /// The sites that have a forced round at the head, one bit each.
+    pub forced: u32,
+    /// What each site had reported when each update was decided, one after the other.
+    pub reports: Vec<u32>,
+    /// How far the acknowledged updates moved each object.
+    pub marks: Vec<u64>,
+    pub open: Table,
+    /// Queries, with those that are no longer open: the room of these is used again.
+    pub queries: Vec<Query>,
+    pub unused: Vec<usize>,
+}
+
+const OBJECT: u64 = key(b"object");
+const GROUP: u64 = key(b"group");
+const SITE: u64 = key(b"site");
+const LIMIT: u64 = key(b"limit");
+const START: u64 = key(b"start");
+const PROPOSE: u64 = key(b"propose");
+const SEND: u64 = key(b"send");
+const APPLY: u64 = key(b"apply");
+const REPORT: u64 = key(b"report");
+const SETTLE: u64 = key(b"settle");
+const BEGIN: u64 = key(b"begin");
+const READ: u64 = key(b"read");
+const END: u64 = key(b"end");
+const ABANDON: u64 = key(b"abandon");
+const SHOW: u64 = key(b"show");
+const ALL: u64 = key(b"all");
+const COUNT: u64 = key(b"count");
+
+impl Store {
+    pub fn new() -> Store {
+        Store {
+            is_started: false,
+            objects: Names::new(MOST_OBJECTS),
+            groups: Names::new(MOST_GROUPS),
+            members: Vec::new(),
+            site_names: Names::new(MOST_SITES),
+            sites: Vec::new(),
+            held: Vec::new(),
+            log: Log { changes: Vec::new(), ends: vec![0] },
+            results: [0; MOST_CHANGES],
+            acknowledged: 0,
+            decided: 0,
+            forced: 0,
+            reports: Vec::new(),
+            marks: Vec::new(),
+            open: Table::new(MOST_QUERIES),
+            queries: Vec::new(),
+            unused: Vec::new(),
+        }
+    }
+
+    /// Answers a line that is accepted. Each command reads all its words before it
+    /// refuses anything else.
+    pub fn line(&mut self, words: &mut Words, out: &mut Out) -> Result<(), Refusal> {
+        match words.word()?.short_key() {
+            SEND => self.send(last_word(words)?, out),
+            APPLY => self.apply(last_word(words)?, out),
+            REPORT => self.report(last_word(words)?, out),
+            READ => self.read(words.word()?, last_word(words)?, out),
+            PROPOSE => self.propose(words, out),
+            SETTLE => {
+                words.end()?;
+                self.settle(out)
+            }
+            BEGIN => self.begin(words.word()?, words.word()?, last_number(words)?, out),
+            END => self.end(last_word(words)?, out),
+            ABANDON => self.abandon(last_word(words)?, out),
+            SHOW => self.show(last_word(words)?, out),
+            OBJECT => self.object(words.word()?, last_number(words)?, out),
+            GROUP => self.group(words, out),
+            SITE => self.site(words.word()?, last_number(words)?, out),
+            LIMIT => self.limit(words, out),
+            START => {
+                words.end()?;
+                self.start(out)
+            }
+            _ => Err(Refusal::Syntax),
+        }
+    }
+
+    // Declarations.
+
+    pub fn before_start(&self) -> Result<(), Refusal> {
+        Refusal::AlreadyStarted.when(self.is_started)
+    }
+
+    pub fn object(&mut self, name: Word, value: i64, out: &mut Out) -> Result<(), Refusal> {
+        self.before_start()?;
+        self.objects.judge(name)?;
+        Refusal::OutOfRange.when(!is_value(value))?;
+        Refusal::TooMany.when(self.objects.is_full())?;
+        self.objects.add(name);
+        self.held.push(Held { value, travelled: 0 });
+        answer!(out, b"ok object ", name)
+    }
+
+    pub fn group(&mut self, words: &mut Words, out: &mut Out) -> Result<(), Refusal> {
+        let name = words.word()?;
+        let mut members = Vec::new();
+        while !words.is_at_end() {
+            members.push(self.objects.find(words.word()?));
+        }
+        words.end()?;
+        self.before_start()?;
+        self.groups.judge(name)?;
+        let members = members.into_iter().collect::<Option<Vec<_>>>().ok_or(Refusal::UnknownObject)?;
+        Refusal::TooMany.when(self.groups.is_full() || members.len() > MOST_MEMBERS)?;
+        Refusal::Empty.when(members.is_empty())?;
+        Refusal::Repeated.when(repeats(members.iter().copied()))?;
+        self.groups.add(name);
+        self.members.push(members);
+        answer!(out, b"ok group ", name)
+    }
+
+    pub fn site(&mut self, name: Word, capacity: i64, out: &mut Out) -> Result<(), Refusal> {
+        self.before_start()?;
+        self.site_names.judge(name)?;
+        Refusal::OutOfRange.when(!(1..=LARGEST_CAPACITY).contains(&capacity))?;
+        Refusal::TooMany.when(self.site_names.is_full())?;
+        self.site_names.add(name);
+        self.sites.push(Site {
+            name,
+            capacity: capacity as usize,
+            sent: 0,
+            applied: 0,
+            reported: 0,
+            held: Vec::new(),
+            limits: Vec::new(),
+            lag: Lag::new(&[], 0, &[]),
+            rounds: Vec::new(),
+        });
+        answer!(out, b"ok site ", name)
+    }
+
+    pub fn limit(&mut self, words: &mut Words, out: &mut Out) -> Result<(), Refusal> {
+        let name = words.word()?;
+        let scope = match words.word()?.short_key() {
+            OBJECT => self.objects.find(words.word()?).map(Scope::Object).ok_or(Refusal::UnknownObject),
+            GROUP => self.groups.find(words.word()?).map(Scope::Group).ok_or(Refusal::UnknownGroup),
+            ALL => Ok(Scope::All),
+            COUNT => Ok(Scope::Count),
+            _ => return Err(Refusal::Syntax),
+        };
+        let amount = last_number(words)?;
+        self.before_start()?;
+        let scope = scope?;
+        let site = self.site_names.find(name).ok_or(Refusal::UnknownSite)?;
+        let limits = &mut self.sites[site].limits;
+        Refusal::OutOfRange.when(!is_amount(amount))?;
+        Refusal::TooMany.when(limits.len() == MOST_LIMITS)?;
+        Refusal::Repeated.when(limits.iter().any(|limit| limit.scope == scope))?;
+        limits.push(Limit { scope, amount });
+        answer!(out, b"ok limit ", name)
+    }
+
+    pub fn start(&mut self, out: &mut Out) -> Result<(), Refusal> {
+        self.before_start()?;
+        Refusal::Empty.when(self.objects.len() == 0 || self.sites.is_empty())?;
+        for site in &mut self.sites {
+            site.held.clone_from(&self.held);
+            site.lag = Lag::new(&site.limits, self.objects.len(), &self.members);
+        }
+        self.marks = vec![0; self.objects.len()];
+        self.is_started = true;
+        answer!(out, b"ok start")
+    }
+
+    pub fn after_start(&self) -> Result<(), Refusal> {
+        Refusal::NotStarted.when(!self.is_started)
+    }
+}
+
+#[inline]
+fn last_word(words: &mut Words) -> Result<Word, Refusal> {
+    let word = words.word()?;
+    words.end()?;
+    Ok(word)
+}
+
+#[inline]
+fn last_number(words: &mut Words) -> Result<i64, Refusal> {
+    let number = words.number()?;
+    words.end()?;
+    Ok(number)
+}

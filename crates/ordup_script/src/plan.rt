@@ -1,0 +1,150 @@
+ghost use Rattle.std.specs.Prelude.{◌≡◌, ◌+◌, ◌<◌, ◌≤◌, true, false, None, [], ◌∷◌, ◌++◌, OnOk};
+ghost use Rattle.ordup_script.specs.CommandViews.{asked_named, request_named, declaration_named, named_changes};
+ghost use Rattle.ordup_script.specs.Commands as commands;
+ghost use Rattle.ordup_script.specs.Plans.{asked_in, request_in, first_plan, malformed};
+ghost use Rattle.ordup_script.specs.PlanInside.{plan_state};
+
+use crate::asked::Asked;
+use crate::change_words::ChangeWords;
+use crate::command::{Action, Command, Declaration};
+use crate::declaring::declare;
+use crate::naming::find_set;
+use ordup_objects::{MessageSet, Refusal};
+use ordup_world::Setup;
+use std::alloc::{AllocError, Allocator, Global};
+
+/// What is declared, and the message sets that are to be proposed, in their order.
+#[derive(Drop)]
+pub struct Plan<A: Allocator + Copy = Global> {
+    /// The declarations, which are complete.
+    pub setup: Setup<A>,
+    /// The sets, each of them over the objects of the setup. Whether they are legal one after the other is not tested.
+    pub sets: Vec<MessageSet<A>, A>,
+}
+
+/// Where a plan stands after some of its lines.
+#[derive(Drop)]
+pub(crate) struct Planning<A: Allocator + Copy = Global> {
+    pub(crate) setup: Setup<A>,
+    pub(crate) sets: Vec<MessageSet<A>, A>,
+    pub(crate) is_started: bool,
+    // How many lines there were, up to the first that does not belong.
+    pub(crate) lines: u64,
+    pub(crate) is_malformed: bool,
+}
+
+impl<A: Allocator + Copy> Planning<A> {
+    /// Before the first line.
+    pub(crate) fn new(alloc: A) -> Self
+        ensures plan { plan_state result ≡ first_plan }
+        ensures lines { result.lines ≡ 0 }
+    {
+        Planning {
+            setup: Setup::new(alloc),
+            sets: Vec::new(alloc),
+            is_started: false,
+            lines: 0,
+            is_malformed: false,
+        }
+    }
+
+    /// Takes what the next line asks for.
+    pub(crate) fn take(&mut self, alloc: A, asked: &Asked<'_>) -> Result<(), AllocError>
+        requires { self.old.lines < 9223372036854775808 }
+        ensures lines { OnOk result (self.new.lines ≤ self.old.lines + 1) }
+        ensures plan { OnOk result (plan_state self.new ≡ asked_in (plan_state self.old) (asked_named asked.now)) }
+    {
+        if self.is_malformed {
+            return Ok(());
+        }
+        self.lines += 1;
+        match asked {
+            Asked::Nothing => Ok(()),
+            Asked::NoCommand => self.reject(),
+            Asked::Words { first, rest } => match Command::parse(first, rest) {
+                Some(command) => self.follow(alloc, &command),
+                None => self.reject(),
+            },
+        }
+    }
+
+    /// The line does not belong.
+    fn reject(&mut self) -> Result<(), AllocError>
+        ensures plan { OnOk result (plan_state self.new ≡ malformed self.old.lines) }
+        ensures lines { self.new.lines ≡ self.old.lines }
+    {
+        self.is_malformed = true;
+        Ok(())
+    }
+
+    /// Follows a command, where it belongs.
+    fn follow(&mut self, alloc: A, command: &Command<'_>) -> Result<(), AllocError>
+        requires { self.old.is_malformed ≡ false }
+        ensures plan { OnOk result (plan_state self.new ≡ request_in self.old.setup self.old.is_started self.old.sets.items self.old.lines (request_named command.now)) }
+        ensures lines { OnOk result (self.new.lines ≡ self.old.lines) }
+    {
+        match command {
+            Command::Declare(declaration) => self.declare(alloc, declaration),
+            Command::Start => self.start(),
+            Command::Act(Action::Propose(words)) => self.propose(alloc, words),
+            Command::Act(_) => self.reject(),
+        }
+    }
+
+    /// Follows a declaration, before the start.
+    fn declare(&mut self, alloc: A, declaration: &Declaration<'_>) -> Result<(), AllocError>
+        requires { self.old.is_malformed ≡ false }
+        ensures plan { OnOk result (plan_state self.new ≡ request_in self.old.setup self.old.is_started self.old.sets.items self.old.lines (commands.declare (declaration_named declaration.now))) }
+        ensures lines { OnOk result (self.new.lines ≡ self.old.lines) }
+    {
+        if self.is_started {
+            return self.reject();
+        }
+        match declare(alloc, &mut self.setup, declaration) {
+            Ok(()) => Ok(()),
+            Err(Refusal::NoMemory) => Err(AllocError),
+            Err(_) => self.reject(),
+        }
+    }
+
+    /// Follows the start, where there is none yet.
+    fn start(&mut self) -> Result<(), AllocError>
+        requires { self.old.is_malformed ≡ false }
+        ensures plan { OnOk result (plan_state self.new ≡ request_in self.old.setup self.old.is_started self.old.sets.items self.old.lines commands.start) }
+        ensures lines { OnOk result (self.new.lines ≡ self.old.lines) }
+    {
+        if self.is_started || !self.setup.is_ready() {
+            return self.reject();
+        }
+        self.is_started = true;
+        Ok(())
+    }
+
+    /// Follows a proposal, after the start.
+    fn propose(&mut self, alloc: A, words: &ChangeWords<'_>) -> Result<(), AllocError>
+        requires { self.old.is_malformed ≡ false }
+        ensures plan { OnOk result (plan_state self.new ≡ request_in self.old.setup self.old.is_started self.old.sets.items self.old.lines (commands.act (commands.propose (named_changes words.now)))) }
+        ensures lines { OnOk result (self.new.lines ≡ self.old.lines) }
+    {
+        if !self.is_started {
+            return self.reject();
+        }
+        match find_set(alloc, self.setup.objects(), words) {
+            Ok(set) => self.add(set),
+            Err(Refusal::NoMemory) => Err(AllocError),
+            Err(_) => self.reject(),
+        }
+    }
+
+    /// Adds a set.
+    fn add(&mut self, set: MessageSet<A>) -> Result<(), AllocError>
+        requires { self.old.is_malformed ≡ false }
+        ensures rest { OnOk result (self.new ≡ record self.old { sets = self.new.sets }) }
+        ensures sets { OnOk result (self.new.sets.items ≡ self.old.sets.items ++ set ∷ []) }
+    {
+        match self.sets.push(set) {
+            Ok(()) => Ok(()),
+            Err(_) => Err(AllocError),
+        }
+    }
+}

@@ -3,10 +3,7 @@
 /// A name, and a transcript: a line that begins with `> ` is a line of the script, any other is the answer that must come
 /// there. Each transcript is a script of its own.
 pub(crate) const ROWS: [(&str, &str); 42] = [
-    (
-        "An empty script",
-        "",
-    ),
+    ("An empty script", ""),
     (
         "Equal is not over",
         "\

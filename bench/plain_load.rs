@@ -5,7 +5,8 @@
 //! makes, and prints what has become of it, byte for byte as ordup_load does. It goes
 //! the same way: it keeps how far each change moved its object beside the change, it
 //! finds the weight of a span by adding these up over the log, and at each settlement
-//! it tests the limits of each site one by one, in their order.
+//! it tests the limits of each site one by one, in their order. What the span weighs on
+//! all objects is found first: a limit of that much is kept without a sum of its own.
 
 use std::env;
 use std::process::ExitCode;
@@ -227,7 +228,15 @@ impl World {
 
     /// Whether a span weighs more than one of the site's limits.
     fn is_over(&self, site: &Site, from: usize, to: usize) -> bool {
-        from < to && site.limits.iter().any(|limit| self.span(limit.scope, from, to) > limit.amount)
+        if from >= to {
+            return false;
+        }
+        let all = self.span(Scope::All, from, to);
+        site.limits.iter().any(|limit| match limit.scope {
+            Scope::All => all > limit.amount,
+            Scope::Count => (to - from) as u64 > limit.amount,
+            scope => all > limit.amount && self.span(scope, from, to) > limit.amount,
+        })
     }
 
     fn span(&self, scope: Scope, from: usize, to: usize) -> u64 {

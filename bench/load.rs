@@ -3,30 +3,12 @@
 //! The same words give the same bytes each time, and a longer script of a kind
 //! begins with the shorter one. A new kind is one more line in `main`.
 
+mod random;
+
+use random::Random;
 use std::env;
 use std::io::{self, BufWriter, Write};
 use std::process::ExitCode;
-
-/// Numbers that only look random (splitmix64), from a fixed start.
-struct Random(u64);
-
-impl Random {
-    fn next(&mut self) -> u64 {
-        self.0 = self.0.wrapping_add(0x9E37_79B9_7F4A_7C15);
-        let mut mixed = self.0;
-        mixed = (mixed ^ (mixed >> 30)).wrapping_mul(0xBF58_476D_1CE4_E5B9);
-        mixed = (mixed ^ (mixed >> 27)).wrapping_mul(0x94D0_49BB_1331_11EB);
-        mixed ^ (mixed >> 31)
-    }
-
-    fn below(&mut self, bound: u64) -> u64 {
-        self.next() % bound
-    }
-
-    fn one_in(&mut self, count: u64) -> bool {
-        self.below(count) == 0
-    }
-}
 
 /// Writes lines up to a number of them, and is silent from then on.
 struct Script<W> {

@@ -8,6 +8,9 @@
 //! it tests the limits of each site one by one, in their order. What the span weighs on
 //! all objects is found first: a limit of that much is kept without a sum of its own.
 
+mod random;
+
+use random::Random;
 use std::env;
 use std::process::ExitCode;
 
@@ -241,27 +244,6 @@ impl World {
 
     fn span(&self, scope: Scope, from: usize, to: usize) -> u64 {
         self.log[from..to].iter().map(|update| update.weight(scope, &self.groups)).sum()
-    }
-}
-
-/// Numbers that only look random (splitmix64), from a fixed start.
-struct Random(u64);
-
-impl Random {
-    fn next(&mut self) -> u64 {
-        self.0 = self.0.wrapping_add(0x9E37_79B9_7F4A_7C15);
-        let mut mixed = self.0;
-        mixed = (mixed ^ (mixed >> 30)).wrapping_mul(0xBF58_476D_1CE4_E5B9);
-        mixed = (mixed ^ (mixed >> 27)).wrapping_mul(0x94D0_49BB_1331_11EB);
-        mixed ^ (mixed >> 31)
-    }
-
-    fn below(&mut self, bound: u64) -> u64 {
-        self.next() % bound
-    }
-
-    fn one_in(&mut self, count: u64) -> bool {
-        self.below(count) == 0
     }
 }
 

@@ -13,6 +13,7 @@ mod progress;
 mod settled;
 mod setup;
 mod site_list;
+mod starting;
 
 pub use ordup_limits::{GroupId, Groups, LimitTable, Scope};
 pub use parcel::Parcel;

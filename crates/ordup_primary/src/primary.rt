@@ -3,13 +3,14 @@ ghost use Rattle.ordup_objects.specs.Refusals.{IsRefusal};
 ghost use Rattle.ordup_primary.specs.Declarations.{Declared, start_refusal};
 ghost use Rattle.ordup_primary.specs.Primaries.{first_progress};
 
-use crate::decisions::{first_sites, put_down, take_room};
-use crate::marks::{first_marks, raise};
+use crate::decisions::{put_down, take_room};
+use crate::marks::raise;
 use crate::parcel::Parcel;
 use crate::progress::Progress;
 use crate::settled::Settled;
 use crate::setup::Setup;
 use crate::site_list::SiteList;
+use crate::starting::first_parts;
 use ordup_log::Log;
 use ordup_objects::{MessageSet, Refusal, SiteId};
 use std::alloc::{Allocator, Global};
@@ -61,9 +62,7 @@ impl<A: Allocator + Copy> Primary<A> {
         ensures sound { IfOk result (λ p. IsPrimary p) }
         ensures refused { IfErr result (λ e. e ≡ Refusal.NoMemory) }
     {
-        let log = Log::new(alloc, setup.objects())?;
-        let sites = first_sites(alloc, setup.sites())?;
-        let marks = first_marks(alloc, &log)?;
+        let (log, sites, marks) = first_parts(alloc, &setup)?;
         Ok(Primary {
             setup,
             log,

@@ -1,11 +1,11 @@
-ghost use Rattle.std.specs.Prelude.{◌≡◌, None, [], IfOk, IfErr};
+ghost use Rattle.std.specs.Prelude.{◌≡◌, ◌≤◌, None, [], IfOk, IfErr, vec_capacity};
 ghost use Rattle.ordup_objects.specs.Refusals.{IsRefusal};
 ghost use Rattle.ordup_primary.specs.Declarations.{start_refusal};
 ghost use Rattle.ordup_world.specs.Events.{AreAnswers, past_after};
 ghost use Rattle.ordup_world.specs.Standings.{StandsFor, IsSound, KeepsLimits};
 ghost use Rattle.ordup_world.specs.Importing.{KeepImportsAlong};
 
-use crate::event::Event;
+use crate::event::{Answer, Event};
 use crate::outcome::Run;
 use crate::world::World;
 use ordup_objects::Refusal;
@@ -30,12 +30,31 @@ pub fn run<A: Allocator + Copy>(
     ensures allowed { IfOk result (λ _. start_refusal setup ≡ None) }
     ensures refused { IfErr result (λ e. IsRefusal (start_refusal setup) e) }
 {
-    let mut world = World::start(alloc, setup)?;
-    let Ok(mut answers) = Vec::with_capacity(alloc, events.len()) else {
-        return Err(Refusal::NoMemory);
-    };
+    let (mut world, mut answers) = start(alloc, setup, events.len())?;
     for event in events {
         answers.push_reserved(world.step(event));
     }
     Ok(Run { world, answers })
+}
+
+/// A started store, and no answers yet, with room for so many.
+fn start<A: Allocator + Copy>(
+    alloc: A,
+    setup: Setup<A>,
+    count: usize,
+) -> Result<(World<A>, Vec<Answer<A>, A>), Refusal>
+    ensures answers { IfOk result (λ started. started.1.items ≡ []) }
+    ensures room { IfOk result (λ started. count ≤ vec_capacity started.1) }
+    ensures state { IfOk result (λ started. StandsFor {A = A} started.0 []) }
+    ensures setup { IfOk result (λ started. started.0.primary.setup ≡ setup) }
+    ensures sound { IfOk result (λ started. IsSound started.0) }
+    ensures limits { IfOk result (λ started. KeepsLimits started.0) }
+    ensures allowed { IfOk result (λ _. start_refusal setup ≡ None) }
+    ensures refused { IfErr result (λ e. IsRefusal (start_refusal setup) e) }
+{
+    let world = World::start(alloc, setup)?;
+    let Ok(answers) = Vec::with_capacity(alloc, count) else {
+        return Err(Refusal::NoMemory);
+    };
+    Ok((world, answers))
 }

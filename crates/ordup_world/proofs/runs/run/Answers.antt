@@ -1,4 +1,4 @@
-use Rattle.std.proofs.Common.{arith, ◌≡◌, ◌++◌, ◌∷◌, [], ◌∙◌, sym, ap, append_assoc}
+use Rattle.std.proofs.Common.{arith, ◌≡◌, ◌++◌, ◌∷◌, [], ◌∙◌, sym, ap, append_assoc, length}
 use Rattle.std.specs.Vec.Iter.{into_iter_items}
 use Rattle.ordup_world.specs.Events.{past_after}
 use Rattle.ordup_world.proofs.RunLemmas.{all_yielded, past_after-push, AreAnswers-push}
@@ -40,12 +40,13 @@ returns-clause-imports g c =
 pub loop-event-init : goal.loop-event-init
 loop-event-init g c =
     let gives = c.into_iter-event-iterator.ensures.into_iter_gives in
+    let started = c.in_ok-world.ensures in
     record {
       left = gives.0;
-      room = omega (arith, gives.1, c.len.ensures, c.in-Ok.ensures.len, c.in-Ok.ensures.capacity);
-      setup = c.in_ok-world.ensures.setup;
-      sound = c.in_ok-world.ensures.sound;
-      limits = c.in_ok-world.ensures.limits;
-      answers = rw c.in-Ok.ensures.items tt;
-      state = c.in_ok-world.ensures.state;
+      room = omega (arith, gives.1, c.len.ensures, ap length started.answers, started.room);
+      setup = started.setup;
+      sound = started.sound;
+      limits = started.limits;
+      answers = rw started.answers tt;
+      state = started.state;
     }

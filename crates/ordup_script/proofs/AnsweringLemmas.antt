@@ -11,11 +11,11 @@ use Rattle.ordup_world.specs.declared.event.Answer.{Answer}
 use Rattle.ordup_world.specs.declared.event.Answer.TheVariants.{Refused}
 use Rattle.ordup_script.specs.Sessions.{Session, Stands, declaring, running, Declares, IsWorldOf}
 use Rattle.ordup_script.specs.Leaves.{Leaves, LeavesRunning}
-use Rattle.ordup_script.specs.Lines.{Line}
-use Rattle.ordup_script.specs.Asked.{Asked, asked_by}
+use Rattle.ordup_grammar.specs.Lines.{Line}
+use Rattle.ordup_grammar.specs.Asked.{Asked, asked_by}
 use Rattle.ordup_script.specs.Answered.{Answers}
 use Rattle.ordup_script.specs.declared.script_end.ScriptEnd.{ScriptEnd}
-use Rattle.ordup_script.specs.Commands as asked
+use Rattle.ordup_grammar.specs.Commands as asked
 use Rattle.ordup_script.specs.Replies.{asked_reply, event_reply, reply, request_reply, subject_of, object_of}
 use Rattle.ordup_script.specs.Texts.{value_text, values_text, answer_text}
 

@@ -2,11 +2,7 @@ pub mod TextLemmas
 pub mod RefusalLemmas
 pub mod NearLemmas
 pub mod AnsweringLemmas
-pub mod ChangeParts
-pub mod Decimals
-pub mod Splits
 pub mod Lines
-pub mod HoldingLemmas
 pub mod Steps
 pub mod PlanSteps
 pub mod Sending

@@ -8,7 +8,8 @@ use Rattle.std.proofs.lemmas.List.Sums.{fails_before_first}
 use Rattle.std.proofs.lemmas.Bool.{eqb-true}
 use Rattle.std.proofs.lemmas.Bool.Decides.{nat_tests}
 use Rattle.std.proofs.lemmas.Grind.{common_steps}
-use Rattle.ordup_script.specs.Lines.{Continues, IsPart, Line, Progress, cut, is_line_feed, last, lines_of}
+use Rattle.ordup_grammar.specs.Lines.{IsPart, Line, cut, is_line_feed}
+use Rattle.ordup_script.specs.Scripts.{Continues, Progress, last, lines_of}
 
 -- ---- the parts between line feeds
 

@@ -7,7 +7,8 @@ use Rattle.ordup_script.specs.declared.plan.Plan.{Plan}
 use Rattle.ordup_script.specs.declared.plan_reader.PlanReader.{PlanReader}
 use Rattle.ordup_script.specs.declared.plan_reader.PlanFault.{PlanFault}
 use Rattle.ordup_script.specs.declared.plan_reader.PlanFault.TheVariants as fault
-use Rattle.ordup_script.specs.Lines.{Continues, IsPart, Line, Progress, after_lines, last, lines_of}
+use Rattle.ordup_grammar.specs.Lines.{IsPart, Line}
+use Rattle.ordup_script.specs.Scripts.{Continues, Progress, after_lines, last, lines_of}
 use Rattle.ordup_script.specs.Plans.{PlanState, malformed, planned, first_plan, plan_of, plan_result}
 use Rattle.ordup_script.specs.PlanInside.{plan_state}
 use Rattle.ordup_script.specs.PlanRuns.{Belongs, FeedsPlan, HasPlanned, IsPlanAt, PassesPlan, ReadsPlan, Tells, plan_start}

@@ -1,8 +1,9 @@
 -- What each step of a reader of plans adds to how far it has come.
 use Rattle.std.proofs.Common.{◌≡◌, ◌∙◌, sym, ap, subst, ℕ, ◌<◌, true, List, [], ◌∷◌, ◌++◌, length}
 use Rattle.ordup_script.specs.declared.plan_reader.PlanReader.{PlanReader}
-use Rattle.ordup_script.specs.Lines.{Continues, IsPart, Progress, cut, last}
-use Rattle.ordup_script.specs.Holding.{Holds}
+use Rattle.ordup_grammar.specs.Lines.{IsPart, cut}
+use Rattle.ordup_script.specs.Scripts.{Continues, Progress, last}
+use Rattle.ordup_grammar.specs.Holding.{Holds}
 use Rattle.ordup_script.specs.Plans.{PlanState, planned}
 use Rattle.ordup_script.specs.PlanInside.{plan_state}
 use Rattle.ordup_script.specs.PlanRuns.{FeedsPlan, IsPlanAt}

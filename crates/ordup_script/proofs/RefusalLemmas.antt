@@ -5,7 +5,7 @@ use Rattle.ordup_objects.specs.declared.refusal.Refusal.TheVariants.{NoMemory}
 use Rattle.ordup_objects.specs.Refusals.{IsRefusal}
 use Rattle.std.specs.Prelude.{Err}
 use Rattle.ordup_primary.specs.Declarations.{Declared}
-use Rattle.ordup_script.specs.Commands.{Action}
+use Rattle.ordup_grammar.specs.Commands.{Action}
 use Rattle.ordup_script.specs.Replies.{event_of}
 use Rattle.ordup_script.specs.Leaves.{IsRefusedBy, IsEventOf}
 

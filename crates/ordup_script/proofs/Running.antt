@@ -10,7 +10,8 @@ use Rattle.ordup_script.specs.declared.stream.ScriptFault.{ScriptFault}
 use Rattle.ordup_script.specs.declared.stream.ScriptFault.TheVariants as fault
 use Rattle.ordup_script.specs.Sessions.{Stands}
 use Rattle.ordup_script.specs.Replies.{reply}
-use Rattle.ordup_script.specs.Lines.{Continues, IsPart, Line, Progress, after_lines, last, lines_of}
+use Rattle.ordup_grammar.specs.Lines.{IsPart, Line}
+use Rattle.ordup_script.specs.Scripts.{Continues, Progress, after_lines, last, lines_of}
 use Rattle.ordup_script.specs.Written.{Written, answered, out, out_of_ended, session_after, start}
 use Rattle.ordup_script.specs.Held.{Feeds, Finishes, IsAt}
 use Rattle.ordup_script.specs.Sent.{AppendsFront}

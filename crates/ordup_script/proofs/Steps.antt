@@ -4,9 +4,10 @@ use Rattle.ordup_script.specs.declared.script_end.ScriptEnd.{ScriptEnd}
 use Rattle.ordup_script.specs.declared.engine.Engine.{Engine}
 use Rattle.ordup_script.specs.Replies.{reply}
 use Rattle.ordup_script.specs.Answered.{Answers}
-use Rattle.ordup_script.specs.Lines.{Continues, IsPart, Progress, cut}
+use Rattle.ordup_grammar.specs.Lines.{IsPart, cut}
+use Rattle.ordup_script.specs.Scripts.{Continues, Progress}
 use Rattle.ordup_script.specs.Written.{Written, answered}
-use Rattle.ordup_script.specs.Holding.{Holds}
+use Rattle.ordup_grammar.specs.Holding.{Holds}
 use Rattle.ordup_script.specs.Held.{Feeds, Finishes}
 use Rattle.ordup_script.proofs.Lines.{Continues-trans, ends, joins, last-line, last-nothing}
 

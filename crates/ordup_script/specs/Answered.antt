@@ -1,7 +1,7 @@
 -- What answering a line does.
 use Rattle.std.specs.Prelude.{◌≡◌, ℕ, List, ◌++◌}
 use Rattle.ordup_script.specs.declared.script_end.ScriptEnd.{ScriptEnd}
-use Rattle.ordup_script.specs.Lines.{Line}
+use Rattle.ordup_grammar.specs.Lines.{Line}
 use Rattle.ordup_script.specs.Sessions.{Session, Stands}
 use Rattle.ordup_script.specs.Replies.{reply}
 

@@ -3,8 +3,8 @@ use Rattle.std.specs.Prelude.{◌≡◌, ℕ, true, List, []}
 use Rattle.ordup_script.specs.declared.script_end.ScriptEnd.{ScriptEnd}
 use Rattle.ordup_script.specs.declared.engine.Engine.{Engine}
 use Rattle.ordup_script.specs.Sessions.{Stands}
-use Rattle.ordup_script.specs.Lines.{Continues, Progress, last}
-use Rattle.ordup_script.specs.Holding.{Holds}
+use Rattle.ordup_script.specs.Scripts.{Continues, Progress, last}
+use Rattle.ordup_grammar.specs.Holding.{Holds}
 use Rattle.ordup_script.specs.Written.{Written, answered}
 
 -- the engine has come this far, with these bytes written

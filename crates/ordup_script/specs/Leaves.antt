@@ -5,7 +5,7 @@ use Rattle.ordup_objects.specs.declared.refusal.Refusal.TheVariants.{NoMemory}
 use Rattle.ordup_primary.specs.Declarations.{Declared}
 use Rattle.ordup_world.specs.Standings.{Standing}
 use Rattle.ordup_world.specs.declared.event.Event.{Event}
-use Rattle.ordup_script.specs.Commands.{Action}
+use Rattle.ordup_grammar.specs.Commands.{Action}
 use Rattle.ordup_script.specs.Sessions.{Declares, IsWorldOf, Stands}
 use Rattle.ordup_script.specs.Replies.{Reply, event_of}
 use Rattle.ordup_script.specs.declared.script_end.ScriptEnd.{ScriptEnd}

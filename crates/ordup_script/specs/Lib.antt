@@ -1,10 +1,4 @@
-pub mod NumberInside
-pub mod Numbers
-pub mod Lines
-pub mod Words
-pub mod Commands
-pub mod Asked
-pub mod CommandViews
+pub mod Scripts
 pub mod Names
 pub mod Near
 pub mod Texts
@@ -13,7 +7,6 @@ pub mod Replies
 pub mod Answered
 pub mod Leaves
 pub mod Written
-pub mod Holding
 pub mod Plans
 pub mod PlanInside
 pub mod PlanRuns

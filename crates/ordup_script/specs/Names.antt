@@ -7,7 +7,7 @@ use Rattle.ordup_objects.specs.declared.change.Op.TheVariants.{Add, Set, Mul, Ma
 use Rattle.ordup_log.specs.declared.scope.Scope.{Scope}
 use Rattle.ordup_log.specs.declared.scope.Scope.TheVariants.{Object, Group, All, Count}
 use Rattle.ordup_primary.specs.Declarations.{Declared}
-use Rattle.ordup_script.specs.Commands.{NamedOp, NamedChange, NamedScope, add_by, set_to, multiply_by, at_least, at_most, take_from, on_object, on_group, on_all, on_count}
+use Rattle.ordup_grammar.specs.Commands.{NamedOp, NamedChange, NamedScope, add_by, set_to, multiply_by, at_least, at_most, take_from, on_object, on_group, on_all, on_count}
 
 -- the place of a name in a table, or the place after the last
 abbrev pub place_among : {V : Type 0} → List (List ℕ × V) → List ℕ → ℕ

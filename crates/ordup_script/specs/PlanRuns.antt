@@ -7,8 +7,8 @@ use Rattle.ordup_script.specs.declared.plan.Plan.{Plan}
 use Rattle.ordup_script.specs.declared.plan_reader.PlanReader.{PlanReader}
 use Rattle.ordup_script.specs.declared.plan_reader.PlanFault.{PlanFault}
 use Rattle.ordup_script.specs.declared.plan_reader.PlanFault.TheVariants as fault
-use Rattle.ordup_script.specs.Lines.{Continues, Progress, after_lines, lines_of}
-use Rattle.ordup_script.specs.Holding.{Holds}
+use Rattle.ordup_script.specs.Scripts.{Continues, Progress, after_lines, lines_of}
+use Rattle.ordup_grammar.specs.Holding.{Holds}
 use Rattle.ordup_script.specs.Plans.{PlanState, planning, malformed, planned, first_plan, plan_of}
 use Rattle.ordup_script.specs.PlanInside.{plan_state}
 

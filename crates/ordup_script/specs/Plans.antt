@@ -4,9 +4,10 @@ use Rattle.ordup_objects.specs.declared.change.Change.{Change}
 use Rattle.ordup_objects.specs.declared.refusal.Refusal.{Refusal}
 use Rattle.ordup_objects.specs.Sets.{set_refusal}
 use Rattle.ordup_primary.specs.Declarations.{Declared, start_refusal}
-use Rattle.ordup_script.specs.Lines.{Line, after_lines, lines_of}
-use Rattle.ordup_script.specs.Commands.{Action, Request, propose, send, apply, report, settle, begin, read, end, abandon, show, declare, start, act}
-use Rattle.ordup_script.specs.Asked.{Asked, nothing, no_command, asks, asked_by}
+use Rattle.ordup_grammar.specs.Lines.{Line}
+use Rattle.ordup_script.specs.Scripts.{after_lines, lines_of}
+use Rattle.ordup_grammar.specs.Commands.{Action, Request, propose, send, apply, report, settle, begin, read, end, abandon, show, declare, start, act}
+use Rattle.ordup_grammar.specs.Asked.{Asked, nothing, no_command, asks, asked_by}
 use Rattle.ordup_script.specs.Names.{changes_in}
 use Rattle.ordup_script.specs.Replies.{declaration_refusal, declared_with}
 

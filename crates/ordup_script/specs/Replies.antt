@@ -12,10 +12,10 @@ use Rattle.ordup_world.specs.Events.{Past, later}
 use Rattle.ordup_world.specs.Events.{reply as event_answer}
 use Rattle.ordup_world.specs.declared.event.Event.{Event}
 use Rattle.ordup_world.specs.declared.event.Event.TheVariants.{Propose, Send, Apply, Report, Settle, Begin, Read, End, Abandon, Show}
-use Rattle.ordup_script.specs.Lines.{Line}
-use Rattle.ordup_script.specs.Numbers.{amount_of}
-use Rattle.ordup_script.specs.Commands.{Declaration, Action, Request, object, group, site, limit, propose, send, apply, report, settle, begin, read, end, abandon, show, declare, start, act}
-use Rattle.ordup_script.specs.Asked.{Asked, nothing, no_command, asks, asked_by}
+use Rattle.ordup_grammar.specs.Lines.{Line}
+use Rattle.ordup_grammar.specs.Numbers.{amount_of}
+use Rattle.ordup_grammar.specs.Commands.{Declaration, Action, Request, object, group, site, limit, propose, send, apply, report, settle, begin, read, end, abandon, show, declare, start, act}
+use Rattle.ordup_grammar.specs.Asked.{Asked, nothing, no_command, asks, asked_by}
 use Rattle.ordup_script.specs.Names.{place_among, places_among, changes_in, scope_in}
 use Rattle.ordup_script.specs.Sessions.{Session, declaring, running}
 use Rattle.ordup_script.specs.Texts.{refused_text, named_text, answer_text}

@@ -6,7 +6,7 @@ use Rattle.ordup_script.specs.declared.engine.Engine.{Engine}
 use Rattle.ordup_script.specs.declared.stream.ScriptFault.{ScriptFault}
 use Rattle.ordup_script.specs.declared.stream.ScriptFault.TheVariants as fault
 use Rattle.ordup_script.specs.Sessions.{Stands}
-use Rattle.ordup_script.specs.Lines.{Progress, Continues, last}
+use Rattle.ordup_script.specs.Scripts.{Progress, Continues, last}
 use Rattle.ordup_script.specs.Written.{Written, answered, out, out_of_ended, session_after, start}
 use Rattle.ordup_script.specs.Held.{Feeds, Finishes, IsAt}
 use Rattle.ordup_script.specs.Sent.{AppendsFront}

@@ -1,6 +1,7 @@
 -- What is written for a script, line by line.
 use Rattle.std.specs.Prelude.{ℕ, true, false, List, [], ◌++◌}
-use Rattle.ordup_script.specs.Lines.{Line, Progress, after_lines, lines_of}
+use Rattle.ordup_grammar.specs.Lines.{Line}
+use Rattle.ordup_script.specs.Scripts.{Progress, after_lines, lines_of}
 use Rattle.ordup_script.specs.Sessions.{Session, first_session}
 use Rattle.ordup_script.specs.Replies.{reply}
 

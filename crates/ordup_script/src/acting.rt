@@ -1,16 +1,14 @@
 //! Actions of a script to events of the world.
 ghost use Rattle.std.specs.Prelude.{◌≡◌, Ok, Err, IfOk, IfErr};
 ghost use Rattle.ordup_objects.specs.Names.{is_name};
-ghost use Rattle.ordup_script.specs.Commands as asked;
-ghost use Rattle.ordup_script.specs.CommandViews.{action_named, named_changes};
+ghost use Rattle.ordup_grammar.specs.Commands as asked;
+ghost use Rattle.ordup_grammar.specs.CommandViews.{action_named, named_changes};
 ghost use Rattle.ordup_script.specs.Replies.{event_of, subject_of, object_of};
 ghost use Rattle.ordup_primary.specs.Declarations.{Declared};
 ghost use Rattle.ordup_script.specs.Leaves.{IsEventOf};
 
-use crate::change_words::ChangeWords;
-use crate::command::Action;
 use crate::naming::{find_object, find_set, find_site};
-use crate::number::Number;
+use ordup_grammar::{Action, ChangeWords, Number};
 use ordup_objects::{Name, Refusal};
 use ordup_world::{Event, Setup};
 use std::alloc::Allocator;

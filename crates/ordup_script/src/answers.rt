@@ -2,21 +2,20 @@
 ghost use Rattle.std.specs.Prelude.{◌≡◌, ◌++◌, OnOk};
 ghost use Rattle.ordup_world.specs.Standings.{StandsFor};
 ghost use Rattle.ordup_world.specs.Events.{Past};
-ghost use Rattle.ordup_script.specs.Words.{words_of};
-ghost use Rattle.ordup_script.specs.Asked.{asked_request};
-ghost use Rattle.ordup_script.specs.Commands as commands;
-ghost use Rattle.ordup_script.specs.Commands.{request_of};
-ghost use Rattle.ordup_script.specs.CommandViews.{declaration_named, action_named, request_named, asked_named};
+ghost use Rattle.ordup_grammar.specs.Words.{words_of};
+ghost use Rattle.ordup_grammar.specs.Asked.{asked_request};
+ghost use Rattle.ordup_grammar.specs.Commands as commands;
+ghost use Rattle.ordup_grammar.specs.Commands.{request_of};
+ghost use Rattle.ordup_grammar.specs.CommandViews.{declaration_named, action_named, request_named, asked_named};
 ghost use Rattle.ordup_script.specs.Sessions.{Session, Stands};
 ghost use Rattle.ordup_script.specs.Replies.{asked_reply, request_reply, declared_reply, running_reply, event_reply, declared_text, subject_of, object_of};
 ghost use Rattle.ordup_script.specs.Leaves.{LeavesDeclared, LeavesRunning, Leaves};
 
 use crate::acting::event;
-use crate::asked::Asked;
-use crate::command::{Action, Command, Declaration};
 use crate::declaring::declare;
 use crate::script_end::ScriptEnd;
 use crate::text::{push_answer, push_named, push_refused};
+use ordup_grammar::{Action, Asked, Command, Declaration};
 use ordup_objects::Refusal;
 use ordup_world::{Event, Setup, World};
 use std::alloc::{AllocError, Allocator};

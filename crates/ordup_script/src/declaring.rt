@@ -1,14 +1,13 @@
 //! Declarations of a script to those of a setup.
 ghost use Rattle.std.specs.Prelude.{◌≡◌, None, OnOk, IfErr};
-ghost use Rattle.ordup_script.specs.Words.{words_of};
-ghost use Rattle.ordup_script.specs.Commands as asked;
-ghost use Rattle.ordup_script.specs.CommandViews.{declaration_named, named_scope};
+ghost use Rattle.ordup_grammar.specs.Words.{words_of};
+ghost use Rattle.ordup_grammar.specs.Commands as asked;
+ghost use Rattle.ordup_grammar.specs.CommandViews.{declaration_named, named_scope};
 ghost use Rattle.ordup_script.specs.Replies.{declaration_refusal, declared_with};
 ghost use Rattle.ordup_script.specs.Leaves.{IsRefusedBy};
 
-use crate::command::{Declaration, ScopeWord};
 use crate::naming::{find_objects, find_scope, find_site};
-use crate::number::Number;
+use ordup_grammar::{Declaration, Number, ScopeWord};
 use ordup_objects::Refusal;
 use ordup_world::Setup;
 use std::alloc::Allocator;

@@ -1,24 +1,15 @@
 //! Pieces of a script to answers. A line that lies within a piece is answered where it lies; what a piece leaves
 //! unended is held until a later piece ends it.
-ghost use Rattle.std.specs.Prelude.{◌≡◌, ℕ, List, [], ◌∷◌, ◌++◌, ◌<◌, ◌≤◌, IfOk, OnOk, true, false, vec_len, length, position};
+ghost use Rattle.std.specs.Prelude.{◌≡◌, ℕ, List, [], ◌∷◌, ◌++◌, ◌<◌, ◌≤◌, IfOk, OnOk, true, false, vec_len, length};
 ghost use Rattle.ordup_script.specs.Answered.{Answers};
-ghost use Rattle.ordup_script.specs.Lines.{IsPart, cut, is_line_feed};
-ghost use Rattle.ordup_script.specs.Holding.{Holds};
+ghost use Rattle.ordup_grammar.specs.Lines.{IsPart, cut};
+ghost use Rattle.ordup_grammar.specs.Holding.{Holds};
 ghost use Rattle.ordup_script.specs.Written.{start};
 
 use crate::answers::answer;
-use crate::asked::Asked;
-use crate::line_buffer::LineBuffer;
 use crate::script_end::ScriptEnd;
-use memchr::memchr;
+use ordup_grammar::{Asked, LineBuffer, find_line_feed};
 use std::alloc::{AllocError, Allocator, Global};
-
-/// The index of the first line feed.
-pub(crate) fn find_line_feed(bytes: &[u8]) -> Option<usize>
-    ensures { result ≡ position is_line_feed bytes.now }
-{
-    memchr(b'\n', bytes)
-}
 
 /// Runs a script that comes in pieces. It holds the part of a line that no piece has ended yet.
 #[derive(Drop)]

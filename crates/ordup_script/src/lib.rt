@@ -5,25 +5,16 @@
 
 mod acting;
 mod answers;
-mod asked;
-mod change_words;
-mod command;
 mod declaring;
 mod engine;
-mod line_buffer;
 mod naming;
-mod number;
 mod plan;
 mod plan_reader;
 mod script_end;
 pub mod sizes;
 mod stream;
 mod text;
-mod words;
 
-pub use change_words::{ChangeWord, ChangeWords, Operation};
-pub use command::{Action, Command, Declaration, ScopeWord};
-pub use number::{Number, decimals_read_back, numbers_are_decimals};
 pub use plan::Plan;
 pub use plan_reader::{PlanFault, read_plan, read_plan_within};
 pub use script_end::ScriptEnd;

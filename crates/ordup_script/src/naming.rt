@@ -2,15 +2,13 @@
 //! last, which every call refuses as unknown in its turn.
 ghost use Rattle.std.specs.Prelude.{◌≡◌, IfOk, IfErr, None, Some, length, map};
 ghost use Rattle.ordup_objects.specs.Sets.{set_refusal};
-ghost use Rattle.ordup_script.specs.Words.{words_of};
-ghost use Rattle.ordup_script.specs.CommandViews.{named_op, named_change, named_changes, named_scope};
+ghost use Rattle.ordup_grammar.specs.Words.{words_of};
+ghost use Rattle.ordup_grammar.specs.CommandViews.{named_op, named_change, named_changes, named_scope};
 ghost use Rattle.ordup_script.specs.Names.{place_among, places_among, change_in, changes_in, op_in, scope_in};
 ghost use Rattle.ordup_script.specs.Near.{near_op, near_change, near_changes};
 ghost use Rattle.ordup_script.specs.Leaves.{IsRefusedBy};
 
-use crate::change_words::{ChangeWord, ChangeWords, Operation};
-use crate::command::ScopeWord;
-use crate::words::split_word;
+use ordup_grammar::{ChangeWord, ChangeWords, Operation, ScopeWord, split_word};
 use ordup_limits::{GroupId, Groups, Scope};
 use ordup_objects::{Change, MessageSet, ObjectId, ObjectTable, Op, Refusal, SiteId};
 use ordup_world::Setup;

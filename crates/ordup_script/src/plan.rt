@@ -1,14 +1,12 @@
 ghost use Rattle.std.specs.Prelude.{◌≡◌, ◌+◌, ◌<◌, ◌≤◌, true, false, None, [], ◌∷◌, ◌++◌, OnOk};
-ghost use Rattle.ordup_script.specs.CommandViews.{asked_named, request_named, declaration_named, named_changes};
-ghost use Rattle.ordup_script.specs.Commands as commands;
+ghost use Rattle.ordup_grammar.specs.CommandViews.{asked_named, request_named, declaration_named, named_changes};
+ghost use Rattle.ordup_grammar.specs.Commands as commands;
 ghost use Rattle.ordup_script.specs.Plans.{asked_in, request_in, first_plan, malformed};
 ghost use Rattle.ordup_script.specs.PlanInside.{plan_state};
 
-use crate::asked::Asked;
-use crate::change_words::ChangeWords;
-use crate::command::{Action, Command, Declaration};
 use crate::declaring::declare;
 use crate::naming::find_set;
+use ordup_grammar::{Action, Asked, ChangeWords, Command, Declaration};
 use ordup_objects::{MessageSet, Refusal};
 use ordup_world::Setup;
 use std::alloc::{AllocError, Allocator, Global};

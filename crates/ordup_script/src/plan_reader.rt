@@ -1,17 +1,16 @@
 //! A plan from a reader.
 ghost use Rattle.std.specs.Prelude.{◌≡◌, ◌+◌, ◌<◌, ◌≤◌, ℕ, List, [], ◌∷◌, ◌++◌, OnOk, true, length};
-ghost use Rattle.ordup_script.specs.Lines.{IsPart, Progress, cut, last};
-ghost use Rattle.ordup_script.specs.Holding.{Holds};
+ghost use Rattle.ordup_grammar.specs.Lines.{IsPart, cut};
+ghost use Rattle.ordup_script.specs.Scripts.{Progress, last};
+ghost use Rattle.ordup_grammar.specs.Holding.{Holds};
 ghost use Rattle.ordup_script.specs.declared.sizes.TheConstants.{MOST_SCRIPT_BYTES};
 ghost use Rattle.ordup_script.specs.Plans.{PlanState, asked_in, planned, plan_result};
 ghost use Rattle.ordup_script.specs.PlanInside.{plan_state};
 ghost use Rattle.ordup_script.specs.PlanRuns.{IsPlanAt, PassesPlan, PassesWhole, ReadsPlan, Tells, plan_start};
 
-use crate::asked::Asked;
-use crate::engine::find_line_feed;
-use crate::line_buffer::LineBuffer;
 use crate::plan::{Plan, Planning};
 use crate::sizes::{MOST_SCRIPT_BYTES, PIECE};
+use ordup_grammar::{Asked, LineBuffer, find_line_feed};
 use std::alloc::{AllocError, Allocator, Global};
 use std::io::Read;
 

@@ -1,7 +1,5 @@
 //! The sizes of a script.
 
-/// The most bytes of a line, its line feed not counted.
-pub const MOST_LINE_BYTES: usize = 4_096;
 /// The most bytes of a script.
 pub const MOST_SCRIPT_BYTES: u64 = 1_073_741_824;
 /// How many bytes of a script are read at once.

@@ -1,7 +1,7 @@
 use Rattle.std.proofs.Common.{◌∙◌, ap}
 use Rattle.std.proofs.lemmas.Result.{on_ok_weaker}
 use Rattle.ordup_primary.specs.Primaries.{PrimaryState}
-use Rattle.ordup_script.specs.CommandViews.{action_named}
+use Rattle.ordup_grammar.specs.CommandViews.{action_named}
 use Rattle.ordup_script.proofs.AnsweringLemmas.{left_by_event}
 use Rattle.ordup_script.proofs.answers.answer_event.Goals as goal
 

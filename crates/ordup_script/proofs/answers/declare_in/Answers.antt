@@ -1,6 +1,6 @@
 use Rattle.std.proofs.lemmas.Result.{on_ok_weaker}
-use Rattle.ordup_script.specs.Commands as commands
-use Rattle.ordup_script.specs.CommandViews.{declaration_named}
+use Rattle.ordup_grammar.specs.Commands as commands
+use Rattle.ordup_grammar.specs.CommandViews.{declaration_named}
 use Rattle.ordup_script.specs.Replies.{request_reply}
 use Rattle.ordup_script.specs.Leaves.{LeavesDeclared}
 use Rattle.ordup_script.proofs.AnsweringLemmas.{at_declaring}

@@ -1,7 +1,7 @@
 use Rattle.std.proofs.Common.{◌≡◌, ◌++◌, ◌∷◌, [], ◌∙◌, codes, sym, ap, None}
 use Rattle.std.proofs.lemmas.Result.{on_ok_weaker}
 use Rattle.ordup_primary.specs.Declarations.{start_refusal}
-use Rattle.ordup_script.specs.Commands as commands
+use Rattle.ordup_grammar.specs.Commands as commands
 use Rattle.ordup_script.specs.Replies.{request_reply}
 use Rattle.ordup_script.specs.Leaves.{LeavesRunning}
 use Rattle.ordup_script.proofs.AnsweringLemmas.{added_where_ok, at_declaring, started}

@@ -1,5 +1,5 @@
 use Rattle.std.proofs.Common.{rules, ◌≡◌}
-use Rattle.ordup_script.specs.Words.{words_of}
+use Rattle.ordup_grammar.specs.Words.{words_of}
 use Rattle.ordup_script.specs.Names.{places_among}
 use Rattle.ordup_script.proofs.RefusalLemmas.{refused_by_call}
 use Rattle.ordup_script.proofs.declaring.declare_group.Goals as goal

@@ -1,7 +1,7 @@
 use Rattle.std.proofs.Common.{◌≡◌, ◌++◌, length}
-use Rattle.ordup_script.specs.Words.{words_of}
-use Rattle.ordup_script.specs.Commands.{changes_of}
-use Rattle.ordup_script.specs.CommandViews.{named_changes}
+use Rattle.ordup_grammar.specs.Words.{words_of}
+use Rattle.ordup_grammar.specs.Commands.{changes_of}
+use Rattle.ordup_grammar.specs.CommandViews.{named_changes}
 use Rattle.ordup_script.specs.Names.{changes_in}
 use Rattle.ordup_script.specs.Near.{near_changes}
 use Rattle.ordup_script.proofs.naming.find_changes.Given as goal

@@ -1,5 +1,5 @@
 use Rattle.std.proofs.Common.{◌≡◌, ◌++◌, length}
-use Rattle.ordup_script.specs.Words.{words_of}
+use Rattle.ordup_grammar.specs.Words.{words_of}
 use Rattle.ordup_script.specs.Names.{places_among}
 use Rattle.ordup_script.proofs.naming.find_objects.Given as goal
 

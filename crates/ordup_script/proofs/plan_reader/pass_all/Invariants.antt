@@ -1,6 +1,6 @@
 use Rattle.std.proofs.Common.{◌≡◌, ℕ, ◌+◌, ◌-◌, ◌≤◌, List, length}
 use Rattle.std.specs.Io.KnownBytes.{Consumes}
-use Rattle.ordup_script.specs.Lines.{Continues, Progress}
+use Rattle.ordup_script.specs.Scripts.{Continues, Progress}
 use Rattle.ordup_script.specs.Plans.{PlanState, planned}
 use Rattle.ordup_script.specs.PlanInside.{plan_state}
 use Rattle.ordup_script.specs.PlanRuns.{Belongs, IsPlanAt, plan_start}

@@ -1,6 +1,6 @@
 use Rattle.std.proofs.Common.{◌≡◌, ℕ, ◌+◌, ◌-◌, ◌≤◌, List, length}
 use Rattle.std.specs.Io.KnownBytes.{Appends, Consumes}
-use Rattle.ordup_script.specs.Lines.{Continues, Progress}
+use Rattle.ordup_script.specs.Scripts.{Continues, Progress}
 use Rattle.ordup_script.specs.Written.{Written, answered, start}
 use Rattle.ordup_script.specs.declared.sizes.TheConstants.{PIECE}
 use Rattle.ordup_script.specs.Held.{IsAt}

@@ -1,5 +1,5 @@
 use Rattle.std.proofs.lemmas.Result.{on_ok_weaker}
-use Rattle.ordup_script.specs.Lines.{cut}
+use Rattle.ordup_grammar.specs.Lines.{cut}
 use Rattle.ordup_script.proofs.AnsweringLemmas.{answers_asked}
 use Rattle.ordup_script.proofs.engine.Engine.answer_held.Goals as goal
 

@@ -1,0 +1,4 @@
+pub mod ChangeParts
+pub mod Decimals
+pub mod Splits
+pub mod HoldingLemmas

@@ -1,0 +1,98 @@
+ghost use Rattle.std.specs.Prelude.{◌≡◌, ◌<◌, ◌≤◌, unsigned_abs};
+ghost use Rattle.std.specs.Int.{saturate_signed, w64};
+ghost use Rattle.ordup_grammar.specs.Numbers.{magnitude_of, number_of, amount_of, DecimalsReadBack, NumbersAreDecimals};
+
+use std::marker::Model;
+
+/// A whole number as a script writes it: at most 19 digits, so between -(10^19 - 1) and 10^19 - 1. Zero has no sign.
+#[derive(Clone, Copy, Debug, PartialEq, Eq)]
+pub struct Number {
+    is_negative: bool,
+    magnitude: u64,
+}
+
+impl Model for Number {
+    ghost use Rattle.std.specs.Prelude.{ℤ};
+
+    ghost Value = { ℤ };
+
+    ghost use Rattle.ordup_grammar.specs.NumberInside.{value_of, IsNumber, inside_of};
+
+    ghost view = { value_of };
+
+    ghost invariant = { IsNumber };
+
+    ghost inverse = { inside_of };
+}
+
+impl Number {
+    /// The number that a word writes: an optional minus and 1 to 19 digits, with no plus, no zero in front of other
+    /// digits and no minus before 0.
+    pub fn parse(word: &[u8]) -> Option<Number>
+        ensures { result ≡ number_of word.now }
+    {
+        let (is_negative, digits) = match word {
+            [b'-', digits @ ..] => (true, digits),
+            _ => (false, word),
+        };
+        let magnitude = parse_magnitude(digits)?;
+        if is_negative && magnitude == 0 {
+            return None;
+        }
+        Some(Number {
+            is_negative,
+            magnitude,
+        })
+    }
+
+    /// The number where it fits, else the `i64` nearest to it.
+    pub fn value(self) -> i64
+        ensures nearest { result ≡ saturate_signed w64 self }
+        ensures exact { unsigned_abs self ≤ 1000000000 → result ≡ self }
+        ensures far { 1000000000 < unsigned_abs self → 1000000000 < unsigned_abs result }
+    {
+        if self.is_negative {
+            0i64.saturating_sub_unsigned(self.magnitude)
+        } else {
+            0i64.saturating_add_unsigned(self.magnitude)
+        }
+    }
+
+    /// The number where it is not negative, else the greatest `u64`: a negative number counts as above every size.
+    pub fn amount(self) -> u64
+        ensures { result ≡ amount_of self }
+    {
+        if self.is_negative {
+            u64::MAX
+        } else {
+            self.magnitude
+        }
+    }
+}
+
+/// The number that 1 to 19 digits write, with no zero in front of others.
+fn parse_magnitude(digits: &[u8]) -> Option<u64>
+    ensures { result ≡ magnitude_of digits.now }
+{
+    if digits.is_empty() || digits.len() > 19 || (digits[0] == b'0' && digits.len() > 1) {
+        return None;
+    }
+    let mut magnitude = 0u64;
+    for digit in digits {
+        if !digit.is_ascii_digit() {
+            return None;
+        }
+        magnitude = magnitude * 10 + u64::from(*digit - b'0');
+    }
+    Some(magnitude)
+}
+
+/// A law: the decimal text of a number of at most 19 digits reads back as that number.
+pub fn decimals_read_back()
+    ensures { DecimalsReadBack }
+{}
+
+/// A law: a word that reads as a number is the decimal text of that number, which has at most 19 digits.
+pub fn numbers_are_decimals()
+    ensures { NumbersAreDecimals }
+{}

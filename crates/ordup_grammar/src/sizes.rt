@@ -1,0 +1,4 @@
+//! The sizes of a line.
+
+/// The most bytes of a line, its line feed not counted.
+pub const MOST_LINE_BYTES: usize = 4_096;

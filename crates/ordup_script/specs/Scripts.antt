@@ -1,0 +1,32 @@
+-- The lines of a script, and what a state becomes line by line.
+use Rattle.std.specs.Prelude.{◌≡◌, ℕ, Bool, ◌&&◌, ◌==◌, not, List, [], ◌∷◌, ◌++◌, length, if◌then◌else◌}
+use Rattle.std.specs.List.{slice_split}
+use Rattle.ordup_grammar.specs.Lines.{Line, cut, is_line_feed}
+
+-- the lines among the parts between line feeds: the last part is a line only where it counts and has a byte
+abbrev pub lines_among : Bool → List (List ℕ) → List Line
+lines_among counts [] = []
+lines_among counts (part ∷ []) = if counts && not (length part == 0) then cut part ∷ [] else []
+lines_among counts (part ∷ next ∷ more) = cut part ∷ lines_among counts (next ∷ more)
+
+-- the lines of a script; without the last one where no line feed ends it, if that does not count
+unfoldable pub lines_of : Bool → List ℕ → List Line
+lines_of counts script = lines_among counts (slice_split is_line_feed script)
+
+-- the state after these lines, each of which takes one step
+abbrev pub after_lines : {S : Type 0} → (S → Line → S) → S → List Line → S
+after_lines step s [] = s
+after_lines step s (line ∷ lines) = after_lines step (step s line) lines
+
+-- how far a script has come: the state after the lines that ended, and the bytes of a line that did not
+pub record Progress (S : Type 0) : Type 0 where
+  pub known : S
+  pub held : List ℕ
+
+-- however the script goes on, the state at its end
+abbrev pub last : {S : Type 0} → (S → Line → S) → Bool → Progress S → List ℕ → S
+last step counts p rest = after_lines step p.known (lines_of counts (p.held ++ rest))
+
+-- new stands after old and this piece of the script
+pub record Continues {S : Type 0} (step : S → Line → S) (old new : Progress S) (piece : List ℕ) : Type 0 where
+  pub same : (counts : Bool) (rest : List ℕ) → last step counts new rest ≡ last step counts old (piece ++ rest)

@@ -1,4 +1,5 @@
 use Rattle.std.proofs.Common.{arith, ◌≡◌, ◌<◌, ◌+◌, ◌∙◌, sym, ap, length, get_or}
+use Rattle.std.proofs.lemmas.Grind.{common_steps}
 use Rattle.ordup_objects.specs.Serial.{set_at}
 use Rattle.ordup_primary.specs.Primaries.{progress_at}
 use Rattle.ordup_site.specs.Sites.{SiteState, HasApplied}
@@ -90,3 +91,24 @@ pub returns-clause-grows : goal.returns-clause-grows
 returns-clause-grows g c =
     let w : StoreState = record { primary = c.self.inside.primary; sites = c.self.inside.sites.items } in
     rw (← c.self.view_is) (Grows-applied w _ c.apply.new.self)
+
+pub invariant_of-self : goal.invariant_of-self
+invariant_of-self g c = grind (arith, common_steps)
+
+pub returns-then-applied-sent-clause-answer : goal.returns-then-applied-sent-clause-answer
+returns-then-applied-sent-clause-answer g c = grind (arith, common_steps)
+
+pub returns-then-applied-sent-clause-state : goal.returns-then-applied-sent-clause-state
+returns-then-applied-sent-clause-state g c = grind (arith, common_steps)
+
+pub returns-then-applied-sent-clause-refused : goal.returns-then-applied-sent-clause-refused
+returns-then-applied-sent-clause-refused g c = grind (arith, common_steps)
+
+pub returns-then-applied-sent-clause-sound : goal.returns-then-applied-sent-clause-sound
+returns-then-applied-sent-clause-sound g c = grind (arith, common_steps)
+
+pub set-requires-clause-last : goal.set-requires-clause-last
+set-requires-clause-last g c = grind (arith, common_steps)
+
+pub apply-requires-clause-room : goal.apply-requires-clause-room
+apply-requires-clause-room g c = grind (arith, common_steps)

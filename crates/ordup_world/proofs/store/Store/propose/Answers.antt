@@ -1,4 +1,5 @@
-use Rattle.std.proofs.Common.{◌≡◌, ◌∙◌, true, length, sym, ap}
+use Rattle.std.proofs.Common.{arith, ◌≡◌, ◌∙◌, true, length, sym, ap}
+use Rattle.std.proofs.lemmas.Grind.{common_steps}
 use Rattle.ordup_objects.specs.Sets.{is_over}
 use Rattle.ordup_world.specs.Standings.{StoreState}
 use Rattle.ordup_world.proofs.StoreLemmas.{IsStore-proposed, Grows-proposed, Grows-unchanged}
@@ -44,3 +45,6 @@ pub returns-in-Err-clause-grows : goal.returns-in-Err-clause-grows
 returns-in-Err-clause-grows g c =
     let w : StoreState = record { primary = c.self.inside.primary; sites = c.self.inside.sites.items } in
     rw (← c.self.view_is) (Grows-unchanged w c.propose.new.self c.in-Err.ensures.err)
+
+pub propose-requires : goal.propose-requires
+propose-requires g c = grind (arith, common_steps)

@@ -1,4 +1,5 @@
 use Rattle.std.proofs.Common.{arith, ◌≡◌, ◌<◌, length, get_or}
+use Rattle.std.proofs.lemmas.Grind.{common_steps}
 use Rattle.ordup_site.specs.Sites.{SiteState}
 use Rattle.ordup_world.specs.Standings.{StoreState}
 use Rattle.ordup_world.proofs.StoreLemmas.{IsStore-reported, Grows-sent}
@@ -46,3 +47,9 @@ pub returns-clause-grows : goal.returns-clause-grows
 returns-clause-grows g c =
     let w : StoreState = record { primary = c.self.inside.primary; sites = c.self.inside.sites.items } in
     rw (← c.self.view_is) (Grows-sent w c.report.new.self _ c.report.ensures.noted)
+
+pub report-requires-clause-risen : goal.report-requires-clause-risen
+report-requires-clause-risen g c = grind (arith, common_steps)
+
+pub report-requires-clause-sent : goal.report-requires-clause-sent
+report-requires-clause-sent g c = grind (arith, common_steps)

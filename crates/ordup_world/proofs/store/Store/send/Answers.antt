@@ -1,4 +1,5 @@
 use Rattle.std.proofs.Common.{arith, ◌≡◌, ◌<◌, ◌-◌, ◌+◌, ◌∙◌, sym, ap, length, get_or}
+use Rattle.std.proofs.lemmas.Grind.{common_steps}
 use Rattle.ordup_site.specs.Sites.{SiteState}
 use Rattle.ordup_world.specs.Standings.{StoreState}
 use Rattle.ordup_primary.specs.Primaries.{progress_at}
@@ -78,3 +79,12 @@ pub returns-clause-grows : goal.returns-clause-grows
 returns-clause-grows g c =
     let w : StoreState = record { primary = c.self.inside.primary; sites = c.self.inside.sites.items } in
     rw (← c.self.view_is) (Grows-sent w c.mark_sent.new.self _ c.mark_sent.ensures.marked)
+
+pub overflow_sub-sent : goal.overflow_sub-sent
+overflow_sub-sent g c = grind (arith, common_steps)
+
+pub mark_sent-requires-clause-unsent : goal.mark_sent-requires-clause-unsent
+mark_sent-requires-clause-unsent g c = grind (arith, common_steps)
+
+pub overflow_add-result : goal.overflow_add-result
+overflow_add-result g c = grind (arith, common_steps)

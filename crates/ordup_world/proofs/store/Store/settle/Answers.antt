@@ -1,3 +1,5 @@
+use Rattle.std.proofs.Common.{arith}
+use Rattle.std.proofs.lemmas.Grind.{common_steps}
 use Rattle.ordup_world.specs.Standings.{StoreState}
 use Rattle.ordup_world.proofs.StoreLemmas.{IsStore-settled, Grows-settled}
 use Rattle.ordup_world.proofs.AfterLemmas.{IsStoreAfter-settled}
@@ -33,3 +35,6 @@ pub returns-clause-grows : goal.returns-clause-grows
 returns-clause-grows g c =
     let w : StoreState = record { primary = c.self.inside.primary; sites = c.self.inside.sites.items } in
     rw (← c.self.view_is) (Grows-settled w c.settle.new.self c.self.invariant c.in-Ok.ensures.first c.in-Ok.ensures.later)
+
+pub returns-in-Err-clause-grows : goal.returns-in-Err-clause-grows
+returns-in-Err-clause-grows g c = grind (arith, common_steps)

@@ -1,4 +1,5 @@
 use Rattle.std.proofs.Common.{◌<◌, length, arith}
+use Rattle.std.proofs.lemmas.Grind.{common_steps}
 use Rattle.ordup_world.specs.Standings.{Standing, find_query}
 use Rattle.ordup_world.specs.Reading.{IsRead}
 use Rattle.ordup_world.proofs.WorldLemmas.{IsSound-read, StandsFor-read, if-found, values-known}
@@ -47,3 +48,6 @@ returns-clause-sound g c =
     let w : Standing = record { primary = c.self.inside.store.primary; sites = c.self.inside.store.sites; queries = c.self.inside.queries } in
     let read : IsRead w.queries c.read.new.self c.args.name w.sites c.args.object c.in-Ok.answer = rw c.sites.ensures at c.in-Ok.ensures.ok in
     IsSound-read w c.args.name c.args.object c.in-Ok.answer c.read.new.self c.self.invariant read
+
+pub read-requires-clause-marked : goal.read-requires-clause-marked
+read-requires-clause-marked g c = grind (arith, common_steps)

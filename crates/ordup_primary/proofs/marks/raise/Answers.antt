@@ -1,4 +1,5 @@
 use Rattle.std.proofs.Common.{arith, ◌∙◌, ◌-◌, ◌<◌, length, ap}
+use Rattle.std.proofs.lemmas.Grind.{common_steps}
 use Rattle.std.proofs.Math.ListN.{length-set}
 use Rattle.std.proofs.lemmas.List.{get_or_default}
 use Rattle.ordup_objects.specs.Sets.{repeats}
@@ -42,3 +43,6 @@ loop-change-preserved g c =
           (ap repeats c.changes-changes.ensures.changes ∙ c.changes-changes.ensures.set.distinct) c.change-item.is c.index.ensures (omega (arith, before.count)) c.index_mut.ensures.value c.weight.ensures.weight
           (before.each x lt);
     }
+
+pub returns : goal.returns
+returns g c = grind (arith, common_steps)

@@ -1,4 +1,5 @@
 use Rattle.std.proofs.Common.{arith, refl, ap, ◌+◌}
+use Rattle.std.proofs.lemmas.Grind.{common_steps}
 use Rattle.ordup_primary.specs.Primaries.{SiteProgress, PrimaryState}
 use Rattle.ordup_primary.specs.PrimaryInside.{state_of}
 use Rattle.ordup_primary.proofs.PrimaryLemmas.{view_at, view-set, sent_more, IsPrimary-sent}
@@ -27,3 +28,6 @@ returns-clause-sound g c =
     let lt = rw (← c.self.view_is) at c.requires.site in
     let e = view-set c.self.inside c.index.result c.args.site c.index_mut.result.now (record c.index_mut.result.now { sent = c.index_mut.result.now.sent + 1 }) sent_more c.index.ensures lt c.index_mut.ensures.value refl in
     IsPrimary-sent c.self.inside _ c.args.site c.self.invariant.primary lt (rw (← c.self.view_is) at c.requires.unsent) e
+
+pub index_mut-requires : goal.index_mut-requires
+index_mut-requires g c = grind (arith, common_steps)

@@ -1,4 +1,5 @@
 use Rattle.std.proofs.Common.{arith, rules}
+use Rattle.std.proofs.lemmas.Grind.{common_steps}
 use Rattle.ordup_objects.specs.Sets.{IsSet}
 use Rattle.ordup_primary.specs.PrimaryInside.{state_of}
 use Rattle.ordup_primary.proofs.MarkLemmas.{AreMarks-append}
@@ -18,3 +19,6 @@ pub returns-clause-sound : goal.returns-clause-sound
 returns-clause-sound g c =
     let set : IsSet c.args.set = search rules in
     rw c.in_ok-number.ensures.added (IsPrimary-proposed (state_of c.self.inside) c.args.set c.self.invariant.primary set (rw (← c.self.view_is) at c.requires) c.in_ok-number.ensures.allowed)
+
+pub append-requires : goal.append-requires
+append-requires g c = grind (arith, common_steps)

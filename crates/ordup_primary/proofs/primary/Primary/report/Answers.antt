@@ -1,4 +1,5 @@
-use Rattle.std.proofs.Common.{refl, ap}
+use Rattle.std.proofs.Common.{arith, refl, ap}
+use Rattle.std.proofs.lemmas.Grind.{common_steps}
 use Rattle.ordup_primary.specs.Primaries.{PrimaryState}
 use Rattle.ordup_primary.specs.PrimaryInside.{state_of}
 use Rattle.ordup_primary.proofs.PrimaryLemmas.{view-set, reported_as, IsPrimary-reported}
@@ -21,3 +22,6 @@ returns-clause-sound g c =
     let lt = rw (← c.self.view_is) at c.requires.site in
     let e = view-set c.self.inside c.index.result c.args.site c.index_mut.result.now (record c.index_mut.result.now { reported = c.args.place }) (reported_as c.args.place) c.index.ensures lt c.index_mut.ensures.value refl in
     IsPrimary-reported c.self.inside _ c.args.site c.args.place c.self.invariant.primary lt (rw (← c.self.view_is) at c.requires.risen) (rw (← c.self.view_is) at c.requires.sent) e
+
+pub index_mut-requires : goal.index_mut-requires
+index_mut-requires g c = grind (arith, common_steps)

@@ -1,7 +1,7 @@
 -- The exit status of a run.
 use Rattle.std.specs.Prelude.{◌≡◌, ℕ, List, Option, Result, Ok, Err}
 use Rattle.std.specs.declared.alloc.Global.{Global}
-use Rattle.ordup_script.specs.declared.script_end.ScriptEnd.{ScriptEnd}
+use Rattle.ordup_answers.specs.declared.script_end.ScriptEnd.{ScriptEnd}
 use Rattle.ordup_script.specs.declared.stream.ScriptFault.{ScriptFault}
 use Rattle.ordup_script.specs.declared.stream.ScriptFault.TheVariants.{Read, TooLong, Write, NoMemory}
 use Rattle.ordup_script.specs.Runs.{Runs}

@@ -1,4 +1,3 @@
 pub mod ChangeParts
 pub mod Decimals
 pub mod Splits
-pub mod HoldingLemmas

@@ -1,7 +1,6 @@
-ghost use Rattle.std.specs.Prelude.{◌≡◌, [], ◌∷◌, ◌==◌, option_map, if◌then◌else◌, Some, None};
+ghost use Rattle.std.specs.Prelude.{◌≡◌, [], ◌∷◌, ◌==◌, option_map, if◌then◌else◌, Some, None, length};
 ghost use Rattle.ordup_grammar.specs.Words.{words_of};
-ghost use Rattle.ordup_grammar.specs.Commands.{are_changes, change_of, op_of};
-ghost use Rattle.ordup_grammar.specs.CommandViews.{named_op, named_change};
+ghost use Rattle.ordup_grammar.specs.Commands.{are_changes, change_of, changes_of, op_of};
 
 use crate::number::Number;
 use crate::words::{split_once, split_word};
@@ -33,6 +32,8 @@ pub enum Operation<'a> {
 }
 
 impl<'a> ChangeWord<'a> {
+    ghost use Rattle.ordup_grammar.specs.CommandViews.{named_change};
+
     /// The change that a word spells: a kind, an object of at least one byte and an operand, between colons.
     pub fn parse(word: &'a [u8]) -> Option<ChangeWord<'a>>
         ensures { option_map named_change result ≡ change_of word.now }
@@ -53,6 +54,8 @@ impl<'a> ChangeWord<'a> {
 }
 
 impl<'a> Operation<'a> {
+    ghost use Rattle.ordup_grammar.specs.CommandViews.{named_op};
+
     /// The operation that a kind and an operand spell.
     fn parse(kind: &[u8], operand: &'a [u8]) -> Option<Operation<'a>>
         ensures { option_map named_op result ≡ op_of kind.now operand.now }
@@ -86,10 +89,11 @@ impl<'a> Operation<'a> {
 pub struct ChangeWords<'a> {
     line: &'a [u8],
     count: usize,
+    // Each word was counted.
+    ghost counted: { count ≡ length (changes_of (words_of line.now)) },
 }
 
 impl<'a> ChangeWords<'a> {
-    ghost use Rattle.ordup_grammar.specs.Commands.{changes_of};
     ghost use Rattle.ordup_grammar.specs.CommandViews.{named_changes};
 
     /// The changes that the words of a line spell, if each word spells one.
@@ -109,13 +113,15 @@ impl<'a> ChangeWords<'a> {
     }
 
     /// How many changes there are.
-    pub fn len(&self) -> usize {
+    pub fn len(&self) -> usize
+        ensures { result ≡ length (named_changes self.now) }
+    {
         self.count
     }
 
     /// The words, each of which spells a change.
     pub fn line(&self) -> &'a [u8]
-        ensures { result.now ≡ self.now.line.now }
+        ensures { changes_of (words_of result.now) ≡ named_changes self.now }
     {
         self.line
     }

@@ -1,14 +1,14 @@
 //! Lines that come in pieces: where one ends, and what no piece has ended yet.
-ghost use Rattle.std.specs.Prelude.{◌≡◌, ℕ, List, [], ◌++◌, ◌<◌, ◌≤◌, OnOk, true, false, vec_len, length, position};
-ghost use Rattle.ordup_grammar.specs.Lines.{IsPart, cut, is_line_feed};
+ghost use Rattle.std.specs.Prelude.{◌≡◌, ℕ, List, [], ◌++◌, ◌<◌, OnOk, true, false, length, position};
+ghost use Rattle.ordup_grammar.specs.Lines.{IsPart, is_line_feed};
 ghost use Rattle.ordup_grammar.specs.Asked.{asked_by};
 ghost use Rattle.ordup_grammar.specs.CommandViews.{asked_named};
-ghost use Rattle.ordup_grammar.specs.declared.sizes.TheConstants.{MOST_LINE_BYTES};
 
 use crate::asked::Asked;
 use crate::sizes::MOST_LINE_BYTES;
 use memchr::memchr;
 use std::alloc::{AllocError, Allocator, Global};
+use std::marker::Model;
 
 /// The index of the first line feed.
 pub fn find_line_feed(bytes: &[u8]) -> Option<usize>
@@ -22,9 +22,17 @@ pub fn find_line_feed(bytes: &[u8]) -> Option<usize>
 pub struct LineBuffer<A: Allocator + Copy = Global> {
     bytes: Vec<u8, A>,
     is_long: bool,
-    // No more bytes are kept than a line may have, and as many of one that is too long.
-    ghost few: { vec_len bytes ≤ MOST_LINE_BYTES },
-    ghost full: { is_long ≡ true → MOST_LINE_BYTES ≤ vec_len bytes },
+}
+
+impl<A: Allocator + Copy> Model for LineBuffer<A> {
+    ghost use Rattle.ordup_grammar.specs.Lines.{Line};
+    ghost use Rattle.ordup_grammar.specs.Holding.{line_of, IsBuffer};
+
+    ghost Value = { Line };
+
+    ghost view = { line_of };
+
+    ghost invariant = { IsBuffer };
 }
 
 impl<A: Allocator + Copy> LineBuffer<A> {
@@ -63,8 +71,9 @@ impl<A: Allocator + Copy> LineBuffer<A> {
     }
 
     /// What the line that is held asks for, where it ends here.
+    #[tactic(auto, unfolding(crate::specs::Asked::asked_by))]
     pub fn asked(&self) -> Asked<'_>
-        ensures { (part : List ℕ) → Holds self.now part → asked_named result ≡ asked_by (cut part) }
+        ensures { asked_named result ≡ asked_by self.now }
     {
         if self.is_long {
             Asked::NoCommand

@@ -1,7 +1,3 @@
-pub mod TextLemmas
-pub mod RefusalLemmas
-pub mod NearLemmas
-pub mod AnsweringLemmas
 pub mod Lines
 pub mod Steps
 pub mod PlanSteps

@@ -4,12 +4,12 @@ use Rattle.std.proofs.lemmas.List.{append-nil}
 use Rattle.std.proofs.Math.Seq.{take-append-add}
 use Rattle.std.proofs.KnownBytes.{Appends-trans, Consumes-trans, Consumes-kept, Keeps-refl}
 use Rattle.std.specs.Io.KnownBytes.{Appends, Consumes, IsAtEnd, Keeps}
-use Rattle.ordup_script.specs.declared.script_end.ScriptEnd.{ScriptEnd}
+use Rattle.ordup_answers.specs.declared.script_end.ScriptEnd.{ScriptEnd}
 use Rattle.ordup_script.specs.declared.engine.Engine.{Engine}
 use Rattle.ordup_script.specs.declared.stream.ScriptFault.{ScriptFault}
 use Rattle.ordup_script.specs.declared.stream.ScriptFault.TheVariants as fault
-use Rattle.ordup_script.specs.Sessions.{Stands}
-use Rattle.ordup_script.specs.Replies.{reply}
+use Rattle.ordup_answers.specs.Sessions.{Stands}
+use Rattle.ordup_answers.specs.Replies.{reply}
 use Rattle.ordup_grammar.specs.Lines.{IsPart, Line}
 use Rattle.ordup_script.specs.Scripts.{Continues, Progress, after_lines, last, lines_of}
 use Rattle.ordup_script.specs.Written.{Written, answered, out, out_of_ended, session_after, start}

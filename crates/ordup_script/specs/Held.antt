@@ -1,8 +1,8 @@
 -- How far an engine has come.
 use Rattle.std.specs.Prelude.{◌≡◌, ℕ, true, List, []}
-use Rattle.ordup_script.specs.declared.script_end.ScriptEnd.{ScriptEnd}
+use Rattle.ordup_answers.specs.declared.script_end.ScriptEnd.{ScriptEnd}
 use Rattle.ordup_script.specs.declared.engine.Engine.{Engine}
-use Rattle.ordup_script.specs.Sessions.{Stands}
+use Rattle.ordup_answers.specs.Sessions.{Stands}
 use Rattle.ordup_script.specs.Scripts.{Continues, Progress, last}
 use Rattle.ordup_grammar.specs.Holding.{Holds}
 use Rattle.ordup_script.specs.Written.{Written, answered}

@@ -1,11 +1,5 @@
 pub mod Scripts
-pub mod Names
-pub mod Near
-pub mod Texts
-pub mod Sessions
-pub mod Replies
 pub mod Answered
-pub mod Leaves
 pub mod Written
 pub mod Plans
 pub mod PlanInside

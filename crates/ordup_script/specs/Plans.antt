@@ -8,8 +8,8 @@ use Rattle.ordup_grammar.specs.Lines.{Line}
 use Rattle.ordup_script.specs.Scripts.{after_lines, lines_of}
 use Rattle.ordup_grammar.specs.Commands.{Action, Request, propose, send, apply, report, settle, begin, read, end, abandon, show, declare, start, act}
 use Rattle.ordup_grammar.specs.Asked.{Asked, nothing, no_command, asks, asked_by}
-use Rattle.ordup_script.specs.Names.{changes_in}
-use Rattle.ordup_script.specs.Replies.{declaration_refusal, declared_with}
+use Rattle.ordup_answers.specs.Names.{changes_in}
+use Rattle.ordup_answers.specs.Replies.{declaration_refusal, declared_with}
 
 -- where a plan stands after some lines: what is declared, whether it is started, the sets, and how many lines there were;
 -- or the number of the first line that does not belong

@@ -1,11 +1,11 @@
 -- What a run of a script over a reader and a writer leaves.
 use Rattle.std.specs.Prelude.{◌≡◌, ℕ, true, List, [], ◌++◌, ◌<◌, ◌≤◌, length, take, Option, IfSome, Result, Ok, Err}
 use Rattle.std.specs.Io.KnownBytes.{Appends, Consumes, IsAtEnd}
-use Rattle.ordup_script.specs.declared.script_end.ScriptEnd.{ScriptEnd}
+use Rattle.ordup_answers.specs.declared.script_end.ScriptEnd.{ScriptEnd}
 use Rattle.ordup_script.specs.declared.engine.Engine.{Engine}
 use Rattle.ordup_script.specs.declared.stream.ScriptFault.{ScriptFault}
 use Rattle.ordup_script.specs.declared.stream.ScriptFault.TheVariants as fault
-use Rattle.ordup_script.specs.Sessions.{Stands}
+use Rattle.ordup_answers.specs.Sessions.{Stands}
 use Rattle.ordup_script.specs.Scripts.{Progress, Continues, last}
 use Rattle.ordup_script.specs.Written.{Written, answered, out, out_of_ended, session_after, start}
 use Rattle.ordup_script.specs.Held.{Feeds, Finishes, IsAt}

@@ -2,8 +2,8 @@
 use Rattle.std.specs.Prelude.{ℕ, true, false, List, [], ◌++◌}
 use Rattle.ordup_grammar.specs.Lines.{Line}
 use Rattle.ordup_script.specs.Scripts.{Progress, after_lines, lines_of}
-use Rattle.ordup_script.specs.Sessions.{Session, first_session}
-use Rattle.ordup_script.specs.Replies.{reply}
+use Rattle.ordup_answers.specs.Sessions.{Session, first_session}
+use Rattle.ordup_answers.specs.Replies.{reply}
 
 -- the session, and all that was written
 abbrev pub Written : Type 0 → Type 0

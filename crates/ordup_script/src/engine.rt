@@ -6,8 +6,7 @@ ghost use Rattle.ordup_grammar.specs.Lines.{IsPart, cut};
 ghost use Rattle.ordup_grammar.specs.Holding.{Holds};
 ghost use Rattle.ordup_script.specs.Written.{start};
 
-use crate::answers::answer;
-use crate::script_end::ScriptEnd;
+use ordup_answers::{ScriptEnd, answer};
 use ordup_grammar::{Asked, LineBuffer, find_line_feed};
 use std::alloc::{AllocError, Allocator, Global};
 

@@ -4,8 +4,7 @@ ghost use Rattle.ordup_grammar.specs.Commands as commands;
 ghost use Rattle.ordup_script.specs.Plans.{asked_in, request_in, first_plan, malformed};
 ghost use Rattle.ordup_script.specs.PlanInside.{plan_state};
 
-use crate::declaring::declare;
-use crate::naming::find_set;
+use ordup_answers::{declare, find_set};
 use ordup_grammar::{Action, Asked, ChangeWords, Command, Declaration};
 use ordup_objects::{MessageSet, Refusal};
 use ordup_world::Setup;

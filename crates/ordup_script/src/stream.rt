@@ -7,8 +7,8 @@ ghost use Rattle.ordup_script.specs.Held.{IsAt};
 ghost use Rattle.ordup_script.specs.Runs.{Closes, Passes, PassesAll, Runs};
 
 use crate::engine::Engine;
-use crate::script_end::ScriptEnd;
 use crate::sizes::{MOST_SCRIPT_BYTES, PIECE};
+use ordup_answers::ScriptEnd;
 use std::alloc::{Allocator, Global};
 use std::io::{Read, Write};
 

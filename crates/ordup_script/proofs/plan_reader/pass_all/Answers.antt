@@ -1,9 +1,26 @@
-use Rattle.std.proofs.Common.{arith, ◌≡◌, ◌++◌, ◌-◌, ℕ, List, length, length-append, take, take-take, ap, ◌∙◌, sym}
+use Rattle.std.proofs.Common.{rules, arith, ◌≡◌, ◌++◌, ◌-◌, ℕ, List, [], length, length-append, take, take-take, ap, ◌∙◌, subst, sym, refl}
 use Rattle.std.proofs.lemmas.Result.{err_from_is_err_and}
 use Rattle.std.proofs.KnownBytes.{Consumes-trans}
+use Rattle.ordup_script.specs.Plans.{planned}
+use Rattle.ordup_script.specs.PlanRuns.{Belongs, plan_start}
+use Rattle.ordup_script.proofs.Lines.{Continues-nil}
 use Rattle.ordup_script.proofs.Sending.{short_front, whole_front}
 use Rattle.ordup_script.proofs.PlanRunning.{plan_long, plan_passing, plan_read, plans_on}
 use Rattle.ordup_script.proofs.plan_reader.pass_all.Goals as goal
+
+pub pieces-init : goal.pieces-init
+pieces-init g c = (
+  omega arith,
+  search rules,
+  omega (arith, c.requires.lines),
+  [],
+  plan_start,
+  refl,
+  search rules,
+  c.requires.start,
+  Continues-nil planned plan_start,
+  subst Belongs (sym c.requires.start.known) tt,
+)
 
 pub returns-in_default-clause-plan : goal.returns-in_default-clause-plan
 returns-in_default-clause-plan g c =

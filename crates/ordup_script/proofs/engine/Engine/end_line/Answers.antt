@@ -2,8 +2,7 @@ use Rattle.std.proofs.Common.{refl}
 use Rattle.std.proofs.lemmas.Result.{on_ok_weaker}
 use Rattle.ordup_grammar.specs.Lines.{cut}
 use Rattle.ordup_script.specs.declared.engine.Engine.{Engine}
-use Rattle.ordup_script.proofs.AnsweringLemmas.{answers_asked}
-use Rattle.ordup_script.proofs.Steps.{Feeds-trans, answers_held, answers_part, holds}
+use Rattle.ordup_script.proofs.Steps.{Feeds-trans, answers_asked, answers_held, answers_part, holds}
 use Rattle.ordup_script.proofs.engine.Engine.end_line.Goals as goal
 
 pub returns-then-is_empty : goal.returns-then-is_empty

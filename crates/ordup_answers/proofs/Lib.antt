@@ -1,0 +1,3 @@
+pub mod RefusalLemmas
+pub mod NearLemmas
+pub mod AnsweringLemmas

@@ -1,0 +1,5 @@
+pub mod Names
+pub mod Near
+pub mod Sessions
+pub mod Replies
+pub mod Leaves

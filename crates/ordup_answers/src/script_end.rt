@@ -1,0 +1,22 @@
+use ordup_world::{Setup, World};
+use std::alloc::{Allocator, Global};
+
+/// Where a script stands: what it has declared, or the store that it has started.
+#[derive(Drop)]
+pub enum ScriptEnd<A: Allocator + Copy = Global> {
+    /// No `start` was accepted.
+    Declared(Setup<A>),
+    /// The store after the `start` that was accepted.
+    Running(World<A>),
+}
+
+impl<A: Allocator + Copy> ScriptEnd<A> {
+    ghost use Rattle.ordup_answers.specs.Sessions.{Stands, first_session};
+
+    /// Where an empty script stands.
+    pub fn new(alloc: A) -> Self
+        ensures { Stands result first_session }
+    {
+        ScriptEnd::Declared(Setup::new(alloc))
+    }
+}

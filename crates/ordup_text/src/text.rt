@@ -1,0 +1,315 @@
+//! The text of answers.
+ghost use Rattle.std.specs.Prelude.{◌≡◌, ◌++◌, ◌∷◌, [], OnOk, length, slice_index_or};
+ghost use Rattle.std.specs.Fmt.{decimal, signed_decimal};
+ghost use Rattle.ordup_text.specs.Texts.{refused_text, named_text, done_text, numbered_text, value_text, values_text, shown_text, sites_text, listed_text, settled_text, read_text, ended_text, answer_text};
+
+use itoa::Buffer;
+use ordup_objects::{Name, ObjectId, ObjectTable, Refusal, SiteId};
+use ordup_world::{Answer, QueryAnswer, ReadAnswer, Settled, Setup};
+use std::alloc::{AllocError, Allocator};
+
+/// Adds a number in digits.
+fn push_number<A: Allocator + Copy>(out: &mut Vec<u8, A>, number: u64) -> Result<(), AllocError>
+    ensures { OnOk result (out.new.items ≡ out.old.items ++ decimal number) }
+{
+    out.extend_from_slice(Buffer::new().format(number).as_bytes())
+}
+
+/// Adds a value in digits, with a minus before one below 0.
+fn push_value<A: Allocator + Copy>(out: &mut Vec<u8, A>, value: i64) -> Result<(), AllocError>
+    ensures { OnOk result (out.new.items ≡ out.old.items ++ signed_decimal value) }
+{
+    out.extend_from_slice(Buffer::new().format(value).as_bytes())
+}
+
+/// Adds a text and a number.
+fn push_with_number<A: Allocator + Copy>(
+    out: &mut Vec<u8, A>,
+    text: &[u8],
+    number: u64,
+) -> Result<(), AllocError>
+    ensures { OnOk result (out.new.items ≡ out.old.items ++ (text.now ++ decimal number)) }
+{
+    out.extend_from_slice(text)?;
+    push_number(out, number)
+}
+
+/// Adds a text and a value.
+fn push_with_value<A: Allocator + Copy>(
+    out: &mut Vec<u8, A>,
+    text: &[u8],
+    value: i64,
+) -> Result<(), AllocError>
+    ensures { OnOk result (out.new.items ≡ out.old.items ++ (text.now ++ signed_decimal value)) }
+{
+    out.extend_from_slice(text)?;
+    push_value(out, value)
+}
+
+/// Adds the answer to what was refused. Want of memory is no answer: it ends the run.
+pub fn push_refused<A: Allocator + Copy>(
+    out: &mut Vec<u8, A>,
+    refusal: Refusal,
+) -> Result<(), AllocError>
+    ensures { OnOk result ((refusal ≡ Refusal.NoMemory → ⊥) × (out.new.items ≡ out.old.items ++ refused_text refusal)) }
+{
+    let number = refusal.number();
+    if number == NO_MEMORY {
+        return Err(AllocError);
+    }
+    out.extend_from_slice(b"refused ")?;
+    push_number(out, u64::from(number))?;
+    out.push(b' ')?;
+    out.extend_from_slice(refusal.name().as_bytes())?;
+    out.push(b'\n')?;
+    Ok(())
+}
+
+/// The number of the refusal for want of memory.
+const NO_MEMORY: u8 = 26;
+
+/// Adds an answer that ends with a name.
+pub fn push_named<A: Allocator + Copy>(
+    out: &mut Vec<u8, A>,
+    done: &[u8],
+    name: &[u8],
+) -> Result<(), AllocError>
+    ensures { OnOk result (out.new.items ≡ out.old.items ++ named_text done.now name.now) }
+{
+    out.extend_from_slice(done)?;
+    out.extend_from_slice(name)?;
+    out.push(b'\n')?;
+    Ok(())
+}
+
+/// Adds an answer that ends with a name and a number.
+fn push_numbered<A: Allocator + Copy>(
+    out: &mut Vec<u8, A>,
+    done: &[u8],
+    name: &[u8],
+    number: u64,
+) -> Result<(), AllocError>
+    ensures { OnOk result (out.new.items ≡ out.old.items ++ numbered_text done.now name.now number) }
+{
+    out.extend_from_slice(done)?;
+    out.extend_from_slice(name)?;
+    out.push(b' ')?;
+    push_number(out, number)?;
+    out.push(b'\n')?;
+    Ok(())
+}
+
+/// Adds an object's name and value.
+fn push_named_value<A: Allocator + Copy>(
+    out: &mut Vec<u8, A>,
+    name: &Name,
+    value: i64,
+) -> Result<(), AllocError>
+    ensures { OnOk result (out.new.items ≡ out.old.items ++ value_text name.now value) }
+{
+    out.push(b' ')?;
+    out.extend_from_slice(name.as_bytes())?;
+    out.push(b'=')?;
+    push_value(out, value)
+}
+
+/// Adds the names and the values of all objects.
+fn push_values<A: Allocator + Copy>(
+    out: &mut Vec<u8, A>,
+    objects: &ObjectTable<A>,
+    values: &[i64],
+) -> Result<(), AllocError>
+    ensures { OnOk result (out.new.items ≡ out.old.items ++ values_text objects.now values.now) }
+{
+    for place in 0..objects.len().min(values.len()) {
+        let name = objects.name(ObjectId::new(place as u16));
+        push_named_value(out, name, values[place])?;
+    }
+    Ok(())
+}
+
+/// The numbers that a shown site has.
+#[derive(Clone, Copy)]
+struct SiteNumbers {
+    sent: u64,
+    applied: u64,
+    reported: u64,
+    rounds: u64,
+}
+
+/// Adds the answer that shows a site.
+fn push_shown<A: Allocator + Copy>(
+    out: &mut Vec<u8, A>,
+    site: &[u8],
+    numbers: SiteNumbers,
+    objects: &ObjectTable<A>,
+    values: &[i64],
+) -> Result<(), AllocError>
+    ensures { OnOk result (out.new.items ≡ out.old.items ++ shown_text site.now numbers.sent numbers.applied numbers.reported numbers.rounds objects.now values.now) }
+{
+    out.extend_from_slice(b"ok show ")?;
+    out.extend_from_slice(site)?;
+    push_with_number(out, b" sent ", numbers.sent)?;
+    push_with_number(out, b" applied ", numbers.applied)?;
+    push_with_number(out, b" reported ", numbers.reported)?;
+    push_with_number(out, b" rounds ", numbers.rounds)?;
+    push_values(out, objects, values)?;
+    out.push(b'\n')?;
+    Ok(())
+}
+
+/// Adds the answer to an event that names this subject, a site or a query, and this object.
+pub fn push_answer<A: Allocator + Copy>(
+    out: &mut Vec<u8, A>,
+    setup: &Setup<A>,
+    subject: &[u8],
+    object: &[u8],
+    answer: &Answer<A>,
+) -> Result<(), AllocError>
+    ensures { OnOk result ((answer.now ≡ Answer.Refused Refusal.NoMemory → ⊥) × (out.new.items ≡ out.old.items ++ answer_text setup.now subject.now object.now answer.now)) }
+{
+    match answer {
+        Answer::Proposed(number) => push_done(out, b"ok proposed ", *number),
+        Answer::Sent { number, .. } => push_numbered(out, b"ok sent ", subject, *number),
+        Answer::Applied { number, .. } => push_numbered(out, b"ok applied ", subject, *number),
+        Answer::Reported { place, .. } => push_numbered(out, b"ok reported ", subject, *place),
+        Answer::Settlement(settled) => push_settled(out, setup, settled),
+        Answer::Begun { query, place } => {
+            push_numbered(out, b"ok begun ", query.as_bytes(), *place)
+        }
+        Answer::ReadOut(answer) => push_read(out, subject, object, *answer),
+        Answer::Ended(answer) => push_ended(out, subject, *answer),
+        Answer::Abandoned(query) => push_named(out, b"ok abandoned ", query.as_bytes()),
+        Answer::Shown {
+            sent,
+            applied,
+            reported,
+            rounds,
+            values,
+        } => {
+            let numbers = SiteNumbers {
+                sent: *sent,
+                applied: *applied,
+                reported: *reported,
+                rounds: *rounds,
+            };
+            push_shown(out, subject, numbers, setup.objects(), values.as_slice())
+        }
+        Answer::Refused(refusal) => push_refused(out, *refusal),
+    }
+}
+
+/// Adds what a read gave.
+fn push_read<A: Allocator + Copy>(
+    out: &mut Vec<u8, A>,
+    query: &[u8],
+    object: &[u8],
+    answer: ReadAnswer,
+) -> Result<(), AllocError>
+    ensures { OnOk result (out.new.items ≡ out.old.items ++ read_text query.now object.now answer) }
+{
+    out.extend_from_slice(b"ok read ")?;
+    out.extend_from_slice(query)?;
+    out.push(b' ')?;
+    out.extend_from_slice(object)?;
+    push_with_value(out, b" value ", answer.value)?;
+    push_with_number(out, b" import ", answer.import)?;
+    push_with_number(out, b" total ", answer.total)?;
+    out.push(b'\n')?;
+    Ok(())
+}
+
+/// Adds what the reads of a query came to.
+fn push_ended<A: Allocator + Copy>(
+    out: &mut Vec<u8, A>,
+    query: &[u8],
+    answer: QueryAnswer,
+) -> Result<(), AllocError>
+    ensures { OnOk result (out.new.items ≡ out.old.items ++ ended_text query.now answer) }
+{
+    out.extend_from_slice(b"ok end ")?;
+    out.extend_from_slice(query)?;
+    push_with_number(out, b" place ", answer.place)?;
+    push_with_value(out, b" sum ", answer.sum)?;
+    push_with_number(out, b" total ", answer.total)?;
+    push_with_number(out, b" reads ", answer.reads)?;
+    out.push(b'\n')?;
+    Ok(())
+}
+
+/// Adds what came of a settlement.
+fn push_settled<A: Allocator + Copy>(
+    out: &mut Vec<u8, A>,
+    setup: &Setup<A>,
+    settled: &Settled<A>,
+) -> Result<(), AllocError>
+    ensures { OnOk result (out.new.items ≡ out.old.items ++ settled_text setup.now.sites settled.now) }
+{
+    match settled {
+        Settled::Acked(k) => push_done(out, b"ok acked ", *k),
+        Settled::Round { k, sites } => push_listed(out, b"ok round ", *k, setup, sites.as_slice()),
+        Settled::Waiting { k, sites } => {
+            push_listed(out, b"ok waiting ", *k, setup, sites.as_slice())
+        }
+    }
+}
+
+/// Adds an answer that ends with a number and sites.
+fn push_listed<A: Allocator + Copy>(
+    out: &mut Vec<u8, A>,
+    done: &[u8],
+    number: u64,
+    setup: &Setup<A>,
+    sites: &[SiteId],
+) -> Result<(), AllocError>
+    ensures { OnOk result (out.new.items ≡ out.old.items ++ listed_text done.now number setup.now.sites sites.now) }
+{
+    out.extend_from_slice(done)?;
+    push_number(out, number)?;
+    push_sites(out, setup, sites)?;
+    out.push(b'\n')?;
+    Ok(())
+}
+
+/// Adds ` S` for each of these sites.
+fn push_sites<A: Allocator + Copy>(
+    out: &mut Vec<u8, A>,
+    setup: &Setup<A>,
+    sites: &[SiteId],
+) -> Result<(), AllocError>
+    ensures { OnOk result (out.new.items ≡ out.old.items ++ sites_text setup.now.sites sites.now) }
+{
+    for site in sites {
+        push_site(out, setup, *site)?;
+    }
+    Ok(())
+}
+
+/// Adds ` S`: a space, and the name of the site where there is one.
+fn push_site<A: Allocator + Copy>(
+    out: &mut Vec<u8, A>,
+    setup: &Setup<A>,
+    site: SiteId,
+) -> Result<(), AllocError>
+    ensures { OnOk result (out.new.items ≡ out.old.items ++ 32 ∷ [] ++ (slice_index_or setup.now.sites site ([], 0)).0) }
+{
+    out.push(b' ')?;
+    if site.index() < setup.sites() {
+        out.extend_from_slice(setup.site_name(site).as_bytes())?;
+    }
+    Ok(())
+}
+
+/// Adds an answer that ends with a number.
+fn push_done<A: Allocator + Copy>(
+    out: &mut Vec<u8, A>,
+    done: &[u8],
+    number: u64,
+) -> Result<(), AllocError>
+    ensures { OnOk result (out.new.items ≡ out.old.items ++ done_text done.now number) }
+{
+    out.extend_from_slice(done)?;
+    push_number(out, number)?;
+    out.push(b'\n')?;
+    Ok(())
+}

@@ -1,6 +1,6 @@
 -- What a reply is, by the parts that answered it.
-use Rattle.std.proofs.Common.{◌≡◌, ℕ, cond, List, [], ◌∷◌, ◌++◌, Some, None, refl, ap, subst, ◌∙◌, inl, inr}
-use Rattle.std.specs.Prelude.{◌⊎◌, Result, Ok, Err, is_ok, OnOk, codes}
+use Rattle.std.proofs.Common.{◌≡◌, ℕ, cond, List, [], ◌∷◌, ◌++◌, None, ap, subst, ◌∙◌, inl, inr}
+use Rattle.std.specs.Prelude.{Result, Ok, Err, is_ok, OnOk, codes}
 use Rattle.ordup_objects.specs.declared.refusal.Refusal.TheVariants.{NoMemory}
 use Rattle.ordup_primary.specs.Declarations.{Declared, start_refusal}
 use Rattle.ordup_world.specs.Events.{later, Past, IsAnswer}
@@ -9,9 +9,8 @@ use Rattle.ordup_world.specs.Standings.{Standing, StandsFor}
 use Rattle.ordup_world.specs.declared.event.Event.{Event}
 use Rattle.ordup_world.specs.declared.event.Answer.{Answer}
 use Rattle.ordup_world.specs.declared.event.Answer.TheVariants.{Refused}
-use Rattle.ordup_answers.specs.Sessions.{Session, Stands, declaring, running, Declares, IsWorldOf}
+use Rattle.ordup_answers.specs.Sessions.{Session, declaring, running, Declares, IsWorldOf}
 use Rattle.ordup_answers.specs.Leaves.{LeavesRunning}
-use Rattle.ordup_answers.specs.declared.script_end.ScriptEnd.{ScriptEnd}
 use Rattle.ordup_grammar.specs.Commands as asked
 use Rattle.ordup_answers.specs.Replies.{event_reply, request_reply, subject_of, object_of}
 use Rattle.ordup_text.specs.Texts.{answer_text}

@@ -1,5 +1,3 @@
-ghost use Rattle.std.specs.Prelude.{◌≡◌, ◌↔◌, IsTrue, Some, codes};
-
 use ordup_objects::SiteId;
 
 /// The site that seldom reports where the load is `lagging`.
@@ -16,10 +14,7 @@ pub(crate) enum Kind {
 
 impl Kind {
     /// The kind that a word names.
-    pub(crate) fn of(word: &str) -> Option<Self>
-        ensures settled { (result ≡ Some Kind.Settled) ↔ (word.now ≡ codes "settled") }
-        ensures lagging { (result ≡ Some Kind.Lagging) ↔ (word.now ≡ codes "lagging") }
-    {
+    pub(crate) fn of(word: &str) -> Option<Self> {
         match word {
             "settled" => Some(Kind::Settled),
             "lagging" => Some(Kind::Lagging),
@@ -28,9 +23,7 @@ impl Kind {
     }
 
     /// Whether a site reports so seldom that it lags far.
-    pub(crate) fn lags(self, site: SiteId) -> bool
-        ensures { IsTrue result ↔ ((self ≡ Kind.Lagging) × (site ≡ LAGGING_SITE)) }
-    {
+    pub(crate) fn lags(self, site: SiteId) -> bool {
         self == Kind::Lagging && site.index() == LAGGING_SITE
     }
 }

@@ -1,4 +1,4 @@
-//! The program `ordup_load`: steps a store with limits through events that a small generator makes, and prints what has
+//! The program `bench_events`: steps a store with limits through events that a small generator makes, and prints what has
 //! become of it. `bench/` measures it beside the same load in plain Rust.
 #![tactic(auto)]
 
@@ -16,7 +16,7 @@ fn main(rt: HostRuntime) -> Result<()> {
     let alloc = rt.alloc();
     let words: Vec<String> = env::args(&rt)?.collect(alloc)?;
     let [_, kind, events] = words.as_slice() else {
-        bail!("usage: ordup_load KIND EVENTS");
+        bail!("usage: bench_events KIND EVENTS");
     };
     let (Some(kind), Ok(events)) = (Kind::of(kind.as_str()), events.parse::<u64>()) else {
         bail!("no load {kind} of {events} events");

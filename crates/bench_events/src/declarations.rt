@@ -39,15 +39,14 @@ fn declare_limits<A: Allocator + Copy>(
     group: GroupId,
     are_wide: bool,
 ) -> Result<(), Refusal> {
-    let limits = [
-        (Scope::Object(ObjectId::new(0)), 2_000),
-        (Scope::Group(group), 3_000),
-        (Scope::All, 5_000),
-        (Scope::Count, 6),
-    ];
-    for (scope, amount) in limits {
-        let amount = if are_wide { GREATEST_AMOUNT } else { amount };
-        setup.limit(site, scope, amount)?;
-    }
+    let amounts = if are_wide {
+        [GREATEST_AMOUNT; 4]
+    } else {
+        [2_000, 3_000, 5_000, 6]
+    };
+    setup.limit(site, Scope::Object(ObjectId::new(0)), amounts[0])?;
+    setup.limit(site, Scope::Group(group), amounts[1])?;
+    setup.limit(site, Scope::All, amounts[2])?;
+    setup.limit(site, Scope::Count, amounts[3])?;
     Ok(())
 }

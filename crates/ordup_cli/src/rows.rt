@@ -1,30 +1,12 @@
-//! Rows of scripts: what each line is answered, as a person works it out. To add one, write its name and its transcript.
+//! Rows of scripts that no page shows: what each line is answered, as a person works it out. To add one, write its name and
+//! its transcript.
 
 /// A name, and a transcript: a line that begins with `> ` is a line of the script, any other is the answer that must come
 /// there. Each transcript is a script of its own.
-pub(crate) const ROWS: [(&str, &str); 42] = [
+pub(crate) const ROWS: [(&str, &str); 31] = [
     ("An empty script", ""),
     (
-        "Equal is not over",
-        "\
-> object x 0
-ok object x
-> object y 10
-ok object y
-> site a 4
-ok site a
-> limit a object x 5
-ok limit a
-> start
-ok start
-> propose add:x:5
-ok proposed 1
-> settle
-ok acked 1
-",
-    ),
-    (
-        "One more is over",
+        "Equal is not over, one more is, and a late report cancels no round",
         "\
 > object x 0
 ok object x
@@ -44,29 +26,8 @@ ok acked 1
 ok proposed 2
 > settle
 ok round 2 a
-",
-    ),
-    (
-        "A late report cancels no round",
-        "\
-> object x 0
-ok object x
-> object y 10
-ok object y
-> site a 4
-ok site a
-> limit a object x 5
-ok limit a
-> start
-ok start
-> propose add:x:5
-ok proposed 1
-> settle
-ok acked 1
-> propose add:x:1
-ok proposed 2
-> settle
-ok round 2 a
+> show a
+ok show a sent 0 applied 0 reported 0 rounds 1 x=0 y=10
 > settle
 ok waiting 2 a
 > send a
@@ -85,6 +46,8 @@ ok applied a 2
 ok reported a 2
 > settle
 ok acked 2
+> show a
+ok show a sent 2 applied 2 reported 2 rounds 1 x=6 y=10
 ",
     ),
     (
@@ -114,6 +77,8 @@ ok reported a 1
 ok proposed 2
 > settle
 ok acked 2
+> show a
+ok show a sent 1 applied 1 reported 1 rounds 0 x=5 y=10
 ",
     ),
     (
@@ -143,6 +108,8 @@ ok reported a 1
 ok proposed 2
 > settle
 ok round 2 a
+> show a
+ok show a sent 1 applied 1 reported 1 rounds 1 x=0 y=10
 ",
     ),
     (
@@ -166,6 +133,8 @@ ok acked 1
 ok proposed 2
 > settle
 ok round 2 a
+> show a
+ok show a sent 0 applied 0 reported 0 rounds 1 x=0 y=10
 ",
     ),
     (
@@ -191,6 +160,8 @@ ok acked 1
 ok proposed 2
 > settle
 ok round 2 a
+> show a
+ok show a sent 0 applied 0 reported 0 rounds 1 x=0 y=10
 ",
     ),
     (
@@ -218,684 +189,8 @@ ok acked 2
 ok proposed 3
 > settle
 ok round 3 a
-",
-    ),
-    (
-        "A swap reads the values before the set",
-        "\
-> object x 0
-ok object x
-> object y 10
-ok object y
-> site a 4
-ok site a
-> start
-ok start
-> propose take:x:y take:y:x
-ok proposed 1
-> send a
-ok sent a 1
-> apply a
-ok applied a 1
-> show a
-ok show a sent 1 applied 1 reported 0 rounds 0 x=10 y=0
-",
-    ),
-    (
-        "The greatest value",
-        "\
-> object x 1000000000
-ok object x
-> object y 10
-ok object y
-> site a 4
-ok site a
-> limit a object x 5
-ok limit a
-> start
-ok start
-> propose add:x:1
-refused 9 OutOfRange
-> propose mul:x:-1
-ok proposed 1
-> settle
-ok round 1 a
-",
-    ),
-    (
-        "A feed of one update",
-        "\
-> object x 0
-ok object x
-> object y 10
-ok object y
-> site a 1
-ok site a
-> limit a object x 5
-ok limit a
-> start
-ok start
-> propose add:x:1
-ok proposed 1
-> propose add:x:1
-ok proposed 2
-> send a
-ok sent a 1
-> send a
-refused 15 FeedFull
-> apply a
-ok applied a 1
-> send a
-ok sent a 2
-> apply a
-ok applied a 2
-> apply a
-refused 16 NothingToApply
-> send a
-refused 14 NothingToSend
-",
-    ),
-    (
-        "A query with an import limit",
-        "\
-> object x 0
-ok object x
-> object y 10
-ok object y
-> site a 4
-ok site a
-> limit a object x 5
-ok limit a
-> start
-ok start
-> propose add:x:3
-ok proposed 1
-> settle
-ok acked 1
-> send a
-ok sent a 1
-> begin q a 4
-ok begun q 1
-> read q x
-ok read q x value 0 import 3 total 3
-> apply a
-ok applied a 1
-> read q x
-ok read q x value 3 import 0 total 3
-> propose add:x:2
-ok proposed 2
-> send a
-ok sent a 2
-> apply a
-ok applied a 2
-> read q x
-refused 20 OverImport
-> end q
-ok end q place 1 sum 3 total 3 reads 2
-",
-    ),
-    (
-        "Nothing to settle, nothing to report",
-        "\
-> object x 0
-ok object x
-> object y 10
-ok object y
-> site a 4
-ok site a
-> limit a object x 5
-ok limit a
-> start
-ok start
-> settle
-refused 17 NothingToSettle
-> report a
-ok reported a 0
-> report a
-ok reported a 0
-",
-    ),
-    (
-        "Before the start",
-        "\
-> propose add:x:1
-refused 2 NotStarted
-",
-    ),
-    (
-        "The first run",
-        "\
-> object x 0
-ok object x
-> site a 4
-ok site a
-> start
-ok start
-> propose add:x:5
-ok proposed 1
-> send a
-ok sent a 1
-> apply a
-ok applied a 1
-> show a
-ok show a sent 1 applied 1 reported 0 rounds 0 x=5
-",
-    ),
-    (
-        "Message sets that are refused",
-        "\
-> object x 0
-ok object x
-> object y 10
-ok object y
-> site a 4
-ok site a
-> limit a object x 5
-ok limit a
-> start
-ok start
-> propose
-refused 11 Empty
-> propose add:x:1 add:x:2
-refused 12 Repeated
-> propose add:z:1
-refused 6 UnknownObject
-> propose inc:x:1
-refused 1 Syntax
-> propose add:x:01
-refused 1 Syntax
-> propose add:x:1000000001
-refused 9 OutOfRange
-> propose set:x:7 add:y:1000000000
-refused 9 OutOfRange
-> propose add:x:1
-ok proposed 1
-",
-    ),
-    (
-        "Declarations",
-        "\
-> object 9x 1
-refused 4 BadName
-> object x 1000000001
-refused 9 OutOfRange
-> object x 1
-ok object x
-> object x 2
-refused 5 NameTaken
-> group g
-refused 11 Empty
-> group g x x
-refused 12 Repeated
-> group g x z
-refused 6 UnknownObject
-> start
-refused 11 Empty
-> site a 0
-refused 9 OutOfRange
-> site a 1024
-ok site a
-> limit a group h 1
-refused 7 UnknownGroup
-> limit b all 1
-refused 8 UnknownSite
-> limit a all 1000000000000000000
-ok limit a
-> limit a all 3
-refused 12 Repeated
-> limit a count -1
-refused 9 OutOfRange
-> start
-ok start
-> start
-refused 3 AlreadyStarted
-",
-    ),
-    (
-        "Queries that are refused",
-        "\
-> object x 0
-ok object x
-> object y 10
-ok object y
-> site a 4
-ok site a
-> limit a object x 5
-ok limit a
-> start
-ok start
-> begin q a 0
-ok begun q 0
-> begin q a 0
-refused 19 QueryOpen
-> read p x
-refused 18 UnknownQuery
-> read q z
-refused 6 UnknownObject
-> read q y
-ok read q y value 10 import 0 total 0
-> abandon q
-ok abandoned q
-> end q
-refused 18 UnknownQuery
-> begin Q a 0
-refused 4 BadName
-> begin q b 0
-refused 8 UnknownSite
-> begin q a 1000000000000000001
-refused 9 OutOfRange
-",
-    ),
-    (
-        "A site ahead of what is acknowledged",
-        "\
-> object x 0
-ok object x
-> object y 10
-ok object y
-> site a 4
-ok site a
-> limit a object x 5
-ok limit a
-> start
-ok start
-> propose add:x:9
-ok proposed 1
-> send a
-ok sent a 1
-> apply a
-ok applied a 1
-> report a
-ok reported a 1
-> settle
-ok acked 1
-> propose add:x:9
-ok proposed 2
-> settle
-ok round 2 a
-",
-    ),
-    (
-        "Numbers of 19 and 20 digits, and -0",
-        "\
-> object x 9999999999999999999
-refused 9 OutOfRange
-> object x 10000000000000000000
-refused 1 Syntax
-> object x -0
-refused 1 Syntax
-",
-    ),
-    (
-        "A comment",
-        "\
-> # x
-",
-    ),
-    (
-        "1 before 2 and 3, whatever else is wrong",
-        "\
-> send
-refused 1 Syntax
-> read q x y
-refused 1 Syntax
-> begin Q b 01
-refused 1 Syntax
-> propose add:x:1 add:x
-refused 1 Syntax
-> propose take:x:y add:z:1000000001
-refused 2 NotStarted
-> begin Q b -1
-refused 2 NotStarted
-> object x 0
-ok object x
-> site a 4
-ok site a
-> start
-ok start
-> limit b object z
-refused 1 Syntax
-> limit b object z -1
-refused 3 AlreadyStarted
-> group 9g z z
-refused 3 AlreadyStarted
-> group
-refused 1 Syntax
-> certify a
-refused 1 Syntax
-",
-    ),
-    (
-        "The first refusal of each list",
-        "\
-> object x 0
-ok object x
-> object y 10
-ok object y
-> object 9x 1000000001
-refused 4 BadName
-> object x 1000000001
-refused 5 NameTaken
-> group 9g z
-refused 4 BadName
-> group g x x
-refused 12 Repeated
-> group g x x z
-refused 6 UnknownObject
-> group g x
-ok group g
-> group g z
-refused 5 NameTaken
-> site a 4
-ok site a
-> site a 0
-refused 5 NameTaken
-> limit b object z -1
-refused 6 UnknownObject
-> limit b group h -1
-refused 7 UnknownGroup
-> limit b object x -1
-refused 8 UnknownSite
-> limit a object x 5
-ok limit a
-> limit a object x -1
-refused 9 OutOfRange
-> limit a object x 5
-refused 12 Repeated
-> limit a group g 5
-ok limit a
-> start
-ok start
-> propose add:x:1000000001 take:x:z
-refused 6 UnknownObject
-> propose add:x:1000000001 add:x:1
-refused 9 OutOfRange
-> propose add:x:1000000000 add:x:1
-refused 12 Repeated
-> begin Q b -1
-refused 4 BadName
-> begin q b -1
-refused 8 UnknownSite
-> begin q a -1
-refused 9 OutOfRange
-> begin q a 0
-ok begun q 0
-> begin q a 1000000000000000001
-refused 9 OutOfRange
-> read p z
-refused 6 UnknownObject
-> read p x
-refused 18 UnknownQuery
-> send b
-refused 8 UnknownSite
-> send a
-refused 14 NothingToSend
-",
-    ),
-    (
-        "Changes that are no changes",
-        "\
-> object x 0
-ok object x
-> object y 10
-ok object y
-> site a 4
-ok site a
-> limit a object x 5
-ok limit a
-> start
-ok start
-> propose add:x
-refused 1 Syntax
-> propose add:x:
-refused 1 Syntax
-> propose add::1
-refused 1 Syntax
-> propose add:x:1:2
-refused 1 Syntax
-> propose take:x:
-refused 1 Syntax
-> propose take::x
-refused 1 Syntax
-> propose take:x:y:z
-refused 1 Syntax
-> propose :x:1
-refused 1 Syntax
-> propose add:x:+1
-refused 1 Syntax
-> propose Add:x:1
-refused 1 Syntax
-> propose take:x:1
-refused 6 UnknownObject
-> propose add:X!:1
-refused 6 UnknownObject
-> propose add:x:9999999999999999999
-refused 9 OutOfRange
-> propose take:x:x
-ok proposed 1
-",
-    ),
-    (
-        "Amounts",
-        "\
-> object x 0
-ok object x
-> object y 10
-ok object y
-> site a 4
-ok site a
-> limit a all 1000000000000000001
-refused 9 OutOfRange
-> limit a all 9999999999999999999
-refused 9 OutOfRange
-> limit a all -9999999999999999999
-refused 9 OutOfRange
-> limit a all 10000000000000000000
-refused 1 Syntax
-> limit a all 1000000000000000000
-ok limit a
-> start
-ok start
-> begin q a 9999999999999999999
-refused 9 OutOfRange
-> begin q a 1000000000000000000
-ok begun q 0
-",
-    ),
-    (
-        "Name spaces, and names that are free again",
-        "\
-> object a 1
-ok object a
-> group a a
-ok group a
-> site a 1
-ok site a
-> limit a object a 5
-ok limit a
-> limit a group a 5
-ok limit a
-> start
-ok start
-> begin a a 0
-ok begun a 0
-> end a
-ok end a place 0 sum 0 total 0 reads 0
-> begin a a 0
-ok begun a 0
-> abandon a
-ok abandoned a
-> begin a a 0
-ok begun a 0
-> read a a
-ok read a a value 1 import 0 total 0
-",
-    ),
-    (
-        "Two forced sites, in order of declaration",
-        "\
-> object x 0
-ok object x
-> site west 4
-ok site west
-> site east 4
-ok site east
-> limit east object x 2
-ok limit east
-> limit west all 2
-ok limit west
-> start
-ok start
-> propose add:x:3
-ok proposed 1
-> settle
-ok round 1 west east
-> send east
-ok sent east 1
-> apply east
-ok applied east 1
-> settle
-ok waiting 1 west east
-> report east
-ok reported east 1
-> settle
-ok waiting 1 west
-> send west
-ok sent west 1
-> apply west
-ok applied west 1
-> report west
-ok reported west 1
-> settle
-ok acked 1
-> show west
-ok show west sent 1 applied 1 reported 1 rounds 1 x=3
-",
-    ),
-    (
-        "Applied and not reported",
-        "\
-> object x 0
-ok object x
-> object y 10
-ok object y
-> site a 4
-ok site a
-> limit a object x 5
-ok limit a
-> start
-ok start
-> propose add:x:5
-ok proposed 1
-> settle
-ok acked 1
-> send a
-ok sent a 1
-> apply a
-ok applied a 1
-> propose add:x:1
-ok proposed 2
-> settle
-ok round 2 a
-> report a
-ok reported a 1
-> show a
-ok show a sent 1 applied 1 reported 1 rounds 1 x=5 y=10
-> settle
-ok waiting 2 a
-",
-    ),
-    (
-        "Only forced sites are waited for",
-        "\
-> object x 0
-ok object x
-> site a 4
-ok site a
-> site b 4
-ok site b
-> limit b object x 2
-ok limit b
-> limit a object x 3
-ok limit a
-> start
-ok start
-> propose add:x:3
-ok proposed 1
-> settle
-ok round 1 b
-> send b
-ok sent b 1
-> apply b
-ok applied b 1
-> report b
-ok reported b 1
-> show a
-ok show a sent 0 applied 0 reported 0 rounds 0 x=0
-> show b
-ok show b sent 1 applied 1 reported 1 rounds 1 x=3
-> settle
-ok acked 1
-> settle
-refused 17 NothingToSettle
-",
-    ),
-    (
-        "Updates are acknowledged one at a time, in order",
-        "\
-> object x 0
-ok object x
-> object y 10
-ok object y
-> site a 4
-ok site a
-> limit a object x 5
-ok limit a
-> start
-ok start
-> propose add:x:2
-ok proposed 1
-> propose add:x:2
-ok proposed 2
-> propose add:x:2
-ok proposed 3
-> settle
-ok acked 1
-> settle
-ok acked 2
-> settle
-ok round 3 a
-> settle
-ok waiting 3 a
-> propose add:y:1
-ok proposed 4
-> settle
-ok waiting 3 a
 > show a
 ok show a sent 0 applied 0 reported 0 rounds 1 x=0 y=10
-",
-    ),
-    (
-        "The sum over all objects",
-        "\
-> object x 0
-ok object x
-> object y 10
-ok object y
-> site a 4
-ok site a
-> limit a all 6
-ok limit a
-> start
-ok start
-> propose add:x:3 add:y:-3
-ok proposed 1
-> settle
-ok acked 1
-> propose add:y:1
-ok proposed 2
-> settle
-ok round 2 a
 ",
     ),
     (
@@ -918,6 +213,29 @@ ok acked 1
 > propose add:x:1000000001
 refused 9 OutOfRange
 > propose take:y:y
+ok proposed 2
+> settle
+ok round 2 a
+",
+    ),
+    (
+        "The sum over all objects",
+        "\
+> object x 0
+ok object x
+> object y 10
+ok object y
+> site a 4
+ok site a
+> limit a all 6
+ok limit a
+> start
+ok start
+> propose add:x:3 add:y:-3
+ok proposed 1
+> settle
+ok acked 1
+> propose add:y:1
 ok proposed 2
 > settle
 ok round 2 a
@@ -1012,6 +330,157 @@ ok round 4 a
 ",
     ),
     (
+        "The greatest weights",
+        "\
+> object x 1000000000
+ok object x
+> object y 1000000000
+ok object y
+> group g x y
+ok group g
+> site a 4
+ok site a
+> site b 4
+ok site b
+> site c 4
+ok site c
+> site d 4
+ok site d
+> site e 4
+ok site e
+> site f 4
+ok site f
+> limit a object x 1999999999
+ok limit a
+> limit b object x 2000000000
+ok limit b
+> limit b group g 4000000000
+ok limit b
+> limit b count 1
+ok limit b
+> limit c group g 3999999999
+ok limit c
+> limit d all 4000000000
+ok limit d
+> limit e count 0
+ok limit e
+> start
+ok start
+> propose mul:x:-1 mul:y:-1
+ok proposed 1
+> settle
+ok round 1 a c e
+",
+    ),
+    (
+        "A swap reads the values before the set",
+        "\
+> object x 0
+ok object x
+> object y 10
+ok object y
+> site a 4
+ok site a
+> start
+ok start
+> propose take:x:y take:y:x
+ok proposed 1
+> send a
+ok sent a 1
+> apply a
+ok applied a 1
+> show a
+ok show a sent 1 applied 1 reported 0 rounds 0 x=10 y=0
+",
+    ),
+    (
+        "A swap weighs what both values travel",
+        "\
+> object x 0
+ok object x
+> object y 10
+ok object y
+> site a 4
+ok site a
+> site b 4
+ok site b
+> limit a all 20
+ok limit a
+> limit b all 19
+ok limit b
+> start
+ok start
+> propose take:x:y take:y:x
+ok proposed 1
+> settle
+ok round 1 b
+",
+    ),
+    (
+        "A site ahead of what is acknowledged",
+        "\
+> object x 0
+ok object x
+> object y 10
+ok object y
+> site a 4
+ok site a
+> limit a object x 5
+ok limit a
+> start
+ok start
+> propose add:x:9
+ok proposed 1
+> send a
+ok sent a 1
+> apply a
+ok applied a 1
+> report a
+ok reported a 1
+> settle
+ok acked 1
+> propose add:x:9
+ok proposed 2
+> settle
+ok round 2 a
+> show a
+ok show a sent 1 applied 1 reported 1 rounds 1 x=9 y=10
+",
+    ),
+    (
+        "Applied and not reported",
+        "\
+> object x 0
+ok object x
+> object y 10
+ok object y
+> site a 4
+ok site a
+> limit a object x 5
+ok limit a
+> start
+ok start
+> propose add:x:5
+ok proposed 1
+> settle
+ok acked 1
+> send a
+ok sent a 1
+> apply a
+ok applied a 1
+> propose add:x:1
+ok proposed 2
+> settle
+ok round 2 a
+> report a
+ok reported a 1
+> show a
+ok show a sent 1 applied 1 reported 1 rounds 1 x=5 y=10
+> settle
+ok waiting 2 a
+",
+    ),
+    (
         "Applied again after a report",
         "\
 > object x 0
@@ -1051,65 +520,202 @@ ok round 3 a
 ",
     ),
     (
-        "The six kinds of change",
-        "\
-> object a 3
-ok object a
-> object b 7
-ok object b
-> object c 7
-ok object c
-> object d 7
-ok object d
-> object e 7
-ok object e
-> object f 7
-ok object f
-> site s 4
-ok site s
-> start
-ok start
-> propose add:a:-2 set:b:-2 mul:c:-2 max:d:-2 min:e:-2 take:f:a
-ok proposed 1
-> propose max:b:0 min:c:0 max:e:-3 min:a:2 take:d:d
-ok proposed 2
-> send s
-ok sent s 1
-> apply s
-ok applied s 1
-> show s
-ok show s sent 1 applied 1 reported 0 rounds 0 a=1 b=-2 c=-14 d=7 e=-2 f=3
-> send s
-ok sent s 2
-> apply s
-ok applied s 2
-> show s
-ok show s sent 2 applied 2 reported 0 rounds 0 a=1 b=0 c=-14 d=7 e=-2 f=3
-",
-    ),
-    (
-        "All sent, and the feed full",
+        "Updates are acknowledged one at a time, in order",
         "\
 > object x 0
 ok object x
 > object y 10
 ok object y
-> site a 1
+> site a 4
 ok site a
 > limit a object x 5
 ok limit a
 > start
 ok start
-> propose add:x:1
+> propose add:x:2
 ok proposed 1
-> send a
-ok sent a 1
-> send a
-refused 14 NothingToSend
+> propose add:x:2
+ok proposed 2
+> propose add:x:2
+ok proposed 3
+> settle
+ok acked 1
+> settle
+ok acked 2
+> settle
+ok round 3 a
+> settle
+ok waiting 3 a
+> propose add:y:1
+ok proposed 4
+> settle
+ok waiting 3 a
+> show a
+ok show a sent 0 applied 0 reported 0 rounds 1 x=0 y=10
+",
+    ),
+    (
+        "Only forced sites are waited for",
+        "\
+> object x 0
+ok object x
+> site a 4
+ok site a
+> site b 4
+ok site b
+> limit b object x 2
+ok limit b
+> limit a object x 3
+ok limit a
+> start
+ok start
+> propose add:x:3
+ok proposed 1
+> settle
+ok round 1 b
+> send b
+ok sent b 1
+> apply b
+ok applied b 1
+> report b
+ok reported b 1
+> show a
+ok show a sent 0 applied 0 reported 0 rounds 0 x=0
+> show b
+ok show b sent 1 applied 1 reported 1 rounds 1 x=3
+> settle
+ok acked 1
+> settle
+refused 17 NothingToSettle
+",
+    ),
+    (
+        "Forced sites, in order of declaration",
+        "\
+> object x 0
+ok object x
+> site west 4
+ok site west
+> site east 4
+ok site east
+> site north 4
+ok site north
+> site south 4
+ok site south
+> limit east object x 2
+ok limit east
+> limit west all 2
+ok limit west
+> limit north count 1
+ok limit north
+> start
+ok start
+> propose add:x:3
+ok proposed 1
+> settle
+ok round 1 west east
+> send east
+ok sent east 1
+> apply east
+ok applied east 1
+> settle
+ok waiting 1 west east
+> report east
+ok reported east 1
+> settle
+ok waiting 1 west
+> send west
+ok sent west 1
+> apply west
+ok applied west 1
+> report west
+ok reported west 1
+> settle
+ok acked 1
 > propose add:x:1
 ok proposed 2
+> settle
+ok round 2 north
+> show west
+ok show west sent 1 applied 1 reported 1 rounds 1 x=3
+> show north
+ok show north sent 0 applied 0 reported 0 rounds 1 x=0
+> show south
+ok show south sent 0 applied 0 reported 0 rounds 0 x=0
+",
+    ),
+    (
+        "A query with an import limit",
+        "\
+> object x 0
+ok object x
+> object y 10
+ok object y
+> site a 4
+ok site a
+> limit a object x 5
+ok limit a
+> start
+ok start
+> propose add:x:3
+ok proposed 1
+> settle
+ok acked 1
 > send a
-refused 15 FeedFull
+ok sent a 1
+> begin q a 4
+ok begun q 1
+> read q x
+ok read q x value 0 import 3 total 3
+> apply a
+ok applied a 1
+> read q x
+ok read q x value 3 import 0 total 3
+> propose add:x:2
+ok proposed 2
+> send a
+ok sent a 2
+> apply a
+ok applied a 2
+> read q x
+refused 20 OverImport
+> end q
+ok end q place 1 sum 3 total 3 reads 2
+",
+    ),
+    (
+        "Queries that are refused",
+        "\
+> object x 0
+ok object x
+> object y 10
+ok object y
+> site a 4
+ok site a
+> limit a object x 5
+ok limit a
+> start
+ok start
+> begin q a 0
+ok begun q 0
+> begin q a 0
+refused 19 QueryOpen
+> read p x
+refused 18 UnknownQuery
+> read q z
+refused 6 UnknownObject
+> read q y
+ok read q y value 10 import 0 total 0
+> abandon q
+ok abandoned q
+> end q
+refused 18 UnknownQuery
+> begin Q a 0
+refused 4 BadName
+> begin q b 0
+refused 8 UnknownSite
+> begin q a 1000000000000000001
+refused 9 OutOfRange
 ",
     ),
     (
@@ -1220,42 +826,188 @@ ok end q place 0 sum 19 total 9 reads 2
 ",
     ),
     (
-        "Lines that are no commands, and lines that are skipped",
+        "Queries keep their references and sums apart",
         "\
-> object x
-refused 1 Syntax
-> object x 1 2
-refused 1 Syntax
-> object x 01
-refused 1 Syntax
-> object x +1
-refused 1 Syntax
-> objéct x 1
-refused 1 Syntax
-> # object x 1
-> 
->    
->   object   x   -1000000000  
+> object x 0
 ok object x
+> object y 10
+ok object y
+> site a 4
+ok site a
+> start
+ok start
+> begin p a 24
+ok begun p 0
+> propose set:x:7 set:y:-7
+ok proposed 1
+> send a
+ok sent a 1
+> apply a
+ok applied a 1
+> settle
+ok acked 1
+> begin q a 0
+ok begun q 1
+> read p x
+ok read p x value 7 import 7 total 7
+> read q y
+ok read q y value -7 import 0 total 0
+> read p y
+ok read p y value -7 import 17 total 24
+> read p x
+refused 20 OverImport
+> end p
+ok end p place 0 sum 0 total 24 reads 2
+> end q
+ok end q place 1 sum -7 total 0 reads 1
+",
+    ),
+    (
+        "Message sets that are refused",
+        "\
+> object x 0
+ok object x
+> object y 10
+ok object y
+> site a 4
+ok site a
+> limit a object x 5
+ok limit a
+> start
+ok start
 > propose
-refused 2 NotStarted
-> propose add:x:1 add:x:1
-refused 2 NotStarted
-> propose mul:x:2
-refused 2 NotStarted
-> propose add::1
+refused 11 Empty
+> propose add:x:1 add:x:2
+refused 12 Repeated
+> propose add:z:1
+refused 6 UnknownObject
+> propose inc:x:1
 refused 1 Syntax
 > propose add:x:01
 refused 1 Syntax
-> settle
-refused 2 NotStarted
+> propose add:x:1000000001
+refused 9 OutOfRange
+> propose set:x:7 add:y:1000000000
+refused 9 OutOfRange
+> propose add:x:1
+ok proposed 1
+> send a
+ok sent a 1
+> apply a
+ok applied a 1
+> show a
+ok show a sent 1 applied 1 reported 0 rounds 0 x=1 y=10
+",
+    ),
+    (
+        "Changes that are no changes",
+        "\
+> object x 0
+ok object x
+> object y 10
+ok object y
+> site a 4
+ok site a
+> limit a object x 5
+ok limit a
+> start
+ok start
+> propose add:x
+refused 1 Syntax
+> propose add:x:
+refused 1 Syntax
+> propose add::1
+refused 1 Syntax
+> propose add:x:1:2
+refused 1 Syntax
+> propose take:x:
+refused 1 Syntax
+> propose take::x
+refused 1 Syntax
+> propose take:x:y:z
+refused 1 Syntax
+> propose :x:1
+refused 1 Syntax
+> propose add:x:y
+refused 1 Syntax
+> propose add:x:+1
+refused 1 Syntax
+> propose Add:x:1
+refused 1 Syntax
+> propose take:x:1
+refused 6 UnknownObject
+> propose add:X!:1
+refused 6 UnknownObject
+> propose add:x:9999999999999999999
+refused 9 OutOfRange
+> propose take:x:x
+ok proposed 1
+",
+    ),
+    (
+        "Amounts",
+        "\
+> object x 0
+ok object x
+> object y 10
+ok object y
+> site a 4
+ok site a
+> limit a all 9999999999999999999
+refused 9 OutOfRange
+> limit a all -9999999999999999999
+refused 9 OutOfRange
+> limit a all 10000000000000000000
+refused 1 Syntax
+> start
+ok start
+> begin q a 9999999999999999999
+refused 9 OutOfRange
+",
+    ),
+    (
+        "1 before 2 and 3, whatever else is wrong",
+        "\
+> send
+refused 1 Syntax
+> read q x y
+refused 1 Syntax
+> begin Q b 01
+refused 1 Syntax
 > settle a
 refused 1 Syntax
-> Object y 1
+> propose add::1
 refused 1 Syntax
-> start now
+> propose add:x:1 add:x
+refused 1 Syntax
+> propose take:x:y add:z:1000000001
+refused 2 NotStarted
+> propose add:x:1 add:x:1
+refused 2 NotStarted
+> propose
+refused 2 NotStarted
+> begin Q b -1
+refused 2 NotStarted
+> object x 0
+ok object x
+> site a 4
+ok site a
+> start
+ok start
+> limit b object z
+refused 1 Syntax
+> group
 refused 1 Syntax
 > certify a
+refused 1 Syntax
+",
+    ),
+    (
+        "A tab is no space",
+        "\
+> object\tx 1
+refused 1 Syntax
+> object x 1\t
 refused 1 Syntax
 ",
     ),

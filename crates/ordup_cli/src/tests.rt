@@ -7,7 +7,7 @@ use std::alloc::Global;
 use std::io::{self, ErrorKind, Read, Write};
 use std::test::Fail;
 
-/// The script of the first run, and what it is answered.
+/// A script of 64 bytes, and its 123 bytes of answers.
 const FIRST_RUN: &str = "\
 > object x 0
 ok object x
@@ -114,11 +114,6 @@ fn run_with(
     }
 }
 
-/// Runs a script whole.
-fn answers(alloc: Global, script: &[u8]) -> Ended {
-    run_with(alloc, &["ordup", "run"], script, ALL, ALL, ALL)
-}
-
 /// The script of a transcript, and the answers in it.
 fn parts(alloc: Global, transcript: &str) -> Result<(Vec<u8>, Vec<u8>), Fail> {
     let mut script = Vec::new(alloc);
@@ -142,33 +137,72 @@ fn parts(alloc: Global, transcript: &str) -> Result<(Vec<u8>, Vec<u8>), Fail> {
 fn scripts_are_answered_as_their_transcripts_say(rt: HostRuntime) -> Result<(), Fail> {
     for (name, transcript) in ROWS {
         let (script, wanted) = parts(rt.alloc(), transcript)?;
-        let ended = answers(rt.alloc(), &script);
-        assert!(rt; ended.output.as_slice() == wanted.as_slice(), "{name}");
-        assert_eq!(rt; ended.status, 0, "{name}");
-        assert!(rt; ended.faults.is_empty(), "{name}");
-    }
-    Ok(())
-}
-
-#[test]
-fn short_reads_change_no_answer(rt: HostRuntime) -> Result<(), Fail> {
-    for (name, transcript) in ROWS {
-        let (script, wanted) = parts(rt.alloc(), transcript)?;
-        for at_once in 1..4usize {
+        for at_once in [ALL, 1, 2, 3] {
             let ended = run_with(rt.alloc(), &["ordup", "run"], &script, at_once, ALL, ALL);
             assert!(rt;
                 ended.output.as_slice() == wanted.as_slice(),
                 "{name}, by {at_once}"
             );
+            assert_eq!(rt; ended.status, 0, "{name}, by {at_once}");
+            assert!(rt; ended.faults.is_empty(), "{name}, by {at_once}");
         }
     }
     Ok(())
 }
 
+/// Sizes at their edges: the lines before, a part that stands there so many times, with its number from 0 on in the place of
+/// `#`, and the rest of the script, whose last line is one too many.
+const SIZES: [(&str, &str, usize, &str); 8] = [
+    ("", "object o# 0\n", 256, "object more 0\n"),
+    ("object x 0\n", "group g# x\n", 32, "group more\n"),
+    ("object x 0\ngroup g", " x", 65, "\n"),
+    ("", "site s# 4\n", 16, "site more 4\n"),
+    (
+        "site a 4\n",
+        "object o# 0\nlimit a object o# 5\n",
+        64,
+        "limit a object o0 5\n",
+    ),
+    ("object x 0\nsite a 4\nstart\npropose", " add:x:1", 65, "\n"),
+    (
+        "object x 0\nsite a 4\nstart\n",
+        "begin q# a 0\n",
+        64,
+        "begin q0 a 0\n",
+    ),
+    (
+        "object x 5\nsite a 4\nstart\nbegin q a 0\n",
+        "read q x\n",
+        256,
+        "read q x\n",
+    ),
+];
+
 #[test]
-fn a_last_line_needs_no_line_feed(rt: HostRuntime) {
-    let ended = answers(rt.alloc(), b"object x 1");
-    assert!(rt; ended.output.as_slice() == b"ok object x\n".as_slice());
+fn one_more_than_a_size_is_too_many(rt: HostRuntime) -> Result<(), Fail> {
+    for (before, part, count, rest) in SIZES {
+        let mut script = String::new(rt.alloc());
+        script.push_str(before)?;
+        for number in 0..count {
+            let number = number.to_string(rt.alloc())?;
+            let part = part.replace(rt.alloc(), "#", number.as_str())?;
+            script.push_str(part.as_str())?;
+        }
+        script.push_str(rest)?;
+        let ended = run_with(
+            rt.alloc(),
+            &["ordup", "run"],
+            script.as_bytes(),
+            ALL,
+            ALL,
+            ALL,
+        );
+        // The first refusal is the last answer.
+        let answers = str::from_utf8(&ended.output)?;
+        let after = answers.split_once("refused").map(|(_, after)| after);
+        assert_eq!(rt; after, Some(" 10 TooMany\n"), "{part}");
+    }
+    Ok(())
 }
 
 #[test]
@@ -178,10 +212,9 @@ fn lines_of_4096_bytes_are_read_and_longer_ones_are_not(rt: HostRuntime) -> Resu
         (4_097, b"refused 1 Syntax\nok object x\n".as_slice()),
     ] {
         let mut script = Vec::new(rt.alloc());
-        for _ in 0..length {
-            script.push(b' ')?;
-        }
-        script.extend_from_slice(b"\nobject x 1\n")?;
+        script.resize(length, b' ')?;
+        // The last line has no line feed.
+        script.extend_from_slice(b"\nobject x 1")?;
         for at_once in [1usize, 4_096, 4_097, ALL] {
             let ended = run_with(rt.alloc(), &["ordup", "run"], &script, at_once, ALL, ALL);
             assert!(rt;

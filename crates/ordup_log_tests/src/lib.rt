@@ -1,12 +1,14 @@
-//! Tests of the objects and the log: each public function on its happy path, and the answers that follow from the store's
-//! rules by hand.
+//! Tests of the objects and the log, by calls: those that no script makes, and what a call makes of numbers that a person
+//! worked out.
 #![tactic(auto)]
 
+#[cfg(test)]
+mod fixtures;
+#[cfg(test)]
+mod groups;
 #[cfg(test)]
 mod log;
 #[cfg(test)]
 mod names;
 #[cfg(test)]
 mod objects;
-#[cfg(test)]
-mod transcript;

@@ -1,156 +1,72 @@
-//! Names, tables of names, and the numbers and names of refusals.
-use crate::transcript::{Store, follow};
-use ordup_objects::{Name, NameTable, Refusal, SiteId};
-use std::alloc::{AllocError, Global};
+//! Names, and the numbers and names of refusals.
+use ordup_objects::{Name, Refusal, SiteId};
 use std::test::Fail;
 
-impl Store {
-    pub(crate) fn name(&self, bytes: &str) -> Result<String, Refusal> {
-        match str::from_utf8(Name::new(bytes.as_bytes())?.as_bytes()) {
-            Ok(name) => self.text(name),
-            Err(_) => Err(Refusal::Syntax),
-        }
+#[test]
+fn which_bytes_are_a_name(rt: HostRuntime) {
+    for name in ["a", "a_9", "z0_", "abcdefghijklmnop"] {
+        assert!(rt; Name::new(name.as_bytes()).is_ok(), "{name}");
+    }
+    for name in [
+        // 17 bytes.
+        "abcdefghijklmnopq",
+        "",
+        "9x",
+        "_x",
+        "Q",
+        "aQ",
+        "a-b",
+        "a b",
+        "a{",
+        "a`",
+    ] {
+        assert!(rt; Name::new(name.as_bytes()).is_err(), "{name}");
     }
 }
 
 #[test]
-fn which_bytes_are_a_name(rt: HostRuntime) -> Result<(), Fail> {
-    follow(
-        &rt,
-        "name a -> a
-name a_9 -> a_9
-name z0_ -> z0_
-name abcdefghijklmnop -> abcdefghijklmnop
-# 17 bytes
-name abcdefghijklmnopq -> BadName
-name -> BadName
-name 9x -> BadName
-name _x -> BadName
-name Q -> BadName
-name aQ -> BadName
-name a-b -> BadName
-name a b -> BadName
-name a{ -> BadName
-name a` -> BadName",
-    )?;
+fn names_are_equal_where_their_bytes_are(rt: HostRuntime) -> Result<(), Fail> {
     assert!(rt; Name::new(b"ab")? == Name::new(b"ab")?);
     assert!(rt; Name::new(b"ab")? != Name::new(b"abc")?);
     Ok(())
 }
 
-/// Adds a name that is not there, and says whether it was not.
-fn add(table: &mut NameTable<u8>, name: &str, entry: u8) -> Result<bool, Fail> {
-    let name = Name::new(name.as_bytes())?;
-    if table.find(name.as_bytes()).is_some() {
-        return Ok(false);
-    }
-    table.push(name, entry)?;
-    Ok(true)
-}
-
-/// The names with their entries, in the order of the table.
-fn listed(table: &NameTable<u8>) -> Result<String, Fail> {
-    let mut listed = String::new(*table.allocator());
-    for place in 0..table.len() {
-        let (name, entry) = table.at(place);
-        writeln!(listed, "{} {entry}", str::from_utf8(name.as_bytes())?)?;
-    }
-    Ok(listed)
-}
-
-#[test]
-fn names_keep_their_order(rt: HostRuntime) -> Result<(), Fail> {
-    let mut table = NameTable::new(rt.alloc());
-    assert!(rt; add(&mut table, "first", 7)?);
-    assert!(rt; add(&mut table, "second", 8)?);
-    assert_eq!(rt; listed(&table)?.as_str(), "first 7\nsecond 8\n");
-    for (name, place) in [
-        ("first", Some(0)),
-        ("second", Some(1)),
-        ("Not a name", None),
-    ] {
-        assert_eq!(rt; table.find(name.as_bytes()), place, "{name}");
-    }
-    Ok(())
-}
-
-/// The number and the name of each refusal, a line each.
-fn numbered(alloc: Global, refusals: &[Refusal]) -> Result<String, AllocError> {
-    let mut lines = String::new(alloc);
-    for refusal in refusals {
-        writeln!(lines, "{} {}", refusal.number(), refusal.name())?;
-    }
-    Ok(lines)
-}
-
 #[test]
 fn numbers_and_names_of_refusals(rt: HostRuntime) -> Result<(), Fail> {
-    let refusals = [
-        Refusal::Syntax,
-        Refusal::NotStarted,
-        Refusal::AlreadyStarted,
-        Refusal::BadName,
-        Refusal::NameTaken,
-        Refusal::UnknownObject,
-        Refusal::UnknownGroup,
-        Refusal::UnknownSite,
-        Refusal::OutOfRange,
-        Refusal::TooMany,
-        Refusal::Empty,
-        Refusal::Repeated,
-        Refusal::LogFull,
-        Refusal::NothingToSend,
-        Refusal::FeedFull,
-        Refusal::NothingToApply,
-        Refusal::NothingToSettle,
-        Refusal::UnknownQuery,
-        Refusal::QueryOpen,
-        Refusal::OverImport,
-        Refusal::Behind { applied: 5 },
-        Refusal::NotYet { number: 6 },
-        Refusal::Stopped,
-        Refusal::HeadPending,
-        Refusal::LagOver,
-        Refusal::NoMemory,
-        Refusal::Mixed {
-            site: SiteId::new(3),
-        },
-    ];
-    assert_eq!(rt;
-        numbered(rt.alloc(), &refusals)?.as_str(),
-        "1 Syntax
-2 NotStarted
-3 AlreadyStarted
-4 BadName
-5 NameTaken
-6 UnknownObject
-7 UnknownGroup
-8 UnknownSite
-9 OutOfRange
-10 TooMany
-11 Empty
-12 Repeated
-13 LogFull
-14 NothingToSend
-15 FeedFull
-16 NothingToApply
-17 NothingToSettle
-18 UnknownQuery
-19 QueryOpen
-20 OverImport
-21 Behind
-22 NotYet
-23 Stopped
-24 HeadPending
-25 LagOver
-26 NoMemory
-27 Mixed
-"
-    );
-    for refusal in refusals {
+    let site = SiteId::new(3);
+    for (refusal, number, name) in [
+        (Refusal::Syntax, 1, "Syntax"),
+        (Refusal::NotStarted, 2, "NotStarted"),
+        (Refusal::AlreadyStarted, 3, "AlreadyStarted"),
+        (Refusal::BadName, 4, "BadName"),
+        (Refusal::NameTaken, 5, "NameTaken"),
+        (Refusal::UnknownObject, 6, "UnknownObject"),
+        (Refusal::UnknownGroup, 7, "UnknownGroup"),
+        (Refusal::UnknownSite, 8, "UnknownSite"),
+        (Refusal::OutOfRange, 9, "OutOfRange"),
+        (Refusal::TooMany, 10, "TooMany"),
+        (Refusal::Empty, 11, "Empty"),
+        (Refusal::Repeated, 12, "Repeated"),
+        (Refusal::LogFull, 13, "LogFull"),
+        (Refusal::NothingToSend, 14, "NothingToSend"),
+        (Refusal::FeedFull, 15, "FeedFull"),
+        (Refusal::NothingToApply, 16, "NothingToApply"),
+        (Refusal::NothingToSettle, 17, "NothingToSettle"),
+        (Refusal::UnknownQuery, 18, "UnknownQuery"),
+        (Refusal::QueryOpen, 19, "QueryOpen"),
+        (Refusal::OverImport, 20, "OverImport"),
+        (Refusal::Behind { applied: 5 }, 21, "Behind"),
+        (Refusal::NotYet { number: 6 }, 22, "NotYet"),
+        (Refusal::Stopped, 23, "Stopped"),
+        (Refusal::HeadPending, 24, "HeadPending"),
+        (Refusal::LagOver, 25, "LagOver"),
+        (Refusal::NoMemory, 26, "NoMemory"),
+        (Refusal::Mixed { site }, 27, "Mixed"),
+    ] {
+        assert_eq!(rt; refusal.number(), number);
+        assert_eq!(rt; refusal.name(), name);
         let text = refusal.to_string(rt.alloc())?;
-        assert!(rt; text.as_str().starts_with(refusal.name()), "{text}");
+        assert!(rt; text.as_str().starts_with(name), "{text}");
     }
-    assert_eq!(rt; SiteId::new(3).index(), 3);
     Ok(())
 }

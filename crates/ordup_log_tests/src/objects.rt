@@ -1,335 +1,180 @@
 //! Tables of objects, message sets and values.
-use crate::transcript::{Store, follow, number, place, two};
-use ordup_objects::{ObjectId, Refusal, Values, values_move_by_their_weights};
+use crate::fixtures::{many_objects, set_of, x_and_y};
+use ordup_objects::{Change, ObjectId, Op, Refusal, Values, values_move_by_their_weights};
+use std::alloc::Global;
 use std::test::Fail;
-
-impl Store {
-    pub(crate) fn declare_object(&mut self, words: &str) -> Result<String, Refusal> {
-        let (name, initial) = two(words, ' ')?;
-        let object = self.objects.declare(name.as_bytes(), number(initial)?)?;
-        self.text(object.index())
-    }
-
-    /// Declares so many objects at 0: o0, o1 and on.
-    pub(crate) fn declare_many_objects(&mut self, count: &str) -> Result<String, Refusal> {
-        for place in 0..place(count)? {
-            let name = self.text(format_args!("o{place}"))?;
-            self.objects.declare(name.as_bytes(), 0)?;
-        }
-        self.text(self.objects.len())
-    }
-
-    pub(crate) fn find_object(&self, name: &str) -> Result<String, Refusal> {
-        match self.objects.find(name.as_bytes()) {
-            Some(object) => self.text(object.index()),
-            None => self.text("none"),
-        }
-    }
-
-    /// The name and the initial value of the object at a place.
-    pub(crate) fn object_at(&self, word: &str) -> Result<String, Refusal> {
-        let object = ObjectId::new(place(word)?);
-        if object.index() >= self.objects.len() {
-            return Err(Refusal::UnknownObject);
-        }
-        let initial = self.objects.initial(object);
-        match str::from_utf8(self.objects.name(object).as_bytes()) {
-            Ok(name) => self.text(format_args!("{name} {initial}")),
-            Err(_) => Err(Refusal::Syntax),
-        }
-    }
-
-    /// How many changes the set has that changes each of the first so many objects.
-    pub(crate) fn many_changes(&self, count: &str) -> Result<String, Refusal> {
-        let mut words = String::new(self.alloc);
-        for place in 0..place(count)? {
-            let word = self.text(format_args!("add:o{place}:1 "))?;
-            words.push_str(word.as_str()).or(Err(Refusal::NoMemory))?;
-        }
-        self.text(self.message_set(words.as_str())?.changes().len())
-    }
-
-    /// Whether a set is over so many objects.
-    pub(crate) fn is_over(&self, words: &str) -> Result<String, Refusal> {
-        let (count, changes) = two(words, ' ')?;
-        let count = place(count)?;
-        self.text(self.message_set(changes)?.is_over(count as usize))
-    }
-
-    /// Whether a set shows its changes, and whether a copy of it does.
-    pub(crate) fn copy(&self, words: &str) -> Result<String, Refusal> {
-        let changes = self.changes(words)?;
-        let set = self.message_set(words)?;
-        let copy = set.copy(self.alloc)?;
-        let is_shown = set.changes() == changes.as_slice();
-        let is_copied = copy.changes() == changes.as_slice();
-        self.text(format_args!("{is_shown} {is_copied}"))
-    }
-
-    fn initial(&self) -> Result<Values, Refusal> {
-        Values::initial(self.alloc, &self.objects)
-    }
-
-    /// How many initial values there are, and these values, then those of a copy.
-    pub(crate) fn values(&self) -> Result<String, Refusal> {
-        let values = self.initial()?;
-        let copy = values.copy(self.alloc)?;
-        let len = values.len();
-        self.text(format_args!("{len} {:?} {:?}", values.as_slice(), copy.as_slice()))
-    }
-
-    /// The initial value of an object.
-    pub(crate) fn value(&self, name: &str) -> Result<String, Refusal> {
-        let values = self.initial()?;
-        let object = self.object(name);
-        if object.index() < values.len() {
-            self.text(values.get(object))
-        } else {
-            Err(Refusal::UnknownObject)
-        }
-    }
-
-    /// What a set makes of the initial values, after its refusal, if any.
-    pub(crate) fn apply(&self, words: &str) -> Result<String, Refusal> {
-        let mut values = self.initial()?;
-        let set = self.message_set(words)?;
-        if !set.is_over(values.len()) {
-            return Err(Refusal::UnknownObject);
-        }
-        match values.apply(&set) {
-            Ok(()) => self.text(format_args!("{:?}", values.as_slice())),
-            Err(refusal) => self.text(format_args!("{} {:?}", refusal.name(), values.as_slice())),
-        }
-    }
-
-    /// Whether a set is legal on the initial values.
-    pub(crate) fn allows(&self, words: &str) -> Result<String, Refusal> {
-        let values = self.initial()?;
-        let set = self.message_set(words)?;
-        if !set.is_over(values.len()) {
-            return Err(Refusal::UnknownObject);
-        }
-        self.text(values.allows(&set))
-    }
-
-    /// How far each change of a set moves the initial value of its object.
-    pub(crate) fn distances(&self, words: &str) -> Result<String, Refusal> {
-        let values = self.initial()?;
-        let set = self.message_set(words)?;
-        if !set.is_over(values.len()) {
-            return Err(Refusal::UnknownObject);
-        }
-        match values.distances(self.alloc, &set) {
-            Ok(distances) => self.text(format_args!("{:?}", distances.as_slice())),
-            Err(_) => Err(Refusal::NoMemory),
-        }
-    }
-}
 
 #[test]
 fn objects_are_found_by_name_and_place(rt: HostRuntime) -> Result<(), Fail> {
-    follow(
-        &rt,
-        "objects -> 0
-object x -1000000000 -> 0
-object y 1000000000 -> 1
-objects -> 2
-find x -> 0
-find y -> 1
-find z -> none
-object_at 0 -> x -1000000000
-object_at 1 -> y 1000000000",
-    )
+    let objects = x_and_y(rt.alloc())?;
+    let y = ObjectId::new(1);
+    assert_eq!(rt; objects.len(), 2);
+    assert_eq!(rt; [objects.find(b"y"), objects.find(b"z")], [Some(y), None]);
+    assert_eq!(rt; objects.name(y).as_bytes(), b"y".as_slice());
+    assert_eq!(rt; objects.initial(y), 10);
+    Ok(())
 }
 
-#[test]
-fn objects_are_refused_in_order(rt: HostRuntime) -> Result<(), Fail> {
-    follow(
-        &rt,
-        "object x 0 -> 0
-object y 10 -> 1
-# a bad name and a number out of range
-object X 1000000001 -> BadName
-# a name that is taken, with a number out of range
-object x 1000000001 -> NameTaken
-object y 10 -> NameTaken
-object z 1000000001 -> OutOfRange
-object z -1000000001 -> OutOfRange
-object z -9223372036854775808 -> OutOfRange
-objects -> 2",
-    )
+/// Why changes of x and y are no message set, if they are none.
+fn refusal_of(alloc: Global, changes: &[Change]) -> Result<Option<Refusal>, Refusal> {
+    Ok(set_of(alloc, &x_and_y(alloc)?, changes).err())
 }
 
-#[test]
-fn at_most_256_objects(rt: HostRuntime) -> Result<(), Fail> {
-    follow(
-        &rt,
-        "many_objects 256 -> 256
-find o255 -> 255
-object O256 0 -> BadName
-object o255 0 -> NameTaken
-object o256 1000000001 -> OutOfRange
-object o256 0 -> TooMany
-objects -> 256",
-    )
+/// A change of the object at this place.
+fn change(object: u16, op: Op) -> Change {
+    Change {
+        object: ObjectId::new(object),
+        op,
+    }
 }
 
 #[test]
 fn which_changes_are_no_message_set(rt: HostRuntime) -> Result<(), Fail> {
-    follow(
-        &rt,
-        "object x 0 -> 0
-object y 10 -> 1
-set -> Empty
-set add:x:1 add:x:2 -> Repeated
-set add:z:1 -> UnknownObject
-set take:x:z -> UnknownObject",
-    )
+    let alloc = rt.alloc();
+    let add = change(0, Op::Add(1));
+    let unknown = change(2, Op::Add(1));
+    let takes_unknown = change(0, Op::Take(ObjectId::new(2)));
+    assert_eq!(rt; refusal_of(alloc, &[add])?, None);
+    assert_eq!(rt; refusal_of(alloc, &[])?, Some(Refusal::Empty));
+    assert_eq!(rt; refusal_of(alloc, &[add, add])?, Some(Refusal::Repeated));
+    assert_eq!(rt;
+        refusal_of(alloc, &[unknown])?,
+        Some(Refusal::UnknownObject)
+    );
+    assert_eq!(rt;
+        refusal_of(alloc, &[takes_unknown])?,
+        Some(Refusal::UnknownObject)
+    );
+    Ok(())
 }
 
 #[test]
 fn how_great_the_number_of_a_change_may_be(rt: HostRuntime) -> Result<(), Fail> {
-    follow(
-        &rt,
-        "many_objects 5 -> 5
-set add:o0:1000000000 set:o1:1000000000 mul:o2:1000000000 max:o3:1000000000 min:o4:1000000000 -> 5
-set add:o0:-1000000000 set:o1:-1000000000 mul:o2:-1000000000 max:o3:-1000000000 min:o4:-1000000000 -> 5
-set add:o0:1000000001 -> OutOfRange
-set set:o0:1000000001 -> OutOfRange
-set mul:o0:1000000001 -> OutOfRange
-set max:o0:1000000001 -> OutOfRange
-set min:o0:1000000001 -> OutOfRange
-set add:o0:-1000000001 -> OutOfRange
-set set:o0:-1000000001 -> OutOfRange
-set mul:o0:-1000000001 -> OutOfRange
-set max:o0:-1000000001 -> OutOfRange
-set min:o0:-1000000001 -> OutOfRange
-# the least number that there is
-set add:o0:-9223372036854775808 -> OutOfRange
-set set:o0:-9223372036854775808 -> OutOfRange
-set mul:o0:-9223372036854775808 -> OutOfRange
-set max:o0:-9223372036854775808 -> OutOfRange
-set min:o0:-9223372036854775808 -> OutOfRange",
-    )
+    for (n, wanted) in [
+        (1_000_000_000, None),
+        (-1_000_000_000, None),
+        (1_000_000_001, Some(Refusal::OutOfRange)),
+        (-1_000_000_001, Some(Refusal::OutOfRange)),
+        // The least number that there is.
+        (-9_223_372_036_854_775_808, Some(Refusal::OutOfRange)),
+    ] {
+        for op in [Op::Add(n), Op::Set(n), Op::Mul(n), Op::Max(n), Op::Min(n)] {
+            assert_eq!(rt; refusal_of(rt.alloc(), &[change(0, op)])?, wanted, "{op:?}");
+        }
+    }
+    Ok(())
+}
+
+/// How many changes the set has that adds 1 to each of so many objects.
+fn changes_of_many(alloc: Global, count: u16) -> Result<usize, Refusal> {
+    let objects = many_objects(alloc, count)?;
+    let mut changes = Vec::new(alloc);
+    for place in 0..count {
+        let change = change(place, Op::Add(1));
+        changes.push(change).or(Err(Refusal::NoMemory))?;
+    }
+    Ok(set_of(alloc, &objects, &changes)?.changes().len())
 }
 
 #[test]
-fn at_most_64_changes(rt: HostRuntime) -> Result<(), Fail> {
-    follow(
-        &rt,
-        "many_objects 65 -> 65
-many_changes 64 -> 64
-many_changes 65 -> TooMany",
-    )
+fn at_most_64_changes(rt: HostRuntime) {
+    assert_eq!(rt; changes_of_many(rt.alloc(), 64), Ok(64));
+    assert_eq!(rt; changes_of_many(rt.alloc(), 65), Err(Refusal::TooMany));
 }
 
 #[test]
 fn a_set_shows_and_copies_its_changes(rt: HostRuntime) -> Result<(), Fail> {
-    follow(
-        &rt,
-        "object x 0 -> 0
-object y 10 -> 1
-copy take:y:x mul:x:3 -> true true
-over 2 take:y:x mul:x:3 -> true
-over 3 take:y:x mul:x:3 -> true
-over 1 take:y:x mul:x:3 -> false
-over 0 take:y:x mul:x:3 -> false",
-    )
+    let changes = [change(1, Op::Take(ObjectId::new(0))), change(0, Op::Mul(3))];
+    let set = set_of(rt.alloc(), &x_and_y(rt.alloc())?, &changes)?;
+    let copy = set.copy(rt.alloc())?;
+    assert_eq!(rt; set.changes(), changes.as_slice());
+    assert_eq!(rt; copy.changes(), changes.as_slice());
+    assert!(rt; set.is_over(2) && !set.is_over(1));
+    Ok(())
 }
 
 #[test]
 fn values_begin_as_declared(rt: HostRuntime) -> Result<(), Fail> {
     values_move_by_their_weights();
-    follow(
-        &rt,
-        "object x 0 -> 0
-object y 10 -> 1
-values -> 2 [0, 10] [0, 10]
-value x -> 0
-value y -> 10",
-    )
+    let values = Values::initial(rt.alloc(), &x_and_y(rt.alloc())?)?;
+    let copy = values.copy(rt.alloc())?;
+    assert_eq!(rt; copy.as_slice(), [0, 10].as_slice());
+    assert_eq!(rt; values.len(), 2);
+    assert_eq!(rt; values.get(ObjectId::new(1)), 10);
+    Ok(())
+}
+
+/// What changes make of 0 for x and 10 for y.
+fn applied(alloc: Global, changes: &[Change]) -> Result<[i64; 2], Refusal> {
+    let objects = x_and_y(alloc)?;
+    let set = set_of(alloc, &objects, changes)?;
+    let mut values = Values::initial(alloc, &objects)?;
+    if !set.is_over(values.len()) {
+        return Err(Refusal::UnknownObject);
+    }
+    values.apply(&set)?;
+    match values.as_slice() {
+        [x, y] => Ok([*x, *y]),
+        _ => Err(Refusal::Empty),
+    }
 }
 
 #[test]
-fn what_each_change_makes_of_a_value(rt: HostRuntime) -> Result<(), Fail> {
-    follow(
-        &rt,
-        "object x 0 -> 0
-object y 10 -> 1
-# 0 + 5
-apply add:x:5 -> [5, 10]
-# 10 - 12
-apply add:y:-12 -> [0, -2]
-apply set:x:7 -> [7, 10]
-# 10 * -3
-apply mul:y:-3 -> [0, -30]
-# 0 * 8
-apply mul:x:8 -> [0, 10]
-apply max:y:9 -> [0, 10]
-apply max:y:11 -> [0, 11]
-apply min:y:9 -> [0, 9]
-apply min:y:11 -> [0, 10]
-apply take:x:y -> [10, 10]
-apply take:y:x -> [0, 0]
-apply take:y:y -> [0, 10]",
-    )
+fn what_each_change_makes_of_a_value(rt: HostRuntime) {
+    let (take_x, take_y) = (Op::Take(ObjectId::new(0)), Op::Take(ObjectId::new(1)));
+    for (object, op, wanted) in [
+        (0, Op::Add(5), [5, 10]),
+        // 10 - 12.
+        (1, Op::Add(-12), [0, -2]),
+        (0, Op::Set(7), [7, 10]),
+        // 10 * -3.
+        (1, Op::Mul(-3), [0, -30]),
+        (1, Op::Max(9), [0, 10]),
+        (1, Op::Max(11), [0, 11]),
+        (1, Op::Min(9), [0, 9]),
+        (1, Op::Min(11), [0, 10]),
+        (0, take_y, [10, 10]),
+        (1, take_x, [0, 0]),
+        (1, take_y, [0, 10]),
+    ] {
+        let after = applied(rt.alloc(), &[change(object, op)]);
+        assert_eq!(rt; after, Ok(wanted), "{op:?}");
+    }
 }
 
 #[test]
-fn all_changes_read_the_state_before_the_set(rt: HostRuntime) -> Result<(), Fail> {
-    follow(
-        &rt,
-        "object x 0 -> 0
-object y 10 -> 1
-apply take:x:y take:y:x -> [10, 0]
-# y becomes 10 + 5, and x the 10 before it, in either order
-apply take:x:y add:y:5 -> [10, 15]
-apply add:y:5 take:x:y -> [10, 15]
-# x becomes 7, and y the 0 before it
-apply set:x:7 take:y:x -> [7, 0]
-# taken of itself, a value stays
-apply take:x:x take:y:y -> [0, 10]",
-    )
+fn all_changes_read_the_values_before_the_set(rt: HostRuntime) {
+    let (take_x, take_y) = (Op::Take(ObjectId::new(0)), Op::Take(ObjectId::new(1)));
+    for (of_x, of_y, wanted) in [
+        (take_y, take_x, Ok([10, 0])),
+        // y becomes 10 + 5, and x the 10 before it.
+        (take_y, Op::Add(5), Ok([10, 15])),
+        // x becomes 7, and y the 0 before it.
+        (Op::Set(7), take_x, Ok([7, 0])),
+        (take_x, take_y, Ok([0, 10])),
+        // 10 + 999,999,990 is the greatest value.
+        (Op::Set(7), Op::Add(999_999_990), Ok([7, 1_000_000_000])),
+        (Op::Set(7), Op::Add(999_999_991), Err(Refusal::OutOfRange)),
+        // 10 * -100,000,000 is the least value.
+        (Op::Set(7), Op::Mul(-100_000_000), Ok([7, -1_000_000_000])),
+        (Op::Set(7), Op::Mul(-100_000_001), Err(Refusal::OutOfRange)),
+    ] {
+        let both = [change(0, of_x), change(1, of_y)];
+        let turned = [change(1, of_y), change(0, of_x)];
+        assert_eq!(rt; applied(rt.alloc(), &both), wanted, "{both:?}");
+        assert_eq!(rt; applied(rt.alloc(), &turned), wanted, "{turned:?}");
+    }
 }
 
 #[test]
-fn a_result_out_of_range_changes_nothing(rt: HostRuntime) -> Result<(), Fail> {
-    follow(
-        &rt,
-        "object x 0 -> 0
-object y 10 -> 1
-# 10 + 999,999,990 is 1,000,000,000, the greatest value
-apply set:x:7 add:y:999999990 -> [7, 1000000000]
-apply set:x:7 add:y:999999991 -> OutOfRange [0, 10]
-apply set:x:7 add:y:1000000000 -> OutOfRange [0, 10]
-# 10 * -100,000,000 is -1,000,000,000, the least value
-apply set:x:7 mul:y:-100000000 -> [7, -1000000000]
-apply set:x:7 mul:y:-100000001 -> OutOfRange [0, 10]",
-    )
-}
-
-#[test]
-fn values_allow_what_stays_in_range(rt: HostRuntime) -> Result<(), Fail> {
-    follow(
-        &rt,
-        "object x -1000000000 -> 0
-allows add:x:2000 -> true
-allows add:x:-1 -> false
-allows mul:x:-1 -> true
-allows mul:x:2 -> false
-allows set:x:1000000000 -> true",
-    )
-}
-
-#[test]
-fn how_far_each_change_moves_its_value(rt: HostRuntime) -> Result<(), Fail> {
-    follow(
-        &rt,
-        "object x 0 -> 0
-object y 10 -> 1
-# y from 10 to 0, and x from 0 to -7
-distances take:y:x set:x:-7 -> [10, 7]
-# y from 10 to 30, and x from 0 to 0
-distances mul:y:3 max:x:-1 -> [20, 0]",
-    )
+fn how_far_each_change_would_move_its_value(rt: HostRuntime) -> Result<(), Fail> {
+    let objects = x_and_y(rt.alloc())?;
+    let values = Values::initial(rt.alloc(), &objects)?;
+    // y from 10 to 30, and x from 0 to -7.
+    let changes = [change(1, Op::Mul(3)), change(0, Op::Set(-7))];
+    let set = set_of(rt.alloc(), &objects, &changes)?;
+    assert!(rt; set.is_over(values.len()) && values.allows(&set));
+    let distances = values.distances(rt.alloc(), &set)?;
+    assert_eq!(rt; distances.as_slice(), [20, 7].as_slice());
+    Ok(())
 }

@@ -1,8 +1,8 @@
 //! Each growth refused in turn: a script writes a front of its answers, and it and a plan end in `NoMemory`.
+use crate::readers::PieceReader;
 use ordup_script::{PlanFault, ScriptFault, read_plan, run_script};
 use std::alloc::{AllocError, Allocator, Global};
 use std::cell::Cell;
-use std::io::{self, Read};
 
 /// Passes each call on, and refuses every allocation after the first so many.
 #[derive(Drop)]
@@ -40,22 +40,6 @@ unsafe impl<A: Allocator> Allocator for Scarce<A> {
 
     unsafe fn deallocate(&self, ptr: *mut u8, size: usize, align: usize) {
         self.heap.deallocate(ptr, size, align);
-    }
-}
-
-/// Gives at most seven bytes a call.
-#[derive(Drop)]
-struct PieceReader<'a> {
-    left: &'a [u8],
-}
-
-impl Read for PieceReader<'_> {
-    fn read(&mut self, buffer: &mut [u8]) -> io::Result<usize> {
-        let count = self.left.len().min(buffer.len()).min(7);
-        let (given, left) = self.left.split_at(count);
-        buffer[..count].copy_from_slice(given);
-        self.left = left;
-        Ok(count)
     }
 }
 
@@ -153,7 +137,12 @@ ok show depot sent 3 applied 3 reported 3 rounds 1 tea=37 rice=10 salt=16
 /// Runs the script with so many allocations: why it did not end, if it did not.
 fn run_with(alloc: Global, allocations: u64, output: &mut Vec<u8>) -> Option<ScriptFault> {
     let scarce = Scarce::new(alloc, allocations);
-    run_script(&scarce, &mut PieceReader { left: SCRIPT }, output).err()
+    run_script(
+        &scarce,
+        &mut PieceReader::new(SCRIPT, 7, usize::MAX),
+        output,
+    )
+    .err()
 }
 
 #[test]
@@ -188,7 +177,7 @@ propose mul:tea:2
 /// Reads the plan with so many allocations: how many sets it has.
 fn read_with(alloc: Global, allocations: u64) -> Result<usize, PlanFault> {
     let scarce = Scarce::new(alloc, allocations);
-    let plan = read_plan(&scarce, &mut PieceReader { left: PLAN })?;
+    let plan = read_plan(&scarce, &mut PieceReader::new(PLAN, 7, usize::MAX))?;
     Ok(plan.sets.len())
 }
 

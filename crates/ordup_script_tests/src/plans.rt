@@ -1,125 +1,190 @@
 //! Plans: how many sets each has, or the first line that does not belong.
 ghost use Rattle.std.specs.Prelude.{◌≤◌};
 
+use crate::readers::PieceReader;
 use ordup_script::{PlanFault, read_plan, read_plan_within};
 use std::alloc::{AllocError, Global};
-use std::io::{self, ErrorKind, Read};
+use std::io::Read;
 use std::test::Fail;
 
-/// A name, a plan, and what it comes to: its number of sets, or the number of its first line that does not belong.
-const PLANS: [(&str, &str, Result<usize, u64>); 18] = [
-    ("without a start", "object x 0\nsite a 4\n", Err(3)),
-    ("a start without a site", "object x 0\nstart\n", Err(2)),
-    (
-        "a proposal before the start",
-        "object x 0\nsite a 4\npropose add:x:1\n",
-        Err(3),
-    ),
-    (
-        "another command",
-        "object x 0\nsite a 4\nstart\nsend a\n",
-        Err(4),
-    ),
-    ("empty input", "", Err(1)),
-    (
-        "comments and blank lines count as lines",
-        "# a plan\n\nobject x 0\n   \nsite a 4\n# no start\n",
-        Err(7),
-    ),
-    (
-        "what a script would refuse only while it runs",
-        "object x 1000000000\nsite a 4\nstart\npropose add:x:1\npropose mul:x:1000000000\n",
-        Ok(2),
-    ),
-    (
-        "a number in a change",
-        "object x 0\nsite a 4\nstart\npropose add:x:1000000001\n",
-        Err(4),
-    ),
-    (
-        "an empty set",
-        "object x 0\nsite a 4\nstart\npropose add:x:1\npropose\n",
-        Err(5),
-    ),
-    (
-        "an object that is not there",
-        "object x 0\nsite a 4\nstart\npropose take:x:y\n",
-        Err(4),
-    ),
-    (
-        "an object that is changed twice",
-        "object x 0\nsite a 4\nstart\npropose add:x:1 add:x:2\n",
-        Err(4),
-    ),
-    (
-        "a second start",
-        "object x 0\nsite a 4\nstart\npropose add:x:1\nstart\n",
-        Err(5),
-    ),
-    (
-        "a declaration after the start",
-        "object x 0\nsite a 4\nstart\nlimit a all 1\n",
-        Err(4),
-    ),
-    (
-        "a declaration that is refused",
-        "object x 0\nobject x 0\nsite a 4\nstart\n",
-        Err(2),
-    ),
-    (
-        "another command before the start",
-        "object x 0\nsettle\nsite a 4\nstart\n",
-        Err(2),
-    ),
-    (
-        "no command",
-        "object x 0\nsite a 4\ncertify a\nstart\n",
-        Err(3),
-    ),
-    (
-        "a group and its limit",
-        "object x 0\nobject y 0\ngroup g x y\nsite a 4\nlimit a group g 1\nstart\npropose add:x:1 take:y:x\n",
-        Ok(1),
-    ),
-    (
-        "a last line without a line feed",
-        "object x 0\nsite a 4\nstart",
-        Ok(0),
-    ),
+/// The plans of docs/FORMATS.md, in its form: a line that begins with `> ` is one of the plan, the other is what `read_plan`
+/// answers to the lines before it.
+const SHOWN: [&str; 8] = [
+    "\
+> # a shop
+> object x 0
+> site a 4
+> limit a object x 5
+> 
+> start
+> propose add:x:1000000000
+> propose add:x:1000000000
+plan of 2 sets
+",
+    "\
+> 
+Malformed{2}
+",
+    "\
+> object x 0
+> site a 4
+Malformed{3}
+",
+    "\
+> object x 0
+> start
+Malformed{2}
+",
+    "\
+> object x 0
+> site a 4
+> propose add:x:1
+Malformed{3}
+",
+    "\
+> object x 0
+> site a 4
+> start
+> send a
+Malformed{4}
+",
+    "\
+> object x 0
+> site a 4
+> start
+> propose add:x:1
+> limit a all 5
+Malformed{5}
+",
+    "\
+> object x 0
+> site a 4
+> start
+> propose set:x:0
+> propose add:x:1000000001
+> propose inc:x:1
+Malformed{5}
+",
 ];
 
-/// What a plan comes to, or 0 for another fault.
-fn outcome(alloc: Global, text: &[u8]) -> Result<usize, u64> {
+/// More plans, in the same form.
+const MORE: [&str; 10] = [
+    "Malformed{1}\n",
+    "\
+> # a plan
+> 
+> object x 0
+>    
+> site a 4
+> # no start
+Malformed{7}
+",
+    "\
+> object x 0
+> site a 4
+> start
+> propose add:x:1
+> propose
+Malformed{5}
+",
+    "\
+> object x 0
+> site a 4
+> start
+> propose take:x:y
+Malformed{4}
+",
+    "\
+> object x 0
+> site a 4
+> start
+> propose add:x:1 add:x:2
+Malformed{4}
+",
+    "\
+> object x 0
+> site a 4
+> start
+> propose add:x:1
+> start
+Malformed{5}
+",
+    "\
+> object x 0
+> object x 0
+> site a 4
+> start
+Malformed{2}
+",
+    "\
+> object x 0
+> settle
+> site a 4
+> start
+Malformed{2}
+",
+    "\
+> object x 0
+> site a 4
+> certify a
+> start
+Malformed{3}
+",
+    "\
+> object x 0
+> object y 0
+> group g x y
+> site a 4
+> limit a group g 1
+> start
+> propose add:x:1 take:y:x
+plan of 1 sets
+",
+];
+
+/// What a plan comes to.
+fn told(alloc: Global, text: &[u8]) -> Result<String, Fail> {
     let mut input = text;
     match read_plan(alloc, &mut input) {
-        Ok(plan) => Ok(plan.sets.len()),
-        Err(PlanFault::Malformed { line }) => Err(line),
-        Err(_) => Err(0),
+        Ok(plan) => Ok(format!(in alloc; "plan of {} sets", plan.sets.len())?),
+        Err(PlanFault::Malformed { line }) => Ok(format!(in alloc; "Malformed{{{line}}}")?),
+        Err(_) => Err(Fail::new("another fault")),
     }
 }
 
 #[test]
-fn plans_come_to_their_sets_or_to_a_line(rt: HostRuntime) {
-    for (name, text, wanted) in PLANS {
-        assert!(rt; outcome(rt.alloc(), text.as_bytes()) == wanted, "{name}");
+fn plans_come_to_their_sets_or_to_a_line(rt: HostRuntime) -> Result<(), Fail> {
+    for plan in SHOWN.iter().chain(MORE.iter()) {
+        let mut text = String::new(rt.alloc());
+        for line in plan.lines() {
+            match line.strip_prefix("> ") {
+                Some(line) => {
+                    text.push_str(line)?;
+                    text.push('\n')?;
+                }
+                None => assert_eq!(rt; told(rt.alloc(), text.as_bytes())?.as_str(), line, "{plan}"),
+            }
+        }
     }
+    Ok(())
 }
 
-/// Two objects, two sites with a limit of 0 each, and 50 updates.
+/// Two objects, two sites with a limit of 0 each, and 50 updates, the last without a line feed.
 fn fifty(alloc: Global) -> Result<Vec<u8>, AllocError> {
     let mut text = Vec::new(alloc);
     text.extend_from_slice(b"object x 0\nobject y 10\nsite a 4\nsite b 4\n")?;
     text.extend_from_slice(b"limit a all 0\nlimit b all 0\nstart\n")?;
-    for _line in 0..50u8 {
+    for _line in 0..49u8 {
         text.extend_from_slice(b"propose add:x:1\n")?;
     }
+    text.extend_from_slice(b"propose add:x:1")?;
     Ok(text)
 }
 
 #[test]
 fn a_plan_of_50_sets(rt: HostRuntime) -> Result<(), Fail> {
     let text = fifty(rt.alloc())?;
-    assert!(rt; outcome(rt.alloc(), &text) == Ok(50));
+    assert_eq!(rt; told(rt.alloc(), &text)?.as_str(), "plan of 50 sets");
     Ok(())
 }
 
@@ -131,18 +196,8 @@ fn a_comment_that_is_too_long_does_not_belong(rt: HostRuntime) -> Result<(), Fai
     text.extend_from_slice(b"\n#")?;
     text.resize(12 + 4097 + 4096, b'a')?;
     text.push(b'\n')?;
-    assert!(rt; outcome(rt.alloc(), &text) == Err(3));
+    assert_eq!(rt; told(rt.alloc(), &text)?.as_str(), "Malformed{3}");
     Ok(())
-}
-
-/// Fails at once.
-#[derive(Drop)]
-struct BrokenReader;
-
-impl Read for BrokenReader {
-    fn read(&mut self, _buffer: &mut [u8]) -> io::Result<usize> {
-        Err(io::Error::from(ErrorKind::Other))
-    }
 }
 
 /// Why a plan of at most so many bytes is not read, if it is for another reason than a line.
@@ -157,7 +212,7 @@ fn fault<R: Read>(alloc: Global, input: &mut R, limit: u64) -> Option<PlanFault>
 
 #[test]
 fn plans_that_cannot_be_read(rt: HostRuntime) {
-    let failed = fault(rt.alloc(), &mut BrokenReader, 100);
+    let failed = fault(rt.alloc(), &mut PieceReader::new(b"", 1, 0), 100);
     assert!(rt; failed == Some(PlanFault::Read));
     // 26 bytes.
     let text = b"object x 0\nsite a 4\nstart\n";

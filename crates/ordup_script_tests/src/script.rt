@@ -1,34 +1,10 @@
-//! Readers and writers that fail. The lines are those that each session answers alike: comments, and lines that are
-//! too long.
+//! Writers that fail, and scripts that are too long. The lines are those that each session answers alike: comments, and
+//! lines that are too long.
+use crate::readers::PieceReader;
 use ordup_script::{ScriptFault, run_script, run_script_within};
 use std::alloc::{AllocError, Global};
-use std::io::{self, ErrorKind, Read, Write};
+use std::io::{self, ErrorKind, Write};
 use std::test::Fail;
-
-/// Gives one byte a call, and fails after so many.
-#[derive(Drop)]
-struct SlowReader<'a> {
-    left: &'a [u8],
-    room: usize,
-}
-
-impl<'a> Read for SlowReader<'a> {
-    fn read(&mut self, buffer: &mut [u8]) -> io::Result<usize> {
-        if self.room == 0 {
-            return Err(io::Error::from(ErrorKind::Other));
-        }
-        let Some((first, rest)) = self.left.split_first() else {
-            return Ok(0);
-        };
-        if buffer.is_empty() {
-            return Ok(0);
-        }
-        buffer[0] = *first;
-        self.left = rest;
-        self.room -= 1;
-        Ok(1)
-    }
-}
 
 /// Takes so many bytes, a few a call, and then fails, or takes nothing more.
 #[derive(Drop)]
@@ -72,24 +48,11 @@ fn script(alloc: Global) -> Result<Vec<u8>, AllocError> {
 const ANSWERS: &[u8] = b"refused 1 Syntax\nrefused 1 Syntax\n";
 
 #[test]
-fn lines_that_are_too_long(rt: HostRuntime) -> Result<(), Fail> {
-    let script = script(rt.alloc())?;
-    let mut input = script.as_slice();
-    let mut output: Vec<u8> = Vec::new(rt.alloc());
-    assert!(rt; run_script(rt.alloc(), &mut input, &mut output).is_ok());
-    assert!(rt; output.as_slice() == ANSWERS);
-    Ok(())
-}
-
-#[test]
 fn each_cut_of_the_output(rt: HostRuntime) -> Result<(), Fail> {
     let script = script(rt.alloc())?;
     for fails in [false, true] {
         for room in 0..40usize {
-            let mut input = SlowReader {
-                left: script.as_slice(),
-                room: usize::MAX,
-            };
+            let mut input = PieceReader::new(&script, 1, usize::MAX);
             let mut output = FullWriter {
                 taken: Vec::new(rt.alloc()),
                 room,
@@ -104,29 +67,6 @@ fn each_cut_of_the_output(rt: HostRuntime) -> Result<(), Fail> {
                 assert!(rt; end.is_ok(), "at {room}");
             }
         }
-    }
-    Ok(())
-}
-
-#[test]
-fn cuts_of_the_input(rt: HostRuntime) -> Result<(), Fail> {
-    let script = script(rt.alloc())?;
-    for (room, answers) in [
-        (0, 0),
-        (12, 0),
-        (4109, 0),
-        (4110, 17),
-        (8207, 17),
-        (17000, 17),
-    ] {
-        let mut input = SlowReader {
-            left: script.as_slice(),
-            room,
-        };
-        let mut output: Vec<u8> = Vec::new(rt.alloc());
-        let end = run_script(rt.alloc(), &mut input, &mut output);
-        assert!(rt; matches!(end, Err(ScriptFault::Read)), "at {room}");
-        assert!(rt; output.as_slice() == &ANSWERS[..answers], "at {room}");
     }
     Ok(())
 }

@@ -1,24 +1,13 @@
-//! Tests of limits, of the primary and of the world.
-//!
-//! What happens to a store is told by transcripts: texts in which each step stands beside its answer. What no transcript tells
-//! is tested by calls.
+//! Tests of limits, of the primary and of the world, by calls: those that no script makes.
 #![tactic(auto)]
 
 #[cfg(test)]
-mod answering;
-#[cfg(test)]
 mod declaring;
+#[cfg(test)]
+mod fixtures;
 #[cfg(test)]
 mod limits;
 #[cfg(test)]
 mod primary;
 #[cfg(test)]
-mod querying;
-#[cfg(test)]
-mod reading;
-#[cfg(test)]
 mod running;
-#[cfg(test)]
-mod settling;
-#[cfg(test)]
-mod transcript;

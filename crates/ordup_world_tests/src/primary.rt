@@ -1,31 +1,24 @@
-//! The primary by calls, without a world.
-use crate::reading::{message_set, setup_of};
-use ordup_objects::{Change, ObjectId, Op, Refusal, SiteId};
+//! The primary without a world.
+use crate::fixtures::{set_of, x_y_and_a};
+use ordup_objects::{Op, Refusal, SiteId};
 use ordup_world::{Primary, Settled};
 use std::alloc::Global;
 use std::process::Abort;
 use std::test::Fail;
 
-/// A primary with a limit of 5 on x for site a, and with one proposed update, x plus 6.
-fn of_one_update(alloc: Global) -> Result<Primary, Fail> {
-    let setup = setup_of(alloc, "object x 0\nsite a 4\nlimit a object x 5")?;
+/// A primary with one proposed update, x plus 6, which passes the limit of 5.
+fn of_one_update(alloc: Global) -> Result<Primary, Refusal> {
+    let setup = x_y_and_a(alloc)?;
+    let set = set_of(alloc, setup.objects(), 0, Op::Add(6))?;
     if !setup.is_ready() {
-        return Err(Fail::new("no object or no site"));
+        return Err(Refusal::Empty);
     }
     let mut primary = Primary::new(alloc, setup)?;
-    propose(alloc, &mut primary, "add:x:6")?;
-    Ok(primary)
-}
-
-/// Proposes an update of one change.
-fn propose(alloc: Global, primary: &mut Primary, change: &str) -> Result<(), Fail> {
-    let setup = primary.setup();
-    let set = message_set(alloc, setup, setup.objects(), &[change])?;
     if !set.is_over(primary.log().objects()) {
-        return Err(Fail::new("another number of objects"));
+        return Err(Refusal::UnknownObject);
     }
     primary.propose(set)?;
-    Ok(())
+    Ok(primary)
 }
 
 /// How many updates there are, are acknowledged and are decided, and how many were sent to the first site and reported by it.
@@ -45,7 +38,6 @@ fn numbers(rt: &impl Abort, primary: &Primary) -> [u64; 5] {
 fn a_primary_hands_out_and_takes_reports(rt: HostRuntime) -> Result<(), Fail> {
     let mut primary = of_one_update(rt.alloc())?;
     let a = SiteId::new(0);
-    assert_eq!(rt; numbers(&rt, &primary), [1, 0, 0, 0, 0]);
     hand_out(&rt, &mut primary)?;
     assert_eq!(rt; numbers(&rt, &primary), [1, 0, 0, 1, 0]);
     assert!(rt; primary.setup().sites() > 0);
@@ -56,18 +48,14 @@ fn a_primary_hands_out_and_takes_reports(rt: HostRuntime) -> Result<(), Fail> {
     Ok(())
 }
 
-/// Sends the first update, x plus 6, to the first site.
+/// Sends the first update to the first site.
 fn hand_out(rt: &impl Abort, primary: &mut Primary) -> Result<(), Fail> {
     let a = SiteId::new(0);
-    assert!(rt; primary.setup().sites() > 0 && primary.acked() == 0);
+    assert!(rt; primary.setup().sites() > 0);
     let parcel = primary.next_for(a)?;
     assert_eq!(rt; parcel.number, 1);
-    let add = Change {
-        object: ObjectId::new(0),
-        op: Op::Add(6),
-    };
-    assert_eq!(rt; parcel.set.changes(), [add].as_slice());
-    assert!(rt; primary.sent(a) < primary.log().len());
+    assert!(rt; primary.log().len() == 1 && primary.sent(a) == 0);
+    assert_eq!(rt; parcel.set.changes(), primary.log().set(1).changes());
     primary.mark_sent(a);
     Ok(())
 }

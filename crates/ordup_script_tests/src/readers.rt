@@ -1,0 +1,38 @@
+//! A reader that gives a little at a time.
+use std::io::{self, ErrorKind, Read};
+
+/// Gives at most so many bytes a call, and fails once so many were given.
+#[derive(Drop)]
+pub(crate) struct PieceReader<'a> {
+    left: &'a [u8],
+    at_once: usize,
+    before_failure: usize,
+}
+
+impl<'a> PieceReader<'a> {
+    pub(crate) fn new(left: &'a [u8], at_once: usize, before_failure: usize) -> Self {
+        PieceReader {
+            left,
+            at_once,
+            before_failure,
+        }
+    }
+}
+
+impl Read for PieceReader<'_> {
+    fn read(&mut self, buffer: &mut [u8]) -> io::Result<usize> {
+        if self.before_failure == 0 {
+            return Err(io::Error::from(ErrorKind::Other));
+        }
+        let count = buffer
+            .len()
+            .min(self.at_once)
+            .min(self.left.len())
+            .min(self.before_failure);
+        let (given, left) = self.left.split_at(count);
+        buffer[..count].copy_from_slice(given);
+        self.left = left;
+        self.before_failure -= count;
+        Ok(count)
+    }
+}

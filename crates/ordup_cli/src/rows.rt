@@ -3,7 +3,7 @@
 
 /// A name, and a transcript: a line that begins with `> ` is a line of the script, any other is the answer that must come
 /// there. Each transcript is a script of its own.
-pub(crate) const ROWS: [(&str, &str); 31] = [
+pub(crate) const ROWS: [(&str, &str); 32] = [
     ("An empty script", ""),
     (
         "Equal is not over, one more is, and a late report cancels no round",
@@ -942,6 +942,51 @@ refused 6 UnknownObject
 refused 9 OutOfRange
 > propose take:x:x
 ok proposed 1
+",
+    ),
+    (
+        "Numbers and results at their edges",
+        "\
+> object x -10
+ok object x
+> object y 0
+ok object y
+> site a 4
+ok site a
+> start
+ok start
+> propose add:x:1000000001
+refused 9 OutOfRange
+> propose mul:y:1000000001
+refused 9 OutOfRange
+> propose max:y:-1000000001
+refused 9 OutOfRange
+> propose min:y:1000000001
+refused 9 OutOfRange
+> propose set:y:-1000000001
+refused 9 OutOfRange
+> propose add:y:-9223372036854775808
+refused 9 OutOfRange
+> propose mul:y:-1000000000 max:x:-1000000000
+ok proposed 1
+> propose min:y:1000000000
+ok proposed 2
+> propose add:y:1000000000
+ok proposed 3
+> propose add:y:1
+refused 9 OutOfRange
+> propose mul:y:-1
+ok proposed 4
+> propose add:y:-1
+refused 9 OutOfRange
+> propose set:y:1000000000
+ok proposed 5
+> send a
+ok sent a 1
+> apply a
+ok applied a 1
+> show a
+ok show a sent 1 applied 1 reported 0 rounds 0 x=-10 y=0
 ",
     ),
     (

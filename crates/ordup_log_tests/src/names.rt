@@ -25,13 +25,6 @@ fn which_bytes_are_a_name(rt: HostRuntime) {
 }
 
 #[test]
-fn names_are_equal_where_their_bytes_are(rt: HostRuntime) -> Result<(), Fail> {
-    assert!(rt; Name::new(b"ab")? == Name::new(b"ab")?);
-    assert!(rt; Name::new(b"ab")? != Name::new(b"abc")?);
-    Ok(())
-}
-
-#[test]
 fn numbers_and_names_of_refusals(rt: HostRuntime) -> Result<(), Fail> {
     let site = SiteId::new(3);
     for (refusal, number, name) in [

@@ -3,6 +3,7 @@ use crate::fixtures::x_y_and_a;
 use ordup_limits::{GroupId, Scope};
 use ordup_objects::{Refusal, SiteId};
 use ordup_world::{Setup, World, run};
+use std::alloc::Global;
 use std::test::Fail;
 
 #[test]
@@ -32,14 +33,30 @@ fn which_limits_are_refused(rt: HostRuntime) -> Result<(), Fail> {
     Ok(())
 }
 
+/// Why a store does not start, if it does not.
+fn start_refusal(alloc: Global, setup: Setup) -> Option<Refusal> {
+    World::start(alloc, setup).err()
+}
+
+/// Why a list of no events does not run, if it does not.
+fn run_refusal(alloc: Global, setup: Setup) -> Option<Refusal> {
+    run(alloc, setup, Vec::new(alloc)).err()
+}
+
+/// A setup with a site alone.
+fn site_alone(alloc: Global) -> Result<Setup, Refusal> {
+    let mut setup = Setup::new(alloc);
+    setup.site(b"a", 4)?;
+    Ok(setup)
+}
+
 #[test]
 fn a_store_starts_with_an_object_and_a_site(rt: HostRuntime) -> Result<(), Fail> {
-    let mut setup = Setup::new(rt.alloc());
-    setup.site(b"a", 4)?;
-    assert!(rt; !setup.is_ready());
-    assert!(rt; matches!(&World::start(rt.alloc(), setup), Err(Refusal::Empty)));
-    let nothing = run(rt.alloc(), Setup::new(rt.alloc()), Vec::new(rt.alloc()));
-    assert!(rt; matches!(&nothing, Err(Refusal::Empty)));
     assert!(rt; x_y_and_a(rt.alloc())?.is_ready());
+    assert!(rt; !site_alone(rt.alloc())?.is_ready());
+    let refusal = start_refusal(rt.alloc(), site_alone(rt.alloc())?);
+    assert_eq!(rt; refusal, Some(Refusal::Empty));
+    let refusal = run_refusal(rt.alloc(), site_alone(rt.alloc())?);
+    assert_eq!(rt; refusal, Some(Refusal::Empty));
     Ok(())
 }

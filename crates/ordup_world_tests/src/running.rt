@@ -1,7 +1,8 @@
 //! Events that no script makes, and lists of events.
 use crate::fixtures::{set_of, x_y_and_a};
 use ordup_objects::{Name, ObjectId, ObjectTable, Op, Refusal, SiteId};
-use ordup_world::{Answer, Event, Settled, World, run};
+use ordup_world::{Answer, Event, Run, Settled, World, run};
+use std::alloc::Global;
 use std::test::Fail;
 
 /// Whether an event is refused so.
@@ -12,55 +13,78 @@ fn is_refused(world: &mut World, event: Event, wanted: Refusal) -> bool {
     }
 }
 
+/// A store of x, y and a.
+fn store(alloc: Global) -> Result<World, Refusal> {
+    World::start(alloc, x_y_and_a(alloc)?)
+}
+
 #[test]
 fn events_of_sites_that_are_not_there(rt: HostRuntime) -> Result<(), Fail> {
     let query = Name::new(b"q")?;
-    let unknown = Refusal::UnknownSite;
-    let mut world = World::start(rt.alloc(), x_y_and_a(rt.alloc())?)?;
+    let mut world = store(rt.alloc())?;
     for place in [1, 15, 255] {
         let site = SiteId::new(place);
-        let limit = 0;
-        assert!(rt; is_refused(&mut world, Event::Send(site), unknown));
-        assert!(rt; is_refused(&mut world, Event::Apply(site), unknown));
-        assert!(rt; is_refused(&mut world, Event::Report(site), unknown));
-        assert!(rt; is_refused(&mut world, Event::Show(site), unknown));
-        assert!(rt; is_refused(&mut world, Event::Begin { query, site, limit }, unknown));
+        let events = [
+            Event::Send(site),
+            Event::Apply(site),
+            Event::Report(site),
+            Event::Show(site),
+            Event::Begin {
+                query,
+                site,
+                limit: 0,
+            },
+        ];
+        for event in events {
+            assert!(rt; is_refused(&mut world, event, Refusal::UnknownSite));
+        }
     }
     Ok(())
+}
+
+/// An update of the object z, over the objects x, y and z.
+fn of_z(alloc: Global) -> Result<Event, Refusal> {
+    let mut objects = ObjectTable::new(alloc);
+    for name in ["x", "y", "z"] {
+        objects.declare(name.as_bytes(), 0)?;
+    }
+    Ok(Event::Propose(set_of(alloc, &objects, 2, Op::Add(1))?))
 }
 
 #[test]
 fn events_of_objects_that_are_not_there(rt: HostRuntime) -> Result<(), Fail> {
     let query = Name::new(b"q")?;
-    let unknown = Refusal::UnknownObject;
-    let mut world = World::start(rt.alloc(), x_y_and_a(rt.alloc())?)?;
+    let mut world = store(rt.alloc())?;
     for place in [2, 255, 256, 65_535] {
         let object = ObjectId::new(place);
-        assert!(rt; is_refused(&mut world, Event::Read { query, object }, unknown));
+        let event = Event::Read { query, object };
+        assert!(rt; is_refused(&mut world, event, Refusal::UnknownObject));
     }
-    // A message set over three objects, of which the world has two.
-    let mut objects = ObjectTable::new(rt.alloc());
-    for name in ["x", "y", "z"] {
-        objects.declare(name.as_bytes(), 0)?;
-    }
-    let set = set_of(rt.alloc(), &objects, 2, Op::Add(1))?;
-    assert!(rt; is_refused(&mut world, Event::Propose(set), unknown));
+    let event = of_z(rt.alloc())?;
+    assert!(rt; is_refused(&mut world, event, Refusal::UnknownObject));
     Ok(())
+}
+
+/// Two proposals, each with its settlement. 3 is within each limit; the second update makes it 4 on all, which is over 3.
+fn two_updates(alloc: Global, objects: &ObjectTable) -> Result<Vec<Event>, Fail> {
+    let mut events = Vec::new(alloc);
+    for n in [3, 1] {
+        events.push(Event::Propose(set_of(alloc, objects, 0, Op::Add(n))?))?;
+        events.push(Event::Settle)?;
+    }
+    Ok(events)
+}
+
+/// Runs the two updates.
+fn run_two_updates(alloc: Global) -> Result<Run, Fail> {
+    let setup = x_y_and_a(alloc)?;
+    let events = two_updates(alloc, setup.objects())?;
+    Ok(run(alloc, setup, events)?)
 }
 
 #[test]
 fn a_list_of_events_has_a_list_of_answers(rt: HostRuntime) -> Result<(), Fail> {
-    let alloc = rt.alloc();
-    let setup = x_y_and_a(alloc)?;
-    // 3 is within each limit. The second update makes it 4 on all, which is over 3.
-    let first = set_of(alloc, setup.objects(), 0, Op::Add(3))?;
-    let second = set_of(alloc, setup.objects(), 0, Op::Add(1))?;
-    let mut events = Vec::new(alloc);
-    events.push(Event::Propose(first))?;
-    events.push(Event::Settle)?;
-    events.push(Event::Propose(second))?;
-    events.push(Event::Settle)?;
-    let outcome = run(alloc, setup, events)?;
+    let outcome = run_two_updates(rt.alloc())?;
     assert!(rt;
         matches!(
             outcome.answers.as_slice(),

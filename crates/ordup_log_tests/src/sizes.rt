@@ -1,0 +1,66 @@
+//! The greatest message sets and groups.
+use ordup_log::Groups;
+use ordup_objects::{Change, MessageSet, ObjectId, ObjectTable, Op, Refusal};
+use std::alloc::Global;
+
+/// So many objects at 0: o0, o1 and on.
+fn many_objects(alloc: Global, count: u16) -> Result<ObjectTable, Refusal> {
+    let mut objects = ObjectTable::new(alloc);
+    for place in 0..count {
+        let name = format!(in alloc; "o{place}").or(Err(Refusal::NoMemory))?;
+        objects.declare(name.as_bytes(), 0)?;
+    }
+    Ok(objects)
+}
+
+/// The changes that add 1 to each of so many objects.
+fn many_changes(alloc: Global, count: u16) -> Result<Vec<Change>, Refusal> {
+    let mut changes = Vec::new(alloc);
+    for place in 0..count {
+        let change = Change {
+            object: ObjectId::new(place),
+            op: Op::Add(1),
+        };
+        changes.push(change).or(Err(Refusal::NoMemory))?;
+    }
+    Ok(changes)
+}
+
+/// How many changes the set has that changes so many objects.
+fn size_of_set(alloc: Global, count: u16) -> Result<usize, Refusal> {
+    let objects = many_objects(alloc, count)?;
+    let set = MessageSet::new(&objects, many_changes(alloc, count)?)?;
+    Ok(set.changes().len())
+}
+
+#[test]
+fn a_message_set_has_at_most_64_changes(rt: HostRuntime) {
+    assert_eq!(rt; size_of_set(rt.alloc(), 64), Ok(64));
+    assert_eq!(rt; size_of_set(rt.alloc(), 65), Err(Refusal::TooMany));
+}
+
+/// So many objects, by their places.
+fn many_members(alloc: Global, count: u16) -> Result<Vec<ObjectId>, Refusal> {
+    let mut members = Vec::new(alloc);
+    for place in 0..count {
+        members
+            .push(ObjectId::new(place))
+            .or(Err(Refusal::NoMemory))?;
+    }
+    Ok(members)
+}
+
+/// How many members the group of so many objects has.
+fn size_of_group(alloc: Global, count: u16) -> Result<usize, Refusal> {
+    let objects = many_objects(alloc, count)?;
+    let members = many_members(alloc, count)?;
+    let mut groups = Groups::new(alloc);
+    let group = groups.declare(&objects, b"g", &members)?;
+    Ok(groups.members(group).len())
+}
+
+#[test]
+fn a_group_has_at_most_64_members(rt: HostRuntime) {
+    assert_eq!(rt; size_of_group(rt.alloc(), 64), Ok(64));
+    assert_eq!(rt; size_of_group(rt.alloc(), 65), Err(Refusal::TooMany));
+}

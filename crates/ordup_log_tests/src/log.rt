@@ -29,17 +29,22 @@ fn append(log: &mut Log, set: MessageSet) -> Result<u64, Refusal> {
     log.append(set)
 }
 
+/// Appends the update that adds a number to x.
+fn add(alloc: Global, objects: &ObjectTable, log: &mut Log, n: i64) -> Result<u64, Refusal> {
+    let change = Change {
+        object: ObjectId::new(0),
+        op: Op::Add(n),
+    };
+    append(log, set_of(alloc, objects, &[change])?)
+}
+
 /// The log over x and y in which 3 is added to x, then -3, and then 0.
 fn up_and_down(alloc: Global) -> Result<Log, Refusal> {
     let objects = x_and_y(alloc)?;
     let mut log = Log::new(alloc, &objects)?;
-    for n in [3, -3, 0] {
-        let change = Change {
-            object: ObjectId::new(0),
-            op: Op::Add(n),
-        };
-        append(&mut log, set_of(alloc, &objects, &[change])?)?;
-    }
+    add(alloc, &objects, &mut log, 3)?;
+    add(alloc, &objects, &mut log, -3)?;
+    add(alloc, &objects, &mut log, 0)?;
     Ok(log)
 }
 
@@ -105,6 +110,36 @@ fn end(rt: &impl Abort, log: &Log) -> [i64; 2] {
         log.end_value(ObjectId::new(0)),
         log.end_value(ObjectId::new(1)),
     ]
+}
+
+/// Appends the update in which x becomes 7 and y 1,000,000,010.
+fn append_out_of_range(
+    alloc: Global,
+    objects: &ObjectTable,
+    log: &mut Log,
+) -> Result<u64, Refusal> {
+    let changes = [
+        Change {
+            object: ObjectId::new(0),
+            op: Op::Set(7),
+        },
+        Change {
+            object: ObjectId::new(1),
+            op: Op::Add(1_000_000_000),
+        },
+    ];
+    append(log, set_of(alloc, objects, &changes)?)
+}
+
+#[test]
+fn a_refused_update_leaves_the_log(rt: HostRuntime) -> Result<(), Fail> {
+    let objects = x_and_y(rt.alloc())?;
+    let mut log = Log::new(rt.alloc(), &objects)?;
+    let refused = append_out_of_range(rt.alloc(), &objects, &mut log);
+    assert_eq!(rt; refused, Err(Refusal::OutOfRange));
+    assert_eq!(rt; log.len(), 0);
+    assert_eq!(rt; end(&rt, &log), [0, 10]);
+    Ok(())
 }
 
 #[test]

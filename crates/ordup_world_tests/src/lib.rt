@@ -2,8 +2,6 @@
 #![tactic(auto)]
 
 #[cfg(test)]
-mod declaring;
-#[cfg(test)]
 mod fixtures;
 #[cfg(test)]
 mod limits;

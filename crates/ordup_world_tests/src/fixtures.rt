@@ -1,18 +1,30 @@
 //! What the tests work on.
 use ordup_limits::Scope;
 use ordup_objects::{Change, MessageSet, ObjectId, ObjectTable, Op, Refusal};
-use ordup_world::Setup;
+use ordup_world::{Event, Run, Setup, run};
 use std::alloc::Global;
 
-/// The objects x at 0 and y at 10, and the site a with three limits: 5 on x, 3 on all and 1 on the count.
-pub(crate) fn x_y_and_a(alloc: Global) -> Result<Setup, Refusal> {
-    let mut setup = Setup::new(alloc);
-    let x = setup.object(b"x", 0)?;
+/// Declares the objects x at 0 and y at 10.
+fn declare_objects(setup: &mut Setup) -> Result<(), Refusal> {
+    setup.object(b"x", 0)?;
     setup.object(b"y", 10)?;
+    Ok(())
+}
+
+/// Declares the site a with three limits: 5 on x, 3 on all and 1 on the count.
+fn declare_site(setup: &mut Setup) -> Result<(), Refusal> {
     let a = setup.site(b"a", 4)?;
-    setup.limit(a, Scope::Object(x), 5)?;
+    setup.limit(a, Scope::Object(ObjectId::new(0)), 5)?;
     setup.limit(a, Scope::All, 3)?;
     setup.limit(a, Scope::Count, 1)?;
+    Ok(())
+}
+
+/// The setup of x, y and a.
+fn x_y_and_a(alloc: Global) -> Result<Setup, Refusal> {
+    let mut setup = Setup::new(alloc);
+    declare_objects(&mut setup)?;
+    declare_site(&mut setup)?;
     Ok(setup)
 }
 
@@ -31,4 +43,24 @@ pub(crate) fn set_of(
         Ok(changes) => MessageSet::new(objects, changes),
         Err(_) => Err(Refusal::NoMemory),
     }
+}
+
+/// Two updates, each with its settlement: 3 is added to x, and y becomes 14.
+fn two_updates(alloc: Global, objects: &ObjectTable) -> Result<Vec<Event>, Refusal> {
+    let first = set_of(alloc, objects, 0, Op::Add(3))?;
+    let second = set_of(alloc, objects, 1, Op::Set(14))?;
+    let events = [
+        Event::Propose(first),
+        Event::Settle,
+        Event::Propose(second),
+        Event::Settle,
+    ];
+    Vec::from_array(alloc, events).or(Err(Refusal::NoMemory))
+}
+
+/// Runs the two updates. The first weighs 3, within each limit; with the second it is 7 on all, over 3.
+pub(crate) fn run_two_updates(alloc: Global) -> Result<Run, Refusal> {
+    let setup = x_y_and_a(alloc)?;
+    let events = two_updates(alloc, setup.objects())?;
+    run(alloc, setup, events)
 }

@@ -1,98 +1,68 @@
-//! The primary without a world.
-use crate::fixtures::{set_of, x_y_and_a};
-use ordup_objects::{Change, MessageSet, ObjectId, Op, Refusal, SiteId};
+//! What a primary shows and hands out.
+use crate::fixtures::run_two_updates;
+use ordup_objects::{Change, ObjectId, Op, Refusal, SiteId};
 use ordup_primary::Parcel;
-use ordup_world::{Primary, Settled};
-use std::alloc::Global;
+use ordup_world::{Event, Primary, World};
 use std::process::Abort;
 use std::test::Fail;
 
-/// A primary of x, y and a.
-fn new_primary(alloc: Global) -> Result<Primary, Refusal> {
-    let setup = x_y_and_a(alloc)?;
-    if !setup.is_ready() {
-        return Err(Refusal::Empty);
-    }
-    Primary::new(alloc, setup)
-}
-
-/// Proposes a message set.
-fn propose(primary: &mut Primary, set: MessageSet) -> Result<u64, Refusal> {
-    if !set.is_over(primary.log().objects()) {
-        return Err(Refusal::UnknownObject);
-    }
-    primary.propose(set)
-}
-
-/// A primary with one proposed update, x plus 6, which passes the limit of 5.
-fn of_one_update(alloc: Global) -> Result<Primary, Refusal> {
-    let mut primary = new_primary(alloc)?;
-    let set = set_of(alloc, primary.setup().objects(), 0, Op::Add(6))?;
-    propose(&mut primary, set)?;
-    Ok(primary)
-}
-
-/// How many updates there are, are acknowledged and are decided, and how many were sent to the first site and reported by it.
-fn numbers(rt: &impl Abort, primary: &Primary) -> [u64; 5] {
+/// How many updates there are, are acknowledged and are decided, how many were sent to a and reported by it, and what it had
+/// reported at the decision of each of two.
+fn numbers(rt: &impl Abort, primary: &Primary) -> [u64; 7] {
     let a = SiteId::new(0);
-    assert!(rt; primary.setup().sites() > 0);
+    assert!(rt; primary.setup().sites() > 0 && primary.decided() >= 2);
     [
         primary.log().len(),
         primary.acked(),
         primary.decided(),
         primary.sent(a),
         primary.reported(a),
+        primary.reported_at(a, 1),
+        primary.reported_at(a, 2),
     ]
 }
 
-/// What the first site is to be sent next.
+/// Whether a was forced at this place alone.
+fn is_forced_at(rt: &impl Abort, primary: &Primary, place: u64) -> bool {
+    assert!(rt; primary.setup().sites() > 0);
+    primary.rounds(SiteId::new(0)) == [place].as_slice()
+}
+
+/// What a is to be sent next.
 fn next(rt: &impl Abort, primary: &Primary) -> Result<Parcel, Refusal> {
-    let a = SiteId::new(0);
     assert!(rt; primary.setup().sites() > 0);
-    primary.next_for(a)
+    primary.next_for(SiteId::new(0))
 }
 
-/// Notes that it was sent.
-fn mark_sent(rt: &impl Abort, primary: &mut Primary) {
-    let a = SiteId::new(0);
-    assert!(rt; primary.setup().sites() > 0 && primary.sent(a) < primary.log().len());
-    primary.mark_sent(a);
-}
-
-/// Notes that the first site reported the first update.
-fn report_first(rt: &impl Abort, primary: &mut Primary) {
-    let a = SiteId::new(0);
-    assert!(rt; primary.setup().sites() > 0);
-    assert!(rt; primary.reported(a) <= 1 && 1 <= primary.sent(a));
-    primary.report(a, 1);
+/// Sends an update to a.
+fn send(world: &mut World) {
+    let _answer = world.step(Event::Send(SiteId::new(0)));
 }
 
 #[test]
-fn a_primary_hands_out_and_takes_reports(rt: HostRuntime) -> Result<(), Fail> {
-    let mut primary = of_one_update(rt.alloc())?;
-    let parcel = next(&rt, &primary)?;
-    let add = Change {
-        object: ObjectId::new(0),
-        op: Op::Add(6),
-    };
-    assert_eq!(rt; parcel.number, 1);
-    assert_eq!(rt; parcel.set.changes(), [add].as_slice());
-    mark_sent(&rt, &mut primary);
-    assert_eq!(rt; numbers(&rt, &primary), [1, 0, 0, 1, 0]);
-    assert!(rt; matches!(&next(&rt, &primary), Err(Refusal::NothingToSend)));
-    report_first(&rt, &mut primary);
-    assert_eq!(rt; numbers(&rt, &primary), [1, 0, 0, 1, 1]);
+fn a_primary_shows_what_it_knows(rt: HostRuntime) -> Result<(), Fail> {
+    let outcome = run_two_updates(rt.alloc())?;
+    let primary = outcome.world.primary();
+    let known = numbers(&rt, primary);
+    let is_forced = is_forced_at(&rt, primary, 2);
+    assert_eq!(rt; known, [2, 1, 2, 0, 0, 0, 0]);
+    assert!(rt; is_forced);
     Ok(())
 }
 
 #[test]
-fn a_primary_forces_a_site(rt: HostRuntime) -> Result<(), Fail> {
-    let a = SiteId::new(0);
-    let mut primary = of_one_update(rt.alloc())?;
-    assert!(rt; matches!(&primary.settle(), Ok(Settled::Round { k: 1, .. })));
-    assert_eq!(rt; numbers(&rt, &primary), [1, 0, 1, 0, 0]);
-    assert!(rt; primary.setup().sites() > 0 && primary.decided() >= 1);
-    assert_eq!(rt; primary.reported_at(a, 1), 0);
-    assert_eq!(rt; primary.rounds(a), [1].as_slice());
+fn a_primary_hands_out_the_first_update_that_was_not_sent(rt: HostRuntime) -> Result<(), Fail> {
+    let mut world = run_two_updates(rt.alloc())?.world;
+    send(&mut world);
+    let parcel = next(&rt, world.primary())?;
+    let set = Change {
+        object: ObjectId::new(1),
+        op: Op::Set(14),
+    };
+    assert_eq!(rt; parcel.number, 2);
+    assert_eq!(rt; parcel.set.changes(), [set].as_slice());
+    send(&mut world);
+    let nothing = next(&rt, world.primary()).err();
+    assert_eq!(rt; nothing, Some(Refusal::NothingToSend));
     Ok(())
 }

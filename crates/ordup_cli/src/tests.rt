@@ -114,6 +114,11 @@ fn run_with(
     }
 }
 
+/// Whether a run of the program ended so.
+fn is_so(ended: &Ended, status: u8, output: &[u8], faults: &[u8]) -> bool {
+    ended.status == status && ended.output.as_slice() == output && ended.faults.as_slice() == faults
+}
+
 /// The script of a transcript, and the answers in it.
 fn parts(alloc: Global, transcript: &str) -> Result<(Vec<u8>, Vec<u8>), Fail> {
     let mut script = Vec::new(alloc);
@@ -139,12 +144,7 @@ fn scripts_are_answered_as_their_transcripts_say(rt: HostRuntime) -> Result<(), 
         let (script, wanted) = parts(rt.alloc(), transcript)?;
         for at_once in [ALL, 1, 2, 3] {
             let ended = run_with(rt.alloc(), &["ordup", "run"], &script, at_once, ALL, ALL);
-            assert!(rt;
-                ended.output.as_slice() == wanted.as_slice(),
-                "{name}, by {at_once}"
-            );
-            assert_eq!(rt; ended.status, 0, "{name}, by {at_once}");
-            assert!(rt; ended.faults.is_empty(), "{name}, by {at_once}");
+            assert!(rt; is_so(&ended, 0, &wanted, b""), "{name}, by {at_once}");
         }
     }
     Ok(())
@@ -235,15 +235,8 @@ fn a_writer_that_fails_has_got_a_front_of_the_answers(rt: HostRuntime) -> Result
     assert!(rt; seven.output.as_slice() == b"ok obje".as_slice());
     for room in 0..wanted.len() {
         let ended = run_with(rt.alloc(), &["ordup", "run"], &script, ALL, ALL, room);
-        assert!(rt;
-            ended.output.as_slice() == &wanted[..room],
-            "room for {room}"
-        );
-        assert_eq!(rt; ended.status, 3, "room for {room}");
-        assert!(rt;
-            ended.faults.as_slice() == b"write fault\n".as_slice(),
-            "room for {room}"
-        );
+        let is_fault = is_so(&ended, 3, &wanted[..room], b"write fault\n");
+        assert!(rt; is_fault, "room for {room}");
     }
     Ok(())
 }
@@ -256,15 +249,8 @@ fn a_reader_that_fails_leaves_the_answers_to_the_lines_that_ended(
     for (given, written) in [(0usize, 0usize), (10, 0), (11, 12), (25, 22), (26, 31)] {
         let ended = run_with(rt.alloc(), &["ordup", "run"], &script, ALL, given, ALL);
         assert!(rt; written <= wanted.len());
-        assert!(rt;
-            ended.output.as_slice() == &wanted[..written],
-            "after {given} bytes"
-        );
-        assert_eq!(rt; ended.status, 3, "after {given} bytes");
-        assert!(rt;
-            ended.faults.as_slice() == b"read fault\n".as_slice(),
-            "after {given} bytes"
-        );
+        let is_fault = is_so(&ended, 3, &wanted[..written], b"read fault\n");
+        assert!(rt; is_fault, "after {given} bytes");
     }
     Ok(())
 }

@@ -47,43 +47,64 @@ fn script(alloc: Global) -> Result<Vec<u8>, AllocError> {
 
 const ANSWERS: &[u8] = b"refused 1 Syntax\nrefused 1 Syntax\n";
 
+/// What a writer took of the answers, which has so much room and then fails or takes nothing more, and why the script did
+/// not end, if it did not.
+fn run_cut(
+    alloc: Global,
+    script: &[u8],
+    room: usize,
+    fails: bool,
+) -> (Vec<u8>, Option<ScriptFault>) {
+    let mut input = PieceReader::new(script, 1, usize::MAX);
+    let mut output = FullWriter {
+        taken: Vec::new(alloc),
+        room,
+        fails,
+    };
+    let fault = run_script(alloc, &mut input, &mut output).err();
+    (output.taken, fault)
+}
+
 #[test]
 fn each_cut_of_the_output(rt: HostRuntime) -> Result<(), Fail> {
     let script = script(rt.alloc())?;
-    for fails in [false, true] {
-        for room in 0..40usize {
-            let mut input = PieceReader::new(&script, 1, usize::MAX);
-            let mut output = FullWriter {
-                taken: Vec::new(rt.alloc()),
-                room,
-                fails,
-            };
-            let end = run_script(rt.alloc(), &mut input, &mut output);
-            let written = room.min(ANSWERS.len());
-            assert!(rt; output.taken.as_slice() == &ANSWERS[..written], "at {room}");
-            if room <= ANSWERS.len() {
-                assert!(rt; matches!(end, Err(ScriptFault::Write)), "at {room}");
-            } else {
-                assert!(rt; end.is_ok(), "at {room}");
-            }
+    for room in 0..40usize {
+        // The last flush fails where no room is left.
+        let wanted = if room <= ANSWERS.len() {
+            Some(ScriptFault::Write)
+        } else {
+            None
+        };
+        for fails in [false, true] {
+            let (taken, fault) = run_cut(rt.alloc(), &script, room, fails);
+            let front = &ANSWERS[..room.min(ANSWERS.len())];
+            assert!(rt; taken.as_slice() == front && fault == wanted, "at {room}");
         }
     }
     Ok(())
 }
 
+/// What is written of the answers to a script of at most so many bytes, and why it did not end, if it did not.
+fn run_limited(alloc: Global, script: &[u8], limit: u64) -> (Vec<u8>, Option<ScriptFault>) {
+    let mut input = script;
+    let mut output: Vec<u8> = Vec::new(alloc);
+    let fault = run_script_within(alloc, &mut input, &mut output, limit).err();
+    (output, fault)
+}
+
 #[test]
 fn the_limit(rt: HostRuntime) -> Result<(), Fail> {
     let script = script(rt.alloc())?;
-    for (limit, answers) in [(0, 0), (4109, 0), (4110, 17), (17206, 17), (17207, 34)] {
-        let mut input = script.as_slice();
-        let mut output: Vec<u8> = Vec::new(rt.alloc());
-        let end = run_script_within(rt.alloc(), &mut input, &mut output, limit);
-        if limit < 17207 {
-            assert!(rt; matches!(end, Err(ScriptFault::TooLong)), "at {limit}");
-        } else {
-            assert!(rt; end.is_ok(), "at {limit}");
-        }
-        assert!(rt; output.as_slice() == &ANSWERS[..answers], "at {limit}");
+    for (limit, answers, wanted) in [
+        (0, 0, Some(ScriptFault::TooLong)),
+        (4109, 0, Some(ScriptFault::TooLong)),
+        (4110, 17, Some(ScriptFault::TooLong)),
+        (17206, 17, Some(ScriptFault::TooLong)),
+        (17207, 34, None),
+    ] {
+        let (output, fault) = run_limited(rt.alloc(), &script, limit);
+        let front = &ANSWERS[..answers];
+        assert!(rt; output.as_slice() == front && fault == wanted, "at {limit}");
     }
     Ok(())
 }

@@ -1,4 +1,5 @@
 use Rattle.std.proofs.Common.{arith, rules, ◌∙◌, ◌≡◌, ◌<◌, length, ap, sym}
+use Rattle.std.proofs.lemmas.Grind.{common_steps}
 use Rattle.std.proofs.lemmas.List.{length-map}
 use Rattle.std.proofs.lemmas.Bool.Decides.{nat_tests}
 use Rattle.ordup_objects.specs.Tables.{place_of}
@@ -26,3 +27,6 @@ invariant_of-self g c =
       | in-Ok-push w ↦ groups-push c.self.inside.groups c.push.new.self c.in_ok-name.name c.in-Ok.members room c.self.invariant.1 is w.in-Ok-push.ensures.ok
       | in-Err w ↦ rw w.in-Err.ensures.err c.self.invariant
     ]
+
+pub returns-clause-declared : goal.returns-clause-declared
+returns-clause-declared g c = grind (arith, common_steps)

@@ -1,4 +1,5 @@
 use Rattle.std.proofs.Common.{arith, rules, ◌∙◌, ◌∷◌, [], ◌++◌, ap}
+use Rattle.std.proofs.lemmas.Grind.{common_steps}
 use Rattle.ordup_log.proofs.LogLemmas.{IsLog-append}
 use Rattle.ordup_log.proofs.log.Log.append.Goals as goal
 
@@ -13,3 +14,6 @@ invariant_of-self-2 g c =
     (c.push_reserved-2.ensures.items ∙ ap (λ xs. xs ++ c.in-Ok.distances ∷ []) c.reserve-else-is_err.ensures.items)
     c.in-Ok.ensures
     c.in_ok-apply.ensures.ok
+
+pub returns-then-is_err-clause-refused : goal.returns-then-is_err-clause-refused
+returns-then-is_err-clause-refused g c = grind (arith, common_steps)

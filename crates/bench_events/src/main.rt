@@ -15,13 +15,19 @@ use std::env;
 fn main(rt: HostRuntime) -> Result<()> {
     let alloc = rt.alloc();
     let words: Vec<String> = env::args(&rt)?.collect(alloc)?;
-    let [_, kind, events] = words.as_slice() else {
+    let (kind, events) = asked(words.as_slice())?;
+    let mut load = Load::start(alloc, kind, events)?;
+    load.run()?;
+    load.print(&rt)
+}
+
+/// The kind of load and how many events the words ask for.
+fn asked(words: &[String]) -> Result<(Kind, u64)> {
+    let [_, kind, events] = words else {
         bail!("usage: bench_events KIND EVENTS");
     };
     let (Some(kind), Ok(events)) = (Kind::of(kind.as_str()), events.parse::<u64>()) else {
         bail!("no load {kind} of {events} events");
     };
-    let mut load = Load::start(alloc, kind, events)?;
-    load.run()?;
-    load.print(&rt)
+    Ok((kind, events))
 }

@@ -24,13 +24,13 @@ fn numbers(rt: &impl Abort, primary: &Primary) -> [u64; 7] {
 
 /// Whether a was forced at this place alone.
 fn is_forced_at(rt: &impl Abort, primary: &Primary, place: u64) -> bool {
-    assert!(rt; primary.setup().sites() > 0);
+    assert!(rt; primary.setup().sites() > 0 && primary.acked() > 0);
     primary.rounds(SiteId::new(0)) == [place].as_slice()
 }
 
 /// What a is to be sent next.
 fn next(rt: &impl Abort, primary: &Primary) -> Result<Parcel, Refusal> {
-    assert!(rt; primary.setup().sites() > 0);
+    assert!(rt; primary.setup().sites() > 0 && primary.acked() > 0);
     primary.next_for(SiteId::new(0))
 }
 

@@ -5,20 +5,43 @@ use ordup_world::{Answer, Event, Settled, Setup, World, run};
 use std::alloc::Global;
 use std::test::Fail;
 
+/// Whether an answer numbers an update so.
+fn is_proposed(answer: &Answer, wanted: u64) -> bool {
+    match answer {
+        Answer::Proposed(number) => *number == wanted,
+        _ => false,
+    }
+}
+
+/// Whether an answer acknowledges this update.
+fn is_acked(answer: &Answer, wanted: u64) -> bool {
+    match answer {
+        Answer::Settlement(Settled::Acked(k)) => *k == wanted,
+        _ => false,
+    }
+}
+
+/// Whether an answer is a round for this update.
+fn is_round(answer: &Answer, wanted: u64) -> bool {
+    match answer {
+        Answer::Settlement(Settled::Round { k, .. }) => *k == wanted,
+        _ => false,
+    }
+}
+
 #[test]
 fn a_list_of_events_has_a_list_of_answers(rt: HostRuntime) -> Result<(), Fail> {
     let outcome = run_two_updates(rt.alloc())?;
-    assert!(rt;
-        matches!(
-            outcome.answers.as_slice(),
-            [
-                Answer::Proposed(1),
-                Answer::Settlement(Settled::Acked(1)),
-                Answer::Proposed(2),
-                Answer::Settlement(Settled::Round { k: 2, .. }),
-            ]
-        )
-    );
+    let is_answered = match outcome.answers.as_slice() {
+        [first, second, third, fourth] => {
+            is_proposed(first, 1)
+                && is_acked(second, 1)
+                && is_proposed(third, 2)
+                && is_round(fourth, 2)
+        }
+        _ => false,
+    };
+    assert!(rt; is_answered);
     Ok(())
 }
 

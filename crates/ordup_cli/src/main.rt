@@ -2,16 +2,16 @@
 #![tactic(auto)]
 
 mod act;
-mod command_line;
 #[cfg(test)]
 mod rows;
 #[cfg(test)]
 mod tests;
 
 pub use act::act;
-use act::tell_lost_words;
+use act::{WRONG_WORDS, tell};
+use ordup_script::ScriptFault;
 use std::alloc::{AllocError, Global};
-use std::io::{self, ErrorKind};
+use std::io::{self, ErrorKind, Write};
 use std::process::ExitCode;
 use std::rt::Env;
 
@@ -29,7 +29,7 @@ fn main(rt: HostRuntime) -> ExitCode {
         .map(|word| word.as_str())
         .collect(alloc);
     let Ok(words) = words else {
-        return ExitCode::from(tell_lost_words(&mut faults, ErrorKind::OutOfMemory));
+        return ExitCode::from(tell(&mut faults, ScriptFault::NoMemory));
     };
     ExitCode::from(act(
         alloc,
@@ -43,4 +43,13 @@ fn main(rt: HostRuntime) -> ExitCode {
 /// The words that the program was started with. An argument that is no text is an error.
 fn arguments<R: Env + AllocGlobal>(rt: &R, alloc: Global) -> io::Result<Vec<String>> {
     Ok(std::env::args(rt)?.collect(alloc)?)
+}
+
+/// Tells why the words could not be had, and answers the exit status: there was no memory, or one of them is no text.
+fn tell_lost_words<E: Write>(faults: &mut E, why: ErrorKind) -> u8 {
+    if why == ErrorKind::OutOfMemory {
+        return tell(faults, ScriptFault::NoMemory);
+    }
+    let _ = faults.write_all(b"an argument is no text\n");
+    WRONG_WORDS
 }

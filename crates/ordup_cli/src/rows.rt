@@ -3,7 +3,7 @@
 
 /// A name, and a transcript: a line that begins with `> ` is a line of the script, any other is the answer that must come
 /// there. Each transcript is a script of its own.
-pub(crate) const ROWS: [(&str, &str); 32] = [
+pub(crate) const ROWS: [(&str, &str); 39] = [
     ("An empty script", ""),
     (
         "Equal is not over, one more is, and a late report cancels no round",
@@ -1054,6 +1054,140 @@ refused 1 Syntax
 refused 1 Syntax
 > object x 1\t
 refused 1 Syntax
+",
+    ),
+    (
+        "A limit on each scope, and one alone",
+        "\
+> object x 0
+ok object x
+> group g x
+ok group g
+> site a 4
+ok site a
+> limit a object x 1
+ok limit a
+> limit a object x 2
+refused 12 Repeated
+> limit a group g 1
+ok limit a
+> limit a group g 2
+refused 12 Repeated
+> limit a count 1
+ok limit a
+> limit a count 2
+refused 12 Repeated
+> limit a all 1
+ok limit a
+> limit a all 2
+refused 12 Repeated
+",
+    ),
+    (
+        "An object that comes again further on",
+        "\
+> object x 0
+ok object x
+> object y 0
+ok object y
+> group g x y x
+refused 12 Repeated
+> site a 4
+ok site a
+> start
+ok start
+> propose add:x:1 add:y:1 add:x:2
+refused 12 Repeated
+",
+    ),
+    (
+        "A number below 0 is no capacity",
+        "\
+> object x -5
+ok object x
+> site s -1
+refused 9 OutOfRange
+",
+    ),
+    (
+        "A result is out of range after updates that are not acknowledged",
+        "\
+> object x 0
+ok object x
+> site a 4
+ok site a
+> start
+ok start
+> propose add:x:1000000000
+ok proposed 1
+> propose add:x:1
+refused 9 OutOfRange
+> propose add:x:-1
+ok proposed 2
+",
+    ),
+    (
+        "Bytes at the edges of what is printed",
+        "\
+> # \x1f \x7f \u{e9} in a comment
+> object x~ 1
+refused 4 BadName
+> object x\x7f 1
+refused 1 Syntax
+> object x\x1f 1
+refused 1 Syntax
+> object x\u{e9} 1
+refused 1 Syntax
+",
+    ),
+    (
+        "A word too many",
+        "\
+> object x 0
+ok object x
+> site a 4
+ok site a
+> limit a all 5 5
+refused 1 Syntax
+> limit a count 5 5
+refused 1 Syntax
+> start now
+refused 1 Syntax
+> start
+ok start
+> settle 1
+refused 1 Syntax
+> begin q a 0 0
+refused 1 Syntax
+> begin q a 0
+ok begun q 0
+> read q x x
+refused 1 Syntax
+> show a a
+refused 1 Syntax
+> abandon q q
+refused 1 Syntax
+> end q q
+refused 1 Syntax
+> end q
+ok end q place 0 sum 0 total 0 reads 0
+",
+    ),
+    (
+        "A word that is no name is no query",
+        "\
+> object x 0
+ok object x
+> site a 4
+ok site a
+> start
+ok start
+> read Q x
+refused 18 UnknownQuery
+> end Q
+refused 18 UnknownQuery
+> abandon Q
+refused 18 UnknownQuery
 ",
     ),
 ];

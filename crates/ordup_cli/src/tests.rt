@@ -1,8 +1,10 @@
 //! The program from the outside: scripts with the answers that a person works out, words, and faults.
 ghost use Rattle.std.specs.Prelude.{Some};
 
-use crate::act::act;
+use crate::act::{act, tell};
 use crate::rows::ROWS;
+use ordup_script::ScriptFault;
+use ordup_words::FILE_TIP;
 use std::alloc::Global;
 use std::io::{self, ErrorKind, Read, Write};
 use std::test::Fail;
@@ -151,36 +153,94 @@ fn scripts_are_answered_as_their_transcripts_say(rt: HostRuntime) -> Result<(), 
 }
 
 /// Sizes at their edges: the lines before, a part that stands there so many times, with its number from 0 on in the place of
-/// `#`, and the rest of the script, whose last line is one too many.
-const SIZES: [(&str, &str, usize, &str); 8] = [
-    ("", "object o# 0\n", 256, "object more 0\n"),
-    ("object x 0\n", "group g# x\n", 32, "group more\n"),
-    ("object x 0\ngroup g", " x", 65, "\n"),
-    ("", "site s# 4\n", 16, "site more 4\n"),
+/// `#`, the rest of the script, and how its last line, which is one too many, is refused.
+const SIZES: [(&str, &str, usize, &str, &str); 15] = [
+    ("", "object o# 0\n", 256, "object more 0\n", " 10 TooMany\n"),
+    (
+        "object x 0\n",
+        "group g# x\n",
+        32,
+        "group more\n",
+        " 10 TooMany\n",
+    ),
+    ("object x 0\ngroup g", " x", 65, "\n", " 10 TooMany\n"),
+    (
+        "object x 0\ngroup g",
+        " x",
+        65,
+        " z\n",
+        " 6 UnknownObject\n",
+    ),
+    ("", "site s# 4\n", 16, "site more 4\n", " 10 TooMany\n"),
+    ("", "site s# 4\n", 16, "site more 0\n", " 9 OutOfRange\n"),
     (
         "site a 4\n",
         "object o# 0\nlimit a object o# 5\n",
         64,
         "limit a object o0 5\n",
+        " 10 TooMany\n",
     ),
-    ("object x 0\nsite a 4\nstart\npropose", " add:x:1", 65, "\n"),
+    (
+        "site a 4\n",
+        "object o# 0\nlimit a object o# 5\n",
+        64,
+        "limit a all 1000000000000000001\n",
+        " 9 OutOfRange\n",
+    ),
+    (
+        "object x 0\nsite a 4\nstart\npropose",
+        " add:x:1",
+        65,
+        "\n",
+        " 10 TooMany\n",
+    ),
+    (
+        "object x 0\nsite a 4\nstart\npropose",
+        " add:x:1",
+        65,
+        " add:x:1000000001\n",
+        " 9 OutOfRange\n",
+    ),
+    (
+        "object x 0\nsite a 4\nstart\npropose",
+        " add:x:1",
+        65,
+        " add:z:1\n",
+        " 6 UnknownObject\n",
+    ),
     (
         "object x 0\nsite a 4\nstart\n",
         "begin q# a 0\n",
         64,
         "begin q0 a 0\n",
+        " 10 TooMany\n",
+    ),
+    (
+        "object x 0\nsite a 4\nstart\n",
+        "begin q# a 0\n",
+        64,
+        "begin more a 1000000000000000001\n",
+        " 9 OutOfRange\n",
     ),
     (
         "object x 5\nsite a 4\nstart\nbegin q a 0\n",
         "read q x\n",
         256,
         "read q x\n",
+        " 10 TooMany\n",
+    ),
+    (
+        "object x 5\nsite a 4\nstart\nbegin q a 0\n",
+        "read q x\n",
+        256,
+        "propose add:x:1\nsend a\napply a\nread q x\n",
+        " 10 TooMany\n",
     ),
 ];
 
 #[test]
-fn one_more_than_a_size_is_too_many(rt: HostRuntime) -> Result<(), Fail> {
-    for (before, part, count, rest) in SIZES {
+fn one_more_than_a_size_is_refused_in_its_order(rt: HostRuntime) -> Result<(), Fail> {
+    for (before, part, count, rest, refused) in SIZES {
         let mut script = String::new(rt.alloc());
         script.push_str(before)?;
         for number in 0..count {
@@ -200,7 +260,7 @@ fn one_more_than_a_size_is_too_many(rt: HostRuntime) -> Result<(), Fail> {
         // The first refusal is the last answer.
         let answers = str::from_utf8(&ended.output)?;
         let after = answers.split_once("refused").map(|(_, after)| after);
-        assert_eq!(rt; after, Some(" 10 TooMany\n"), "{part}");
+        assert_eq!(rt; after, Some(refused), "{part}, {rest}");
     }
     Ok(())
 }
@@ -276,5 +336,46 @@ fn wrong_words_end_with_status_2_and_help_with_status_0(rt: HostRuntime) {
         assert_eq!(rt; ended.status, 0);
         assert!(rt; !ended.output.is_empty());
         assert!(rt; ended.faults.is_empty());
+    }
+}
+
+#[test]
+fn a_file_that_is_named_is_told_where_scripts_come_from(rt: HostRuntime) {
+    let ended = run_with(
+        rt.alloc(),
+        &["ordup", "run", "first.ordup"],
+        b"",
+        ALL,
+        ALL,
+        ALL,
+    );
+    assert_eq!(rt; ended.status, 2);
+    assert!(rt; ended.faults.as_slice().ends_with(FILE_TIP.as_bytes()));
+}
+
+#[test]
+fn the_version_is_shown(rt: HostRuntime) {
+    let ended = run_with(rt.alloc(), &["ordup", "--version"], b"", ALL, ALL, ALL);
+    assert!(rt; is_so(&ended, 0, b"ordup 0.1.0\n", b""));
+}
+
+#[test]
+fn help_that_cannot_be_written_is_a_write_fault(rt: HostRuntime) {
+    let ended = run_with(rt.alloc(), &["ordup", "--help"], b"", ALL, ALL, 7);
+    assert_eq!(rt; ended.status, 3);
+    assert!(rt; ended.faults.as_slice() == b"write fault\n".as_slice());
+}
+
+#[test]
+fn each_fault_has_its_text_and_its_status(rt: HostRuntime) {
+    for (fault, text, status) in [
+        (ScriptFault::Read, b"read fault\n".as_slice(), 3),
+        (ScriptFault::TooLong, b"input too long\n", 3),
+        (ScriptFault::Write, b"write fault\n", 3),
+        (ScriptFault::NoMemory, b"no memory\n", 4),
+    ] {
+        let mut faults: Vec<u8> = Vec::new(rt.alloc());
+        assert_eq!(rt; tell(&mut faults, fault), status);
+        assert!(rt; faults.as_slice() == text);
     }
 }

@@ -1,30 +1,44 @@
-use clap::{ArgMatches, Command};
+use clap::{Command, Error};
 use std::alloc::{AllocError, Global};
 
 /// What the words ask for.
 #[derive(Clone, Copy, Debug, PartialEq, Eq)]
-pub(crate) enum Job {
+pub enum Job {
     /// Runs a script.
     Run,
 }
 
+/// The job that the words name, of which the first is the program's name. None of them names no job.
+///
+/// It is an error where the words are wrong, where they ask for the help or the version, and for want of memory.
+pub fn job_of(alloc: Global, words: &[&str]) -> Result<Option<Job>, Error> {
+    let matches = command(alloc)?.try_get_matches_from(words)?;
+    match matches.subcommand() {
+        Some(("run", _)) => Ok(Some(Job::Run)),
+        _ => Ok(None),
+    }
+}
+
 /// The words that the program takes, with their help.
-pub(crate) fn command<'a>(alloc: Global) -> Result<Command<'a>, AllocError> {
+fn command<'a>(alloc: Global) -> Result<Command<'a>, AllocError> {
     let run = Command::new(alloc, "run")
         .about("Runs a script: answers each command that it reads")
         .after_help(RUN_HELP);
     Command::new(alloc, "ordup")
         .about("A replicated store of whole numbers: every site applies the updates in one order")
+        .version(VERSION)
         .after_help(HELP)
         .subcommand_required(true)
         .subcommand(run)
 }
 
-/// The job that the words name.
-pub(crate) fn job_of(matches: &ArgMatches<'_>) -> Option<Job> {
-    let (name, _) = matches.subcommand()?;
-    if name == "run" { Some(Job::Run) } else { None }
-}
+/// What `ordup --version` shows after the program's name.
+const VERSION: &str = "0.1.0";
+
+/// What is said of a word that the program does not take, such as the name of a file.
+pub const FILE_TIP: &str = "
+A script comes on standard input: ordup run < FILE
+";
 
 const HELP: &str = "\
 `ordup run` reads a script from standard input, line by line, and prints an

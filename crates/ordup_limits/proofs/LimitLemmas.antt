@@ -1,7 +1,11 @@
 -- Limits and spans.
 use Rattle.std.proofs.Common.{◌≡◌, ℕ, ℤ, zero, suc, take, get_or, ◌-◌, ◌+◌, ◌<◌, ◌≤◌, true, false, not, List, [], ◌∷◌, ◌++◌, length, Some, None, arith, refl, sym, ◌∙◌, inl, inr}
 use Rattle.std.specs.Prelude.{nat_lt, nat_le, IsTrue, All}
-use Rattle.std.specs.List.{position_or_len}
+use Rattle.std.specs.List.{position_or_len, list_any}
+use Rattle.std.proofs.lemmas.Bool.{or_parts}
+use Rattle.std.proofs.lemmas.List.{length_push}
+use Rattle.std.proofs.lemmas.List.Elements.{All-push}
+use Rattle.std.proofs.lemmas.List.Folds.{list_any-append}
 use Rattle.std.proofs.lemmas.Bool.{lt-ltb, le-leb, leb-true, and_parts, le-ltb, false≢true, cases_lt}
 use Rattle.std.proofs.lemmas.List.Folds.{list_all_at, list_all_more}
 use Rattle.ordup_objects.specs.declared.change.Change.{Change}
@@ -13,7 +17,7 @@ use Rattle.ordup_log.specs.declared.scope.Scope.TheVariants.{Object, Group, All 
 use Rattle.ordup_log.proofs.MostLemmas.{span-object-most, span-group-most}
 use Rattle.ordup_log.proofs.SpanLemmas.{span-inner, span-append, span-count}
 use Rattle.ordup_limits.specs.declared.limit.Limit.{Limit}
-use Rattle.ordup_limits.specs.Limits.{Limits, keeps, within, first_passed}
+use Rattle.ordup_limits.specs.Limits.{Limits, keeps, within, first_passed, is_same_scope, repeats_scope, AreLimits}
 
 -- an empty span weighs nothing, so it keeps each limit
 pub within-empty : (h : History) (groups : GroupList) (limits : Limits) (a b : ℕ) → b ≤ a → within h groups limits a b ≡ true
@@ -96,3 +100,18 @@ pub keeps-all : (h : History) (groups : GroupList) (a b : ℕ) (limit : Limit) �
     → span h groups Everything a b ≤ limit.amount → (limit.scope ≡ Count → ⊥) → true ≡ keeps h groups a b limit
 keeps-all h groups a b limit are known forward last all other =
     sym (le-leb (span h groups limit.scope a b) limit.amount (kept_by_all h groups limit.scope a b limit.amount are known forward last all other))
+
+-- limits of distinct scopes stay so by one more, on a scope that none of them has
+repeats_scope-push : (limits : Limits) (l : Limit) → repeats_scope limits ≡ false → list_any (λ m. is_same_scope m.scope l.scope) limits ≡ false → repeats_scope (limits ++ l ∷ []) ≡ false
+repeats_scope-push [] l distinct none = refl
+repeats_scope-push (m ∷ limits) l distinct none =
+    let apart = or_parts (list_any (λ k. is_same_scope m.scope k.scope) limits) (repeats_scope limits) distinct in
+    let other = or_parts (is_same_scope m.scope l.scope) (list_any (λ k. is_same_scope k.scope l.scope) limits) none in
+    rw (list_any-append (λ k. is_same_scope m.scope k.scope) limits (l ∷ []), apart.0, other.0, repeats_scope-push limits l apart.1 other.1) refl
+
+pub AreLimits-push : (limits : Limits) (l : Limit) → AreLimits limits → length limits < 64 → l.amount ≤ 1000000000000000000 → list_any (λ m. is_same_scope m.scope l.scope) limits ≡ false → (more : Limits) → more ≡ limits ++ l ∷ [] → AreLimits more
+AreLimits-push limits l are room few none more e = rw e (record {
+  few = omega (arith, length_push limits l);
+  amounts = All-push (λ (m : Limit). m.amount ≤ 1000000000000000000) limits l are.amounts few;
+  distinct = repeats_scope-push limits l are.distinct none;
+})

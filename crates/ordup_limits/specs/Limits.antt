@@ -1,5 +1,5 @@
 -- Limits, and which of them a span passes.
-use Rattle.std.specs.Prelude.{ℕ, ◌==◌, not, if◌then◌else◌, Option, Some, None, Bool, true, false, List, length, nat_lt, nat_le, All}
+use Rattle.std.specs.Prelude.{◌≡◌, ◌≤◌, ◌||◌, [], ◌∷◌, ℕ, ◌==◌, not, if◌then◌else◌, Option, Some, None, Bool, true, false, List, length, nat_lt, nat_le, All}
 use Rattle.std.specs.List.{list_all, list_any, position}
 use Rattle.std.specs.Option.{option_or}
 use Rattle.ordup_objects.specs.declared.refusal.Refusal.{Refusal}
@@ -52,6 +52,17 @@ amount_refusal limits scope amount =
 -- why a limit is refused beside these, if it is
 abbrev pub limit_refusal : ℕ → GroupList → Limits → Scope → ℕ → Option Refusal
 limit_refusal n groups limits scope amount = option_or (scope_refusal n groups scope) (amount_refusal limits scope amount)
+
+-- two limits are on one scope
+abbrev pub repeats_scope : Limits → Bool
+repeats_scope [] = false
+repeats_scope (l ∷ limits) = list_any (λ m. is_same_scope l.scope m.scope) limits || repeats_scope limits
+
+-- at most 64 limits of distinct scopes, with amounts from 0 to 10^18
+pub record AreLimits (limits : Limits) : Type 0 where
+  pub few : length limits ≤ 64
+  pub amounts : All (λ limit. limit.amount ≤ 1000000000000000000) limits
+  pub distinct : repeats_scope limits ≡ false
 
 -- the objects and groups of the limits are there
 abbrev pub AreLimitsOver : ℕ → GroupList → Limits → Type 0

@@ -2,7 +2,7 @@ ghost use Rattle.std.specs.Prelude.{◌≡◌, ◌≤◌, ◌<◌, ◌↔◌, �
 ghost use Rattle.std.specs.List.{list_any};
 ghost use Rattle.ordup_objects.specs.Refusals.{IsRefusal};
 ghost use Rattle.ordup_log.specs.Spans.{span, IsScopeOver};
-ghost use Rattle.ordup_limits.specs.Limits.{scope_refusal, limit_refusal, is_same_scope, keeps, within, first_passed, AreLimitsOver};
+ghost use Rattle.ordup_limits.specs.Limits.{scope_refusal, limit_refusal, is_same_scope, keeps, within, first_passed, AreLimitsOver, AreLimits};
 
 use crate::limit::Limit;
 use crate::sizes::{GREATEST_AMOUNT, MOST_LIMITS};
@@ -23,12 +23,13 @@ pub struct LimitTable<A: Allocator + Copy = Global> {
 impl<A: Allocator + Copy> Model for LimitTable<A> {
     ghost use Rattle.std.specs.Prelude.{List, ℕ, ◌≤◌, length};
     ghost use Rattle.ordup_limits.specs.declared.limit.Limit.{Limit};
+    ghost use Rattle.ordup_limits.specs.Limits.{AreLimits};
 
     ghost Value = { List Limit };
 
     ghost view = { λ t. t.limits.items };
 
-    ghost invariant = { λ t. length t.limits.items ≤ 64 };
+    ghost invariant = { λ t. AreLimits t.limits.items };
 }
 
 impl<A: Allocator + Copy> LimitTable<A> {
@@ -78,7 +79,7 @@ impl<A: Allocator + Copy> LimitTable<A> {
     /// How many limits there are, at most 64.
     pub fn len(&self) -> usize
         ensures len { result ≡ length self.now }
-        ensures few { length self.now ≤ 64 }
+        ensures limits { AreLimits self.now }
     {
         self.limits.len()
     }

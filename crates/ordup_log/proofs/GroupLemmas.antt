@@ -1,11 +1,12 @@
 -- Groups and their names.
 use Rattle.std.proofs.Common.{◌≡◌, ℕ, ◌+◌, ◌<◌, ◌≤◌, false, List, [], ◌∷◌, ◌++◌, length, map, get_or, drop, drop-cons, add-one, arith, refl, sym, ap, ◌∙◌, nat_eq, Vec}
-use Rattle.std.specs.Prelude.{◌||◌, ◌==◌, Option, Some, None, is_some, option_map, All}
+use Rattle.std.specs.Prelude.{true, ◌||◌, ◌==◌, Option, Some, None, is_some, option_map, All}
 use Rattle.std.specs.List.{list_any, position}
 use Rattle.std.specs.Cmp.Lexicographic.{pointwise}
+use Rattle.ordup_objects.specs.Names.{is_name}
 use Rattle.std.proofs.lemmas.List.{length_push}
 use Rattle.std.proofs.lemmas.List.Elements.{All-map, All-same, All-push}
-use Rattle.ordup_objects.specs.Tables.{names_of, place_of}
+use Rattle.ordup_objects.specs.Tables.{names_of, place_of, AreNames, AreDistinct}
 use Rattle.ordup_log.specs.Groups.{repeats_member, IsGroup}
 
 -- one member further on
@@ -43,3 +44,10 @@ groups-push {Z} groups more name members room are is e = (
 -- what callers see of groups are groups
 pub are_groups-view : {Z : Type 0} (groups : List (List ℕ × Vec ℕ Z)) (view : List (List ℕ × List ℕ)) → map (λ g. (g.0, g.1.items)) groups ≡ view → All (λ g. IsGroup g.1.items) groups → All (λ g. IsGroup g.1) view
 are_groups-view {Z} groups view e are = rw (← e) (All-map (λ (g : List ℕ × List ℕ). IsGroup g.1) (λ (g : List ℕ × Vec ℕ Z). (g.0, g.1.items)) groups are)
+
+-- and so are their names
+pub AreNames-view : {Z : Type 0} (groups : List (List ℕ × Vec ℕ Z)) (view : List (List ℕ × List ℕ)) → map (λ g. (g.0, g.1.items)) groups ≡ view → AreNames groups → AreNames view
+AreNames-view {Z} groups view e are = rw (← e) (All-map (λ (g : List ℕ × List ℕ). is_name g.0 ≡ true) (λ (g : List ℕ × Vec ℕ Z). (g.0, g.1.items)) groups are)
+
+pub AreDistinct-view : {Z : Type 0} (groups : List (List ℕ × Vec ℕ Z)) (view : List (List ℕ × List ℕ)) → map (λ g. (g.0, g.1.items)) groups ≡ view → AreDistinct groups → AreDistinct view
+AreDistinct-view {Z} groups view e are = rw (← e, names_of-map (λ (v : Vec ℕ Z). v.items) groups) are

@@ -1,6 +1,6 @@
 ghost use Rattle.std.specs.Prelude.{◌≡◌, ◌≤◌, ℕ, ◌<◌, None, Some, IfSome, IfOk, IfErr, List, [], ◌∷◌, ◌++◌, length, slice_get, option_map, All, nat_lt, ◌==◌};
 ghost use Rattle.std.specs.List.{list_all, list_any};
-ghost use Rattle.ordup_objects.specs.Tables.{place_of};
+ghost use Rattle.ordup_objects.specs.Tables.{place_of, AreNames, AreDistinct};
 ghost use Rattle.ordup_objects.specs.Refusals.{IsRefusal};
 ghost use Rattle.ordup_log.specs.Groups.{group_refusal, members_at, are_members_known, repeats_member, IsGroup};
 
@@ -79,6 +79,7 @@ impl<A: Allocator + Copy> Groups<A> {
         members: &[ObjectId],
     ) -> Result<GroupId, Refusal>
         ensures group { IfOk result (λ group. group ≡ length self.old) }
+        ensures known { IfOk result (λ _. All (λ x. x < length objects.now) members.now) }
         ensures declared { IfOk result (λ _. self.new ≡ self.old ++ (name.now, members.now) ∷ []) }
         ensures allowed { IfOk result (λ _. group_refusal (length objects.now) self.old name.now members.now ≡ None) }
         ensures refused { IfErr result (λ e. IsRefusal (group_refusal (length objects.now) self.old name.now members.now) e) }
@@ -124,6 +125,8 @@ impl<A: Allocator + Copy> Groups<A> {
         ensures len { result ≡ length self.now }
         ensures few { length self.now ≤ 32 }
         ensures groups { All (λ g. IsGroup g.1) self.now }
+        ensures names { AreNames self.now }
+        ensures distinct { AreDistinct self.now }
     {
         self.groups.len()
     }

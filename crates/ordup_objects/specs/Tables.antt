@@ -1,6 +1,7 @@
 -- Tables of names, in order of declaration.
 use Rattle.std.specs.Prelude.{◌≡◌, ℕ, ℤ, ◌==◌, not, true, if◌then◌else◌, Option, Some, None, List, length, map, position, is_some, nat_eq, All}
 use Rattle.std.specs.Cmp.Lexicographic.{pointwise}
+use Rattle.std.specs.List.{IsDistinct}
 use Rattle.ordup_objects.specs.declared.refusal.Refusal.{Refusal}
 use Rattle.ordup_objects.specs.declared.refusal.Refusal.TheVariants.{BadName, NameTaken, OutOfRange, TooMany}
 use Rattle.ordup_objects.specs.Names.{is_name}
@@ -17,6 +18,10 @@ place_of name table = position (pointwise nat_eq name) (names_of table)
 -- each name of a table is a name
 abbrev pub AreNames : {V : Type 0} → List (List ℕ × V) → Type 0
 AreNames table = All (λ e. is_name e.0 ≡ true) table
+
+-- no name of a table comes twice
+abbrev pub AreDistinct : {V : Type 0} → List (List ℕ × V) → Type 0
+AreDistinct table = IsDistinct (pointwise nat_eq) (names_of table)
 
 -- the objects, with their initial values
 abbrev pub Objects : Type 0

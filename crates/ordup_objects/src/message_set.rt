@@ -80,7 +80,8 @@ impl<A: Allocator + Copy> MessageSet<A> {
 
     /// Whether the objects of each change are among the first so many.
     pub fn is_over(&self, objects: usize) -> bool
-        ensures { result ≡ is_over objects self.now }
+        ensures over { result ≡ is_over objects self.now }
+        ensures fact { IsTrue result → IsOver objects self.now }
     {
         is_over(objects, self.changes.as_slice())
     }

@@ -1,6 +1,6 @@
 ghost use Rattle.std.specs.Prelude.{◌≡◌, ℕ, ◌<◌, None, Some, IfSome, IfOk, OnErr, List, [], ◌∷◌, ◌++◌, length, true, slice_get, option_map};
 ghost use Rattle.ordup_objects.specs.Names.{is_name};
-ghost use Rattle.ordup_objects.specs.Tables.{names_of, place_of, AreNames};
+ghost use Rattle.ordup_objects.specs.Tables.{names_of, place_of, AreNames, AreDistinct};
 
 use crate::name::{Name, NameBytes};
 use indexmap::IndexMap;
@@ -44,6 +44,7 @@ impl<V, A: Allocator + Copy> NameTable<V, A> {
     pub fn len(&self) -> usize
         ensures len { result ≡ length self.now }
         ensures names { AreNames self.now }
+        ensures distinct { AreDistinct self.now }
     {
         self.entries.len()
     }

@@ -1,5 +1,5 @@
 ghost use Rattle.std.specs.Prelude.{◌≡◌, ℕ, ◌<◌, ◌≤◌, None, Some, IfSome, IfOk, IfErr, List, [], ◌∷◌, ◌++◌, length, slice_get, option_map};
-ghost use Rattle.ordup_objects.specs.Tables.{place_of, object_refusal, initial_state};
+ghost use Rattle.ordup_objects.specs.Tables.{place_of, object_refusal, initial_state, AreNames, AreDistinct};
 ghost use Rattle.ordup_objects.specs.Refusals.{IsRefusal};
 ghost use Rattle.ordup_objects.specs.States.{value_at, IsState};
 
@@ -82,6 +82,8 @@ impl<A: Allocator + Copy> ObjectTable<A> {
         ensures len { result ≡ length self.now }
         ensures few { length self.now ≤ 256 }
         ensures state { IsState (initial_state self.now) }
+        ensures names { AreNames self.now }
+        ensures distinct { AreDistinct self.now }
     {
         self.objects.len()
     }

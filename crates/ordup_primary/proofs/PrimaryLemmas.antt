@@ -51,6 +51,8 @@ IsSiteSound-sent keeps updates acked decided site is lt = record {
   rounds = is.rounds;
   answered = is.answered;
   within = is.within;
+  rising = is.rising;
+  before = is.before;
 }
 
 -- a site reported a later place
@@ -64,6 +66,8 @@ IsSiteSound-reported p s place site is risen sent = record {
   rounds = is.rounds;
   answered = λ k some le forced. omega (arith, is.answered k some le forced);
   within = within-inner p.log p.setup.groups (limits_of p.setup s) site.reported place p.acked p.acked risen (omega arith) is.within;
+  rising = is.rising;
+  before = is.before;
 }
 
 -- ---- a log that grows
@@ -109,6 +113,8 @@ IsPrimary-proposed p m is set over allowed = record {
     rounds = site.rounds ∙ rounds_upto-same (is_within p s) (is_within (record p { log = record { start = p.log.start; sets = p.log.sets ++ m ∷ [] } }) s) (reported_at (get_or p.sites s d)) (reported_at (get_or p.sites s d)) p.decided (λ k some le. sym (is_within-proposed p m s (reported_at (get_or p.sites s d) k) k (omega (arith, is.decided))));
     answered = λ k some le forced. site.answered k some le (sym (is_within-proposed p m s (reported_at (get_or p.sites s d) k) k (omega (arith, is.acked, is.decided))) ∙ forced);
     within = is_within-proposed p m s (get_or p.sites s d).reported p.acked (omega (arith, is.acked, is.decided)) ∙ site.within;
+    rising = site.rising;
+    before = λ j k some lt le forced. site.before j k some lt le (sym (is_within-proposed p m s (reported_at (get_or p.sites s d) j) j (omega (arith, is.decided))) ∙ forced);
   });
 }
 
@@ -181,6 +187,8 @@ IsPrimary-waited p is later = elim (acked_after-some p.acked (waiting_now p)) [
       answered = answered-more (is_within p s) p.acked (get_or p.sites s d) site.answered
           (λ forced. reported-at p s (get_or p.sites s d) (p.acked + 1) forced (rw (get_or_default p.sites s d first_progress lt) (where_below-none _ (length p.sites) s lt done.1)));
       within = done-at p s (get_or p.sites s d) (p.acked + 1) (site.risen (p.acked + 1 - 1)) (rw (get_or_default p.sites s d first_progress lt) (where_below-none _ (length p.sites) s lt done.1));
+      rising = site.rising;
+      before = site.before;
     });
   })
 ]
@@ -193,6 +201,26 @@ risen-push [] reported risen zero = omega arith
 risen-push [] reported risen (suc k) = omega arith
 risen-push (r ∷ reports) reported risen zero = risen 0
 risen-push (r ∷ reports) reported risen (suc k) = risen-push reports reported (λ j. risen (suc j)) k
+
+-- a report that is put down keeps the reports in their order
+rising-push : (reports : List ℕ) (reported : ℕ) → ((k : ℕ) → get_or reports k 0 ≤ reported) → ((j k : ℕ) → j ≤ k → k < length reports → get_or reports j 0 ≤ get_or reports k 0)
+    → (j k : ℕ) → j ≤ k → k < length reports + 1 → get_or (reports ++ reported ∷ []) j 0 ≤ get_or (reports ++ reported ∷ []) k 0
+rising-push reports reported risen rising j k le lt = elim (cases_lt k (length reports)) [
+  | inl old ↦ rw (get_or-append reports (reported ∷ []) 0 j (omega arith), get_or-append reports (reported ∷ []) 0 k old) (rising j k le old)
+  | inr new ↦ (let last : length reports ≡ k = omega arith in rw (get_or_push reports reported 0 k last) (risen-push reports reported risen j))
+]
+
+-- a forced place was reported before a later place is decided
+before-push : (keeps : ℕ → ℕ → Bool) (acked : ℕ) (site : SiteProgress) → length site.reports ≡ acked → ((k : ℕ) → 0 < k → k ≤ acked → keeps (reported_at site k) k ≡ false → k ≤ site.reported)
+    → ((j k : ℕ) → 0 < j → j < k → k ≤ acked → keeps (reported_at site j) j ≡ false → j ≤ reported_at site k)
+    → (j k : ℕ) → 0 < j → j < k → k ≤ acked + 1 → keeps (get_or (site.reports ++ site.reported ∷ []) (j - 1) 0) j ≡ false → j ≤ get_or (site.reports ++ site.reported ∷ []) (k - 1) 0
+before-push keeps acked site count answered before j k some lt le forced =
+    let there : get_or (site.reports ++ site.reported ∷ []) (j - 1) 0 ≡ get_or site.reports (j - 1) 0 = get_or-append site.reports (site.reported ∷ []) 0 (j - 1) (omega arith) in
+    let was : keeps (reported_at site j) j ≡ false = rw there at forced in
+    elim (cases_lt acked k) [
+      | inl past ↦ rw (get_or_push site.reports site.reported 0 (k - 1) (omega arith)) (answered j some (omega arith) was)
+      | inr old ↦ rw (get_or-append site.reports (site.reported ∷ []) 0 (k - 1) (omega arith)) (before j k some lt old was)
+    ]
 
 -- the rounds with the one of the head, if it is one
 rounds-decided : (keeps : ℕ → ℕ → Bool) (acked : ℕ) (site : SiteProgress) → length site.reports ≡ acked → site.rounds ≡ rounds_upto keeps (reported_at site) acked
@@ -225,6 +253,8 @@ IsSiteSound-decided keeps updates acked later site is within step = record {
     | inr before ↦ is.answered k some before (ap (λ r. keeps r k) (sym (get_or-append site.reports (site.reported ∷ []) 0 (k - 1) (omega (arith, is.count)))) ∙ forced)
   ];
   within = within;
+  rising = λ j k le lt. rising-push site.reports site.reported is.risen (λ i l le lt. is.rising i l le (omega (arith, is.count))) j k le (omega (arith, is.count));
+  before = before-push keeps acked site is.count is.answered is.before;
 }
 
 -- a primary after the first settlement of the head
@@ -305,6 +335,8 @@ IsPrimary-new p declared ready log legal acked decided sites = record {
         rounds = refl;
         answered = λ k some le forced. absurd (omega arith);
         within = within-empty p.log p.setup.groups (limits_of p.setup s) 0 0 (omega arith);
+        rising = λ j k le lt. absurd (omega arith);
+        before = λ j k some lt le forced. absurd (omega arith);
       }));
 }
 

@@ -1,5 +1,5 @@
 -- What is declared before a store starts.
-use Rattle.std.specs.Prelude.{◌≡◌, ℕ, ℤ, ◌≤◌, ◌==◌, ◌&&◌, ◌||◌, not, if◌then◌else◌, Option, Some, None, Bool, List, [], length, nat_lt, is_some, slice_index_or, All}
+use Rattle.std.specs.Prelude.{◌≡◌, ℕ, ℤ, ◌<◌, ◌≤◌, ◌==◌, ◌&&◌, ◌||◌, not, if◌then◌else◌, Option, Some, None, Bool, List, [], length, nat_lt, is_some, slice_index_or, All}
 use Rattle.std.specs.Option.{option_or}
 use Rattle.ordup_objects.specs.declared.refusal.Refusal.{Refusal}
 use Rattle.ordup_objects.specs.declared.refusal.Refusal.TheVariants.{BadName, NameTaken, UnknownSite, OutOfRange, TooMany, Empty}
@@ -23,9 +23,9 @@ capacity_of d s = (slice_index_or d.sites s ([], 0)).1
 abbrev pub limits_of : Declared → ℕ → Limits
 limits_of d s = slice_index_or d.limits s []
 
--- each feed has room for an update
+-- the feeds of the sites have room for 1 to 1,024 updates
 abbrev pub AreCapacities : List (List ℕ × ℕ) → Type 0
-AreCapacities sites = All (λ e. 1 ≤ e.1) sites
+AreCapacities sites = All (λ e. (1 ≤ e.1) × (e.1 ≤ 1024)) sites
 
 -- at least one object and one site
 abbrev pub is_ready : Declared → Bool
@@ -49,9 +49,14 @@ site_limit_refusal d s scope amount =
     option_or (scope_refusal (length d.objects) d.groups scope) (
     if not (nat_lt s (length d.sites)) then Some UnknownSite else amount_refusal (limits_of d s) scope amount)
 
+-- the members of each group are among the first n objects
+abbrev pub AreGroupsOver : ℕ → List (List ℕ × List ℕ) → Type 0
+AreGroupsOver n groups = All (λ g. All (λ x. x < n) g.1) groups
+
 -- what the declarations keep: each site has its limits, and their objects and groups are there
 pub record AreDeclared (d : Declared) : Type 0 where
   pub few : length d.sites ≤ 16
   pub capacities : AreCapacities d.sites
   pub count : length d.limits ≡ length d.sites
+  pub members : AreGroupsOver (length d.objects) d.groups
   pub known : All (AreLimitsOver (length d.objects) d.groups) d.limits

@@ -100,6 +100,8 @@ pub record IsSiteSound (keeps : ℕ → ℕ → Bool) (updates acked decided : �
   pub rounds : site.rounds ≡ rounds_upto keeps (reported_at site) decided
   pub answered : (k : ℕ) → 0 < k → k ≤ acked → keeps (reported_at site k) k ≡ false → k ≤ site.reported
   pub within : keeps site.reported acked ≡ true
+  pub rising : (j k : ℕ) → j ≤ k → k < decided → slice_index_or site.reports j 0 ≤ slice_index_or site.reports k 0
+  pub before : (j k : ℕ) → 0 < j → j < k → k ≤ decided → keeps (reported_at site j) j ≡ false → j ≤ reported_at site k
 
 -- what each primary keeps
 pub record IsPrimary (p : PrimaryState) : Type 0 where

@@ -3,7 +3,7 @@ ghost use Rattle.ordup_objects.specs.Tables.{place_of, object_refusal};
 ghost use Rattle.ordup_objects.specs.Refusals.{IsRefusal};
 ghost use Rattle.ordup_log.specs.Groups.{group_refusal};
 ghost use Rattle.ordup_limits.specs.Limits.{AreLimitsOver};
-ghost use Rattle.ordup_primary.specs.Declarations.{Declared, AreDeclared, is_ready, site_refusal, site_limit_refusal, capacity_of, limits_of};
+ghost use Rattle.ordup_primary.specs.Declarations.{Declared, AreDeclared, AreGroupsOver, is_ready, site_refusal, site_limit_refusal, capacity_of, limits_of};
 
 use ordup_limits::{GroupId, Groups, LimitTable, Scope, check_scope};
 use ordup_objects::sizes::{GREATEST_CAPACITY, MOST_SITES};
@@ -134,7 +134,8 @@ impl<A: Allocator + Copy> Setup<A> {
 
     /// The groups.
     pub fn groups(&self) -> &Groups<A>
-        ensures { result.now ≡ self.now.groups }
+        ensures groups { result.now ≡ self.now.groups }
+        ensures members { AreGroupsOver (length self.now.objects) self.now.groups }
     {
         &self.groups
     }
@@ -169,7 +170,9 @@ impl<A: Allocator + Copy> Setup<A> {
     /// How many updates the feed of a site holds at most, as it was declared.
     pub fn capacity(&self, site: SiteId) -> u64
         requires { site < length self.now.sites }
-        ensures { result ≡ capacity_of self.now site }
+        ensures capacity { result ≡ capacity_of self.now site }
+        ensures some { 1 ≤ result }
+        ensures few { result ≤ 1024 }
     {
         *self.capacities.at(site.index()).1
     }

@@ -15,7 +15,7 @@ use Rattle.ordup_primary.specs.Primaries.{acked_after}
 use Rattle.ordup_query.proofs.ImportLemmas.{moved_between}
 use Rattle.ordup_world.specs.Queries.{ReadMade, Opened, import_total, value_sum, values_read, read_refusal}
 use Rattle.ordup_world.specs.Events.{Past, Decisions, is_same, sets_of, log_of, applied, decisions, settled, read_now, with_read, opened, reply, refused_or, is_refused, later, IsAnswer, AreAnswers, past_after}
-use Rattle.ordup_world.specs.Importing.{KeepsImport, values_on, AreAccepted, KeepImportsAlong}
+use Rattle.ordup_world.specs.Importing.{KeepsImport, values_on, AreAccepted, KeepImports, KeepImportsAlong}
 use Rattle.ordup_world.specs.declared.event.Event.{Event}
 use Rattle.ordup_world.specs.declared.event.Event.TheVariants.{Propose, Send, Apply, Report, Settle, Begin, Read, End, Abandon, Show}
 use Rattle.ordup_world.specs.declared.event.Answer.{Answer}
@@ -185,3 +185,7 @@ module _ {A : Type 0} where
   pub KeepImportsAlong-answers : (setup : Declared) (events : List (Event A)) (answers : List (Answer A)) → AreAnswers setup [] events answers → KeepImportsAlong setup events answers
   KeepImportsAlong-answers setup events answers all n q o found =
       (kept setup (past_after [] (take n events) (take n answers)) (AreAccepted-after setup [] (take n events) (take n answers) tt (AreAnswers-take n setup [] events answers all)) q o found).import
+
+  -- and where one event more is accepted
+  pub KeepImports-later : (setup : Declared) (past : Past A) (e : Event A) (a : Answer A) → AreAccepted setup past → IsAnswer setup past e a → KeepImports setup (later past e a)
+  KeepImports-later setup past e a are is q o found = (kept setup (later past e a) (AreAccepted-later setup past e a are is) q o found).import

@@ -6,3 +6,4 @@ pub mod QueryLemmas
 pub mod WorldLemmas
 pub mod QueryAnswerLemmas
 pub mod ImportingLemmas
+pub mod KeepingLemmas

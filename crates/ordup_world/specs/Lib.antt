@@ -4,3 +4,4 @@ pub mod Standings
 pub mod Growing
 pub mod Reading
 pub mod Importing
+pub mod Keeping

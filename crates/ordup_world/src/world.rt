@@ -36,6 +36,7 @@ impl<A: Allocator + Copy> Model for World<A> {
 impl<A: Allocator + Copy> World<A> {
     ghost use Rattle.ordup_world.specs.Events.{Past, later, IsAnswer, OnRefused};
     ghost use Rattle.ordup_world.specs.Standings.{StandsFor, IsSound, KeepsLimits};
+    ghost use Rattle.ordup_world.specs.Importing.{AreAccepted, KeepImports};
 
     /// A started store, in which nothing has happened.
     ///
@@ -66,6 +67,19 @@ impl<A: Allocator + Copy> World<A> {
         ensures refused { OnRefused result (self.new ≡ self.old) }
         ensures sound { IsSound self.new }
         ensures limits { KeepsLimits self.new }
+        ensures imports { (past : Past A) → StandsFor self.old past → AreAccepted self.old.primary.setup past → KeepImports self.old.primary.setup (later past event result) }
+    {
+        self.take(event)
+    }
+
+    /// Takes one event and answers it.
+    fn take(&mut self, event: Event<A>) -> Answer<A>
+        ensures answer { (past : Past A) → StandsFor self.old past → IsAnswer self.old.primary.setup past event result }
+        ensures state { (past : Past A) → StandsFor self.old past → StandsFor self.new (later past event result) }
+        ensures setup { self.new.primary.setup ≡ self.old.primary.setup }
+        ensures refused { OnRefused result (self.new ≡ self.old) }
+        ensures sound { IsSound self.new }
+        ensures limits { KeepsLimits self.new }
     {
         match event {
             Event::Propose(set) => self.store.propose(set),
@@ -83,7 +97,9 @@ impl<A: Allocator + Copy> World<A> {
 
     /// The primary, with what was declared, the log, and what it knows of the sites.
     pub fn primary(&self) -> &Primary<A>
-        ensures { result.now ≡ self.now.primary }
+        ensures primary { result.now ≡ self.now.primary }
+        ensures sound { IsSound self.now }
+        ensures limits { KeepsLimits self.now }
     {
         self.store.primary()
     }

@@ -1,7 +1,8 @@
 use Rattle.std.proofs.Common.{arith, ◌≡◌, ◌++◌, ◌∷◌, [], ◌∙◌, sym, ap, append_assoc, length}
 use Rattle.std.specs.Vec.Iter.{into_iter_items}
-use Rattle.ordup_world.specs.Events.{past_after}
+use Rattle.ordup_world.specs.Events.{past_after, later}
 use Rattle.ordup_world.proofs.RunLemmas.{all_yielded, past_after-push, AreAnswers-push}
+use Rattle.ordup_world.proofs.KeepingLemmas.{KeepSites-stands, KeepSitesAlong-push}
 use Rattle.ordup_world.proofs.ImportingLemmas.{KeepImportsAlong-answers}
 use Rattle.ordup_world.proofs.runs.run.Goals as goal
 
@@ -16,6 +17,10 @@ loop-event-preserved g c =
       sound = c.step.ensures.sound;
       limits = c.step.ensures.limits;
       answers = rw c.push_reserved.ensures.items (AreAnswers-push c.args.setup [] c.loop-event.yielded c.loop-event.answers.items c.in-Some.event c.step.result before.answers (rw before.setup at (c.step.ensures.answer mid before.state)));
+      along =
+          let after = c.step.ensures.state mid before.state in
+          let now = KeepSites-stands c.step.new.self (later mid c.in-Some.event c.step.result) c.step.ensures.sound c.step.ensures.limits after in
+          rw c.push_reserved.ensures.items (KeepSitesAlong-push c.args.setup [] c.loop-event.yielded c.loop-event.answers.items c.in-Some.event c.step.result before.answers before.along (rw (c.step.ensures.setup ∙ before.setup) at now));
       state = rw (c.push_reserved.ensures.items, past_after-push c.args.setup [] c.loop-event.yielded c.loop-event.answers.items c.in-Some.event c.step.result before.answers) (c.step.ensures.state mid before.state);
     }
 
@@ -30,6 +35,12 @@ returns-clause-state g c =
     let before = c.loop-event.invariant in
     let all : c.loop-event.yielded ≡ c.args.events.items = all_yielded c.loop-event.yielded (into_iter_items c.loop-event.event-iterator) c.args.events.items (omega (arith, c.in-None.ensures.steps.0, c.loop-event.event-iterator.rest.ok)) before.left in
     rw all at before.state
+
+pub returns-clause-along : goal.returns-clause-along
+returns-clause-along g c =
+    let before = c.loop-event.invariant in
+    let all : c.loop-event.yielded ≡ c.args.events.items = all_yielded c.loop-event.yielded (into_iter_items c.loop-event.event-iterator) c.args.events.items (omega (arith, c.in-None.ensures.steps.0, c.loop-event.event-iterator.rest.ok)) before.left in
+    rw all at before.along
 
 pub returns-clause-imports : goal.returns-clause-imports
 returns-clause-imports g c =
@@ -48,5 +59,6 @@ loop-event-init g c =
       sound = started.sound;
       limits = started.limits;
       answers = rw started.answers tt;
+      along = rw started.setup at (KeepSites-stands c.in_ok-world.world [] started.sound started.limits started.state);
       state = started.state;
     }

@@ -95,9 +95,6 @@ returns-clause-grows g c =
 pub invariant_of-self : goal.invariant_of-self
 invariant_of-self g c = grind (arith, common_steps)
 
-pub returns-then-applied-sent-clause-answer : goal.returns-then-applied-sent-clause-answer
-returns-then-applied-sent-clause-answer g c = grind (arith, common_steps)
-
 pub returns-then-applied-sent-clause-state : goal.returns-then-applied-sent-clause-state
 returns-then-applied-sent-clause-state g c = grind (arith, common_steps)
 

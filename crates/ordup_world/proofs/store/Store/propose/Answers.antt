@@ -16,7 +16,7 @@ pub returns-clause-answer : goal.returns-clause-answer
 returns-clause-answer g c past is =
     let w : StoreState = record { primary = c.self.inside.primary; sites = c.self.inside.sites.items } in
     let count : c.len.result ≡ length w.primary.setup.objects = rw (c.objects.ensures, c.setup.ensures) at c.len.ensures.len in
-    let over : is_over (length w.primary.setup.objects) c.args.set ≡ true = ap (λ n. is_over n c.args.set) (sym count) ∙ sym c.if-not-is_over.ensures in
+    let over : is_over (length w.primary.setup.objects) c.args.set ≡ true = ap (λ n. is_over n c.args.set) (sym count) ∙ sym c.if-not-is_over.ensures.over in
     rw (← c.self.view_is) (answer-proposed w past c.args.set c.in-Ok.number (rw (← c.self.view_is) at is) over c.in-Ok.ensures.allowed c.in-Ok.ensures.number)
 
 pub returns-clause-state : goal.returns-clause-state
@@ -33,7 +33,7 @@ pub returns-in-Err-clause-answer : goal.returns-in-Err-clause-answer
 returns-in-Err-clause-answer g c past is =
     let w : StoreState = record { primary = c.self.inside.primary; sites = c.self.inside.sites.items } in
     let count : c.len.result ≡ length w.primary.setup.objects = rw (c.objects.ensures, c.setup.ensures) at c.len.ensures.len in
-    let over : is_over (length w.primary.setup.objects) c.args.set ≡ true = ap (λ n. is_over n c.args.set) (sym count) ∙ sym c.if-not-is_over.ensures in
+    let over : is_over (length w.primary.setup.objects) c.args.set ≡ true = ap (λ n. is_over n c.args.set) (sym count) ∙ sym c.if-not-is_over.ensures.over in
     rw (← c.self.view_is) (answer-propose_refused w past c.args.set c.in-Err.refusal (rw (← c.self.view_is) at is) over c.in-Err.ensures.refused)
 
 pub returns-clause-grows : goal.returns-clause-grows

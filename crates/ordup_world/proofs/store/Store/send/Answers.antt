@@ -25,7 +25,7 @@ returns-then-sent-applied-clause-answer g c past is =
     let feed : c.sent-sent.result - c.applied.result ≡ (progress_at w.primary c.args.site).sent - site.applied = omega (arith, c.sent-sent.ensures, c.applied.ensures.applied) in
     rw (← c.self.view_is) (answer-feed_full w past c.args.site site (rw (← c.self.view_is) at is) lt below at
     (λ e. c.if-sent-len.false (c.sent-sent.ensures ∙ e ∙ sym (rw c.log.ensures at c.len.ensures.len)))
-    (sym feed ∙ c.if-sent-applied.true ∙ rw c.setup-2.ensures at c.capacity.ensures))
+    (sym feed ∙ c.if-sent-applied.true ∙ rw c.setup-2.ensures at c.capacity.ensures.capacity))
 
 pub invariant_of-self : goal.invariant_of-self
 invariant_of-self g c =
@@ -37,7 +37,7 @@ invariant_of-self g c =
     let feed : c.sent-sent.result - c.applied.result ≡ (progress_at w.primary c.args.site).sent - site.applied = omega (arith, c.sent-sent.ensures, c.applied.ensures.applied) in
     IsStore-sent w c.mark_sent.new.self c.args.site site c.self.invariant c.mark_sent.ensures.sound c.mark_sent.ensures.marked lt at
     (λ e. c.if-sent-len.false (c.sent-sent.ensures ∙ e ∙ sym (rw c.log.ensures at c.len.ensures.len)))
-    (λ e. c.if-sent-applied.false (feed ∙ e ∙ sym (rw c.setup-2.ensures at c.capacity.ensures)))
+    (λ e. c.if-sent-applied.false (feed ∙ e ∙ sym (rw c.setup-2.ensures at c.capacity.ensures.capacity)))
 
 pub returns-clause-answer : goal.returns-clause-answer
 returns-clause-answer g c past is =
@@ -49,7 +49,7 @@ returns-clause-answer g c past is =
     let feed : c.sent-sent.result - c.applied.result ≡ (progress_at w.primary c.args.site).sent - site.applied = omega (arith, c.sent-sent.ensures, c.applied.ensures.applied) in
     rw (← c.self.view_is) (answer-sent w past c.args.site site (c.sent-sent.result + 1) (rw (← c.self.view_is) at is) lt below at
     (λ e. c.if-sent-len.false (c.sent-sent.ensures ∙ e ∙ sym (rw c.log.ensures at c.len.ensures.len)))
-    (λ e. c.if-sent-applied.false (feed ∙ e ∙ sym (rw c.setup-2.ensures at c.capacity.ensures))) (ap (λ n. n + 1) c.sent-sent.ensures))
+    (λ e. c.if-sent-applied.false (feed ∙ e ∙ sym (rw c.setup-2.ensures at c.capacity.ensures.capacity))) (ap (λ n. n + 1) c.sent-sent.ensures))
 
 pub returns-clause-state : goal.returns-clause-state
 returns-clause-state g c past is =
@@ -61,7 +61,7 @@ returns-clause-state g c past is =
     let feed : c.sent-sent.result - c.applied.result ≡ (progress_at w.primary c.args.site).sent - site.applied = omega (arith, c.sent-sent.ensures, c.applied.ensures.applied) in
     IsStoreAfter-sent w past c.mark_sent.new.self c.args.site c.self.invariant (rw (← c.self.view_is) at is) (IsStore-sent w c.mark_sent.new.self c.args.site site c.self.invariant c.mark_sent.ensures.sound c.mark_sent.ensures.marked lt at
     (λ e. c.if-sent-len.false (c.sent-sent.ensures ∙ e ∙ sym (rw c.log.ensures at c.len.ensures.len)))
-    (λ e. c.if-sent-applied.false (feed ∙ e ∙ sym (rw c.setup-2.ensures at c.capacity.ensures)))) c.mark_sent.ensures.marked lt
+    (λ e. c.if-sent-applied.false (feed ∙ e ∙ sym (rw c.setup-2.ensures at c.capacity.ensures.capacity)))) c.mark_sent.ensures.marked lt
 
 pub returns-clause-sound : goal.returns-clause-sound
 returns-clause-sound g c =
@@ -73,7 +73,7 @@ returns-clause-sound g c =
     let feed : c.sent-sent.result - c.applied.result ≡ (progress_at w.primary c.args.site).sent - site.applied = omega (arith, c.sent-sent.ensures, c.applied.ensures.applied) in
     IsStore-sent w c.mark_sent.new.self c.args.site site c.self.invariant c.mark_sent.ensures.sound c.mark_sent.ensures.marked lt at
     (λ e. c.if-sent-len.false (c.sent-sent.ensures ∙ e ∙ sym (rw c.log.ensures at c.len.ensures.len)))
-    (λ e. c.if-sent-applied.false (feed ∙ e ∙ sym (rw c.setup-2.ensures at c.capacity.ensures)))
+    (λ e. c.if-sent-applied.false (feed ∙ e ∙ sym (rw c.setup-2.ensures at c.capacity.ensures.capacity)))
 
 pub returns-clause-grows : goal.returns-clause-grows
 returns-clause-grows g c =

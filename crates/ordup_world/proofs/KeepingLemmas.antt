@@ -1,0 +1,34 @@
+-- What is kept after each event of a list, one event more at the end.
+use Rattle.std.proofs.Common.{◌<◌, List, [], ◌∷◌, ◌++◌, length, arith}
+use Rattle.ordup_primary.specs.Declarations.{Declared}
+use Rattle.ordup_site.specs.Sites.{SiteState}
+use Rattle.ordup_world.specs.Events.{Past, later, AreAnswers, past_after}
+use Rattle.ordup_world.specs.Keeping.{KeepSites, KeepSitesAlong}
+use Rattle.ordup_world.specs.Standings.{Standing, store_of, IsSound, KeepsLimits, StandsFor}
+use Rattle.ordup_world.specs.declared.event.Event.{Event}
+use Rattle.ordup_world.specs.declared.event.Answer.{Answer}
+use Rattle.ordup_world.proofs.AfterLemmas.{updates-are}
+
+module _ {A : Type 0} where
+  -- a sound world that keeps its limits: so do the accepted events that it stands for
+  pub KeepSites-stands : (w : Standing) (past : Past A) → IsSound w → KeepsLimits w → StandsFor w past → KeepSites w.primary.setup past
+  KeepSites-stands w past sound limits stands s below =
+      let d : SiteState = record { applied = 0; values = []; travelled = [] } in
+      let lt : s < length w.sites = omega (arith, below, sound.store.count, sound.store.primary.count) in
+      let here = stands.store.sites s d lt in
+      let holds = sound.store.prefixes s d lt in
+      record {
+        told = omega (arith, here.reported, here.applied, holds.reported);
+        got = omega (arith, here.applied, here.sent, holds.applied);
+        logged = omega (arith, here.sent, holds.sent, updates-are (store_of w) past stands.store);
+        feed = omega (arith, here.sent, here.applied, holds.feed);
+        limits = rw (stands.store.log, here.applied, stands.store.acked) at (limits s d lt);
+      }
+
+  -- one event more
+  pub KeepSitesAlong-push : (setup : Declared) (past : Past A) (events : List (Event A)) (answers : List (Answer A)) (e : Event A) (a : Answer A) → AreAnswers setup past events answers
+      → KeepSitesAlong setup past events answers → KeepSites setup (later (past_after past events answers) e a) → KeepSitesAlong setup past (events ++ e ∷ []) (answers ++ a ∷ [])
+  KeepSitesAlong-push setup past [] [] e a are keeps now = (keeps, now)
+  KeepSitesAlong-push setup past [] (b ∷ answers) e a are keeps now = absurd are
+  KeepSitesAlong-push setup past (f ∷ events) [] e a are keeps now = absurd are
+  KeepSitesAlong-push setup past (f ∷ events) (b ∷ answers) e a are keeps now = (keeps.0, KeepSitesAlong-push setup (later past f b) events answers e a are.1 keeps.1 now)

@@ -1,0 +1,25 @@
+-- What is kept after each event of a list.
+use Rattle.std.specs.Prelude.{◌≡◌, ℕ, ◌+◌, ◌<◌, ◌≤◌, true, List, [], ◌∷◌, length}
+use Rattle.ordup_primary.specs.Declarations.{Declared, capacity_of}
+use Rattle.ordup_world.specs.Events.{Past, sets_of, sent, applied, reported, is_within_after, decisions, later}
+use Rattle.ordup_world.specs.declared.event.Event.{Event}
+use Rattle.ordup_world.specs.declared.event.Answer.{Answer}
+
+module _ {A : Type 0} where
+  -- a site has applied what it reported, and no more than was sent to it; its feed holds no more than it may; and the acknowledged updates that it has not applied weigh at most each of its limits
+  pub record KeepsSite (setup : Declared) (past : Past A) (s : ℕ) : Type 0 where
+    pub told : reported s past ≤ applied s past
+    pub got : applied s past ≤ sent s past
+    pub logged : sent s past ≤ length (sets_of past)
+    pub feed : sent s past ≤ applied s past + capacity_of setup s
+    pub limits : is_within_after setup past s (applied s past) (decisions setup past).acked ≡ true
+
+  -- each site does
+  abbrev pub KeepSites : Declared → Past A → Type 0
+  KeepSites setup past = (s : ℕ) → s < length setup.sites → KeepsSite setup past s
+
+  -- and so before the first of these events, and after each of them
+  abbrev pub KeepSitesAlong : Declared → Past A → List (Event A) → List (Answer A) → Type 0
+  KeepSitesAlong setup past [] answers = KeepSites setup past
+  KeepSitesAlong setup past (e ∷ events) [] = KeepSites setup past
+  KeepSitesAlong setup past (e ∷ events) (a ∷ answers) = KeepSites setup past × KeepSitesAlong setup (later past e a) events answers

@@ -1,4 +1,4 @@
-ghost use Rattle.std.specs.Prelude.{◌≡◌, ◌≤◌, ◌<◌, ◌↔◌, ◌++◌, ◌∷◌, [], ℕ, None, Some, IfOk, IfErr, IsTrue, IsNone, OnOk, length, slice_get};
+ghost use Rattle.std.specs.Prelude.{◌≡◌, ◌≤◌, ◌<◌, ◌↔◌, ◌++◌, ◌∷◌, [], ℕ, None, Some, IfOk, IfErr, IfSome, IsTrue, IsNone, OnOk, length, slice_get};
 ghost use Rattle.std.specs.List.{list_any};
 ghost use Rattle.ordup_objects.specs.Refusals.{IsRefusal};
 ghost use Rattle.ordup_log.specs.Spans.{span, IsScopeOver};
@@ -123,40 +123,65 @@ fn first_passed<A: Allocator + Copy>(
     ensures over { result ≡ first_passed log.now groups.now limits.now from to }
     ensures within { IsNone result ↔ IsTrue (within log.now groups.now limits.now from to) }
 {
-    let all = log.span(Scope::All, groups, from, to);
+    let mut all = None;
     for (place, limit) in limits.iter().enumerate() {
-        if !keeps(log, groups, from, to, all, *limit) {
+        if !keeps(log, groups, from, to, &mut all, *limit) {
             return Some(place);
         }
     }
     None
 }
 
-/// Whether the span from a place to a later one, which weighs so much on all objects, keeps a limit.
+/// Whether the span from a place to a later one keeps a limit.
 ///
-/// No object and no group weighs more than all objects do, so most limits are kept without a sum of their own.
+/// No object and no group weighs more than all objects do, so most limits are kept without a sum of their own. What all
+/// objects weigh is added up where a limit first asks for it.
 fn keeps<A: Allocator + Copy>(
     log: &Log<A>,
     groups: &Groups<A>,
     from: u64,
     to: u64,
-    all: u64,
+    all: &mut Option<u64>,
     limit: Limit,
 ) -> bool
     requires forward { from ≤ to }
     requires last { to ≤ length log.now.sets }
     requires known { IsScopeOver (length log.now.start) groups.now limit.scope }
-    requires all { all ≡ span log.now groups.now Scope.All from to }
-    ensures { result ≡ keeps log.now groups.now from to limit }
+    requires all { IfSome all.old (λ weight. weight ≡ span log.now groups.now Scope.All from to) }
+    ensures kept { result ≡ keeps log.now groups.now from to limit }
+    ensures all { IfSome all.new (λ weight. weight ≡ span log.now groups.now Scope.All from to) }
 {
     let _groups = groups.len();
     match limit.scope {
-        Scope::All => all <= limit.amount,
+        Scope::All => weight_of_all(log, groups, from, to, all) <= limit.amount,
         Scope::Count => to - from <= limit.amount,
         Scope::Object(_) | Scope::Group(_) => {
-            all <= limit.amount || log.span(limit.scope, groups, from, to) <= limit.amount
+            weight_of_all(log, groups, from, to, all) <= limit.amount
+                || log.span(limit.scope, groups, from, to) <= limit.amount
         }
     }
+}
+
+/// What the span weighs on all objects: added up the first time, and kept for the next.
+fn weight_of_all<A: Allocator + Copy>(
+    log: &Log<A>,
+    groups: &Groups<A>,
+    from: u64,
+    to: u64,
+    all: &mut Option<u64>,
+) -> u64
+    requires forward { from ≤ to }
+    requires last { to ≤ length log.now.sets }
+    requires all { IfSome all.old (λ weight. weight ≡ span log.now groups.now Scope.All from to) }
+    ensures weight { result ≡ span log.now groups.now Scope.All from to }
+    ensures all { IfSome all.new (λ weight. weight ≡ span log.now groups.now Scope.All from to) }
+{
+    if let Some(weight) = *all {
+        return weight;
+    }
+    let weight = log.span(Scope::All, groups, from, to);
+    *all = Some(weight);
+    weight
 }
 
 /// Tests that the object or group of a scope is there. It is refused `UnknownObject` or `UnknownGroup` where it is not.

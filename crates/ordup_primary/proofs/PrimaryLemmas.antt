@@ -2,6 +2,7 @@
 use Rattle.std.proofs.Common.{◌≡◌, ℕ, zero, suc, ◌+◌, ◌-◌, ◌<◌, ◌≤◌, ◌==◌, Bool, true, false, not, List, [], ◌∷◌, ◌++◌, length, map, get_or, replicate, arith, refl, sym, ap, ◌∙◌, inl, inr, ◌⊎◌, vec_len}
 use Rattle.std.specs.Prelude.{Some, None, nat_lt, ◌&&◌}
 use Rattle.std.specs.List.{list_any}
+use Rattle.std.proofs.Math.Bool.{and-true}
 use Rattle.std.proofs.Math.ListN.{set, length-set, get_or-append}
 use Rattle.std.proofs.lemmas.Bool.{cases_Bool, cases_eq, cases_lt, eq-eqb, lt-ltb, ne_eqb, false≢true}
 use Rattle.std.proofs.lemmas.List.{get_or-set_other, get_or_default, length_push, get_or_push, get_or-map, length-map, get_or-replicate, length-replicate, map-set}
@@ -16,12 +17,12 @@ use Rattle.ordup_log.specs.Appending.{append_refusal}
 use Rattle.ordup_log.proofs.SerialLemmas.{IsLegal-append}
 use Rattle.ordup_limits.proofs.LimitLemmas.{within-empty, within-inner, within-append}
 use Rattle.ordup_primary.specs.Declarations.{Declared, AreDeclared, limits_of, is_ready, start_refusal}
-use Rattle.ordup_primary.specs.Settling.{rounds_upto}
+use Rattle.ordup_primary.specs.Settling.{rounds_upto, last_place}
 use Rattle.ordup_primary.specs.Primaries.{SiteProgress, PrimaryState, first_progress, progress_at, reported_at, is_within, forced_now, waiting_now, acked_after, decided_at, send_refusal, Decides, IsSiteSound, IsPrimary}
 use Rattle.ordup_primary.specs.PrimaryInside.{progress_of, state_of}
 use Rattle.ordup_primary.specs.declared.primary.Primary.TheInside.{Inside}
 use Rattle.ordup_primary.specs.declared.progress.Progress.{Progress}
-use Rattle.ordup_primary.proofs.SettlingLemmas.{where_below-none, where_below-listed, rounds_upto-same}
+use Rattle.ordup_primary.proofs.SettlingLemmas.{where_below-none, where_below-listed, rounds_upto-same, last_round-forced}
 
 -- ---- one site in the place of another
 
@@ -408,3 +409,12 @@ acked-none acked head forced none here = here ∙ ap (acked_after acked) (sym (n
 pub acked-some : (acked : ℕ) (forced : List ℕ) → false ≡ (length forced == 0) → acked ≡ acked_after acked forced
 acked-some acked [] e = absurd (false≢true e)
 acked-some acked (s ∷ forced) e = refl
+
+-- the head, once it is decided, waits for a site that has not reported it where the site's rounds end with it
+pub waits-by_last_round : (p : PrimaryState) (s k : ℕ) → IsPrimary p → s < length p.sites → p.acked < p.decided → k ≡ p.acked + 1 → (progress_at p s).reported < k
+    → (last_place (progress_at p s).rounds == k) ≡ (not (is_within p s (reported_at (progress_at p s) k) k) && nat_lt (progress_at p s).reported k)
+waits-by_last_round p s k is below later head late =
+    let decided : p.decided ≡ k = omega (arith, is.next) in
+    let rounds = (is.sites s first_progress below).rounds ∙ ap (rounds_upto (is_within p s) (reported_at (progress_at p s))) decided in
+    rw (rounds, lt-ltb (progress_at p s).reported k late, last_round-forced (is_within p s) (reported_at (progress_at p s)) k (omega arith))
+    (sym (and-true (not (is_within p s (reported_at (progress_at p s) k) k))))

@@ -1,11 +1,11 @@
 -- Lists of the numbers for which a test passes, and rounds.
-use Rattle.std.proofs.Common.{◌≡◌, ℕ, zero, suc, ◌+◌, ◌<◌, ◌≤◌, ◌==◌, Bool, true, false, [], ◌∷◌, ◌++◌, length, arith, refl, sym, ap, ◌∙◌, inl, inr}
+use Rattle.std.proofs.Common.{◌≡◌, ℕ, zero, suc, ◌+◌, ◌<◌, ◌≤◌, ◌==◌, Bool, true, false, not, List, [], ◌∷◌, ◌++◌, length, ◌-◌, arith, refl, sym, ap, ◌∙◌, inl, inr}
 use Rattle.std.specs.Prelude.{◌||◌, if◌then◌else◌}
 use Rattle.std.specs.List.{list_any}
 use Rattle.std.proofs.lemmas.Bool.{cases_Bool, cases_lt, ne_eqb, eq-eqb}
-use Rattle.std.proofs.lemmas.List.{length_push}
+use Rattle.std.proofs.lemmas.List.{length_push, get_or_push}
 use Rattle.std.proofs.lemmas.List.Folds.{list_any-append}
-use Rattle.ordup_primary.specs.Settling.{where_below, rounds_upto}
+use Rattle.ordup_primary.specs.Settling.{where_below, rounds_upto, last_place}
 
 -- one number more
 pub where_below-more : (test : ℕ → Bool) (n : ℕ) → where_below test (n + 1) ≡ (if test n then where_below test n ++ n ∷ [] else where_below test n)
@@ -57,3 +57,21 @@ where_below-same p q (suc n) same = rw (same n (omega arith), where_below-same p
 pub rounds_upto-same : (v w : ℕ → ℕ → Bool) (f g : ℕ → ℕ) (d : ℕ) → ((k : ℕ) → 0 < k → k ≤ d → v (f k) k ≡ w (g k) k) → rounds_upto v f d ≡ rounds_upto w g d
 rounds_upto-same v w f g zero same = refl
 rounds_upto-same v w f g (suc d) same = rw (same (suc d) (omega arith) (omega arith), rounds_upto-same v w f g d (λ k some le. same k some (omega arith))) refl
+
+last_place-push : (places : List ℕ) (k : ℕ) → last_place (places ++ k ∷ []) ≡ k
+last_place-push places k = get_or_push places k 0 (length (places ++ k ∷ []) - 1) (omega (arith, length_push places k))
+
+last_round-upto : (v : ℕ → ℕ → Bool) (f : ℕ → ℕ) (d : ℕ) → last_place (rounds_upto v f d) ≤ d
+last_round-upto v f zero = omega arith
+last_round-upto v f (suc d) = elim (cases_Bool (v (f (suc d)) (suc d))) [
+  | inl kept ↦ (let before : last_place (rounds_upto v f d) ≤ d = last_round-upto v f d in rw kept (omega arith))
+  | inr forced ↦ rw (forced, last_place-push (rounds_upto v f d) (suc d)) (omega arith)
+]
+
+-- the last round is at place d exactly where the site was forced there
+pub last_round-forced : (v : ℕ → ℕ → Bool) (f : ℕ → ℕ) (d : ℕ) → 0 < d → (last_place (rounds_upto v f d) == d) ≡ not (v (f d) d)
+last_round-forced v f zero some = absurd (omega arith)
+last_round-forced v f (suc d) some = elim (cases_Bool (v (f (suc d)) (suc d))) [
+  | inl kept ↦ rw kept (ne_eqb (last_place (rounds_upto v f d)) (suc d) (omega (arith, last_round-upto v f d)))
+  | inr forced ↦ rw (forced, last_place-push (rounds_upto v f d) (suc d)) (eq-eqb (suc d) (suc d) refl)
+]

@@ -1,5 +1,5 @@
 -- Which sites a settlement forces, and for which it waits.
-use Rattle.std.specs.Prelude.{ℕ, zero, suc, ◌&&◌, not, if◌then◌else◌, nat_lt, Bool, List, [], ◌∷◌, ◌++◌}
+use Rattle.std.specs.Prelude.{ℕ, zero, suc, ◌-◌, ◌&&◌, not, if◌then◌else◌, nat_lt, Bool, List, [], ◌∷◌, ◌++◌, length, slice_index_or}
 
 -- the numbers below n for which the test passes, in order
 abbrev pub where_below : (ℕ → Bool) → ℕ → List ℕ
@@ -20,3 +20,7 @@ waiting_sites within before now n k = where_below (λ s. not (within s (before s
 abbrev pub rounds_upto : (ℕ → ℕ → Bool) → (ℕ → ℕ) → ℕ → List ℕ
 rounds_upto within reported_at zero = []
 rounds_upto within reported_at (suc d) = if within (reported_at (suc d)) (suc d) then rounds_upto within reported_at d else rounds_upto within reported_at d ++ suc d ∷ []
+
+-- the last of these places, 0 where there is none
+abbrev pub last_place : List ℕ → ℕ
+last_place places = slice_index_or places (length places - 1) 0

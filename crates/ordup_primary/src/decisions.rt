@@ -2,6 +2,7 @@ ghost use Rattle.std.specs.Prelude.{◌≡◌, ◌<◌, ◌==◌, ℕ, not, All,
 ghost use Rattle.std.specs.List.{list_any};
 ghost use Rattle.ordup_primary.specs.Primaries.{first_progress, decided_at};
 ghost use Rattle.ordup_primary.specs.PrimaryInside.{progress_of, HasRoom};
+ghost use Rattle.ordup_primary.specs.Settling.{last_place};
 ghost use Rattle.ordup_primary.specs.declared.progress.Progress.{Progress};
 
 use crate::progress::Progress;
@@ -81,4 +82,11 @@ fn is_among(place: usize, sites: &[SiteId]) -> bool
     ensures { result ≡ list_any (λ t. t == place) sites.now }
 {
     sites.iter().any(|t| t.index() == place)
+}
+
+/// The last of these places, 0 where there is none.
+pub(crate) fn last_place(places: &[u64]) -> u64
+    ensures { result ≡ last_place places.now }
+{
+    places.last().copied().unwrap_or(0)
 }

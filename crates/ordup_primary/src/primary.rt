@@ -3,7 +3,7 @@ ghost use Rattle.ordup_objects.specs.Refusals.{IsRefusal};
 ghost use Rattle.ordup_primary.specs.Declarations.{Declared, start_refusal};
 ghost use Rattle.ordup_primary.specs.Primaries.{first_progress};
 
-use crate::decisions::{put_down, take_room};
+use crate::decisions::{last_place, put_down, take_room};
 use crate::marks::raise;
 use crate::parcel::Parcel;
 use crate::progress::Progress;
@@ -328,15 +328,17 @@ impl<A: Allocator + Copy> Primary<A> {
         Ok(waiting)
     }
 
-    /// Whether a site was forced at a decided place and has not reported it.
-    fn is_waiting(&self, site: SiteId, place: u64) -> bool
+    /// Whether a site was forced at the head, which is decided, and has not reported it.
+    ///
+    /// Its rounds end with the head exactly where it was forced, so nothing is weighed again.
+    fn is_waiting(&self, site: SiteId, head: u64) -> bool
         requires site { site < length self.now.sites }
-        requires some { 0 < place }
-        requires decided { place ≤ self.now.decided }
-        requires last { place ≤ length self.now.log.sets }
-        ensures { result ≡ (not (is_within self.now site (reported_at (progress_at self.now site) place) place) && nat_lt (progress_at self.now site).reported place) }
+        requires later { self.now.acked < self.now.decided }
+        requires head { head ≡ self.now.acked + 1 }
+        ensures { result ≡ (not (is_within self.now site (reported_at (progress_at self.now site) head) head) && nat_lt (progress_at self.now site).reported head) }
     {
-        self.reported(site) < place && !self.is_within(site, self.reported_at(site, place), place)
+        let _decided = self.decided;
+        self.reported(site) < head && last_place(self.rounds(site)) == head
     }
 
     /// Whether the span from a place to another passes no limit of a site.

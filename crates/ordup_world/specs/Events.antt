@@ -195,7 +195,7 @@ module _ {A : Type 0} where
   -- whether an event may be refused memory
   abbrev pub takes_memory : Event A → Bool
   takes_memory (Propose m) = true
-  takes_memory (Send s) = true
+  takes_memory (Send s) = false
   takes_memory (Apply s) = false
   takes_memory (Report s) = false
   takes_memory Settle = true

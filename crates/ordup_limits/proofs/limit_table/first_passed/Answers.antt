@@ -6,18 +6,21 @@ use Rattle.ordup_limits.proofs.limit_table.first_passed.Goals as goal
 
 pub returns-then-not-keeps-clause-over : goal.returns-then-not-keeps-clause-over
 returns-then-not-keeps-clause-over g c =
-    let over : keeps c.args.log.now c.args.groups.now c.args.from c.args.to (get_or c.args.limits.now c.loop-place.place c.index-limits-place.result) ≡ false = rw (← c.index-limits-place.is) (sym c.if-not-keeps.ensures) in
-    first_passed-at c.args.log.now c.args.groups.now c.args.limits.now c.args.from c.args.to c.loop-place.place c.index-limits-place.result (omega arith) c.loop-place.invariant over
+    let over : keeps c.args.log.now c.args.groups.now c.args.from c.args.to (get_or c.args.limits.now c.loop-place.place c.index-limits-place.result) ≡ false = rw (← c.index-limits-place.is) (sym c.if-not-keeps.ensures.kept) in
+    first_passed-at c.args.log.now c.args.groups.now c.args.limits.now c.args.from c.args.to c.loop-place.place c.index-limits-place.result (omega arith) c.loop-place.invariant.kept over
 
 pub returns-then-not-keeps-clause-within : goal.returns-then-not-keeps-clause-within
 returns-then-not-keeps-clause-within g c =
-    let over : keeps c.args.log.now c.args.groups.now c.args.from c.args.to (get_or c.args.limits.now c.loop-place.place c.index-limits-place.result) ≡ false = rw (← c.index-limits-place.is) (sym c.if-not-keeps.ensures) in
+    let over : keeps c.args.log.now c.args.groups.now c.args.from c.args.to (get_or c.args.limits.now c.loop-place.place c.index-limits-place.result) ≡ false = rw (← c.index-limits-place.is) (sym c.if-not-keeps.ensures.kept) in
     passed-not_within c.args.log.now c.args.groups.now c.args.limits.now c.args.from c.args.to c.loop-place.place c.index-limits-place.result (omega arith) over
 
 pub loop-place-preserved : goal.loop-place-preserved
 loop-place-preserved g c =
-    let kept : keeps c.args.log.now c.args.groups.now c.args.from c.args.to (get_or c.args.limits.now c.loop-place.place c.index-limits-place.result) ≡ true = rw (← c.index-limits-place.is) (sym c.if-not-keeps.ensures) in
-    within-more c.args.log.now c.args.groups.now c.args.limits.now c.args.from c.args.to c.loop-place.place c.index-limits-place.result (omega arith) c.loop-place.invariant kept
+    let kept : keeps c.args.log.now c.args.groups.now c.args.from c.args.to (get_or c.args.limits.now c.loop-place.place c.index-limits-place.result) ≡ true = rw (← c.index-limits-place.is) (sym c.if-not-keeps.ensures.kept) in
+    record {
+      kept = within-more c.args.log.now c.args.groups.now c.args.limits.now c.args.from c.args.to c.loop-place.place c.index-limits-place.result (omega arith) c.loop-place.invariant.kept kept;
+      all = c.if-not-keeps.ensures.all;
+    }
 
 pub returns-clause-over : goal.returns-clause-over
-returns-clause-over g c = first_passed-within c.args.log.now c.args.groups.now c.args.limits.now c.args.from c.args.to (rw (take_all c.loop-place.place c.args.limits.now c.loop-place-test.false) at c.loop-place.invariant)
+returns-clause-over g c = first_passed-within c.args.log.now c.args.groups.now c.args.limits.now c.args.from c.args.to (rw (take_all c.loop-place.place c.args.limits.now c.loop-place-test.false) at c.loop-place.invariant.kept)

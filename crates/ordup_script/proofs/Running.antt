@@ -13,9 +13,9 @@ use Rattle.ordup_answers.specs.Replies.{reply}
 use Rattle.ordup_grammar.specs.Lines.{IsPart, Line}
 use Rattle.ordup_script.specs.Scripts.{Continues, Progress, after_lines, last, lines_of}
 use Rattle.ordup_script.specs.Written.{Written, answered, out, out_of_ended, session_after, start}
-use Rattle.ordup_script.specs.Held.{Feeds, Finishes, IsAt}
+use Rattle.ordup_script.specs.Held.{Feeds, IsAt}
 use Rattle.ordup_script.specs.Sent.{AppendsFront}
-use Rattle.ordup_script.specs.Runs.{Closes, HasPassed, Partial, PartlyFeeds, PartlyFinishes, Passes, Runs}
+use Rattle.ordup_script.specs.Runs.{Closes, HasPassed, Partial, PartlyFeeds, Passes, Runs, RunsIn}
 use Rattle.ordup_script.proofs.Lines.{Continues-trans, last-ended}
 
 -- ---- how far a run has come
@@ -106,13 +106,6 @@ PartlyFeeds-from_front e f old new all piece fed front = record {
   front = λ p is.
       let (q, at_q, to_q) = fed.moves p is in
       partly_passed old new p q piece to_q (subst (AppendsFront old new) at_q.written front);
-}
-
--- a front of the last answer of an engine that was finished
-pub PartlyFinishes-from_front : {A : Type 0} (e : Engine A) (end : ScriptEnd A) (old new : Option (List ℕ)) (all : List ℕ) → Finishes e [] end all → AppendsFront old new all
-    → PartlyFinishes old new e
-PartlyFinishes-from_front e end old new all finishes front = record {
-  front = λ p is. subst (AppendsFront old new) (finishes.ends p is).0 front;
 }
 
 -- a front of the answers of a piece, after what was written
@@ -208,10 +201,10 @@ ends_passing {A} e f had mid has old now new limit script piece front p fault.No
     (partly_read A old new script front piece is.0 is.1 (partly_on old now new p script front app h (passed.front (unwritten p) (unwritten-IsAt e p.known.1 p at_p))))
 
 -- the reader is at its end
-pub ends_close : {A : Type 0} (e : Engine A) (had mid has old now new : Option (List ℕ)) (limit : ℕ) (script : List ℕ) (p : Progress (Written A)) (r : Result (ScriptEnd A) ScriptFault) → Consumes had mid script
+pub ends_close : {A : Type 0} (e : Engine A) (had mid has old now new : Option (List ℕ)) (limit : ℕ) (script : List ℕ) (p : Progress (Written A)) (end : ScriptEnd A) (r : Result (Unit {0}) ScriptFault) → Consumes had mid script
     → Keeps mid has → length script ≤ limit → IsAtEnd has → Appends old now p.known.1 → IsAt e p.known.1 p → Continues answered start p script
-    → Closes now new e r → Runs had has old new limit r
-ends_close {A} e had mid has old now new limit script p (Ok end) took kept within at_end app at_p h closed =
+    → Closes now new e end r → RunsIn had has old new limit end r
+ends_close {A} e had mid has old now new limit script p end (Ok done) took kept within at_end app at_p h closed =
     let (added, more, finishes) = closed in
     let (is, stands) = finishes.ends (unwritten p) (unwritten-IsAt e p.known.1 p at_p) in
     let grew : Appends old new (p.known.1 ++ (last answered true (unwritten p) []).1) = Appends-trans old now new p.known.1 _ app (subst (Appends now new) is more) in
@@ -223,15 +216,15 @@ ends_close {A} e had mid has old now new limit script p (Ok end) took kept withi
       subst (Appends old new) (texts whole ∙ ap (out A) (append-nil script)) grew,
       subst (Stands end) (sessions whole ∙ ap (session_after A) (append-nil script)) stands,
     )
-ends_close {A} e had mid has old now new limit script p (Err fault.Read) took kept within at_end app at_p h closed = absurd closed
-ends_close {A} e had mid has old now new limit script p (Err fault.TooLong) took kept within at_end app at_p h closed = absurd closed
-ends_close {A} e had mid has old now new limit script p (Err fault.Write) took kept within at_end app at_p h closed =
+ends_close {A} e had mid has old now new limit script p end (Err fault.Read) took kept within at_end app at_p h closed = absurd closed
+ends_close {A} e had mid has old now new limit script p end (Err fault.TooLong) took kept within at_end app at_p h closed = absurd closed
+ends_close {A} e had mid has old now new limit script p end (Err fault.Write) took kept within at_end app at_p h closed =
     told_end A had has old new script (Consumes-kept had mid has script took kept) at_end (partly_ended old now new p script app h (closed.front (unwritten p) (unwritten-IsAt e p.known.1 p at_p)))
-ends_close {A} e had mid has old now new limit script p (Err fault.NoMemory) took kept within at_end app at_p h closed =
+ends_close {A} e had mid has old now new limit script p end (Err fault.NoMemory) took kept within at_end app at_p h closed =
     told_end A had has old new script (Consumes-kept had mid has script took kept) at_end (partly_ended old now new p script app h (closed.front (unwritten p) (unwritten-IsAt e p.known.1 p at_p)))
 
 -- all was fed, and the last line was answered
-pub ends_closed : {A : Type 0} (e : Engine A) (had has old now new : Option (List ℕ)) (limit : ℕ) (r : Result (ScriptEnd A) ScriptFault) → HasPassed had has old now limit e
-    → Closes now new e r → Runs had has old new limit r
-ends_closed e had has old now new limit r passed closed =
-    ends_close e had has has old now new limit passed.script passed.come r passed.took (Keeps-refl has) passed.within passed.ended passed.grew passed.is_at passed.continues closed
+pub ends_closed : {A : Type 0} (e : Engine A) (had has old now new : Option (List ℕ)) (limit : ℕ) (end : ScriptEnd A) (r : Result (Unit {0}) ScriptFault) → HasPassed had has old now limit e
+    → Closes now new e end r → RunsIn had has old new limit end r
+ends_closed e had has old now new limit end r passed closed =
+    ends_close e had has has old now new limit passed.script passed.come end r passed.took (Keeps-refl has) passed.within passed.ended passed.grew passed.is_at passed.continues closed

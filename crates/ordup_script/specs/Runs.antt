@@ -32,12 +32,12 @@ Passes old new before after piece (Err fault.Write) = PartlyFeeds old new before
 Passes old new before after piece (Err fault.NoMemory) = PartlyFeeds old new before piece
 
 -- the engine was finished, and the writer grew by its last answer, or by a front of it
-abbrev pub Closes : {A : Type 0} → Option (List ℕ) → Option (List ℕ) → Engine A → Result (ScriptEnd A) ScriptFault → Type 0
-Closes old new before (Ok end) = (added : List ℕ) × Appends old new added × Finishes before [] end added
-Closes old new before (Err fault.Read) = ⊥
-Closes old new before (Err fault.TooLong) = ⊥
-Closes old new before (Err fault.Write) = PartlyFinishes old new before
-Closes old new before (Err fault.NoMemory) = PartlyFinishes old new before
+abbrev pub Closes : {A : Type 0} → Option (List ℕ) → Option (List ℕ) → Engine A → ScriptEnd A → Result (Unit {0}) ScriptFault → Type 0
+Closes old new before end (Ok done) = (added : List ℕ) × Appends old new added × Finishes before [] end added
+Closes old new before end (Err fault.Read) = ⊥
+Closes old new before end (Err fault.TooLong) = ⊥
+Closes old new before end (Err fault.Write) = PartlyFinishes old new before
+Closes old new before end (Err fault.NoMemory) = PartlyFinishes old new before
 
 -- the end is that of a run of this script
 abbrev pub EndsAfter : {A : Type 0} → ScriptEnd A → List ℕ → Type 0
@@ -73,3 +73,8 @@ pub record HasPassed {A : Type 0} (had has old new : Option (List ℕ)) (limit :
 abbrev pub PassesAll : {A : Type 0} → Option (List ℕ) → Option (List ℕ) → Option (List ℕ) → Option (List ℕ) → ℕ → Engine A → Result (Unit {0}) ScriptFault → Type 0
 PassesAll had has old new limit after (Ok done) = HasPassed had has old new limit after
 PassesAll {A} had has old new limit after (Err e) = Runs {A = A} had has old new limit (Err e)
+
+-- a script was run to this end, or the run ends with a fault
+abbrev pub RunsIn : {A : Type 0} → Option (List ℕ) → Option (List ℕ) → Option (List ℕ) → Option (List ℕ) → ℕ → ScriptEnd A → Result (Unit {0}) ScriptFault → Type 0
+RunsIn had has old new limit end (Ok done) = Runs had has old new limit (Ok end)
+RunsIn {A} had has old new limit end (Err e) = Runs {A = A} had has old new limit (Err e)

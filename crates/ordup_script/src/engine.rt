@@ -1,6 +1,6 @@
 //! Pieces of a script to answers. A line that lies within a piece is answered where it lies; what a piece leaves
 //! unended is held until a later piece ends it.
-ghost use Rattle.std.specs.Prelude.{◌≡◌, ℕ, List, [], ◌∷◌, ◌++◌, ◌<◌, ◌≤◌, IfOk, OnOk, true, false, vec_len, length};
+ghost use Rattle.std.specs.Prelude.{◌≡◌, ℕ, List, [], ◌∷◌, ◌++◌, ◌<◌, ◌≤◌, OnOk, true, false, vec_len, length};
 ghost use Rattle.ordup_script.specs.Answered.{Answers};
 ghost use Rattle.ordup_grammar.specs.Lines.{IsPart, cut};
 ghost use Rattle.ordup_grammar.specs.Holding.{Holds};
@@ -13,7 +13,7 @@ use std::alloc::{AllocError, Allocator, Global};
 /// Runs a script that comes in pieces. It holds the part of a line that no piece has ended yet.
 #[derive(Drop)]
 pub(crate) struct Engine<A: Allocator + Copy = Global> {
-    store: ScriptEnd<A>,
+    pub(crate) store: ScriptEnd<A>,
     lines: LineBuffer<A>,
 }
 
@@ -70,14 +70,12 @@ impl<A: Allocator + Copy> Engine<A> {
     }
 
     /// Answers what is left at the end of the script.
-    pub(crate) fn finish(self, alloc: A, out: &mut Vec<u8, A>) -> Result<ScriptEnd<A>, AllocError>
-        ensures { IfOk result (λ end. Finishes self out.old.items end out.new.items) }
+    pub(crate) fn finish(&mut self, alloc: A, out: &mut Vec<u8, A>) -> Result<(), AllocError>
+        ensures { OnOk result (Finishes self.old out.old.items self.new.store out.new.items) }
     {
-        let mut engine = self;
-        if engine.lines.is_empty() {
-            return Ok(engine.store);
+        if self.lines.is_empty() {
+            return Ok(());
         }
-        engine.answer_held(alloc, out)?;
-        Ok(engine.store)
+        self.answer_held(alloc, out)
     }
 }

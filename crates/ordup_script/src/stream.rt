@@ -4,7 +4,7 @@ ghost use Rattle.std.specs.Io.KnownBytes.{Appends};
 ghost use Rattle.ordup_script.specs.Sent.{AppendsFront};
 ghost use Rattle.ordup_script.specs.Written.{start};
 ghost use Rattle.ordup_script.specs.Held.{IsAt};
-ghost use Rattle.ordup_script.specs.Runs.{Closes, Passes, PassesAll, Runs};
+ghost use Rattle.ordup_script.specs.Runs.{Closes, Passes, PassesAll, Runs, RunsIn};
 
 use crate::engine::Engine;
 use crate::sizes::{MOST_SCRIPT_BYTES, PIECE};
@@ -63,21 +63,22 @@ fn pass<A: Allocator + Copy, W: Write>(
 /// Writes the answer to what is left at the end, or a front of it.
 fn close<A: Allocator + Copy, W: Write>(
     alloc: A,
-    engine: Engine<A>,
-    mut answers: Vec<u8, A>,
+    engine: &mut Engine<A>,
+    answer: &mut Vec<u8, A>,
     output: &mut W,
-) -> Result<ScriptEnd<A>, ScriptFault>
-    ensures { Closes (W.contents output.old) (W.contents output.new) engine result }
+) -> Result<(), ScriptFault>
+    ensures { Closes (W.contents output.old) (W.contents output.new)
+        engine.old engine.new.store result }
 {
-    answers.clear();
-    let Ok(end) = engine.finish(alloc, &mut answers) else {
+    answer.clear();
+    if engine.finish(alloc, answer).is_err() {
         return Err(ScriptFault::NoMemory);
-    };
-    send(output, &answers)?;
+    }
+    send(output, answer)?;
     if output.flush().is_err() {
         return Err(ScriptFault::Write);
     }
-    Ok(end)
+    Ok(())
 }
 
 /// Reads a script of at most so many bytes to its end, feeds it piece by piece, and writes its answers.
@@ -112,6 +113,23 @@ fn pass_all<A: Allocator + Copy, R: Read, W: Write>(
     }
 }
 
+/// Runs a script of at most so many bytes in an engine that nothing was fed to.
+fn run_in<A: Allocator + Copy, R: Read, W: Write>(
+    alloc: A,
+    engine: &mut Engine<A>,
+    answers: &mut Vec<u8, A>,
+    input: &mut R,
+    output: &mut W,
+    limit: u64,
+) -> Result<(), ScriptFault>
+    requires { IsAt engine.old [] start }
+    ensures { RunsIn (R.remaining input.old) (R.remaining input.new)
+        (W.contents output.old) (W.contents output.new) limit engine.new.store result }
+{
+    pass_all(alloc, engine, answers, input, output, limit)?;
+    close(alloc, engine, answers, output)
+}
+
 /// Runs a script of at most so many bytes.
 pub fn run_script_within<A: Allocator + Copy, R: Read, W: Write>(
     alloc: A,
@@ -124,8 +142,8 @@ pub fn run_script_within<A: Allocator + Copy, R: Read, W: Write>(
 {
     let mut engine = Engine::new(alloc);
     let mut answers = Vec::new(alloc);
-    pass_all(alloc, &mut engine, &mut answers, input, output, limit)?;
-    close(alloc, engine, answers, output)
+    run_in(alloc, &mut engine, &mut answers, input, output, limit)?;
+    Ok(engine.store)
 }
 
 /// Runs a script: reads it to its end, answers each line, and writes the answers.

@@ -3,7 +3,7 @@ use Rattle.std.proofs.Common.{◌≡◌, ◌∙◌, sym, refl, ap, subst, ℕ, �
 use Rattle.std.proofs.lemmas.List.{append-nil}
 use Rattle.std.proofs.KnownBytes.{Consumes-trans, Consumes-kept}
 use Rattle.std.specs.Io.KnownBytes.{Consumes, Keeps}
-use Rattle.ordup_script.specs.declared.plan.Plan.{Plan}
+use Rattle.ordup_script.specs.declared.plan.Planning.{Planning}
 use Rattle.ordup_script.specs.declared.plan_reader.PlanReader.{PlanReader}
 use Rattle.ordup_script.specs.declared.plan_reader.PlanFault.{PlanFault}
 use Rattle.ordup_script.specs.declared.plan_reader.PlanFault.TheVariants as fault
@@ -11,7 +11,7 @@ use Rattle.ordup_grammar.specs.Lines.{IsPart, Line}
 use Rattle.ordup_script.specs.Scripts.{Continues, Progress, after_lines, last, lines_of}
 use Rattle.ordup_script.specs.Plans.{PlanState, malformed, planned, first_plan, plan_of, plan_result}
 use Rattle.ordup_script.specs.PlanInside.{plan_state}
-use Rattle.ordup_script.specs.PlanRuns.{Belongs, FeedsPlan, HasPlanned, IsPlanAt, PassesPlan, ReadsPlan, Tells, plan_start}
+use Rattle.ordup_script.specs.PlanRuns.{Belongs, FeedsPlan, HasPlanned, IsPlanAt, PassesPlan, ReadsBy, ReadsPlan, Tells, plan_start}
 use Rattle.ordup_script.proofs.Lines.{Continues-trans, last-ended}
 use Rattle.ordup_script.proofs.Running.{take-front}
 
@@ -74,12 +74,12 @@ plan_passing e f had mid has limit script piece front p (fault.Malformed n) took
     )
 
 -- all was taken, and the plan is told
-pub plan_closed : {A : Type 0} (e : PlanReader A) (had has : Option (List ℕ)) (limit : ℕ) (r : Result (Plan A) PlanFault) → HasPlanned had has limit e
-    → ((p : Progress PlanState) → IsPlanAt e p → Tells (plan_result (last planned true p [])) r) → ReadsPlan had has limit r
-plan_closed e had has limit (Ok plan) h told =
+pub plan_closed : {A : Type 0} (e : PlanReader A) (had has : Option (List ℕ)) (limit : ℕ) (plan : Planning A) (r : Result (Unit {0}) PlanFault) → HasPlanned had has limit e
+    → ((p : Progress PlanState) → IsPlanAt e p → Tells (plan_result (last planned true p [])) plan r) → ReadsBy had has limit plan r
+plan_closed e had has limit plan (Ok done) h told =
     (h.script, h.took, h.within, h.ended, ap plan_of (sym (append-nil h.script)) ∙ ap plan_result (sym (h.continues.same true [])) ∙ told h.come h.is_at)
-plan_closed e had has limit (Err fault.Read) h told = absurd (told h.come h.is_at)
-plan_closed e had has limit (Err fault.TooLong) h told = absurd (told h.come h.is_at)
-plan_closed e had has limit (Err fault.NoMemory) h told = tt
-plan_closed e had has limit (Err (fault.Malformed n)) h told =
+plan_closed e had has limit plan (Err fault.Read) h told = absurd (told h.come h.is_at)
+plan_closed e had has limit plan (Err fault.TooLong) h told = absurd (told h.come h.is_at)
+plan_closed e had has limit plan (Err fault.NoMemory) h told = tt
+plan_closed e had has limit plan (Err (fault.Malformed n)) h told =
     (h.script, h.took, inr (h.ended, ap plan_of (sym (append-nil h.script)) ∙ ap plan_result (sym (h.continues.same true [])) ∙ told h.come h.is_at))

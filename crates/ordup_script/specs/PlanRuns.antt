@@ -1,15 +1,16 @@
 -- What reading a plan leaves.
-use Rattle.std.specs.Prelude.{◌≡◌, ◌⊎◌, ℕ, false, List, [], ◌++◌, ◌<◌, ◌≤◌, length, take, Option, Result, Ok, Err}
+use Rattle.std.specs.Prelude.{◌≡◌, ◌⊎◌, ℕ, false, List, [], ◌++◌, ◌<◌, ◌≤◌, length, take, Option, Some, None, Result, Ok, Err}
 use Rattle.std.specs.Io.KnownBytes.{Consumes, IsAtEnd}
 use Rattle.ordup_objects.specs.declared.change.Change.{Change}
 use Rattle.ordup_primary.specs.Declarations.{Declared}
 use Rattle.ordup_script.specs.declared.plan.Plan.{Plan}
+use Rattle.ordup_script.specs.declared.plan.Planning.{Planning}
 use Rattle.ordup_script.specs.declared.plan_reader.PlanReader.{PlanReader}
 use Rattle.ordup_script.specs.declared.plan_reader.PlanFault.{PlanFault}
 use Rattle.ordup_script.specs.declared.plan_reader.PlanFault.TheVariants as fault
 use Rattle.ordup_script.specs.Scripts.{Continues, Progress, after_lines, lines_of}
 use Rattle.ordup_grammar.specs.Holding.{Holds}
-use Rattle.ordup_script.specs.Plans.{PlanState, planning, malformed, planned, first_plan, plan_of}
+use Rattle.ordup_script.specs.Plans.{PlanState, planning, malformed, planned, first_plan, plan_of, plan_result}
 use Rattle.ordup_script.specs.PlanInside.{plan_state}
 
 -- before the first byte of a plan
@@ -30,13 +31,18 @@ abbrev pub Belongs : PlanState → Type 0
 Belongs (planning d started sets k) = Unit {0}
 Belongs (malformed n) = ⊥
 
--- the plan that is told, or the number of its first line that does not belong
-abbrev pub Tells : {A : Type 0} → Result (Declared × List (List Change)) ℕ → Result (Plan A) PlanFault → Type 0
-Tells told (Ok plan) = told ≡ Ok (plan.setup, plan.sets.items)
-Tells told (Err fault.Read) = ⊥
-Tells told (Err fault.TooLong) = ⊥
-Tells told (Err (fault.Malformed n)) = told ≡ Err n
-Tells told (Err fault.NoMemory) = Unit {0}
+-- the first line that does not belong, where the plan goes on no further
+abbrev pub TellsLine : {A : Type 0} → Planning A → Option ℕ → Type 0
+TellsLine plan None = plan_result (plan_state plan) ≡ Ok (plan.setup, plan.sets.items)
+TellsLine plan (Some n) = plan_result (plan_state plan) ≡ Err n
+
+-- this plan is told, or the number of its first line that does not belong
+abbrev pub Tells : {A : Type 0} → Result (Declared × List (List Change)) ℕ → Planning A → Result (Unit {0}) PlanFault → Type 0
+Tells told plan (Ok done) = told ≡ Ok (plan.setup, plan.sets.items)
+Tells told plan (Err fault.Read) = ⊥
+Tells told plan (Err fault.TooLong) = ⊥
+Tells told plan (Err (fault.Malformed n)) = told ≡ Err n
+Tells told plan (Err fault.NoMemory) = Unit {0}
 
 -- a piece was taken, and each line belongs; or one does not
 abbrev pub PassesPlan : {A : Type 0} → PlanReader A → PlanReader A → List ℕ → Result (Unit {0}) PlanFault → Type 0
@@ -74,3 +80,8 @@ pub record HasPlanned {A : Type 0} (had has : Option (List ℕ)) (limit : ℕ) (
 abbrev pub PassesWhole : {A : Type 0} → Option (List ℕ) → Option (List ℕ) → ℕ → PlanReader A → Result (Unit {0}) PlanFault → Type 0
 PassesWhole had has limit after (Ok done) = HasPlanned had has limit after
 PassesWhole {A} had has limit after (Err e) = ReadsPlan {A = A} had has limit (Err e)
+
+-- a text was read to this plan, or the reading ends with a fault
+abbrev pub ReadsBy : {A : Type 0} → Option (List ℕ) → Option (List ℕ) → ℕ → Planning A → Result (Unit {0}) PlanFault → Type 0
+ReadsBy had has limit plan (Ok done) = ReadsPlan had has limit (Ok (record { setup = plan.setup; sets = plan.sets }))
+ReadsBy {A} had has limit plan (Err e) = ReadsPlan {A = A} had has limit (Err e)

@@ -3,6 +3,7 @@ ghost use Rattle.ordup_grammar.specs.CommandViews.{asked_named, request_named, d
 ghost use Rattle.ordup_grammar.specs.Commands as commands;
 ghost use Rattle.ordup_script.specs.Plans.{asked_in, request_in, first_plan, malformed};
 ghost use Rattle.ordup_script.specs.PlanInside.{plan_state};
+ghost use Rattle.ordup_script.specs.PlanRuns.{TellsLine};
 
 use ordup_answers::{declare, find_set};
 use ordup_grammar::{Action, Asked, ChangeWords, Command, Declaration};
@@ -43,6 +44,21 @@ impl<A: Allocator + Copy> Planning<A> {
             lines: 0,
             is_malformed: false,
         }
+    }
+
+    /// The first line that does not belong, where the plan goes on no further. Without a start it is the one after the
+    /// last.
+    pub(crate) fn first_wrong_line(&self) -> Option<u64>
+        requires { self.now.lines ≤ 9223372036854775808 }
+        ensures { TellsLine self.now result }
+    {
+        if self.is_malformed {
+            return Some(self.lines);
+        }
+        if !self.is_started {
+            return Some(self.lines + 1);
+        }
+        None
     }
 
     /// Takes what the next line asks for.

@@ -6,7 +6,7 @@ ghost use Rattle.ordup_grammar.specs.Holding.{Holds};
 ghost use Rattle.ordup_script.specs.declared.sizes.TheConstants.{MOST_SCRIPT_BYTES};
 ghost use Rattle.ordup_script.specs.Plans.{PlanState, asked_in, planned, plan_result};
 ghost use Rattle.ordup_script.specs.PlanInside.{plan_state};
-ghost use Rattle.ordup_script.specs.PlanRuns.{IsPlanAt, PassesPlan, PassesWhole, ReadsPlan, Tells, plan_start};
+ghost use Rattle.ordup_script.specs.PlanRuns.{IsPlanAt, PassesPlan, PassesWhole, ReadsBy, ReadsPlan, Tells, plan_start};
 
 use crate::plan::{Plan, Planning};
 use crate::sizes::{MOST_SCRIPT_BYTES, PIECE};
@@ -101,27 +101,6 @@ impl<A: Allocator + Copy> PlanReader<A> {
     }
 }
 
-/// The plan, or the first line that does not belong.
-fn told<A: Allocator + Copy>(planning: Planning<A>) -> Result<Plan<A>, PlanFault>
-    requires { planning.lines ≤ 9223372036854775808 }
-    ensures { Tells (plan_result (plan_state planning)) result }
-{
-    let Planning {
-        setup,
-        sets,
-        is_started,
-        lines,
-        is_malformed,
-    } = planning;
-    if is_malformed {
-        return Err(PlanFault::Malformed { line: lines });
-    }
-    if !is_started {
-        return Err(PlanFault::Malformed { line: lines + 1 });
-    }
-    Ok(Plan { setup, sets })
-}
-
 /// Takes the next piece of a plan, in which each line must belong.
 fn pass<A: Allocator + Copy>(
     alloc: A,
@@ -143,16 +122,18 @@ fn pass<A: Allocator + Copy>(
     Ok(())
 }
 
-/// Tells the plan, once nothing is left to read.
-fn close<A: Allocator + Copy>(alloc: A, reader: PlanReader<A>) -> Result<Plan<A>, PlanFault>
-    requires { reader.plan.lines < 9223372036854775808 }
-    ensures { (p : Progress PlanState) → IsPlanAt reader p → Tells (plan_result (last planned true p [])) result }
+/// Takes what is left once nothing is left to read. Then each line must belong, and there must be a start.
+fn close<A: Allocator + Copy>(alloc: A, reader: &mut PlanReader<A>) -> Result<(), PlanFault>
+    requires { reader.old.plan.lines < 9223372036854775808 }
+    ensures { (p : Progress PlanState) → IsPlanAt reader.old p → Tells (plan_result (last planned true p [])) reader.new.plan result }
 {
-    let mut reader = reader;
     let Ok(()) = reader.end(alloc) else {
         return Err(PlanFault::NoMemory);
     };
-    told(reader.plan)
+    match reader.plan.first_wrong_line() {
+        Some(line) => Err(PlanFault::Malformed { line }),
+        None => Ok(()),
+    }
 }
 
 /// Reads a text of at most so many bytes to its end, piece by piece, each line of which must belong.
@@ -187,6 +168,22 @@ fn pass_all<A: Allocator + Copy, R: Read>(
     }
 }
 
+/// Reads a plan of at most so many bytes by a reader that nothing was fed to.
+fn read_by<A: Allocator + Copy, R: Read>(
+    alloc: A,
+    reader: &mut PlanReader<A>,
+    input: &mut R,
+    limit: u64,
+) -> Result<(), PlanFault>
+    requires start { IsPlanAt reader.old plan_start }
+    requires lines { reader.old.plan.lines ≡ 0 }
+    requires few { limit ≤ MOST_SCRIPT_BYTES }
+    ensures { ReadsBy (R.remaining input.old) (R.remaining input.new) limit reader.new.plan result }
+{
+    pass_all(alloc, reader, input, limit)?;
+    close(alloc, reader)
+}
+
 /// Reads a plan of at most so many bytes, no more than a script may have.
 pub fn read_plan_within<A: Allocator + Copy, R: Read>(
     alloc: A,
@@ -197,8 +194,9 @@ pub fn read_plan_within<A: Allocator + Copy, R: Read>(
     ensures { ReadsPlan (R.remaining input.old) (R.remaining input.new) limit result }
 {
     let mut reader = PlanReader::new(alloc);
-    pass_all(alloc, &mut reader, input, limit)?;
-    close(alloc, reader)
+    read_by(alloc, &mut reader, input, limit)?;
+    let Planning { setup, sets, .. } = reader.plan;
+    Ok(Plan { setup, sets })
 }
 
 /// Reads a plan: declarations, `start`, and then proposals alone.

@@ -1,7 +1,9 @@
-use Rattle.std.proofs.Common.{subst}
+use Rattle.std.proofs.Common.{◌∙◌, ap, sym}
 use Rattle.ordup_script.specs.Plans.{plan_result}
-use Rattle.ordup_script.specs.PlanRuns.{Tells}
 use Rattle.ordup_script.proofs.plan_reader.close.Goals as goal
 
-pub returns : goal.returns
-returns g c = λ p is. subst (λ s. Tells (plan_result s) c.told.result) (c.in-Ok.ensures.plan p is) c.told.ensures
+pub returns-in-Some : goal.returns-in-Some
+returns-in-Some g c = λ p is. ap plan_result (sym (c.in-Ok.ensures.plan p is)) ∙ c.in-Some.ensures
+
+pub returns-in-None : goal.returns-in-None
+returns-in-None g c = λ p is. ap plan_result (sym (c.in-Ok.ensures.plan p is)) ∙ c.in-None.ensures

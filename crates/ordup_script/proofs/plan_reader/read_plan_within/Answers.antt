@@ -1,11 +1,7 @@
 use Rattle.std.proofs.lemmas.Result.{err_from_is_err_and}
-use Rattle.ordup_script.proofs.PlanRunning.{plan_closed}
 use Rattle.ordup_script.proofs.plan_reader.read_plan_within.Goals as goal
 
-pub returns-in_err-pass_all : goal.returns-in_err-pass_all
-returns-in_err-pass_all g c =
+pub returns-in_err-read_by : goal.returns-in_err-read_by
+returns-in_err-read_by g c =
     let failed = err_from_is_err_and c.from_residual.result c.from_residual.ensures.1 in
-    rw (failed.1, failed.2) c.in_err-pass_all.ensures.plan
-
-pub returns : goal.returns
-returns g c = plan_closed _ _ _ c.args.limit c.close.result c.in_ok-pass_all.ensures.plan c.close.ensures
+    rw (failed.1, failed.2) c.in_err-read_by.ensures

@@ -1,5 +1,6 @@
 use Rattle.std.proofs.Common.{ℕ, ◌+◌, ◌^◌, ◌≤◌, arith, lit<}
 use Rattle.std.proofs.Math.Nat.{pow-le-pow_right}
+use Rattle.std.proofs.lemmas.Grind.{common_steps}
 use Rattle.ordup_grammar.proofs.number.parse_magnitude.Goals as goal
 
 -- before the nineteenth digit the number is short
@@ -13,3 +14,6 @@ overflow_mul-magnitude c = omega (arith, short_before_last _ _ c.loop-digit.inva
 
 pub overflow_add-magnitude : goal.overflow_add-magnitude
 overflow_add-magnitude c = omega (arith, short_before_last _ _ c.loop-digit.invariant.bound (omega arith))
+
+pub loop-digit-preserved : goal.loop-digit-preserved
+loop-digit-preserved c = grind (arith, common_steps)

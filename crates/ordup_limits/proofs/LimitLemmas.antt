@@ -1,26 +1,25 @@
 -- Limits and spans.
-use Rattle.std.proofs.Common.{◌≡◌, ℕ, ℤ, zero, suc, take, get_or, ◌-◌, ◌+◌, ◌<◌, ◌≤◌, true, false, not, List, [], ◌∷◌, ◌++◌, length, Some, None, arith, refl, sym, ◌∙◌, inl, inr}
+use Rattle.std.proofs.Common.{◌≡◌, ℕ, zero, suc, take, get_or, ◌-◌, ◌+◌, ◌<◌, ◌≤◌, true, false, not, [], ◌∷◌, ◌++◌, length, Some, None, arith, refl, sym, ◌∙◌}
 use Rattle.std.specs.Prelude.{nat_lt, nat_le, IsTrue, All}
 use Rattle.std.specs.List.{position_or_len, list_any}
 use Rattle.std.proofs.lemmas.Bool.{or_parts}
 use Rattle.std.proofs.lemmas.List.{length_push}
 use Rattle.std.proofs.lemmas.List.Elements.{All-push}
 use Rattle.std.proofs.lemmas.List.Folds.{list_any-append}
-use Rattle.std.proofs.lemmas.Bool.{lt-ltb, le-leb, leb-true, and_parts, le-ltb, false≢true, cases_lt}
+use Rattle.std.proofs.lemmas.Bool.{lt-ltb, le-leb, leb-true, and_parts, le-ltb, false≢true}
 use Rattle.std.proofs.lemmas.List.Folds.{list_all_at, list_all_more}
-use Rattle.ordup_objects.specs.declared.change.Change.{Change}
 use Rattle.ordup_objects.specs.Serial.{History}
 use Rattle.ordup_log.specs.Groups.{GroupList, IsGroup}
 use Rattle.ordup_log.specs.Spans.{span, IsScopeOver}
 use Rattle.ordup_log.specs.declared.scope.Scope.{Scope}
 use Rattle.ordup_log.specs.declared.scope.Scope.TheVariants.{Object, Group, All as Everything, Count}
 use Rattle.ordup_log.proofs.MostLemmas.{span-object-most, span-group-most}
-use Rattle.ordup_log.proofs.SpanLemmas.{span-inner, span-append, span-count}
+use Rattle.ordup_log.proofs.SpanLemmas.{span-inner, span-longer, span-count}
 use Rattle.ordup_limits.specs.declared.limit.Limit.{Limit}
-use Rattle.ordup_limits.specs.Limits.{Limits, keeps, within, first_passed, is_same_scope, repeats_scope, AreLimits}
+use Rattle.ordup_limits.specs.Limits.{Limits, keeps, within, first_passed, is_same_scope, repeats_scope, AreLimits, LongerHistoriesKeepLimits, LaterSpansKeepLimits, EmptySpansKeepLimits}
 
 -- an empty span weighs nothing, so it keeps each limit
-pub within-empty : (h : History) (groups : GroupList) (limits : Limits) (a b : ℕ) → b ≤ a → within h groups limits a b ≡ true
+pub within-empty : EmptySpansKeepLimits
 within-empty h groups [] a b le = refl
 within-empty h groups (limit ∷ limits) a b le =
     let none : b - a ≡ 0 = omega arith in
@@ -67,22 +66,21 @@ pub within-more : (h : History) (groups : GroupList) (limits : Limits) (a b i : 
     → within h groups (take (i + 1) limits) a b ≡ true
 within-more h groups limits a b i d lt before here = rw (list_all_more (keeps h groups a b) limits i d lt, before, here) refl
 
--- the limits that an inner span passes, the outer one passes too
-pub within-inner : (h : History) (groups : GroupList) (limits : Limits) (a b c d : ℕ) → a ≤ b → c ≤ d → within h groups limits a d ≡ true → within h groups limits b c ≡ true
-within-inner h groups [] a b c d below above is = refl
-within-inner h groups (limit ∷ limits) a b c d below above is =
-    let both : keeps h groups a d limit ≡ true × within h groups limits a d ≡ true = and_parts _ _ is in
-    let first : keeps h groups b c limit ≡ true = le-leb (span h groups limit.scope b c) limit.amount (omega (arith, span-inner h groups limit.scope a b c d below above, leb-true (span h groups limit.scope a d) limit.amount both.0)) in
-    rw (first, within-inner h groups limits a b c d below above both.1) refl
+-- the limits that a later span passes, the longer one passes too
+pub within-later : LaterSpansKeepLimits
+within-later h groups [] a b c later is = refl
+within-later h groups (limit ∷ limits) a b c later is =
+    let both : keeps h groups a c limit ≡ true × within h groups limits a c ≡ true = and_parts _ _ is in
+    let most : span h groups limit.scope a c ≤ limit.amount = leb-true (span h groups limit.scope a c) limit.amount both.0 in
+    let first : keeps h groups b c limit ≡ true =
+    le-leb (span h groups limit.scope b c) limit.amount (omega (arith, span-inner h groups limit.scope a b c c later (omega arith), most)) in
+    rw (first, within-later h groups limits a b c later both.1) refl
 
 -- updates that are added later leave it as it was
-pub within-append : (start : List ℤ) (sets more : List (List Change)) (groups : GroupList) (limits : Limits) (a b : ℕ) → b ≤ length sets
-    → within (record { start = start; sets = sets ++ more }) groups limits a b ≡ within (record { start = start; sets = sets }) groups limits a b
-within-append start sets more groups [] a b le = refl
-within-append start sets more groups (limit ∷ limits) a b le = elim (cases_lt a b) [
-  | inl lt ↦ rw (span-append start sets more groups limit.scope a b (omega arith) le, within-append start sets more groups limits a b le) refl
-  | inr ge ↦ (let none : b - a ≡ 0 = omega arith in rw (none, within-append start sets more groups limits a b le) refl)
-]
+pub within-longer : LongerHistoriesKeepLimits
+within-longer h more groups [] a b le = refl
+within-longer h more groups (limit ∷ limits) a b le =
+    rw (span-longer h more groups limit.scope a b le, within-longer h more groups limits a b le) refl
 
 -- a limit on the count of updates
 pub keeps-count : (h : History) (groups : GroupList) (a b : ℕ) (limit : Limit) → limit.scope ≡ Count → nat_le (b - a) limit.amount ≡ keeps h groups a b limit

@@ -4,7 +4,8 @@ use Rattle.std.specs.List.{list_all, list_any, position}
 use Rattle.std.specs.Option.{option_or}
 use Rattle.ordup_objects.specs.declared.refusal.Refusal.{Refusal}
 use Rattle.ordup_objects.specs.declared.refusal.Refusal.TheVariants.{UnknownObject, UnknownGroup, OutOfRange, TooMany, Repeated}
-use Rattle.ordup_objects.specs.Serial.{History}
+use Rattle.ordup_objects.specs.declared.change.Change.{Change}
+use Rattle.ordup_objects.specs.Serial.{History, with_more}
 use Rattle.ordup_log.specs.Groups.{GroupList}
 use Rattle.ordup_log.specs.Spans.{span, IsScopeOver}
 use Rattle.ordup_limits.specs.declared.limit.Limit.{Limit}
@@ -22,6 +23,22 @@ keeps h groups a b limit = nat_le (span h groups limit.scope a b) limit.amount
 -- the span from a to b passes no limit
 abbrev pub within : History → GroupList → Limits → ℕ → ℕ → Bool
 within h groups limits a b = list_all (keeps h groups a b) limits
+
+-- updates that are added later leave it as it was whether a span passes a limit
+abbrev pub LongerHistoriesKeepLimits : Type 0
+LongerHistoriesKeepLimits =
+    (h : History) (more : List (List Change)) (groups : GroupList) (limits : Limits) (a b : ℕ) → b ≤ length h.sets →
+    within (with_more h more) groups limits a b ≡ within h groups limits a b
+
+-- A span that begins later and ends at the same place keeps the limits that the longer one keeps. Of spans that end elsewhere nothing is said.
+abbrev pub LaterSpansKeepLimits : Type 0
+LaterSpansKeepLimits =
+    (h : History) (groups : GroupList) (limits : Limits) (a b c : ℕ) → a ≤ b →
+    within h groups limits a c ≡ true → within h groups limits b c ≡ true
+
+-- an empty span keeps all limits
+abbrev pub EmptySpansKeepLimits : Type 0
+EmptySpansKeepLimits = (h : History) (groups : GroupList) (limits : Limits) (a b : ℕ) → b ≤ a → within h groups limits a b ≡ true
 
 -- the place of the first limit that the span from a to b passes
 abbrev pub first_passed : History → GroupList → Limits → ℕ → ℕ → Option ℕ

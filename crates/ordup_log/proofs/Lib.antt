@@ -1,4 +1,3 @@
-pub mod SerialLemmas
 pub mod WeightLemmas
 pub mod SpanLemmas
 pub mod GroupLemmas

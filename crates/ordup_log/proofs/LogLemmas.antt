@@ -6,20 +6,20 @@ use Rattle.std.proofs.lemmas.List.{length_push, get_or_push}
 use Rattle.ordup_objects.specs.declared.change.Change.{Change}
 use Rattle.ordup_objects.specs.States.{State, after, is_legal}
 use Rattle.ordup_objects.specs.Sets.{IsSet, IsOver}
-use Rattle.ordup_objects.specs.Serial.{History, serial}
+use Rattle.ordup_objects.specs.Serial.{History, serial, with_update}
 use Rattle.ordup_objects.specs.Weights.{distances_of}
 use Rattle.ordup_log.specs.declared.log.Log.TheInside.{Inside}
 use Rattle.ordup_log.specs.LogInside.{IsLog, history_of}
-use Rattle.ordup_log.proofs.SerialLemmas.{length-after, serial-append, serial-last, IsLegal-append}
+use Rattle.ordup_objects.proofs.SerialLemmas.{length-after, serial-longer, serial-last, IsLegal-append}
 
 -- the distances of a log that grows are those of its updates
 distances-append : {A : Type 0} (h : History) (m : List Change) (kept : List (Vec ℕ A)) (ds : Vec ℕ A)
     → length kept ≡ length h.sets → ((k : ℕ) (d : Vec ℕ A) → k < length h.sets → (get_or kept k d).items ≡ distances_of (serial h k) (get_or h.sets k [])) → ds.items ≡ distances_of (serial h (length h.sets)) m
-    → (k : ℕ) (d : Vec ℕ A) → k < length (h.sets ++ m ∷ []) → (get_or (kept ++ ds ∷ []) k d).items ≡ distances_of (serial (record { start = h.start; sets = h.sets ++ m ∷ [] }) k) (get_or (h.sets ++ m ∷ []) k [])
+    → (k : ℕ) (d : Vec ℕ A) → k < length (h.sets ++ m ∷ []) → (get_or (kept ++ ds ∷ []) k d).items ≡ distances_of (serial (with_update h m) k) (get_or (h.sets ++ m ∷ []) k [])
 distances-append h m kept ds same each last k d lt = elim (cases_lt k (length h.sets)) [
-  | inl before ↦ rw (get_or-append kept (ds ∷ []) d k (omega arith), get_or-append h.sets (m ∷ []) [] k before, serial-append h.start h.sets (m ∷ []) k (omega arith)) (each k d before)
+  | inl before ↦ rw (get_or-append kept (ds ∷ []) d k (omega arith), get_or-append h.sets (m ∷ []) [] k before, serial-longer h (m ∷ []) k (omega arith)) (each k d before)
   | inr past ↦ (let at : k ≡ length h.sets = omega (arith, length_push h.sets m) in
-      rw (get_or_push kept ds d k (omega arith), get_or_push h.sets m [] k (sym at), at, serial-append h.start h.sets (m ∷ []) (length h.sets) (omega arith)) last)
+      rw (get_or_push kept ds d k (omega arith), get_or_push h.sets m [] k (sym at), at, serial-longer h (m ∷ []) (length h.sets) (omega arith)) last)
 ]
 
 -- a log keeps its invariant by one legal set more, with its distances and the values after it

@@ -12,7 +12,7 @@ use Rattle.ordup_objects.specs.Weights.{object_weight, sum_from, sum_below}
 use Rattle.ordup_log.specs.Groups.{GroupList, members_at, repeats_member}
 use Rattle.ordup_log.specs.Spans.{weight, span}
 use Rattle.ordup_log.specs.declared.scope.Scope.TheVariants.{Object, Group, All as Everything}
-use Rattle.ordup_log.proofs.SerialLemmas.{length-serial}
+use Rattle.ordup_objects.proofs.SerialLemmas.{length-serial}
 
 -- f, but 0 at x
 abbrev without : ℕ → (ℕ → ℕ) → ℕ → ℕ

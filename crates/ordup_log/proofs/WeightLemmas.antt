@@ -8,7 +8,7 @@ use Rattle.ordup_objects.specs.States.{value_at, after}
 use Rattle.ordup_objects.specs.Serial.{History, serial, IsLegal}
 use Rattle.ordup_objects.specs.Weights.{distance, object_weight, distance_by, distances_of, distance_beside, sum_below}
 use Rattle.ordup_objects.proofs.SetLemmas.{distance_beside-few, distance_beside-distances_of, sum_below-same, distances_of-few, distance-after, distances-after}
-use Rattle.ordup_log.proofs.SerialLemmas.{serial-suc, length-serial, IsState-serial}
+use Rattle.ordup_objects.proofs.SerialLemmas.{serial-suc, length-serial, IsState-serial}
 
 -- an update's weight on an object is how far its set moves the value
 object_weight-is : (h : History) (x j : ℕ) → j < length h.sets → distance (value_at (after (get_or h.sets j []) (serial h j)) x) (value_at (serial h j) x) ≡ object_weight h x j

@@ -1,7 +1,8 @@
 -- Weights and spans on every scope.
-use Rattle.std.specs.Prelude.{ℕ, ◌-◌, ◌<◌, ◌≤◌, length, sum_by}
+use Rattle.std.specs.Prelude.{ℕ, ◌-◌, ◌<◌, ◌≡◌, ◌≤◌, List, length, sum_by}
+use Rattle.ordup_objects.specs.declared.change.Change.{Change}
 use Rattle.ordup_objects.specs.States.{value_at}
-use Rattle.ordup_objects.specs.Serial.{History, serial}
+use Rattle.ordup_objects.specs.Serial.{History, serial, with_more}
 use Rattle.ordup_objects.specs.Weights.{distance, object_weight, sum_from, sum_below}
 use Rattle.ordup_log.specs.Groups.{GroupList, members_at}
 use Rattle.ordup_log.specs.declared.scope.Scope.{Scope}
@@ -30,7 +31,14 @@ abbrev pub InnerSpansWeighLess : Type 0
 InnerSpansWeighLess =
     (h : History) (groups : GroupList) (s : Scope) (a b c d : ℕ) → a ≤ b → c ≤ d → span h groups s b c ≤ span h groups s a d
 
+-- updates that are added later leave the weights of spans as they were, on every scope
+abbrev pub LongerHistoriesKeepSpans : Type 0
+LongerHistoriesKeepSpans =
+    (h : History) (more : List (List Change)) (groups : GroupList) (s : Scope) (a b : ℕ) → b ≤ length h.sets →
+    span (with_more h more) groups s a b ≡ span h groups s a b
+
 -- a value moves by no more than the span between weighs on its object
 abbrev pub ValuesMoveBySpans : Type 0
 ValuesMoveBySpans =
-    (h : History) (groups : GroupList) (x a b : ℕ) → a ≤ b → distance (value_at (serial h b) x) (value_at (serial h a) x) ≤ span h groups (Object x) a b
+    (h : History) (groups : GroupList) (x a b : ℕ) → a ≤ b →
+    distance (value_at (serial h b) x) (value_at (serial h a) x) ≤ span h groups (Object x) a b

@@ -1,8 +1,13 @@
-ghost use Rattle.ordup_log.specs.Spans.{InnerSpansWeighLess, ValuesMoveBySpans};
+ghost use Rattle.ordup_log.specs.Spans.{InnerSpansWeighLess, LongerHistoriesKeepSpans, ValuesMoveBySpans};
 
 /// A law: a span inside another weighs no more than it, on every scope.
 pub fn inner_spans_weigh_less()
     ensures { InnerSpansWeighLess }
+{}
+
+/// A law: updates that are added later leave what a span weighs as it was, on every scope.
+pub fn longer_histories_keep_spans()
+    ensures { LongerHistoriesKeepSpans }
 {}
 
 /// A law: a value moves by no more than the span between weighs on its object.

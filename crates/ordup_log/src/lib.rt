@@ -9,6 +9,6 @@ mod log;
 mod scope;
 
 pub use groups::{GroupId, Groups};
-pub use laws::{inner_spans_weigh_less, values_move_by_spans};
+pub use laws::{inner_spans_weigh_less, longer_histories_keep_spans, values_move_by_spans};
 pub use log::Log;
 pub use scope::Scope;

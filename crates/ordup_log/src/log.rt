@@ -34,7 +34,7 @@ impl<A: Allocator + Copy> Model for Log<A> {
 }
 
 impl<A: Allocator + Copy> Log<A> {
-    ghost use Rattle.ordup_objects.specs.Serial.{History, serial, set_at, IsLegal};
+    ghost use Rattle.ordup_objects.specs.Serial.{History, serial, set_at, with_update, IsLegal};
     ghost use Rattle.ordup_objects.specs.States.{value_at};
     ghost use Rattle.ordup_objects.specs.Sets.{IsOver, IsSet};
     ghost use Rattle.ordup_objects.specs.Refusals.{IsRefusal};
@@ -79,7 +79,7 @@ impl<A: Allocator + Copy> Log<A> {
     pub fn append(&mut self, set: MessageSet<A>) -> Result<u64, Refusal>
         requires { IsOver (length self.old.start) set }
         ensures number { IfOk result (λ k. k ≡ length self.old.sets + 1) }
-        ensures added { IfOk result (λ _. self.new ≡ record { start = self.old.start; sets = self.old.sets ++ set ∷ [] }) }
+        ensures added { IfOk result (λ _. self.new ≡ with_update self.old set) }
         ensures allowed { IfOk result (λ _. append_refusal self.old set ≡ None) }
         ensures refused { IfErr result (λ e. IsRefusal (append_refusal self.old set) e) }
         ensures err { IfErr result (λ _. self.new ≡ self.old) }

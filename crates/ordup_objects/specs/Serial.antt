@@ -1,5 +1,5 @@
 -- Serial results.
-use Rattle.std.specs.Prelude.{◌≡◌, ℕ, ◌-◌, ◌<◌, true, List, [], length, take, slice_index_or, All, fold, ℤ}
+use Rattle.std.specs.Prelude.{◌≡◌, ℕ, ◌-◌, ◌<◌, ◌≤◌, true, List, [], ◌∷◌, ◌++◌, length, take, slice_index_or, All, fold, ℤ}
 use Rattle.ordup_objects.specs.declared.change.Change.{Change}
 use Rattle.ordup_objects.specs.States.{State, is_legal, after, IsState}
 use Rattle.ordup_objects.specs.Sets.{IsSet, IsOver}
@@ -16,6 +16,19 @@ serial h j = fold (λ v m. after m v) h.start (take j h.sets)
 -- the set of the update with this number, from 1
 abbrev pub set_at : History → ℕ → List Change
 set_at h k = slice_index_or h.sets (k - 1) []
+
+-- a history with more updates after its own
+abbrev pub with_more : History → List (List Change) → History
+with_more h more = record { start = h.start; sets = h.sets ++ more }
+
+-- a history with one update more
+abbrev pub with_update : History → List Change → History
+with_update h m = with_more h (m ∷ [])
+
+-- updates that are added later leave the serial results as they were
+abbrev pub LongerHistoriesKeepSerialResults : Type 0
+LongerHistoriesKeepSerialResults =
+    (h : History) (more : List (List Change)) (j : ℕ) → j ≤ length h.sets → serial (with_more h more) j ≡ serial h j
 
 -- each update is a message set over the objects, and legal on the serial result before it
 pub record IsLegal (h : History) : Type 0 where

@@ -1,9 +1,9 @@
 -- Weights on one object: the distance that its value travels.
-use Rattle.std.specs.Prelude.{ℕ, zero, suc, ◌+◌, ◌-◌, ◌≤◌, ℤ, ◌-ℤ◌, List, [], ◌∷◌, ◌==◌, map, if◌then◌else◌}
+use Rattle.std.specs.Prelude.{◌≡◌, ℕ, zero, suc, ◌+◌, ◌-◌, ◌≤◌, ℤ, ◌-ℤ◌, List, [], ◌∷◌, length, ◌==◌, map, if◌then◌else◌}
 use Rattle.std.specs.Int.RustNames.{unsigned_abs}
 use Rattle.ordup_objects.specs.declared.change.Change.{Change}
 use Rattle.ordup_objects.specs.States.{State, value_at, result_at}
-use Rattle.ordup_objects.specs.Serial.{History, serial}
+use Rattle.ordup_objects.specs.Serial.{History, serial, with_more}
 
 -- how far apart two values are
 abbrev pub distance : ℤ → ℤ → ℕ
@@ -25,6 +25,11 @@ object_span h x a b = sum_from (object_weight h x) a (b - a)
 -- a value moves by no more than the span between weighs
 abbrev pub ValuesMoveByTheirWeights : Type 0
 ValuesMoveByTheirWeights = (h : History) (x a b : ℕ) → a ≤ b → distance (value_at (serial h b) x) (value_at (serial h a) x) ≤ object_span h x a b
+
+-- updates that are added later leave the weights of spans as they were
+abbrev pub LongerHistoriesKeepObjectSpans : Type 0
+LongerHistoriesKeepObjectSpans =
+    (h : History) (more : List (List Change)) (x a b : ℕ) → b ≤ length h.sets → object_span (with_more h more) x a b ≡ object_span h x a b
 
 -- how far a change moves its object's value
 abbrev pub distance_by : State → Change → ℕ

@@ -1,8 +1,21 @@
-ghost use Rattle.ordup_objects.specs.Weights.{ValuesMoveByTheirWeights};
+ghost use Rattle.ordup_objects.specs.Serial.{LongerHistoriesKeepSerialResults};
+ghost use Rattle.ordup_objects.specs.Weights.{ValuesMoveByTheirWeights, LongerHistoriesKeepObjectSpans};
 
 /// A law: a value moves by no more than the span between weighs.
 ///
 /// It is the triangle inequality of whole numbers, by which a lagging copy knows how stale it is at most.
 pub fn values_move_by_their_weights()
     ensures { ValuesMoveByTheirWeights }
+{}
+
+/// A law: updates that are added later leave the serial results as they were.
+///
+/// So what a site holds of a log stays the serial result of a prefix, however the log grows.
+pub fn longer_histories_keep_serial_results()
+    ensures { LongerHistoriesKeepSerialResults }
+{}
+
+/// A law: updates that are added later leave what a span weighs on an object as it was.
+pub fn longer_histories_keep_object_spans()
+    ensures { LongerHistoriesKeepObjectSpans }
 {}

@@ -14,7 +14,10 @@ pub mod sizes;
 mod values;
 
 pub use change::{Change, ObjectId, Op};
-pub use laws::values_move_by_their_weights;
+pub use laws::{
+    longer_histories_keep_object_spans, longer_histories_keep_serial_results,
+    values_move_by_their_weights,
+};
 pub use message_set::MessageSet;
 pub use name::Name;
 pub use name_table::NameTable;

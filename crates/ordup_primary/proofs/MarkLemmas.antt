@@ -1,5 +1,5 @@
 -- Marks that are raised, one change after the other.
-use Rattle.std.proofs.Common.{◌≡◌, ℕ, zero, suc, ◌+◌, ◌-◌, ◌*◌, ◌<◌, ◌≤◌, false, List, [], ◌∷◌, ◌++◌, length, get_or, drop, drop-cons, add-one, arith, refl, sym, ap, ◌∙◌, inl, inr}
+use Rattle.std.proofs.Common.{◌≡◌, ℕ, zero, suc, ◌+◌, ◌-◌, ◌*◌, ◌<◌, ◌≤◌, false, List, [], ◌∷◌, length, get_or, drop, drop-cons, add-one, arith, refl, sym, ap, ◌∙◌, inl, inr}
 use Rattle.std.specs.Prelude.{◌==◌, if◌then◌else◌}
 use Rattle.std.specs.List.{list_any}
 use Rattle.std.proofs.Math.ListN.{set}
@@ -8,10 +8,11 @@ use Rattle.std.proofs.lemmas.List.{get_or-set_other, get_or_default}
 use Rattle.std.proofs.lemmas.Grind.{get_or-set_at}
 use Rattle.ordup_objects.specs.declared.change.Change.{Change}
 use Rattle.ordup_objects.specs.Sets.{repeats}
-use Rattle.ordup_objects.specs.Serial.{History, serial, IsLegal}
+use Rattle.ordup_objects.specs.Serial.{History, serial, with_update, IsLegal}
 use Rattle.ordup_objects.specs.Weights.{object_weight, object_span, sum_from, distance_beside, distances_of}
 use Rattle.ordup_log.specs.declared.scope.Scope.TheVariants.{Object}
-use Rattle.ordup_log.proofs.SpanLemmas.{span-more, span-append}
+use Rattle.ordup_log.proofs.SpanLemmas.{span-more}
+use Rattle.ordup_objects.proofs.SpanLemmas.{object_span-longer}
 use Rattle.ordup_log.proofs.WeightLemmas.{distance_beside-at, object_weight-few}
 use Rattle.ordup_primary.specs.Marks.{AreMarks}
 
@@ -96,8 +97,8 @@ raised-at h m marks x j i y mark weight total c lt distinct at same there read i
 -- ---- marks of a log
 
 -- updates that are added later leave the marks as they were
-pub AreMarks-append : (h : History) (m : List Change) (place : ℕ) (marks : List ℕ) → place ≤ length h.sets → AreMarks h place marks → AreMarks (record { start = h.start; sets = h.sets ++ m ∷ [] }) place marks
+pub AreMarks-append : (h : History) (m : List Change) (place : ℕ) (marks : List ℕ) → place ≤ length h.sets → AreMarks h place marks → AreMarks (with_update h m) place marks
 AreMarks-append h m place marks le are = record {
   count = are.count;
-  each = λ x lt. are.each x lt ∙ sym (span-append h.start h.sets (m ∷ []) [] (Object x) 0 place (omega arith) le);
+  each = λ x lt. are.each x lt ∙ sym (object_span-longer h (m ∷ []) x 0 place le);
 }

@@ -11,11 +11,11 @@ use Rattle.ordup_objects.specs.declared.change.Change.{Change}
 use Rattle.ordup_objects.specs.States.{is_legal}
 use Rattle.ordup_objects.specs.Tables.{initial_state}
 use Rattle.ordup_objects.specs.Sets.{IsSet, IsOver}
-use Rattle.ordup_objects.specs.Serial.{History, serial, IsLegal}
+use Rattle.ordup_objects.specs.Serial.{History, serial, with_update, IsLegal}
 use Rattle.ordup_objects.specs.declared.refusal.Refusal.TheVariants.{LogFull, OutOfRange, Empty}
 use Rattle.ordup_log.specs.Appending.{append_refusal}
-use Rattle.ordup_log.proofs.SerialLemmas.{IsLegal-append}
-use Rattle.ordup_limits.proofs.LimitLemmas.{within-empty, within-inner, within-append}
+use Rattle.ordup_objects.proofs.SerialLemmas.{IsLegal-append}
+use Rattle.ordup_limits.proofs.LimitLemmas.{within-empty, within-later, within-longer}
 use Rattle.ordup_primary.specs.Declarations.{Declared, AreDeclared, limits_of, is_ready, start_refusal}
 use Rattle.ordup_primary.specs.Settling.{rounds_upto, last_place}
 use Rattle.ordup_primary.specs.Primaries.{SiteProgress, PrimaryState, first_progress, progress_at, reported_at, is_within, forced_now, waiting_now, acked_after, decided_at, send_refusal, Decides, IsSiteSound, IsPrimary}
@@ -66,7 +66,7 @@ IsSiteSound-reported p s place site is risen sent = record {
   risen = λ k. omega (arith, is.risen k);
   rounds = is.rounds;
   answered = λ k some le forced. omega (arith, is.answered k some le forced);
-  within = within-inner p.log p.setup.groups (limits_of p.setup s) site.reported place p.acked p.acked risen (omega arith) is.within;
+  within = within-later p.log p.setup.groups (limits_of p.setup s) site.reported place p.acked risen is.within;
   rising = is.rising;
   before = is.before;
 }
@@ -91,12 +91,12 @@ room-from_allowed log m few allowed = elim (cases_eq (length log.sets) 1000000) 
 ]
 
 -- with one update more the same spans pass the same limits
-is_within-proposed : (p : PrimaryState) (m : List Change) (s a b : ℕ) → b ≤ length p.log.sets → is_within (record p { log = record { start = p.log.start; sets = p.log.sets ++ m ∷ [] } }) s a b ≡ is_within p s a b
-is_within-proposed p m s a b le = within-append p.log.start p.log.sets (m ∷ []) p.setup.groups (limits_of p.setup s) a b le
+is_within-proposed : (p : PrimaryState) (m : List Change) (s a b : ℕ) → b ≤ length p.log.sets → is_within (record p { log = with_update p.log m }) s a b ≡ is_within p s a b
+is_within-proposed p m s a b le = within-longer p.log (m ∷ []) p.setup.groups (limits_of p.setup s) a b le
 
 -- a primary with one update more
 pub IsPrimary-proposed : (p : PrimaryState) (m : List Change) → IsPrimary p → IsSet m → IsOver (length p.log.start) m → append_refusal p.log m ≡ None
-    → IsPrimary (record p { log = record { start = p.log.start; sets = p.log.sets ++ m ∷ [] } })
+    → IsPrimary (record p { log = with_update p.log m })
 IsPrimary-proposed p m is set over allowed = record {
   ready = is.ready;
   start = is.start;
@@ -111,7 +111,7 @@ IsPrimary-proposed p m is set over allowed = record {
     sent = omega (arith, site.sent, length_push p.log.sets m);
     count = site.count;
     risen = site.risen;
-    rounds = site.rounds ∙ rounds_upto-same (is_within p s) (is_within (record p { log = record { start = p.log.start; sets = p.log.sets ++ m ∷ [] } }) s) (reported_at (get_or p.sites s d)) (reported_at (get_or p.sites s d)) p.decided (λ k some le. sym (is_within-proposed p m s (reported_at (get_or p.sites s d) k) k (omega (arith, is.decided))));
+    rounds = site.rounds ∙ rounds_upto-same (is_within p s) (is_within (record p { log = with_update p.log m }) s) (reported_at (get_or p.sites s d)) (reported_at (get_or p.sites s d)) p.decided (λ k some le. sym (is_within-proposed p m s (reported_at (get_or p.sites s d) k) k (omega (arith, is.decided))));
     answered = λ k some le forced. site.answered k some le (sym (is_within-proposed p m s (reported_at (get_or p.sites s d) k) k (omega (arith, is.acked, is.decided))) ∙ forced);
     within = is_within-proposed p m s (get_or p.sites s d).reported p.acked (omega (arith, is.acked, is.decided)) ∙ site.within;
     rising = site.rising;
@@ -141,7 +141,7 @@ not_not false = refl
 -- a site that is not waited for keeps its limits up to the head
 done-at : (p : PrimaryState) (s : ℕ) (site : SiteProgress) (k : ℕ) → reported_at site k ≤ site.reported → (not (is_within p s (reported_at site k) k) && nat_lt site.reported k) ≡ false → is_within p s site.reported k ≡ true
 done-at p s site k risen none = elim (cases_Bool (is_within p s (reported_at site k) k)) [
-  | inl kept ↦ within-inner p.log p.setup.groups (limits_of p.setup s) (reported_at site k) site.reported k k risen (omega arith) kept
+  | inl kept ↦ within-later p.log p.setup.groups (limits_of p.setup s) (reported_at site k) site.reported k risen kept
   | inr forced ↦ (let behind : nat_lt site.reported k ≡ false = rw forced at none in
       elim (cases_lt site.reported k) [
         | inl lt ↦ absurd (let is : nat_lt site.reported k ≡ true = lt-ltb site.reported k lt in cc)

@@ -43,7 +43,7 @@ impl<A: Allocator + Copy> Model for Primary<A> {
 }
 
 impl<A: Allocator + Copy> Primary<A> {
-    ghost use Rattle.ordup_objects.specs.Serial.{set_at, History};
+    ghost use Rattle.ordup_objects.specs.Serial.{set_at, with_update, History};
     ghost use Rattle.ordup_objects.specs.Sets.{IsOver};
     ghost use Rattle.ordup_objects.specs.Tables.{initial_state};
     ghost use Rattle.ordup_objects.specs.Weights.{object_span};
@@ -79,7 +79,7 @@ impl<A: Allocator + Copy> Primary<A> {
     pub fn propose(&mut self, set: MessageSet<A>) -> Result<u64, Refusal>
         requires { IsOver (length self.old.log.start) set }
         ensures number { IfOk result (λ k. k ≡ length self.old.log.sets + 1) }
-        ensures added { IfOk result (λ _. self.new ≡ record self.old { log = record { start = self.old.log.start; sets = self.old.log.sets ++ set ∷ [] } }) }
+        ensures added { IfOk result (λ _. self.new ≡ record self.old { log = with_update self.old.log set }) }
         ensures allowed { IfOk result (λ _. append_refusal self.old.log set ≡ None) }
         ensures refused { IfErr result (λ e. IsRefusal (append_refusal self.old.log set) e) }
         ensures err { IfErr result (λ _. self.new ≡ self.old) }

@@ -1,23 +1,14 @@
 -- What a read imports.
-use Rattle.std.proofs.Common.{◌≡◌, ℕ, ◌+◌, ◌-◌, ◌<◌, ◌≤◌, ℤ, List, ◌++◌, length, min, max, inl, inr, arith, ap, sym, ◌∙◌}
+use Rattle.std.proofs.Common.{◌≡◌, ℕ, ◌<◌, ◌≤◌, ℤ, List, length, min, max, inl, inr, arith, ap, sym, ◌∙◌}
 use Rattle.std.specs.Int.{abs_diff}
 use Rattle.std.proofs.lemmas.Int.{ints}
 use Rattle.std.proofs.lemmas.Bool.{cases_lt}
-use Rattle.ordup_objects.specs.declared.change.Change.{Change}
 use Rattle.ordup_objects.specs.States.{value_at}
 use Rattle.ordup_objects.specs.Serial.{History, serial}
-use Rattle.ordup_objects.specs.Weights.{distance, object_weight, sum_from, object_span}
-use Rattle.ordup_objects.proofs.SpanLemmas.{sum_from-add, moved}
+use Rattle.ordup_objects.specs.Weights.{distance, object_span}
+use Rattle.ordup_objects.proofs.SpanLemmas.{object_span-add, object_span-longer, moved}
 use Rattle.ordup_site.specs.Sites.{SiteState, HasApplied}
-use Rattle.ordup_site.proofs.HistoryLemmas.{object_span-append}
-use Rattle.ordup_query.specs.Imports.{import_of, AreMarks, charge}
-
--- a span from the start weighs what its two parts weigh
-object_span-add : (h : History) (x a b : ℕ) → a ≤ b → object_span h x 0 b ≡ object_span h x 0 a + object_span h x a b
-object_span-add h x a b le =
-    let all : b - 0 ≡ (a - 0) + (b - a) = omega arith in
-    let middle : 0 + (a - 0) ≡ a = omega arith in
-    ap (sum_from (object_weight h x) 0) all ∙ sum_from-add (object_weight h x) 0 (a - 0) (b - a) ∙ ap (λ k. object_span h x 0 a + sum_from (object_weight h x) k (b - a)) middle
+use Rattle.ordup_query.specs.Imports.{import_of, AreMarks, charge, LongerHistoriesKeepMarks, ChargesAreImports}
 
 distance-other : (a b : ℤ) → distance a b ≡ distance b a
 distance-other a b = grind (arith, ints)
@@ -45,7 +36,7 @@ moved_between h x j p = elim (cases_lt j p) [
 ]
 
 -- where the marks are those of the reference, the charge is the import
-pub charge-import_of : (s : SiteState) (marks : List ℕ) (x : ℕ) → x < length marks → (h : History) (j p : ℕ) → HasApplied s h j → AreMarks h p marks → charge s marks x ≡ import_of h x j p
+pub charge-import_of : ChargesAreImports
 charge-import_of s marks x marked h j p site reference = rw (site.travelled x, reference x marked) (between h x j p)
 
 -- so is what a read was charged
@@ -61,5 +52,5 @@ import-near s marks x charged value marked e f h j p site reference =
     rw (is, read) (moved_between h x j p)
 
 -- the marks on a longer history
-pub AreMarks-longer : (h : History) (p : ℕ) (marks : List ℕ) (more : List (List Change)) → p ≤ length h.sets → AreMarks h p marks → AreMarks (record { start = h.start; sets = h.sets ++ more }) p marks
-AreMarks-longer h p marks more le are = λ x lt. are x lt ∙ sym (object_span-append h.start h.sets more x p le)
+pub AreMarks-longer : LongerHistoriesKeepMarks
+AreMarks-longer h p marks more le are = λ x lt. are x lt ∙ sym (object_span-longer h more x 0 p le)

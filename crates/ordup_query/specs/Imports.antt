@@ -1,8 +1,8 @@
 -- What a read imports, and what is charged for it.
-use Rattle.std.specs.Prelude.{◌≡◌, ℕ, ◌<◌, ◌≤◌, ◌++◌, List, length, slice_index_or, min, max}
+use Rattle.std.specs.Prelude.{◌≡◌, ℕ, ◌<◌, ◌≤◌, List, length, slice_index_or, min, max}
 use Rattle.std.specs.Int.{abs_diff}
 use Rattle.ordup_objects.specs.declared.change.Change.{Change}
-use Rattle.ordup_objects.specs.Serial.{History}
+use Rattle.ordup_objects.specs.Serial.{History, with_more}
 use Rattle.ordup_objects.specs.Weights.{object_span}
 use Rattle.ordup_site.specs.Sites.{SiteState, travelled_at, HasApplied}
 
@@ -21,7 +21,7 @@ AreMarks h p marks = (x : ℕ) → x < length marks → mark_at marks x ≡ obje
 -- the marks of a reference on a history are those on each longer one
 abbrev pub LongerHistoriesKeepMarks : Type 0
 LongerHistoriesKeepMarks =
-    (h : History) (p : ℕ) (marks : List ℕ) (more : List (List Change)) → p ≤ length h.sets → AreMarks h p marks → AreMarks (record { start = h.start; sets = h.sets ++ more }) p marks
+    (h : History) (p : ℕ) (marks : List ℕ) (more : List (List Change)) → p ≤ length h.sets → AreMarks h p marks → AreMarks (with_more h more) p marks
 
 -- what is charged for a read: how far what the value travelled is from the mark
 abbrev pub charge : SiteState → List ℕ → ℕ → ℕ

@@ -1,3 +1,2 @@
-pub mod HistoryLemmas
 pub mod TravelLemmas
 pub mod SiteLemmas

@@ -4,19 +4,20 @@ use Rattle.std.proofs.Math.Seq.{take-append_seam}
 use Rattle.std.proofs.lemmas.List.{length_push, get_or_push}
 use Rattle.ordup_objects.specs.declared.change.Change.{Change}
 use Rattle.ordup_objects.specs.States.{State, value_at, after}
-use Rattle.ordup_objects.specs.Serial.{History, serial, set_at}
+use Rattle.ordup_objects.specs.Serial.{History, serial, set_at, with_update}
 use Rattle.ordup_objects.specs.Weights.{distance, object_weight}
-use Rattle.ordup_site.specs.Sites.{SiteState, travelled_at, HasApplied, with_update}
+use Rattle.ordup_site.specs.Sites.{SiteState, travelled_at, HasApplied, LongerHistoriesKeepWhatWasApplied}
 use Rattle.ordup_site.specs.Travelling.{Moves}
-use Rattle.ordup_site.proofs.HistoryLemmas.{serial-suc, object_span-suc, serial-append, object_span-append}
+use Rattle.ordup_objects.proofs.SerialLemmas.{serial-suc, serial-longer}
+use Rattle.ordup_objects.proofs.SpanLemmas.{object_span-suc, object_span-longer}
 
 -- what a site applied of a history it applied of each longer one
-pub HasApplied-longer : (s : SiteState) (h : History) (j : ℕ) (more : List (List Change)) → HasApplied s h j → HasApplied s (record { start = h.start; sets = h.sets ++ more }) j
+pub HasApplied-longer : LongerHistoriesKeepWhatWasApplied
 HasApplied-longer s h j more is = record {
   within = simp length-append (omega (arith, is.within));
   applied = is.applied;
-  values = is.values ∙ sym (serial-append h.start h.sets more j is.within);
-  travelled = λ x. is.travelled x ∙ sym (object_span-append h.start h.sets more x j is.within);
+  values = is.values ∙ sym (serial-longer h more j is.within);
+  travelled = λ x. is.travelled x ∙ sym (object_span-longer h more x 0 j is.within);
 }
 
 -- one step: what a set makes of a site

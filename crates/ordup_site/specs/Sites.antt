@@ -1,7 +1,7 @@
 -- What a site holds, and which updates it applied.
-use Rattle.std.specs.Prelude.{◌≡◌, ℕ, ◌≤◌, List, [], ◌∷◌, ◌++◌, length, slice_index_or, ℤ}
+use Rattle.std.specs.Prelude.{◌≡◌, ℕ, ◌≤◌, List, length, slice_index_or, ℤ}
 use Rattle.ordup_objects.specs.declared.change.Change.{Change}
-use Rattle.ordup_objects.specs.Serial.{History, serial}
+use Rattle.ordup_objects.specs.Serial.{History, serial, with_more}
 use Rattle.ordup_objects.specs.Weights.{object_span}
 
 -- how many updates a site applied, the value of each object, and how far each value travelled
@@ -21,11 +21,7 @@ pub record HasApplied (s : SiteState) (h : History) (j : ℕ) : Type 0 where
   pub values : s.values ≡ serial h j
   pub travelled : (x : ℕ) → travelled_at s x ≡ object_span h x 0 j
 
--- a history with one update more
-abbrev pub with_update : History → List Change → History
-with_update h m = record { start = h.start; sets = h.sets ++ m ∷ [] }
-
 -- what a site applied of a history it applied of each longer one
 abbrev pub LongerHistoriesKeepWhatWasApplied : Type 0
 LongerHistoriesKeepWhatWasApplied =
-    (s : SiteState) (h : History) (j : ℕ) (more : List (List Change)) → HasApplied s h j → HasApplied s (record { start = h.start; sets = h.sets ++ more }) j
+    (s : SiteState) (h : History) (j : ℕ) (more : List (List Change)) → HasApplied s h j → HasApplied s (with_more h more) j

@@ -2,9 +2,9 @@ ghost use Rattle.std.specs.Prelude.{◌≡◌, ◌≤◌, ◌<◌, ◌+◌, ◌*
 ghost use Rattle.ordup_objects.specs.Tables.{initial_state};
 ghost use Rattle.ordup_objects.specs.States.{value_at, is_legal, after, IsInRange, IsState};
 ghost use Rattle.ordup_objects.specs.Sets.{IsOver};
-ghost use Rattle.ordup_objects.specs.Serial.{History, set_at};
+ghost use Rattle.ordup_objects.specs.Serial.{History, set_at, with_update};
 ghost use Rattle.ordup_objects.specs.Weights.{distance};
-ghost use Rattle.ordup_site.specs.Sites.{HasApplied, travelled_at, with_update};
+ghost use Rattle.ordup_site.specs.Sites.{HasApplied, travelled_at};
 ghost use Rattle.ordup_site.specs.Travelling.{Moves, travelled_on};
 
 use ordup_objects::sizes::MOST_CHANGES;

@@ -7,8 +7,8 @@ use Rattle.std.proofs.lemmas.List.{get_or-set_other, get_or-replicate, length-re
 use Rattle.std.proofs.lemmas.Grind.{get_or-set_at}
 use Rattle.ordup_objects.specs.declared.change.Change.{Change}
 use Rattle.ordup_objects.specs.Tables.{initial_state}
-use Rattle.ordup_objects.specs.Serial.{History, serial}
-use Rattle.ordup_log.proofs.SerialLemmas.{serial-append}
+use Rattle.ordup_objects.specs.Serial.{History, serial, with_update}
+use Rattle.ordup_objects.proofs.SerialLemmas.{serial-longer}
 use Rattle.ordup_limits.specs.Limits.{within}
 use Rattle.ordup_primary.specs.Declarations.{Declared, limits_of}
 use Rattle.ordup_primary.specs.Settling.{where_below, rounds_upto}
@@ -62,16 +62,16 @@ module _ {A : Type 0} where
 
   -- one update more was proposed
   pub IsStoreAfter-proposed : (w : StoreState) (past : Past A) (p : PrimaryState) (m : List Change) → IsStore w → IsStoreAfter w past → IsStore (record w { primary = p })
-      → p ≡ record w.primary { log = record { start = w.primary.log.start; sets = w.primary.log.sets ++ m ∷ [] } } → IsStoreAfter (record w { primary = p }) (Propose m ∷ past)
-  IsStoreAfter-proposed w past p m sound is new e = rw e (IsStoreAfter-made (record w { primary = record w.primary { log = record { start = w.primary.log.start; sets = w.primary.log.sets ++ m ∷ [] } } }) (Propose m ∷ past) (rw e at new)
-      (ap (λ (l : History). let longer : History = record { start = l.start; sets = l.sets ++ m ∷ [] } in longer) is.log)
+      → p ≡ record w.primary { log = with_update w.primary.log m } → IsStoreAfter (record w { primary = p }) (Propose m ∷ past)
+  IsStoreAfter-proposed w past p m sound is new e = rw e (IsStoreAfter-made (record w { primary = record w.primary { log = with_update w.primary.log m } }) (Propose m ∷ past) (rw e at new)
+      (ap (λ (l : History). let longer : History = with_update l m in longer) is.log)
       is.acked
       is.decided
       (λ s d lt. (let before = is.sites s d lt in
       let holds = sound.prefixes s d lt in
       let few : applied s past ≤ length (sets_of past) = omega (arith, before.applied, holds.applied, holds.sent, updates-are w past is) in
       record {
-        values = before.values ∙ sym (serial-append (log_of w.primary.setup past).start (sets_of past) (m ∷ []) (applied s past) few);
+        values = before.values ∙ sym (serial-longer (log_of w.primary.setup past) (m ∷ []) (applied s past) few);
         sent = before.sent;
         applied = before.applied;
         reported = before.reported;

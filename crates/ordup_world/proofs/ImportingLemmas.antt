@@ -1,5 +1,5 @@
 -- Queries keep their import limits.
-use Rattle.std.proofs.Common.{◌≡◌, ℕ, zero, suc, ◌+◌, ◌≤◌, ◌==◌, ℤ, true, false, List, [], ◌∷◌, length, take, arith, refl, sym, ap, ◌∙◌, inl, inr}
+use Rattle.std.proofs.Common.{◌≡◌, ℕ, ◌+◌, ◌≤◌, ◌==◌, ℤ, true, false, List, [], ◌∷◌, length, arith, refl, sym, ap, ◌∙◌, inl, inr}
 use Rattle.std.specs.Prelude.{Option, Some, None, option_map, nat_lt, ◌+ℤ◌}
 use Rattle.std.proofs.lemmas.Bool.{cases_Bool, ltb-false, eqb-false}
 use Rattle.std.proofs.lemmas.Int.{ints}
@@ -9,13 +9,14 @@ use Rattle.ordup_objects.specs.declared.refusal.Refusal.{Refusal}
 use Rattle.ordup_objects.specs.States.{State, value_at}
 use Rattle.ordup_objects.specs.Serial.{serial}
 use Rattle.ordup_objects.specs.Weights.{distance}
-use Rattle.ordup_log.proofs.SerialLemmas.{serial-append}
+use Rattle.ordup_objects.proofs.SerialLemmas.{serial-longer}
 use Rattle.ordup_primary.specs.Declarations.{Declared}
 use Rattle.ordup_primary.specs.Primaries.{acked_after}
 use Rattle.ordup_query.proofs.ImportLemmas.{moved_between}
 use Rattle.ordup_world.specs.Queries.{ReadMade, Opened, import_total, value_sum, values_read, read_refusal}
-use Rattle.ordup_world.specs.Events.{Past, Decisions, is_same, sets_of, log_of, applied, decisions, settled, read_now, with_read, opened, reply, refused_or, is_refused, later, IsAnswer, AreAnswers, past_after}
-use Rattle.ordup_world.specs.Importing.{KeepsImport, values_on, AreAccepted, KeepImports, KeepImportsAlong}
+use Rattle.ordup_world.specs.Events.{Past, Decisions, is_same, sets_of, log_of, applied, decisions, settled, read_now, with_read, opened, reply, refused_or, is_refused, later, IsAnswer, AreAnswers}
+use Rattle.ordup_world.specs.Importing.{KeepsImport, values_on, AreAccepted, KeepImports}
+use Rattle.ordup_world.specs.Keeping.{Along}
 use Rattle.ordup_world.specs.declared.event.Event.{Event}
 use Rattle.ordup_world.specs.declared.event.Event.TheVariants.{Propose, Send, Apply, Report, Settle, Begin, Read, End, Abandon, Show}
 use Rattle.ordup_world.specs.declared.event.Answer.{Answer}
@@ -121,7 +122,7 @@ module _ {A : Type 0} where
   kept setup [] are q o found = absurd (some-none (sym found))
   kept setup (Propose m ∷ past) are q o found =
       let before = kept setup past are.0 q o found in
-      let same : serial (log_of setup (Propose m ∷ past)) o.place ≡ serial (log_of setup past) o.place = serial-append (log_of setup past).start (sets_of past) (m ∷ []) o.place before.place in
+      let same : serial (log_of setup (Propose m ∷ past)) o.place ≡ serial (log_of setup past) o.place = serial-longer (log_of setup past) (m ∷ []) o.place before.place in
       record { place = omega (arith, before.place, length_push (sets_of past) m); import = rw same before.import }
   kept setup (Send s ∷ past) are q o found = let before = kept setup past are.0 q o found in record { place = before.place; import = before.import }
   kept setup (Apply s ∷ past) are q o found = let before = kept setup past are.0 q o found in record { place = before.place; import = before.import }
@@ -169,22 +170,17 @@ module _ {A : Type 0} where
   AreAccepted-later setup past e (Shown a b c d values) are is = (are, accepted-reply setup past e (Shown a b c d values) refl is)
   AreAccepted-later setup past e (Refused r) are is = are
 
-  AreAccepted-after : (setup : Declared) (past : Past A) (events : List (Event A)) (answers : List (Answer A)) → AreAccepted setup past → AreAnswers setup past events answers → AreAccepted setup (past_after past events answers)
-  AreAccepted-after setup past [] answers are all = are
-  AreAccepted-after setup past (e ∷ events) [] are all = are
-  AreAccepted-after setup past (e ∷ events) (a ∷ answers) are all = AreAccepted-after setup (later past e a) events answers (AreAccepted-later setup past e a are all.0) all.1
+  -- what holds after accepted events holds after each event of a list
+  Along-accepted : (Holds : Past A → Type 0) (setup : Declared) → ((past : Past A) → AreAccepted setup past → Holds past) → (past : Past A) (events : List (Event A)) (answers : List (Answer A))
+      → AreAccepted setup past → AreAnswers setup past events answers → Along Holds past events answers
+  Along-accepted Holds setup each past [] answers are all = each past are
+  Along-accepted Holds setup each past (e ∷ events) [] are all = each past are
+  Along-accepted Holds setup each past (e ∷ events) (a ∷ answers) are all =
+      (each past are, Along-accepted Holds setup each (later past e a) events answers (AreAccepted-later setup past e a are all.0) all.1)
 
-  AreAnswers-take : (n : ℕ) (setup : Declared) (past : Past A) (events : List (Event A)) (answers : List (Answer A)) → AreAnswers setup past events answers → AreAnswers setup past (take n events) (take n answers)
-  AreAnswers-take zero setup past events answers all = tt
-  AreAnswers-take (suc n) setup past [] [] all = tt
-  AreAnswers-take (suc n) setup past [] (a ∷ answers) all = absurd all
-  AreAnswers-take (suc n) setup past (e ∷ events) [] all = absurd all
-  AreAnswers-take (suc n) setup past (e ∷ events) (a ∷ answers) all = (all.0, AreAnswers-take n setup (later past e a) events answers all.1)
-
-  -- each open query keeps its import limit before each event, and at the end
-  pub KeepImportsAlong-answers : (setup : Declared) (events : List (Event A)) (answers : List (Answer A)) → AreAnswers setup [] events answers → KeepImportsAlong setup events answers
-  KeepImportsAlong-answers setup events answers all n q o found =
-      (kept setup (past_after [] (take n events) (take n answers)) (AreAccepted-after setup [] (take n events) (take n answers) tt (AreAnswers-take n setup [] events answers all)) q o found).import
+  -- each open query keeps its import limit after each event
+  pub KeepImports-along : (setup : Declared) (events : List (Event A)) (answers : List (Answer A)) → AreAnswers setup [] events answers → Along (KeepImports setup) [] events answers
+  KeepImports-along setup events answers all = Along-accepted (KeepImports setup) setup (λ past are q o found. (kept setup past are q o found).import) [] events answers tt all
 
   -- and where one event more is accepted
   pub KeepImports-later : (setup : Declared) (past : Past A) (e : Event A) (a : Answer A) → AreAccepted setup past → IsAnswer setup past e a → KeepImports setup (later past e a)

@@ -3,7 +3,7 @@ use Rattle.std.proofs.Common.{◌<◌, List, [], ◌∷◌, ◌++◌, length, ar
 use Rattle.ordup_primary.specs.Declarations.{Declared}
 use Rattle.ordup_site.specs.Sites.{SiteState}
 use Rattle.ordup_world.specs.Events.{Past, later, AreAnswers, past_after}
-use Rattle.ordup_world.specs.Keeping.{KeepSites, KeepSitesAlong}
+use Rattle.ordup_world.specs.Keeping.{Along, KeepSites}
 use Rattle.ordup_world.specs.Standings.{Standing, store_of, IsSound, KeepsLimits, StandsFor}
 use Rattle.ordup_world.specs.declared.event.Event.{Event}
 use Rattle.ordup_world.specs.declared.event.Answer.{Answer}
@@ -26,9 +26,9 @@ module _ {A : Type 0} where
       }
 
   -- one event more
-  pub KeepSitesAlong-push : (setup : Declared) (past : Past A) (events : List (Event A)) (answers : List (Answer A)) (e : Event A) (a : Answer A) → AreAnswers setup past events answers
-      → KeepSitesAlong setup past events answers → KeepSites setup (later (past_after past events answers) e a) → KeepSitesAlong setup past (events ++ e ∷ []) (answers ++ a ∷ [])
-  KeepSitesAlong-push setup past [] [] e a are keeps now = (keeps, now)
-  KeepSitesAlong-push setup past [] (b ∷ answers) e a are keeps now = absurd are
-  KeepSitesAlong-push setup past (f ∷ events) [] e a are keeps now = absurd are
-  KeepSitesAlong-push setup past (f ∷ events) (b ∷ answers) e a are keeps now = (keeps.0, KeepSitesAlong-push setup (later past f b) events answers e a are.1 keeps.1 now)
+  pub Along-push : (Holds : Past A → Type 0) (setup : Declared) (past : Past A) (events : List (Event A)) (answers : List (Answer A)) (e : Event A) (a : Answer A) → AreAnswers setup past events answers
+      → Along Holds past events answers → Holds (later (past_after past events answers) e a) → Along Holds past (events ++ e ∷ []) (answers ++ a ∷ [])
+  Along-push Holds setup past [] [] e a are along now = (along, now)
+  Along-push Holds setup past [] (b ∷ answers) e a are along now = absurd are
+  Along-push Holds setup past (f ∷ events) [] e a are along now = absurd are
+  Along-push Holds setup past (f ∷ events) (b ∷ answers) e a are along now = (along.0, Along-push Holds setup (later past f b) events answers e a are.1 along.1 now)

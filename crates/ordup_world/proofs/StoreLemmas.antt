@@ -1,5 +1,5 @@
 -- What an accepted event does to the primary and the sites.
-use Rattle.std.proofs.Common.{◌≡◌, ℕ, ◌+◌, ◌-◌, ◌<◌, ◌≤◌, true, List, [], ◌∷◌, ◌++◌, length, get_or, arith, refl, sym, ap, ◌∙◌, inl, inr}
+use Rattle.std.proofs.Common.{◌≡◌, ℕ, ◌+◌, ◌-◌, ◌<◌, ◌≤◌, true, List, [], ◌∷◌, length, get_or, arith, refl, sym, ap, ◌∙◌, inl, inr}
 use Rattle.std.specs.Prelude.{nat_lt, replicate}
 use Rattle.std.proofs.Math.ListN.{set, length-set}
 use Rattle.std.proofs.lemmas.Bool.{cases_eq, cases_lt, ltb-true, and_parts}
@@ -12,9 +12,9 @@ use Rattle.ordup_objects.specs.declared.change.Op.TheVariants.{Add, Set, Mul, Ma
 use Rattle.ordup_objects.specs.States.{is_legal}
 use Rattle.ordup_objects.specs.Tables.{initial_state}
 use Rattle.ordup_objects.specs.Sets.{IsOver, ReadsKnown, is_over, is_known, reads_known}
-use Rattle.ordup_objects.specs.Serial.{History, set_at}
-use Rattle.ordup_log.proofs.SerialLemmas.{length-serial}
-use Rattle.ordup_limits.proofs.LimitLemmas.{within-inner}
+use Rattle.ordup_objects.specs.Serial.{History, set_at, with_more, with_update}
+use Rattle.ordup_objects.proofs.SerialLemmas.{length-serial}
+use Rattle.ordup_limits.proofs.LimitLemmas.{within-later}
 use Rattle.ordup_primary.specs.Declarations.{capacity_of, limits_of}
 use Rattle.ordup_primary.specs.Primaries.{PrimaryState, SiteProgress, IsPrimary, Decides, first_progress, progress_at, forced_now, waiting_now, acked_after}
 use Rattle.ordup_site.specs.Sites.{SiteState, HasApplied}
@@ -26,7 +26,7 @@ use Rattle.ordup_world.specs.Standings.{StoreState, Standing, store_of, first_si
 pub KeepsLimits-sound : (w : Standing) → IsStore (store_of w) → KeepsLimits w
 KeepsLimits-sound w is s d lt =
     let known = is.primary.sites s first_progress (omega (arith, is.count)) in
-    within-inner w.primary.log w.primary.setup.groups (limits_of w.primary.setup s) (progress_at w.primary s).reported (get_or w.sites s d).applied w.primary.acked w.primary.acked (is.prefixes s d lt).reported (omega arith) known.within
+    within-later w.primary.log w.primary.setup.groups (limits_of w.primary.setup s) (progress_at w.primary s).reported (get_or w.sites s d).applied w.primary.acked (is.prefixes s d lt).reported known.within
 
 -- ---- a primary that changes
 
@@ -86,7 +86,7 @@ IsStore-reported w p s site is primary e lt at =
     ]))
 
 -- one update more was proposed
-pub IsStore-proposed : (w : StoreState) (p : PrimaryState) (m : List Change) → IsStore w → IsPrimary p → p ≡ record w.primary { log = record { start = w.primary.log.start; sets = w.primary.log.sets ++ m ∷ [] } }
+pub IsStore-proposed : (w : StoreState) (p : PrimaryState) (m : List Change) → IsStore w → IsPrimary p → p ≡ record w.primary { log = with_update w.primary.log m }
     → IsStore (record w { primary = p })
 IsStore-proposed w p m is primary e =
     IsStore-with_primary w p is primary (ap (λ (q : PrimaryState). q.setup) e) (ap (λ (q : PrimaryState). length q.sites) e)
@@ -216,7 +216,7 @@ IsStore-start w primary log known sites =
 
 -- ---- what steps leave as it was
 
-nothing_more : (h : History) → h ≡ record { start = h.start; sets = h.sets ++ [] }
+nothing_more : (h : History) → h ≡ with_more h []
 nothing_more h = sym (ap (λ sets. let longer : History = record { start = h.start; sets = sets } in longer) (append-nil h.sets))
 
 pub Grows-same : (w : StoreState) → Grows w w
@@ -226,7 +226,7 @@ Grows-same w = record { setup = refl; more = []; log = nothing_more w.primary.lo
 pub Grows-primary : (w : StoreState) (p : PrimaryState) → p.setup ≡ w.primary.setup → p.log ≡ w.primary.log → w.primary.acked ≤ p.acked → Grows w (record w { primary = p })
 Grows-primary w p setup log acked = record { setup = setup; more = []; log = log ∙ nothing_more w.primary.log; acked = acked; sites = refl }
 
-pub Grows-proposed : (w : StoreState) (p : PrimaryState) (m : List Change) → p ≡ record w.primary { log = record { start = w.primary.log.start; sets = w.primary.log.sets ++ m ∷ [] } } → Grows w (record w { primary = p })
+pub Grows-proposed : (w : StoreState) (p : PrimaryState) (m : List Change) → p ≡ record w.primary { log = with_update w.primary.log m } → Grows w (record w { primary = p })
 Grows-proposed w p m e = rw e (record { setup = refl; more = m ∷ []; log = refl; acked = omega arith; sites = refl })
 
 pub Grows-applied : (w : StoreState) (s : ℕ) (new : SiteState) → Grows w (record w { sites = set w.sites s new })

@@ -8,7 +8,7 @@ use Rattle.ordup_objects.specs.States.{value_at}
 use Rattle.ordup_objects.specs.Serial.{History, serial}
 use Rattle.ordup_primary.specs.Declarations.{Declared}
 use Rattle.ordup_site.specs.Sites.{SiteState}
-use Rattle.ordup_log.proofs.SerialLemmas.{length-serial}
+use Rattle.ordup_objects.proofs.SerialLemmas.{length-serial}
 use Rattle.ordup_query.specs.Imports.{charge, import_of}
 use Rattle.ordup_query.specs.declared.answer.ReadAnswer.{ReadAnswer}
 use Rattle.ordup_query.proofs.ImportLemmas.{AreMarks-longer, charge-import_of}

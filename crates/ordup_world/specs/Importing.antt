@@ -1,13 +1,11 @@
 -- What queries import.
-use Rattle.std.specs.Prelude.{◌≡◌, ℕ, ℤ, ◌≤◌, false, Some, All, List, [], ◌∷◌, map, take}
+use Rattle.std.specs.Prelude.{◌≡◌, ℕ, ℤ, ◌≤◌, false, Some, All, List, [], ◌∷◌, map}
 use Rattle.ordup_objects.specs.States.{State, value_at}
 use Rattle.ordup_objects.specs.Serial.{serial}
 use Rattle.ordup_objects.specs.Weights.{distance}
 use Rattle.ordup_primary.specs.Declarations.{Declared}
 use Rattle.ordup_world.specs.Queries.{ReadMade, Opened, import_total, value_sum, values_read}
-use Rattle.ordup_world.specs.Events.{Past, log_of, opened, reply, is_refused, past_after}
-use Rattle.ordup_world.specs.declared.event.Event.{Event}
-use Rattle.ordup_world.specs.declared.event.Answer.{Answer}
+use Rattle.ordup_world.specs.Events.{Past, log_of, opened, reply, is_refused}
 
 -- the values of the objects that were read, on another state
 abbrev pub values_on : State → List ReadMade → List ℤ
@@ -29,7 +27,3 @@ module _ {A : Type 0} where
   -- each query that is open after the past keeps its import limit, by the state of the log at its reference
   abbrev pub KeepImports : Declared → Past A → Type 0
   KeepImports setup past = (q : List ℕ) (o : Opened) → opened setup q past ≡ Some o → KeepsImport (serial (log_of setup past) o.place) o
-
-  -- and so before each event of a list, and at its end
-  abbrev pub KeepImportsAlong : Declared → List (Event A) → List (Answer A) → Type 0
-  KeepImportsAlong setup events answers = (n : ℕ) → KeepImports setup (past_after [] (take n events) (take n answers))

@@ -6,6 +6,12 @@ use Rattle.ordup_world.specs.declared.event.Event.{Event}
 use Rattle.ordup_world.specs.declared.event.Answer.{Answer}
 
 module _ {A : Type 0} where
+  -- it holds of the past, and of the past after each of these events with these answers
+  abbrev pub Along : (Past A → Type 0) → Past A → List (Event A) → List (Answer A) → Type 0
+  Along Holds past [] answers = Holds past
+  Along Holds past (e ∷ events) [] = Holds past
+  Along Holds past (e ∷ events) (a ∷ answers) = Holds past × Along Holds (later past e a) events answers
+
   -- a site has applied what it reported, and no more than was sent to it; its feed holds no more than it may; and the acknowledged updates that it has not applied weigh at most each of its limits
   pub record KeepsSite (setup : Declared) (past : Past A) (s : ℕ) : Type 0 where
     pub told : reported s past ≤ applied s past
@@ -17,9 +23,3 @@ module _ {A : Type 0} where
   -- each site does
   abbrev pub KeepSites : Declared → Past A → Type 0
   KeepSites setup past = (s : ℕ) → s < length setup.sites → KeepsSite setup past s
-
-  -- and so before the first of these events, and after each of them
-  abbrev pub KeepSitesAlong : Declared → Past A → List (Event A) → List (Answer A) → Type 0
-  KeepSitesAlong setup past [] answers = KeepSites setup past
-  KeepSitesAlong setup past (e ∷ events) [] = KeepSites setup past
-  KeepSitesAlong setup past (e ∷ events) (a ∷ answers) = KeepSites setup past × KeepSitesAlong setup (later past e a) events answers

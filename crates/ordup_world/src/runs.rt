@@ -3,8 +3,8 @@ ghost use Rattle.ordup_objects.specs.Refusals.{IsRefusal};
 ghost use Rattle.ordup_primary.specs.Declarations.{start_refusal};
 ghost use Rattle.ordup_world.specs.Events.{AreAnswers, past_after};
 ghost use Rattle.ordup_world.specs.Standings.{StandsFor, IsSound, KeepsLimits};
-ghost use Rattle.ordup_world.specs.Importing.{KeepImportsAlong};
-ghost use Rattle.ordup_world.specs.Keeping.{KeepSitesAlong};
+ghost use Rattle.ordup_world.specs.Importing.{KeepImports};
+ghost use Rattle.ordup_world.specs.Keeping.{Along, KeepSites};
 
 use crate::event::{Answer, Event};
 use crate::outcome::Run;
@@ -27,8 +27,8 @@ pub fn run<A: Allocator + Copy>(
     ensures setup { IfOk result (λ run. run.world.primary.setup ≡ setup) }
     ensures sound { IfOk result (λ run. IsSound run.world) }
     ensures limits { IfOk result (λ run. KeepsLimits run.world) }
-    ensures imports { IfOk result (λ run. KeepImportsAlong setup events.items run.answers.items) }
-    ensures along { IfOk result (λ run. KeepSitesAlong setup [] events.items run.answers.items) }
+    ensures imports { IfOk result (λ run. Along (KeepImports setup) [] events.items run.answers.items) }
+    ensures along { IfOk result (λ run. Along (KeepSites setup) [] events.items run.answers.items) }
     ensures allowed { IfOk result (λ _. start_refusal setup ≡ None) }
     ensures refused { IfErr result (λ e. IsRefusal (start_refusal setup) e) }
 {

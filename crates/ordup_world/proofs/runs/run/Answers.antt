@@ -2,8 +2,9 @@ use Rattle.std.proofs.Common.{arith, ◌≡◌, ◌++◌, ◌∷◌, [], ◌∙�
 use Rattle.std.specs.Vec.Iter.{into_iter_items}
 use Rattle.ordup_world.specs.Events.{past_after, later}
 use Rattle.ordup_world.proofs.RunLemmas.{all_yielded, past_after-push, AreAnswers-push}
-use Rattle.ordup_world.proofs.KeepingLemmas.{KeepSites-stands, KeepSitesAlong-push}
-use Rattle.ordup_world.proofs.ImportingLemmas.{KeepImportsAlong-answers}
+use Rattle.ordup_world.proofs.KeepingLemmas.{KeepSites-stands, Along-push}
+use Rattle.ordup_world.specs.Keeping.{KeepSites}
+use Rattle.ordup_world.proofs.ImportingLemmas.{KeepImports-along}
 use Rattle.ordup_world.proofs.runs.run.Goals as goal
 
 pub loop-event-preserved : goal.loop-event-preserved
@@ -20,7 +21,7 @@ loop-event-preserved g c =
       along =
           let after = c.step.ensures.state mid before.state in
           let now = KeepSites-stands c.step.new.self (later mid c.in-Some.event c.step.result) c.step.ensures.sound c.step.ensures.limits after in
-          rw c.push_reserved.ensures.items (KeepSitesAlong-push c.args.setup [] c.loop-event.yielded c.loop-event.answers.items c.in-Some.event c.step.result before.answers before.along (rw (c.step.ensures.setup ∙ before.setup) at now));
+          rw c.push_reserved.ensures.items (Along-push (KeepSites c.args.setup) c.args.setup [] c.loop-event.yielded c.loop-event.answers.items c.in-Some.event c.step.result before.answers before.along (rw (c.step.ensures.setup ∙ before.setup) at now));
       state = rw (c.push_reserved.ensures.items, past_after-push c.args.setup [] c.loop-event.yielded c.loop-event.answers.items c.in-Some.event c.step.result before.answers) (c.step.ensures.state mid before.state);
     }
 
@@ -46,7 +47,7 @@ pub returns-clause-imports : goal.returns-clause-imports
 returns-clause-imports g c =
     let before = c.loop-event.invariant in
     let all : c.loop-event.yielded ≡ c.args.events.items = all_yielded c.loop-event.yielded (into_iter_items c.loop-event.event-iterator) c.args.events.items (omega (arith, c.in-None.ensures.steps.0, c.loop-event.event-iterator.rest.ok)) before.left in
-    KeepImportsAlong-answers c.args.setup c.args.events.items c.loop-event.answers.items (rw all at before.answers)
+    KeepImports-along c.args.setup c.args.events.items c.loop-event.answers.items (rw all at before.answers)
 
 pub loop-event-init : goal.loop-event-init
 loop-event-init g c =

@@ -1,16 +1,16 @@
 -- Serial results, and logs that grow.
-use Rattle.std.proofs.Common.{◌≡◌, ℕ, zero, suc, ◌+◌, ◌-◌, ◌<◌, ◌≤◌, ℤ, true, List, [], ◌∷◌, ◌++◌, length, get_or, arith, refl, ap, ◌∙◌, inl, inr}
+use Rattle.std.proofs.Common.{◌≡◌, ℕ, zero, suc, ◌+◌, ◌<◌, ◌≤◌, true, List, [], ◌∷◌, ◌++◌, length, get_or, arith, refl, ap, ◌∙◌, inl, inr}
 use Rattle.std.specs.List.{fold}
 use Rattle.std.proofs.Math.Seq.{take-suc, get_or-append_seam}
 use Rattle.std.proofs.Math.ListN.{set, length-set, get_or-append}
 use Rattle.std.proofs.lemmas.Bool.{cases_lt}
-use Rattle.std.proofs.lemmas.List.{take-append-le, length_push, get_or_push}
+use Rattle.std.proofs.lemmas.List.{take-append-le, length_push}
 use Rattle.std.proofs.lemmas.List.Elements.{All-push}
 use Rattle.std.proofs.lemmas.List.Sums.{fold-append}
 use Rattle.ordup_objects.specs.declared.change.Change.{Change}
 use Rattle.ordup_objects.specs.States.{State, result_at, after, is_legal, IsState}
 use Rattle.ordup_objects.specs.Sets.{IsSet, IsOver}
-use Rattle.ordup_objects.specs.Serial.{History, serial, set_at, IsLegal}
+use Rattle.ordup_objects.specs.Serial.{History, serial, with_update, IsLegal, LongerHistoriesKeepSerialResults}
 use Rattle.ordup_objects.proofs.SetLemmas.{IsState-after}
 
 -- one update more
@@ -37,35 +37,26 @@ IsState-serial h legal zero le = legal.start
 IsState-serial h legal (suc j) le =
     rw (serial-suc h j (omega arith)) (IsState-after (serial h j) (get_or h.sets j []) (IsState-serial h legal j (omega arith)) (legal.legal j (omega arith)))
 
--- sets that are added later leave the serial results as they were
-pub serial-append : (start : List ℤ) (sets more : List (List Change)) (j : ℕ) → j ≤ length sets → serial (record { start = start; sets = sets ++ more }) j ≡ serial (record { start = start; sets = sets }) j
-serial-append start sets more j le = rw (take-append-le j sets more le) refl
+-- updates that are added later leave the serial results as they were
+pub serial-longer : LongerHistoriesKeepSerialResults
+serial-longer h more j le = rw (take-append-le j h.sets more le) refl
 
--- and the sets too
-pub set_at-append : (start : List ℤ) (sets more : List (List Change)) (k : ℕ) → 0 < k → k ≤ length sets → set_at (record { start = start; sets = sets ++ more }) k ≡ set_at (record { start = start; sets = sets }) k
-set_at-append start sets more k some le = get_or-append sets more [] (k - 1) (omega arith)
-
--- the set that was added last
-pub set_at-last : (h : History) (m : List Change) → set_at (record { start = h.start; sets = h.sets ++ m ∷ [] }) (length h.sets + 1) ≡ m
-set_at-last h m = get_or_push h.sets m [] (length h.sets + 1 - 1) (omega arith)
-
--- the serial result after it
-pub serial-last : (h : History) (m : List Change) → serial (record { start = h.start; sets = h.sets ++ m ∷ [] }) (length h.sets + 1) ≡ after m (serial h (length h.sets))
+-- the serial result after one update more
+pub serial-last : (h : History) (m : List Change) → serial (with_update h m) (length h.sets + 1) ≡ after m (serial h (length h.sets))
 serial-last h m =
-    let longer : History = record { start = h.start; sets = h.sets ++ m ∷ [] } in
     let lt : length h.sets < length (h.sets ++ m ∷ []) = omega (arith, length_push h.sets m) in
     let e : length h.sets + 1 ≡ suc (length h.sets) = omega arith in
-    rw (e, serial-suc longer (length h.sets) lt, get_or-append_seam h.sets m [] [], serial-append h.start h.sets (m ∷ []) (length h.sets) (omega arith)) refl
+    rw (e, serial-suc (with_update h m) (length h.sets) lt, get_or-append_seam h.sets m [] [], serial-longer h (m ∷ []) (length h.sets) (omega arith)) refl
 
 -- a legal log stays legal by one legal set more
-pub IsLegal-append : (h : History) (m : List Change) → IsLegal h → IsSet m → IsOver (length h.start) m → is_legal m (serial h (length h.sets)) ≡ true → IsLegal (record { start = h.start; sets = h.sets ++ m ∷ [] })
+pub IsLegal-append : (h : History) (m : List Change) → IsLegal h → IsSet m → IsOver (length h.start) m → is_legal m (serial h (length h.sets)) ≡ true → IsLegal (with_update h m)
 IsLegal-append h m is set over legal = record {
   start = is.start;
   sets = All-push IsSet h.sets m is.sets set;
   known = All-push (IsOver (length h.start)) h.sets m is.known over;
   legal = λ k lt. elim (cases_lt k (length h.sets)) [
-    | inl before ↦ rw (get_or-append h.sets (m ∷ []) [] k before, serial-append h.start h.sets (m ∷ []) k (omega arith)) (is.legal k before)
+    | inl before ↦ rw (get_or-append h.sets (m ∷ []) [] k before, serial-longer h (m ∷ []) k (omega arith)) (is.legal k before)
     | inr past ↦ (let at : k ≡ length h.sets = omega (arith, length_push h.sets m) in
-        rw (at, get_or-append_seam h.sets m [] [], serial-append h.start h.sets (m ∷ []) (length h.sets) (omega arith)) legal)
+        rw (at, get_or-append_seam h.sets m [] [], serial-longer h (m ∷ []) (length h.sets) (omega arith)) legal)
   ];
 }

@@ -6,7 +6,7 @@ use Rattle.ordup_objects.specs.Tables.{initial_state}
 use Rattle.ordup_objects.specs.Serial.{History, IsLegal}
 use Rattle.ordup_limits.specs.Limits.{within}
 use Rattle.ordup_primary.specs.Declarations.{Declared, limits_of, is_ready}
-use Rattle.ordup_primary.specs.Settling.{forced_sites, waiting_sites, rounds_upto}
+use Rattle.ordup_primary.specs.Settling.{forced_sites, waiting_sites, report_at, rounds_upto}
 use Rattle.ordup_primary.specs.declared.settled.Settled.{Settled}
 use Rattle.ordup_primary.specs.declared.settled.Settled.TheVariants.{Acked, Round, Waiting}
 
@@ -34,7 +34,7 @@ progress_at p s = slice_index_or p.sites s first_progress
 
 -- what a site had reported at the decision of place k
 abbrev pub reported_at : SiteProgress → ℕ → ℕ
-reported_at site k = slice_index_or site.reports (k - 1) 0
+reported_at site k = report_at site.reports k
 
 -- the span from a to b passes no limit of site s
 abbrev pub is_within : PrimaryState → ℕ → ℕ → ℕ → Bool

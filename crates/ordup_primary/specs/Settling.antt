@@ -6,6 +6,10 @@ abbrev pub where_below : (ℕ → Bool) → ℕ → List ℕ
 where_below test zero = []
 where_below test (suc n) = if test n then where_below test n ++ n ∷ [] else where_below test n
 
+-- what a site had reported at the decision of place k, by what it had reported at each decision
+abbrev pub report_at : List ℕ → ℕ → ℕ
+report_at reports k = slice_index_or reports (k - 1) 0
+
 -- Below, `within s a b` says whether the span from a to b passes no limit of site s.
 
 -- the sites that the first settlement of place k forces: by what each has reported now, the span to k passes a limit

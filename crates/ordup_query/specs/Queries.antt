@@ -1,5 +1,5 @@
 -- Queries, and what their reads add up to.
-use Rattle.std.specs.Prelude.{◌≡◌, ℕ, ℤ, pos, ◌+◌, ◌+ℤ◌, ◌==◌, if◌then◌else◌, Option, Some, None, List, [], ◌∷◌, length, nat_lt}
+use Rattle.std.specs.Prelude.{◌≡◌, ℕ, ℤ, pos, ◌+◌, ◌+ℤ◌, ◌==◌, if◌then◌else◌, Option, Some, None, List, [], ◌∷◌, length, map, nat_lt}
 use Rattle.ordup_objects.specs.declared.refusal.Refusal.{Refusal}
 use Rattle.ordup_objects.specs.declared.refusal.Refusal.TheVariants.{OutOfRange, TooMany, OverImport}
 use Rattle.ordup_site.specs.Sites.{SiteState}
@@ -19,24 +19,28 @@ pub record QueryState : Type 0 where
 abbrev pub begin_refusal : ℕ → Option Refusal
 begin_refusal limit = if nat_lt 1000000000000000000 limit then Some OutOfRange else None
 
--- why a read of an object at a site is refused, if it is
-abbrev pub read_refusal : QueryState → SiteState → ℕ → Option Refusal
-read_refusal q s x =
-    if q.reads == 256 then Some TooMany else
-    if nat_lt q.limit (q.total + charge s q.marks x) then Some OverImport else None
+-- why a query refuses a read, if it does: it made as many as it may, or its total would pass the limit
+abbrev pub read_refusal : ℕ → ℕ → ℕ → ℕ → Option Refusal
+read_refusal reads limit total import =
+    if reads == 256 then Some TooMany else
+    if nat_lt limit (total + import) then Some OverImport else None
 
--- the values of these answers, added up
-abbrev pub value_sum : List ReadAnswer → ℤ
+-- why it refuses a read of an object at a site, if it does
+abbrev pub refusal_at : QueryState → SiteState → ℕ → Option Refusal
+refusal_at q s x = read_refusal q.reads q.limit q.total (charge s q.marks x)
+
+-- values, added up
+abbrev pub value_sum : List ℤ → ℤ
 value_sum [] = pos 0
-value_sum (a ∷ answers) = value_sum answers +ℤ a.value
+value_sum (value ∷ values) = value_sum values +ℤ value
 
--- their imports, added up
-abbrev pub import_sum : List ReadAnswer → ℕ
+-- imports, added up
+abbrev pub import_sum : List ℕ → ℕ
 import_sum [] = 0
-import_sum (a ∷ answers) = import_sum answers + a.import
+import_sum (import ∷ imports) = import_sum imports + import
 
 -- the accepted reads had these answers, newest first, and there were no others
 pub record HasRead (q : QueryState) (answers : List ReadAnswer) : Type 0 where
   pub reads : q.reads ≡ length answers
-  pub sum : q.sum ≡ value_sum answers
-  pub total : q.total ≡ import_sum answers
+  pub sum : q.sum ≡ value_sum (map (λ a. a.value) answers)
+  pub total : q.total ≡ import_sum (map (λ a. a.import) answers)

@@ -1,11 +1,11 @@
-ghost use Rattle.std.specs.Prelude.{◌≡◌, ◌≤◌, ◌<◌, ◌+◌, ◌+ℤ◌, ℕ, ℤ, pos, None, Some, List, ◌∷◌, IfOk, IfErr, OnOk, OnErr, length};
+ghost use Rattle.std.specs.Prelude.{◌≡◌, ◌≤◌, ◌<◌, ◌+◌, ◌+ℤ◌, ℕ, ℤ, pos, None, Some, List, ◌∷◌, IfOk, IfErr, OnOk, OnErr, length, map};
 ghost use Rattle.ordup_objects.specs.States.{value_at};
 ghost use Rattle.ordup_objects.specs.Serial.{History, serial};
 ghost use Rattle.ordup_objects.specs.Weights.{distance};
 ghost use Rattle.ordup_site.specs.Sites.{HasApplied};
 ghost use Rattle.ordup_query.specs.declared.answer.ReadAnswer.{ReadAnswer};
 ghost use Rattle.ordup_query.specs.Imports.{import_of, mark_at, AreMarks, charge};
-ghost use Rattle.ordup_query.specs.Queries.{begin_refusal, read_refusal, value_sum, import_sum, HasRead};
+ghost use Rattle.ordup_query.specs.Queries.{begin_refusal, refusal_at, value_sum, import_sum, HasRead};
 
 use crate::answer::{QueryAnswer, ReadAnswer};
 use crate::sizes::{GREATEST_IMPORT_LIMIT, MOST_READS};
@@ -82,8 +82,8 @@ impl<A: Allocator + Copy> Query<A> {
         ensures total { IfOk result (λ a. a.total ≡ self.old.total + a.import) }
         ensures query { IfOk result (λ a. self.new ≡ record self.old { sum = self.old.sum +ℤ a.value; total = a.total; reads = self.old.reads + 1 }) }
         ensures reads { (answers : List ReadAnswer) → HasRead self.old answers → IfOk result (λ a. HasRead self.new (a ∷ answers)) }
-        ensures allowed { OnOk result (read_refusal self.old site.now object ≡ None) }
-        ensures refused { IfErr result (λ e. read_refusal self.old site.now object ≡ Some e) }
+        ensures allowed { OnOk result (refusal_at self.old site.now object ≡ None) }
+        ensures refused { IfErr result (λ e. refusal_at self.old site.now object ≡ Some e) }
         ensures err { OnErr result (self.new ≡ self.old) }
         // Where the marks are those of a reference on a history, of which the site applied the first j updates, the import is
         // the weight between, and the value at the reference is no further off.
@@ -111,7 +111,7 @@ impl<A: Allocator + Copy> Query<A> {
     /// Ends the query, and answers what its accepted reads added up to.
     pub fn end(self) -> QueryAnswer
         ensures answer { result ≡ record { place = self.place; sum = self.sum; total = self.total; reads = self.reads } }
-        ensures reads { (answers : List ReadAnswer) → HasRead self answers → result ≡ record { place = self.place; sum = value_sum answers; total = import_sum answers; reads = length answers } }
+        ensures reads { (answers : List ReadAnswer) → HasRead self answers → result ≡ record { place = self.place; sum = value_sum (map (λ a. a.value) answers); total = import_sum (map (λ a. a.import) answers); reads = length answers } }
         ensures within { result.total ≤ self.limit }
         ensures few { result.reads ≤ 256 }
     {

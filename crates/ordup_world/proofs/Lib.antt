@@ -2,8 +2,10 @@ pub mod StoreLemmas
 pub mod AfterLemmas
 pub mod RunLemmas
 pub mod AnswerLemmas
+pub mod StepLemmas
 pub mod QueryLemmas
 pub mod WorldLemmas
 pub mod QueryAnswerLemmas
-pub mod ImportingLemmas
-pub mod KeepingLemmas
+pub mod QueryStepLemmas
+pub mod ImportLemmas
+pub mod AlongLemmas

@@ -6,11 +6,11 @@ use Rattle.std.proofs.lemmas.Bool.{cases_Bool}
 use Rattle.ordup_objects.specs.declared.refusal.Refusal.{Refusal}
 use Rattle.ordup_objects.specs.declared.refusal.Refusal.TheVariants.{UnknownQuery}
 use Rattle.ordup_site.specs.Sites.{SiteState}
-use Rattle.ordup_query.specs.Queries.{read_refusal}
+use Rattle.ordup_query.specs.Queries.{refusal_at}
 use Rattle.ordup_query.specs.declared.answer.ReadAnswer.{ReadAnswer}
 use Rattle.ordup_world.specs.Events.{is_same}
-use Rattle.ordup_world.specs.Standings.{OpenState, Queries, find_query}
-use Rattle.ordup_world.specs.Reading.{site_at, refusal_of, with_answer, Answers, IsRead}
+use Rattle.ordup_world.specs.Worlds.{OpenState, Queries, find_query}
+use Rattle.ordup_world.specs.OpenQueries.{site_at, refusal_of, with_answer, IsAnswered, IsRead}
 
 value_of : {X : Type 0} → X → Option X → X
 value_of x None = x
@@ -31,11 +31,11 @@ set_value-same test (e ∷ es) w found = elim (cases_Bool (test e.0)) [
 -- an accepted read, written back
 pub IsRead-made : (old new : Queries) (name : List ℕ) (sites : List SiteState) (x : ℕ) (r : Result ReadAnswer Refusal) (before after : OpenState) → find_query name old ≡ Some before
     → ((q : List ℕ) → find_query q new ≡ cond (is_same name q) (Some after) (find_query q old)) → length new ≡ length old
-    → IfOk r (λ a. Answers before (site_at sites before.site) x a) → IfOk r (λ a. after ≡ with_answer before a) → IfOk r (λ a. IsRead old new name sites x a)
+    → IfOk r (λ a. IsAnswered before (site_at sites before.site) x a) → IfOk r (λ a. after ≡ with_answer before a) → IfOk r (λ a. IsRead old new name sites x a)
 IsRead-made old new name sites x (Ok a) before after found queries count answers is = record {
   before = before;
   found = found;
-  answers = answers;
+  answered = answers;
   queries = λ q. queries q ∙ ap (λ o. cond (is_same name q) (Some o) (find_query q old)) is;
   count = count;
 }
@@ -43,7 +43,7 @@ IsRead-made old new name sites x (Err e) before after found queries count answer
 
 -- a refused read
 pub refused-by : (old : Queries) (name : List ℕ) (sites : List SiteState) (x : ℕ) (r : Result ReadAnswer Refusal) (before : OpenState) → find_query name old ≡ Some before
-    → IfErr r (λ e. read_refusal before.query (site_at sites before.site) x ≡ Some e) → IfErr r (λ e. refusal_of (find_query name old) sites x ≡ Some e)
+    → IfErr r (λ e. refusal_at before.query (site_at sites before.site) x ≡ Some e) → IfErr r (λ e. refusal_of (find_query name old) sites x ≡ Some e)
 refused-by old name sites x (Ok a) before found h = tt
 refused-by old name sites x (Err e) before found h = rw found h
 

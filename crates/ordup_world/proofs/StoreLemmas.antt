@@ -19,23 +19,23 @@ use Rattle.ordup_primary.specs.Declarations.{capacity_of, limits_of}
 use Rattle.ordup_primary.specs.Primaries.{PrimaryState, SiteProgress, IsPrimary, Decides, first_progress, progress_at, forced_now, waiting_now, acked_after}
 use Rattle.ordup_site.specs.Sites.{SiteState, HasApplied}
 use Rattle.ordup_site.proofs.SiteLemmas.{HasApplied-longer}
-use Rattle.ordup_world.specs.Growing.{Grows}
-use Rattle.ordup_world.specs.Standings.{StoreState, Standing, store_of, first_site, HoldsPrefix, IsStore, KeepsLimits}
+use Rattle.ordup_world.specs.Steps.{Grows}
+use Rattle.ordup_world.specs.Worlds.{StoreState, WorldState, store_of, first_site, HoldsFeed, IsStore, KeepsLimits}
 
 -- a sound world keeps its limits
-pub KeepsLimits-sound : (w : Standing) → IsStore (store_of w) → KeepsLimits w
+pub KeepsLimits-sound : (w : WorldState) → IsStore (store_of w) → KeepsLimits w
 KeepsLimits-sound w is s d lt =
     let known = is.primary.sites s first_progress (omega (arith, is.count)) in
-    within-later w.primary.log w.primary.setup.groups (limits_of w.primary.setup s) (progress_at w.primary s).reported (get_or w.sites s d).applied w.primary.acked (is.prefixes s d lt).reported known.within
+    within-later w.primary.log w.primary.setup.groups (limits_of w.primary.setup s) (progress_at w.primary s).reported (get_or w.sites s d).applied w.primary.acked (is.sites s d lt).holds.told known.within
 
 -- ---- a primary that changes
 
 IsStore-with_primary : (w : StoreState) (p : PrimaryState) → IsStore w → IsPrimary p → p.setup ≡ w.primary.setup → length p.sites ≡ length w.primary.sites
-    → ((s : ℕ) (d : SiteState) → s < length w.sites → HoldsPrefix p.log (capacity_of w.primary.setup s) (progress_at p s) (get_or w.sites s d)) → IsStore (record w { primary = p })
+    → ((s : ℕ) (d : SiteState) → s < length w.sites → HoldsFeed p.log (capacity_of w.primary.setup s) (progress_at p s) (get_or w.sites s d)) → IsStore (record w { primary = p })
 IsStore-with_primary w p is primary same count prefixes = record {
   primary = primary;
   count = is.count ∙ sym count;
-  prefixes = λ s d lt. rw same (prefixes s d lt);
+  sites = λ s d lt. rw same (prefixes s d lt);
 }
 
 -- the site read at a place is the one there
@@ -52,16 +52,18 @@ IsStore-sent w p s site is primary e lt at unsent room =
     let x : SiteProgress = record (progress_at w.primary s) { sent = (progress_at w.primary s).sent + 1 } in
     IsStore-with_primary w p is primary (ap (λ (q : PrimaryState). q.setup) e) (ap (λ (q : PrimaryState). length q.sites) e ∙ length-set w.primary.sites s x)
     (λ t d below. rw e (elim (cases_eq t s) [
-      | inl same ↦ (let holds = is.prefixes s d lt in
+      | inl same ↦ (let holds = is.sites s d lt in
           let here = site-at w s site d lt at in
           rw (get_or-set_at w.primary.sites s t x first_progress same there, same) (record {
-            reported = holds.reported;
-            applied = omega (arith, holds.applied);
-            sent = omega (arith, holds.sent, unsent);
-            feed = omega (arith, holds.feed, holds.applied, ap (λ (q : SiteState). q.applied) here, room);
-            prefix = holds.prefix;
+            holds = record {
+              told = holds.holds.told;
+              got = omega (arith, holds.holds.got);
+              logged = omega (arith, holds.holds.logged, unsent);
+              prefix = holds.holds.prefix;
+            };
+            feed = omega (arith, holds.feed, holds.holds.got, ap (λ (q : SiteState). q.applied) here, room);
           }))
-      | inr other ↦ rw (get_or-set_other w.primary.sites s t x first_progress other) (is.prefixes t d below)
+      | inr other ↦ rw (get_or-set_other w.primary.sites s t x first_progress other) (is.sites t d below)
     ]))
 
 -- a site reported what it applied
@@ -73,16 +75,18 @@ IsStore-reported w p s site is primary e lt at =
     let x : SiteProgress = record (progress_at w.primary s) { reported = site.applied } in
     IsStore-with_primary w p is primary (ap (λ (q : PrimaryState). q.setup) e) (ap (λ (q : PrimaryState). length q.sites) e ∙ length-set w.primary.sites s x)
     (λ t d below. rw e (elim (cases_eq t s) [
-      | inl same ↦ (let holds = is.prefixes s d lt in
+      | inl same ↦ (let holds = is.sites s d lt in
           let here = site-at w s site d lt at in
           rw (get_or-set_at w.primary.sites s t x first_progress same there, same) (record {
-            reported = omega (arith, ap (λ (q : SiteState). q.applied) here);
-            applied = holds.applied;
-            sent = holds.sent;
+            holds = record {
+              told = omega (arith, ap (λ (q : SiteState). q.applied) here);
+              got = holds.holds.got;
+              logged = holds.holds.logged;
+              prefix = holds.holds.prefix;
+            };
             feed = holds.feed;
-            prefix = holds.prefix;
           }))
-      | inr other ↦ rw (get_or-set_other w.primary.sites s t x first_progress other) (is.prefixes t d below)
+      | inr other ↦ rw (get_or-set_other w.primary.sites s t x first_progress other) (is.sites t d below)
     ]))
 
 -- one update more was proposed
@@ -90,30 +94,34 @@ pub IsStore-proposed : (w : StoreState) (p : PrimaryState) (m : List Change) →
     → IsStore (record w { primary = p })
 IsStore-proposed w p m is primary e =
     IsStore-with_primary w p is primary (ap (λ (q : PrimaryState). q.setup) e) (ap (λ (q : PrimaryState). length q.sites) e)
-    (λ s d lt. rw e (let holds = is.prefixes s d lt in record {
-      reported = holds.reported;
-      applied = holds.applied;
-      sent = omega (arith, holds.sent, length_push w.primary.log.sets m);
+    (λ s d lt. rw e (let holds = is.sites s d lt in record {
+      holds = record {
+        told = holds.holds.told;
+        got = holds.holds.got;
+        logged = omega (arith, holds.holds.logged, length_push w.primary.log.sets m);
+        prefix = HasApplied-longer (get_or w.sites s d) w.primary.log (get_or w.sites s d).applied (m ∷ []) holds.holds.prefix;
+      };
       feed = holds.feed;
-      prefix = HasApplied-longer (get_or w.sites s d) w.primary.log (get_or w.sites s d).applied (m ∷ []) holds.prefix;
     }))
 
 -- the head was settled for the first time
 pub IsStore-decided : (w : StoreState) (p : PrimaryState) → IsStore w → IsPrimary p → Decides w.primary p → IsStore (record w { primary = p })
 IsStore-decided w p is primary decides =
     IsStore-with_primary w p is primary decides.setup decides.count
-    (λ s d lt. rw (decides.log, decides.sites s first_progress (omega (arith, is.count))) (let holds = is.prefixes s d lt in record {
-      reported = holds.reported;
-      applied = holds.applied;
-      sent = holds.sent;
+    (λ s d lt. rw (decides.log, decides.sites s first_progress (omega (arith, is.count))) (let holds = is.sites s d lt in record {
+      holds = record {
+        told = holds.holds.told;
+        got = holds.holds.got;
+        logged = holds.holds.logged;
+        prefix = holds.holds.prefix;
+      };
       feed = holds.feed;
-      prefix = holds.prefix;
     }))
 
 -- the head was settled later
 pub IsStore-waited : (w : StoreState) (p : PrimaryState) (acked : ℕ) → IsStore w → IsPrimary p → p ≡ record w.primary { acked = acked } → IsStore (record w { primary = p })
 IsStore-waited w p acked is primary e =
-    IsStore-with_primary w p is primary (ap (λ (q : PrimaryState). q.setup) e) (ap (λ (q : PrimaryState). length q.sites) e) (λ s d lt. rw e (is.prefixes s d lt))
+    IsStore-with_primary w p is primary (ap (λ (q : PrimaryState). q.setup) e) (ap (λ (q : PrimaryState). length q.sites) e) (λ s d lt. rw e (is.sites s d lt))
 
 -- the head was settled
 pub IsStore-settled : (w : StoreState) (p : PrimaryState) → IsStore w → IsPrimary p → (w.primary.acked ≡ w.primary.decided → Decides w.primary p)
@@ -126,19 +134,21 @@ IsStore-settled w p is primary first later = elim (cases_eq w.primary.acked w.pr
 -- ---- a site that applies
 
 -- one update more was applied
-HoldsPrefix-applied : (log : History) (capacity : ℕ) (known : SiteProgress) (site new : SiteState) → HoldsPrefix log capacity known site → site.applied < known.sent → HasApplied new log (site.applied + 1) → HoldsPrefix log capacity known new
-HoldsPrefix-applied log capacity known site new is lt next =
+HoldsFeed-applied : (log : History) (capacity : ℕ) (known : SiteProgress) (site new : SiteState) → HoldsFeed log capacity known site → site.applied < known.sent → HasApplied new log (site.applied + 1) → HoldsFeed log capacity known new
+HoldsFeed-applied log capacity known site new is lt next =
     record {
-      reported = omega (arith, is.reported, next.applied);
-      applied = omega (arith, next.applied);
-      sent = is.sent;
+      holds = record {
+        told = omega (arith, is.holds.told, next.applied);
+        got = omega (arith, next.applied);
+        logged = is.holds.logged;
+        prefix = rw (← next.applied) at next;
+      };
       feed = omega (arith, is.feed, next.applied);
-      prefix = rw (← next.applied) at next;
     }
 
 -- what a site holds, where it was read
-pub holds-at : (w : StoreState) (s : ℕ) (site : SiteState) → IsStore w → s < length w.sites → site ≡ get_or w.sites s site → HoldsPrefix w.primary.log (capacity_of w.primary.setup s) (progress_at w.primary s) site
-holds-at w s site is lt at = rw (← at) at (is.prefixes s site lt)
+pub holds-at : (w : StoreState) (s : ℕ) (site : SiteState) → IsStore w → s < length w.sites → site ≡ get_or w.sites s site → HoldsFeed w.primary.log (capacity_of w.primary.setup s) (progress_at w.primary s) site
+holds-at w s site is lt at = rw (← at) at (is.sites s site lt)
 
 pub IsStore-applied : (w : StoreState) (s : ℕ) (site new : SiteState) → IsStore w → s < length w.sites → site ≡ get_or w.sites s site → site.applied < (progress_at w.primary s).sent
     → HasApplied new w.primary.log (site.applied + 1) → IsStore (record w { sites = set w.sites s new })
@@ -146,9 +156,9 @@ IsStore-applied w s site new is lt at less next =
     record {
       primary = is.primary;
       count = length-set w.sites s new ∙ is.count;
-      prefixes = λ t d below. elim (cases_eq t s) [
-        | inl same ↦ rw (get_or-set_at w.sites s t new d same lt, same) (HoldsPrefix-applied w.primary.log (capacity_of w.primary.setup s) (progress_at w.primary s) site new (holds-at w s site is lt at) less next)
-        | inr other ↦ rw (get_or-set_other w.sites s t new d other) (is.prefixes t d (rw (length-set w.sites s new) at below))
+      sites = λ t d below. elim (cases_eq t s) [
+        | inl same ↦ rw (get_or-set_at w.sites s t new d same lt, same) (HoldsFeed-applied w.primary.log (capacity_of w.primary.setup s) (progress_at w.primary s) site new (holds-at w s site is lt at) less next)
+        | inr other ↦ rw (get_or-set_other w.sites s t new d other) (is.sites t d (rw (length-set w.sites s new) at below))
       ];
     }
 
@@ -157,15 +167,15 @@ pub next_over : (w : StoreState) (s : ℕ) (site : SiteState) → IsStore w → 
 next_over w s site is lt at less =
     let holds = holds-at w s site is lt at in
     let place : site.applied + 1 - 1 ≡ site.applied = omega arith in
-    let size : length site.values ≡ length w.primary.log.start = ap length holds.prefix.values ∙ length-serial w.primary.log site.applied (omega (arith, holds.sent, holds.applied)) in
-    rw (size, place) (is.primary.legal.known site.applied [] (omega (arith, holds.sent)))
+    let size : length site.values ≡ length w.primary.log.start = ap length holds.holds.prefix.values ∙ length-serial w.primary.log site.applied (omega (arith, holds.holds.logged, holds.holds.got)) in
+    rw (size, place) (is.primary.legal.known site.applied [] (omega (arith, holds.holds.logged)))
 
 -- and legal on its values
 pub next_legal : (w : StoreState) (s : ℕ) (site : SiteState) → IsStore w → s < length w.sites → site ≡ get_or w.sites s site → site.applied < (progress_at w.primary s).sent → is_legal (set_at w.primary.log (site.applied + 1)) site.values ≡ true
 next_legal w s site is lt at less =
     let holds = holds-at w s site is lt at in
     let place : site.applied + 1 - 1 ≡ site.applied = omega arith in
-    rw (holds.prefix.values, place) (is.primary.legal.legal site.applied (omega (arith, holds.sent)))
+    rw (holds.holds.prefix.values, place) (is.primary.legal.legal site.applied (omega (arith, holds.holds.logged)))
 
 reads_known-true : (n : ℕ) (op : Op) → reads_known n op ≡ true → ReadsKnown n op
 reads_known-true n (Add a) h = tt
@@ -205,12 +215,14 @@ IsStore-start w primary log known sites =
     record {
       primary = primary;
       count = count ∙ sym (length-replicate n first_progress) ∙ sym (ap length known);
-      prefixes = λ s d lt. rw (known, sites, get_or-replicate n s first_progress first_progress (omega (arith, count)), get_or-replicate n s (first_site w.primary.setup) d (omega (arith, count))) (record {
-        reported = omega arith;
-        applied = omega arith;
-        sent = omega arith;
+      sites = λ s d lt. rw (known, sites, get_or-replicate n s first_progress first_progress (omega (arith, count)), get_or-replicate n s (first_site w.primary.setup) d (omega (arith, count))) (record {
+        holds = record {
+          told = omega arith;
+          got = omega arith;
+          logged = omega arith;
+          prefix = first-prefix w.primary log;
+        };
         feed = omega arith;
-        prefix = first-prefix w.primary log;
       });
     }
 
@@ -245,7 +257,3 @@ Grows-settled w p is first later = elim (cases_eq w.primary.acked w.primary.deci
   | inl same ↦ (let d = first same in Grows-primary w p d.setup d.log (rw d.acked (acked_after-more w.primary.acked (forced_now w.primary))))
   | inr other ↦ rw (later (omega (arith, is.primary.acked, other))) (Grows-primary w (record w.primary { acked = acked_after w.primary.acked (waiting_now w.primary) }) refl refl (acked_after-more w.primary.acked (waiting_now w.primary)))
 ]
-
--- nothing changed
-pub Grows-unchanged : (w : StoreState) (p : PrimaryState) → p ≡ w.primary → Grows w (record w { primary = p })
-Grows-unchanged w p e = rw e (Grows-same w)

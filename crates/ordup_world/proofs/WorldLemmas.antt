@@ -9,19 +9,21 @@ use Rattle.ordup_objects.specs.Serial.{History, serial}
 use Rattle.ordup_primary.specs.Declarations.{Declared}
 use Rattle.ordup_site.specs.Sites.{SiteState}
 use Rattle.ordup_objects.proofs.SerialLemmas.{length-serial}
+use Rattle.ordup_query.specs.Queries.{value_sum}
 use Rattle.ordup_query.specs.Imports.{charge, import_of}
 use Rattle.ordup_query.specs.declared.answer.ReadAnswer.{ReadAnswer}
 use Rattle.ordup_query.proofs.ImportLemmas.{AreMarks-longer, charge-import_of}
-use Rattle.ordup_world.specs.Queries.{Opened, import_total, value_sum, values_read}
-use Rattle.ordup_world.specs.Events.{Past, is_same, later, opened, open_count, decisions, applied, log_of, read_now, with_read}
-use Rattle.ordup_world.specs.Standings.{StoreState, OpenState, Queries, Standing, OpenNumbers, store_of, find_query, numbers_of, numbers_after, IsStore, IsOpenSound, IsSound, IsStoreAfter, StandsFor}
-use Rattle.ordup_world.specs.Growing.{Grows}
-use Rattle.ordup_world.specs.Reading.{IsBegun, Answers, IsRead, site_at, with_answer}
+use Rattle.ordup_world.specs.Queries.{Opened, import_total, values_read}
+use Rattle.ordup_world.specs.Events.{Past, is_same, later, applied, opened, open_count, decisions, log_of, read_now, with_read}
+use Rattle.ordup_world.specs.Worlds.{StoreState, with_queries, OpenState, Queries, WorldState, OpenNumbers, store_of, find_query, numbers_of, numbers_after, IsStore, IsOpenSound, IsSound, IsStoreAfter, StandsFor}
+use Rattle.ordup_world.specs.Steps.{Grows}
+use Rattle.ordup_world.specs.OpenQueries.{IsBegun, IsAnswered, IsRead, site_at, with_answer}
 use Rattle.ordup_world.specs.declared.event.Event.{Event}
 use Rattle.ordup_world.specs.declared.event.Event.TheVariants.{Propose, Send, Apply, Report, Settle, Begin, Read, End, Abandon, Show}
 use Rattle.ordup_world.specs.declared.event.Answer.{Answer}
 use Rattle.ordup_world.specs.declared.event.Answer.TheVariants.{Proposed, Sent, Applied, Reported, Settlement, Begun, ReadOut, Ended, Abandoned, Shown, Refused}
 use Rattle.ordup_world.proofs.QueryLemmas.{some-is}
+use Rattle.ordup_world.proofs.AfterLemmas.{IsStoreAfter-aside}
 
 pub some-none : {X : Type 0} {x : X} → Some x ≡ None → ⊥
 some-none e = absurd (cc)
@@ -37,7 +39,7 @@ IsOpenSound-grows v w o store grows is = record {
   within = is.within;
 }
 
-pub IsSound-store : (w : Standing) (v : StoreState) → IsSound w → IsStore v → Grows (store_of w) v → IsSound (record { primary = v.primary; sites = v.sites; queries = w.queries })
+pub IsSound-store : (w : WorldState) (v : StoreState) → IsSound w → IsStore v → Grows (store_of w) v → IsSound (record { primary = v.primary; sites = v.sites; queries = w.queries })
 IsSound-store w v is store grows = record {
   store = store;
   few = is.few;
@@ -60,7 +62,7 @@ module _ {A : Type 0} where
   later-either past e (Refused r) = inl refl
 
   -- events that name no query
-  abbrev names_none : Event A → Bool
+  abbrev pub names_none : Event A → Bool
   names_none (Begin q s limit) = false
   names_none (Read q x) = false
   names_none (End q) = false
@@ -104,35 +106,13 @@ module _ {A : Type 0} where
   ]
 
   -- an event that names no query
-  pub StandsFor-store : (w : Standing) (v : StoreState) (past : Past A) (e : Event A) (a : Answer A) → names_none e ≡ true → Grows (store_of w) v → StandsFor w past → IsStoreAfter v (later past e a)
-      → StandsFor (record { primary = v.primary; sites = v.sites; queries = w.queries }) (later past e a)
-  StandsFor-store w v past e a none grows is store = record {
+  pub StandsFor-store : (setup : Declared) (w : WorldState) (v : StoreState) (past : Past A) (e : Event A) (a : Answer A) → names_none e ≡ true → StandsFor setup w past → IsStoreAfter setup v (later past e a)
+      → StandsFor setup (with_queries v w.queries) (later past e a)
+  StandsFor-store setup w v past e a none is store = record {
     store = store;
-    queries = λ q. is.queries q ∙ ap (λ d. option_map numbers_after (opened d q past)) (sym grows.setup) ∙ ap (option_map numbers_after) (sym (opened-later v.primary.setup q past e a none));
+    queries = λ q. is.queries q ∙ ap (option_map numbers_after) (sym (opened-later setup q past e a none));
     count = is.count ∙ sym (open_count-later past e a none);
   }
-
-  -- ---- events that name a query leave the primary and the sites as they were
-
-  abbrev stays_aside : Event A → Bool
-  stays_aside (Begin q s limit) = true
-  stays_aside (Read q x) = true
-  stays_aside (End q) = true
-  stays_aside (Abandon q) = true
-  stays_aside (Show s) = true
-  stays_aside _ = false
-
-  pub IsStoreAfter-aside : (w : StoreState) (past : Past A) (e : Event A) → stays_aside e ≡ true → IsStoreAfter w past → IsStoreAfter w (e ∷ past)
-  IsStoreAfter-aside w past (Begin q s limit) aside is = record { log = is.log; acked = is.acked; decided = is.decided; sites = λ t d lt. (let before = is.sites t d lt in record { values = before.values; sent = before.sent; applied = before.applied; reported = before.reported; reports = before.reports }); rounds = is.rounds }
-  IsStoreAfter-aside w past (Read q x) aside is = record { log = is.log; acked = is.acked; decided = is.decided; sites = λ t d lt. (let before = is.sites t d lt in record { values = before.values; sent = before.sent; applied = before.applied; reported = before.reported; reports = before.reports }); rounds = is.rounds }
-  IsStoreAfter-aside w past (End q) aside is = record { log = is.log; acked = is.acked; decided = is.decided; sites = λ t d lt. (let before = is.sites t d lt in record { values = before.values; sent = before.sent; applied = before.applied; reported = before.reported; reports = before.reports }); rounds = is.rounds }
-  IsStoreAfter-aside w past (Abandon q) aside is = record { log = is.log; acked = is.acked; decided = is.decided; sites = λ t d lt. (let before = is.sites t d lt in record { values = before.values; sent = before.sent; applied = before.applied; reported = before.reported; reports = before.reports }); rounds = is.rounds }
-  IsStoreAfter-aside w past (Show s) aside is = record { log = is.log; acked = is.acked; decided = is.decided; sites = λ t d lt. (let before = is.sites t d lt in record { values = before.values; sent = before.sent; applied = before.applied; reported = before.reported; reports = before.reports }); rounds = is.rounds }
-  IsStoreAfter-aside w past (Propose m) aside is = absurd (cc)
-  IsStoreAfter-aside w past (Send s) aside is = absurd (cc)
-  IsStoreAfter-aside w past (Apply s) aside is = absurd (cc)
-  IsStoreAfter-aside w past (Report s) aside is = absurd (cc)
-  IsStoreAfter-aside w past Settle aside is = absurd (cc)
 
 -- ---- names
 
@@ -146,7 +126,7 @@ numbered o m = option_map numbers_of o ≡ option_map numbers_after m
 
 -- ---- a query begins
 
-module _ (w : Standing) (name : List ℕ) (s limit : ℕ) (o : OpenState) (queries : Queries) where
+module _ (w : WorldState) (name : List ℕ) (s limit : ℕ) (o : OpenState) (queries : Queries) where
   IsOpenSound-begun : IsSound w → s < length w.sites → IsBegun w.primary s limit o → IsOpenSound (store_of w) o
   IsOpenSound-begun is lt begun = record {
     site = rw begun.site lt;
@@ -171,11 +151,11 @@ begun-numbers : (o : OpenState) (s limit place after : ℕ) → o.site ≡ s →
     → numbers_of o ≡ numbers_after (record { site = s; place = after; limit = limit; reads = [] })
 begun-numbers o s limit place after e f g h i j = rw (e, f, g, h, i, j) refl
 
-pub StandsFor-begun : {A : Type 0} (w : Standing) (past : Past A) (name : List ℕ) (s limit : ℕ) (o : OpenState) (queries : Queries) → StandsFor w past → IsBegun w.primary s limit o
+pub StandsFor-begun : {A : Type 0} (w : WorldState) (past : Past A) (name : List ℕ) (s limit : ℕ) (o : OpenState) (queries : Queries) → StandsFor w.primary.setup w past → IsBegun w.primary s limit o
     → ((q : List ℕ) → find_query q queries ≡ cond (is_same name q) (Some o) (find_query q w.queries)) → length queries ≡ length w.queries + 1 → o.query.limit ≡ limit
-    → StandsFor (record { primary = w.primary; sites = w.sites; queries = queries }) (Begin name s limit ∷ past)
+    → StandsFor w.primary.setup (record { primary = w.primary; sites = w.sites; queries = queries }) (Begin name s limit ∷ past)
 StandsFor-begun w past name s limit o queries is begun found count lim = record {
-  store = IsStoreAfter-aside (store_of w) past (Begin name s limit) refl is.store;
+  store = IsStoreAfter-aside w.primary.setup (store_of w) past (Begin name s limit) refl is.store;
   queries = λ q. elim (cases_Bool (is_same name q)) [
     | inl same ↦ ap (option_map numbers_of) (found q) ∙ rw same (ap Some (begun-numbers o s limit w.primary.acked (decisions w.primary.setup past).acked begun.site (begun.place ∙ is.store.acked) begun.limit begun.sum begun.total begun.reads))
     | inr other ↦ ap (option_map numbers_of) (found q) ∙ rw other (is.queries q)
@@ -186,7 +166,7 @@ StandsFor-begun w past name s limit o queries is begun found count lim = record 
 -- ---- an open query reads
 
 -- what an accepted read brings the total to is within the limit
-total-within : (o : OpenState) (site : SiteState) (x : ℕ) (a : ReadAnswer) → Answers o site x a → a.total ≤ o.query.limit
+total-within : (o : OpenState) (site : SiteState) (x : ℕ) (a : ReadAnswer) → IsAnswered o site x a → a.total ≤ o.query.limit
 total-within o site x a answers = elim (cases_Bool (o.query.reads == 256)) [
   | inl full ↦ absurd (some-none (rw full at answers.allowed))
   | inr few ↦ elim (cases_Bool (nat_lt o.query.limit (o.query.total + charge site o.query.marks x))) [
@@ -195,14 +175,14 @@ total-within o site x a answers = elim (cases_Bool (o.query.reads == 256)) [
   ]
 ]
 
-pub IsSound-read : (w : Standing) (name : List ℕ) (x : ℕ) (a : ReadAnswer) (queries : Queries) → IsSound w → IsRead w.queries queries name w.sites x a → IsSound (record { primary = w.primary; sites = w.sites; queries = queries })
+pub IsSound-read : (w : WorldState) (name : List ℕ) (x : ℕ) (a : ReadAnswer) (queries : Queries) → IsSound w → IsRead w.queries queries name w.sites x a → IsSound (record { primary = w.primary; sites = w.sites; queries = queries })
 IsSound-read w name x a queries is read = record {
   store = is.store;
   few = omega (arith, is.few, read.count);
   queries = λ q p there. elim (cases_Bool (is_same name q)) [
     | inl same ↦ (let e : with_answer read.before a ≡ p = some-is (with_answer read.before a) p (sym (rw same at (read.queries q)) ∙ there) in
         let before = is.queries name read.before read.found in
-        rw (← e) (record { site = before.site; place = before.place; count = before.count; marks = before.marks; within = total-within read.before (site_at w.sites read.before.site) x a read.answers }))
+        rw (← e) (record { site = before.site; place = before.place; count = before.count; marks = before.marks; within = total-within read.before (site_at w.sites read.before.site) x a read.answered }))
     | inr other ↦ is.queries q p (sym (rw other at (read.queries q)) ∙ there)
   ];
 }
@@ -214,22 +194,22 @@ read-numbers o (Some k) more a e h = ap Some (h k (some-is (numbers_of o) (numbe
 
 module _ {A : Type 0} where
   -- what a site reads now is what is read after the accepted events
-  pub value-now : (w : Standing) (past : Past A) (s x : ℕ) → StandsFor w past → s < length w.sites → value_at (site_at w.sites s).values x ≡ value_at (serial (log_of w.primary.setup past) (applied s past)) x
+  pub value-now : (w : WorldState) (past : Past A) (s x : ℕ) → StandsFor w.primary.setup w past → s < length w.sites → value_at (site_at w.sites s).values x ≡ value_at (serial (log_of w.primary.setup past) (applied s past)) x
   value-now w past s x is lt = ap (λ v. value_at v x) (is.store.sites s (record { applied = 0; values = []; travelled = [] }) lt).values
 
   -- and what is charged is what the read imports
-  pub import-now : (w : Standing) (past : Past A) (o : OpenState) (x : ℕ) → IsSound w → StandsFor w past → IsOpenSound (store_of w) o → x < length w.primary.setup.objects
+  pub import-now : (w : WorldState) (past : Past A) (o : OpenState) (x : ℕ) → IsSound w → StandsFor w.primary.setup w past → IsOpenSound (store_of w) o → x < length w.primary.setup.objects
       → charge (site_at w.sites o.site) o.query.marks x ≡ import_of (log_of w.primary.setup past) x (applied o.site past) o.query.place
   import-now w past o x sound is sane known =
       let none : SiteState = record { applied = 0; values = []; travelled = [] } in
-      let holds = sound.store.prefixes o.site none sane.site in
-      charge-import_of (site_at w.sites o.site) o.query.marks x (omega (arith, known, sane.count)) w.primary.log (site_at w.sites o.site).applied o.query.place holds.prefix sane.marks
+      let holds = sound.store.sites o.site none sane.site in
+      charge-import_of (site_at w.sites o.site) o.query.marks x (omega (arith, known, sane.count)) w.primary.log (site_at w.sites o.site).applied o.query.place holds.holds.prefix sane.marks
       ∙ ap (λ (h : History). import_of h x (site_at w.sites o.site).applied o.query.place) is.store.log
       ∙ ap (λ j. import_of (log_of w.primary.setup past) x j o.query.place) (is.store.sites o.site none sane.site).applied
 
   -- the numbers of an open query with one read more
-  more-numbers : (w : Standing) (past : Past A) (o : OpenState) (k : Opened) (x : ℕ) (a : ReadAnswer) → IsSound w → StandsFor w past → IsOpenSound (store_of w) o → x < length w.primary.setup.objects
-      → Answers o (site_at w.sites o.site) x a → numbers_of o ≡ numbers_after k → numbers_of (with_answer o a) ≡ numbers_after (with_read w.primary.setup past x k)
+  more-numbers : (w : WorldState) (past : Past A) (o : OpenState) (k : Opened) (x : ℕ) (a : ReadAnswer) → IsSound w → StandsFor w.primary.setup w past → IsOpenSound (store_of w) o → x < length w.primary.setup.objects
+      → IsAnswered o (site_at w.sites o.site) x a → numbers_of o ≡ numbers_after k → numbers_of (with_answer o a) ≡ numbers_after (with_read w.primary.setup past x k)
   more-numbers w past o k x a sound is sane known answers same =
       let site : o.site ≡ k.site = ap (λ (n : OpenNumbers). n.site) same in
       let place : o.query.place ≡ k.place = ap (λ (n : OpenNumbers). n.place) same in
@@ -241,16 +221,16 @@ module _ {A : Type 0} where
       let reads : o.query.reads + 1 ≡ length (read_now w.primary.setup past k.site k.place x ∷ k.reads) = omega (arith, ap (λ (n : OpenNumbers). n.reads) same) in
       rw (site, place, ap (λ (n : OpenNumbers). n.limit) same, sum, total, reads) refl
 
-  pub StandsFor-read : (w : Standing) (past : Past A) (name : List ℕ) (x : ℕ) (a : ReadAnswer) (queries : Queries) → IsSound w → StandsFor w past → x < length w.primary.setup.objects → IsRead w.queries queries name w.sites x a
-      → StandsFor (record { primary = w.primary; sites = w.sites; queries = queries }) (Read name x ∷ past)
+  pub StandsFor-read : (w : WorldState) (past : Past A) (name : List ℕ) (x : ℕ) (a : ReadAnswer) (queries : Queries) → IsSound w → StandsFor w.primary.setup w past → x < length w.primary.setup.objects → IsRead w.queries queries name w.sites x a
+      → StandsFor w.primary.setup (record { primary = w.primary; sites = w.sites; queries = queries }) (Read name x ∷ past)
   StandsFor-read w past name x a queries sound is known read =
       let sane = sound.queries name read.before read.found in
       let there : Some (numbers_of read.before) ≡ option_map numbers_after (opened w.primary.setup name past) = ap (option_map numbers_of) (sym read.found) ∙ is.queries name in
       record {
-        store = IsStoreAfter-aside (store_of w) past (Read name x) refl is.store;
+        store = IsStoreAfter-aside w.primary.setup (store_of w) past (Read name x) refl is.store;
         queries = λ q. elim (cases_Bool (is_same name q)) [
           | inl same ↦ (let e : name ≡ q = same-name name q same in
-              ap (option_map numbers_of) (read.queries q) ∙ rw same (rw e at (read-numbers read.before (opened w.primary.setup name past) (with_read w.primary.setup past x) a there (λ k. more-numbers w past read.before k x a sound is sane known read.answers))))
+              ap (option_map numbers_of) (read.queries q) ∙ rw same (rw e at (read-numbers read.before (opened w.primary.setup name past) (with_read w.primary.setup past x) a there (λ k. more-numbers w past read.before k x a sound is sane known read.answered))))
           | inr other ↦ ap (option_map numbers_of) (read.queries q) ∙ rw other (is.queries q)
         ];
         count = read.count ∙ is.count;
@@ -258,10 +238,10 @@ module _ {A : Type 0} where
 
   -- ---- an open query ends
 
-  pub StandsFor-ended : (w : Standing) (past : Past A) (name : List ℕ) (queries : Queries) → StandsFor w past → ((q : List ℕ) → find_query q queries ≡ cond (is_same name q) None (find_query q w.queries)) → length queries + 1 ≡ length w.queries
-      → StandsFor (record { primary = w.primary; sites = w.sites; queries = queries }) (End name ∷ past)
+  pub StandsFor-ended : (w : WorldState) (past : Past A) (name : List ℕ) (queries : Queries) → StandsFor w.primary.setup w past → ((q : List ℕ) → find_query q queries ≡ cond (is_same name q) None (find_query q w.queries)) → length queries + 1 ≡ length w.queries
+      → StandsFor w.primary.setup (record { primary = w.primary; sites = w.sites; queries = queries }) (End name ∷ past)
   StandsFor-ended w past name queries is found count = record {
-    store = IsStoreAfter-aside (store_of w) past (End name) refl is.store;
+    store = IsStoreAfter-aside w.primary.setup (store_of w) past (End name) refl is.store;
     queries = λ q. elim (cases_Bool (is_same name q)) [
       | inl same ↦ ap (option_map numbers_of) (found q) ∙ rw same refl
       | inr other ↦ ap (option_map numbers_of) (found q) ∙ rw other (is.queries q)
@@ -269,10 +249,10 @@ module _ {A : Type 0} where
     count = omega (arith, count, is.count);
   }
 
-  pub StandsFor-abandoned : (w : Standing) (past : Past A) (name : List ℕ) (queries : Queries) → StandsFor w past → ((q : List ℕ) → find_query q queries ≡ cond (is_same name q) None (find_query q w.queries)) → length queries + 1 ≡ length w.queries
-      → StandsFor (record { primary = w.primary; sites = w.sites; queries = queries }) (Abandon name ∷ past)
+  pub StandsFor-abandoned : (w : WorldState) (past : Past A) (name : List ℕ) (queries : Queries) → StandsFor w.primary.setup w past → ((q : List ℕ) → find_query q queries ≡ cond (is_same name q) None (find_query q w.queries)) → length queries + 1 ≡ length w.queries
+      → StandsFor w.primary.setup (record { primary = w.primary; sites = w.sites; queries = queries }) (Abandon name ∷ past)
   StandsFor-abandoned w past name queries is found count = record {
-    store = IsStoreAfter-aside (store_of w) past (Abandon name) refl is.store;
+    store = IsStoreAfter-aside w.primary.setup (store_of w) past (Abandon name) refl is.store;
     queries = λ q. elim (cases_Bool (is_same name q)) [
       | inl same ↦ ap (option_map numbers_of) (found q) ∙ rw same refl
       | inr other ↦ ap (option_map numbers_of) (found q) ∙ rw other (is.queries q)
@@ -280,7 +260,7 @@ module _ {A : Type 0} where
     count = omega (arith, count, is.count);
   }
 
-pub IsSound-ended : (w : Standing) (name : List ℕ) (queries : Queries) → IsSound w → ((q : List ℕ) → find_query q queries ≡ cond (is_same name q) None (find_query q w.queries)) → length queries + 1 ≡ length w.queries
+pub IsSound-ended : (w : WorldState) (name : List ℕ) (queries : Queries) → IsSound w → ((q : List ℕ) → find_query q queries ≡ cond (is_same name q) None (find_query q w.queries)) → length queries + 1 ≡ length w.queries
     → IsSound (record { primary = w.primary; sites = w.sites; queries = queries })
 IsSound-ended w name queries is found count = record {
   store = is.store;
@@ -296,8 +276,8 @@ IsSound-ended w name queries is found count = record {
 pub IsSound-start : (w : StoreState) → IsStore w → IsSound (record { primary = w.primary; sites = w.sites; queries = [] })
 IsSound-start w store = record { store = store; few = omega arith; queries = λ q o found. absurd (cc) }
 
-pub StandsFor-start : {A : Type 0} (w : StoreState) → IsStoreAfter {A = A} w [] → StandsFor {A = A} (record { primary = w.primary; sites = w.sites; queries = [] }) []
-StandsFor-start w store = record { store = store; queries = λ q. refl; count = refl }
+pub StandsFor-start : {A : Type 0} (setup : Declared) (w : StoreState) → IsStoreAfter {A = A} setup w [] → StandsFor {A = A} setup (with_queries w []) []
+StandsFor-start setup w store = record { store = store; queries = λ q. refl; count = refl }
 
 -- ---- what a read wants
 
@@ -306,14 +286,7 @@ if-found None P h = tt
 if-found (Some x) P h = h x refl
 
 -- each site has a value of each object
-pub values-known : (w : Standing) → IsSound w → (s : ℕ) (d : SiteState) → s < length w.sites → length (get_or w.sites s d).values ≡ length w.primary.setup.objects
+pub values-known : (w : WorldState) → IsSound w → (s : ℕ) (d : SiteState) → s < length w.sites → length (get_or w.sites s d).values ≡ length w.primary.setup.objects
 values-known w is s d lt =
-    let holds = is.store.prefixes s d lt in
-    ap length holds.prefix.values ∙ length-serial w.primary.log (get_or w.sites s d).applied holds.prefix.within ∙ ap length is.store.primary.start ∙ length-map w.primary.setup.objects (λ e. e.1)
-
--- a site was shown, or the event was refused
-pub StandsFor-shown : {A : Type 0} (w : Standing) (past : Past A) (s : ℕ) (a : Answer A) → StandsFor w past → StandsFor w (later past (Show s) a)
-StandsFor-shown w past s a is = elim (later-either past (Show s) a) [
-  | inl same ↦ rw same is
-  | inr longer ↦ rw longer (record { store = IsStoreAfter-aside (store_of w) past (Show s) refl is.store; queries = is.queries; count = is.count })
-]
+    let holds = is.store.sites s d lt in
+    ap length holds.holds.prefix.values ∙ length-serial w.primary.log (get_or w.sites s d).applied holds.holds.prefix.within ∙ ap length is.store.primary.start ∙ length-map w.primary.setup.objects (λ e. e.1)

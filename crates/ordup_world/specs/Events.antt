@@ -1,5 +1,5 @@
 -- Events, what they are answered, and the numbers of a list of accepted events.
-use Rattle.std.specs.Prelude.{◌≡◌, ◌⊎◌, ℕ, ◌+◌, ◌-◌, ◌==◌, not, if◌then◌else◌, nat_eq, nat_lt, Bool, true, false, Option, Some, None, option_map, is_some, List, [], ◌∷◌, ◌++◌, length, slice_index_or}
+use Rattle.std.specs.Prelude.{◌≡◌, ◌⊎◌, ℕ, ◌+◌, ◌-◌, ◌==◌, not, if◌then◌else◌, nat_eq, nat_lt, Bool, true, false, Option, Some, None, option_map, is_some, List, [], ◌∷◌, ◌++◌, length}
 use Rattle.std.specs.Cmp.Lexicographic.{pointwise}
 use Rattle.ordup_objects.specs.declared.change.Change.{Change}
 use Rattle.ordup_objects.specs.declared.refusal.Refusal.{Refusal}
@@ -9,13 +9,14 @@ use Rattle.ordup_objects.specs.Tables.{initial_state}
 use Rattle.ordup_objects.specs.Sets.{is_over}
 use Rattle.ordup_objects.specs.Serial.{History, serial}
 use Rattle.ordup_log.specs.Appending.{append_refusal}
-use Rattle.ordup_limits.specs.Limits.{within}
+use Rattle.ordup_limits.specs.Limits.{Limits, within}
 use Rattle.ordup_primary.specs.Declarations.{Declared, capacity_of, limits_of}
-use Rattle.ordup_primary.specs.Settling.{forced_sites, waiting_sites, rounds_upto}
+use Rattle.ordup_primary.specs.Settling.{forced_sites, waiting_sites, report_at, rounds_upto}
 use Rattle.ordup_primary.specs.Primaries.{acked_after, acked_or_round, acked_or_waiting}
 use Rattle.ordup_primary.specs.declared.settled.Settled.{Settled}
 use Rattle.ordup_query.specs.Imports.{import_of}
-use Rattle.ordup_world.specs.Queries.{ReadMade, Opened, import_total, value_sum, values_read, read_refusal}
+use Rattle.ordup_query.specs.Queries.{value_sum}
+use Rattle.ordup_world.specs.Queries.{ReadMade, Opened, import_total, values_read, refusal_now}
 use Rattle.ordup_world.specs.declared.event.Event.{Event}
 use Rattle.ordup_world.specs.declared.event.Event.TheVariants.{Propose, Send, Apply, Report, Settle, Begin, Read, End, Abandon, Show}
 use Rattle.ordup_world.specs.declared.event.Answer.{Answer}
@@ -34,10 +35,6 @@ pub record Decisions : Type 0 where
 -- the same name
 abbrev pub is_same : List ℕ → List ℕ → Bool
 is_same = pointwise nat_eq
-
--- what was reported at the decision of place k
-abbrev pub report_at : List ℕ → ℕ → ℕ
-report_at reports k = slice_index_or reports (k - 1) 0
 
 module _ {A : Type 0} where
   -- the proposed message sets, in their order
@@ -68,9 +65,13 @@ module _ {A : Type 0} where
   abbrev pub log_of : Declared → Past A → History
   log_of setup past = record { start = initial_state setup.objects; sets = sets_of past }
 
+  -- the limits of site s in force at a place: those that were declared
+  abbrev pub limits_at : Declared → Past A → ℕ → ℕ → Limits
+  limits_at setup past s place = limits_of setup s
+
   -- the span from a to b passes no limit of site s
   abbrev pub is_within_after : Declared → Past A → ℕ → ℕ → ℕ → Bool
-  is_within_after setup past s a b = within (log_of setup past) setup.groups (limits_of setup s) a b
+  is_within_after setup past s a b = within (log_of setup past) setup.groups (limits_at setup past s b) a b
 
   -- the sites that a first settlement of the head would force
   abbrev pub forced_after : Declared → Past A → Decisions → List ℕ
@@ -140,7 +141,7 @@ module _ {A : Type 0} where
   abbrev pub read_reply : Option Opened → (Opened → ReadMade) → Answer A
   read_reply None now = Refused UnknownQuery
   read_reply (Some o) now =
-      refused_or (read_refusal o (now o)) (ReadOut (record { value = (now o).value; import = (now o).import; total = import_total o.reads + (now o).import }))
+      refused_or (refusal_now o (now o)) (ReadOut (record { value = (now o).value; import = (now o).import; total = import_total o.reads + (now o).import }))
 
   -- what the end of a query is answered
   abbrev pub end_reply : Option Opened → Answer A

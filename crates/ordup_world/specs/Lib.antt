@@ -1,7 +1,8 @@
 pub mod Queries
 pub mod Events
-pub mod Standings
-pub mod Growing
-pub mod Reading
-pub mod Importing
-pub mod Keeping
+pub mod Worlds
+pub mod OpenQueries
+pub mod Steps
+pub mod StoreInside
+pub mod Imports
+pub mod Along

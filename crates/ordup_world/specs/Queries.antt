@@ -1,7 +1,7 @@
 -- Queries of a list of accepted events.
-use Rattle.std.specs.Prelude.{ℕ, ℤ, pos, ◌+◌, ◌+ℤ◌, ◌==◌, if◌then◌else◌, nat_lt, Option, Some, None, List, [], ◌∷◌, length, map}
+use Rattle.std.specs.Prelude.{ℕ, ℤ, Option, List, length, map}
 use Rattle.ordup_objects.specs.declared.refusal.Refusal.{Refusal}
-use Rattle.ordup_objects.specs.declared.refusal.Refusal.TheVariants.{TooMany, OverImport}
+use Rattle.ordup_query.specs.Queries.{read_refusal, import_sum}
 
 -- an accepted read: the object, its value at the site, and what the read imported
 pub record ReadMade : Type 0 where
@@ -16,22 +16,18 @@ pub record Opened : Type 0 where
   pub limit : ℕ
   pub reads : List ReadMade
 
--- what these reads imported
-abbrev pub import_total : List ReadMade → ℕ
-import_total [] = 0
-import_total (r ∷ reads) = import_total reads + r.import
-
--- these values, added up
-abbrev pub value_sum : List ℤ → ℤ
-value_sum [] = pos 0
-value_sum (v ∷ values) = value_sum values +ℤ v
-
 -- the values of these reads
 abbrev pub values_read : List ReadMade → List ℤ
 values_read reads = map (λ r. r.value) reads
 
--- why a query refuses a read more, if it does: its reads are as many as they may be, or the total would pass the limit
-abbrev pub read_refusal : Opened → ReadMade → Option Refusal
-read_refusal o r =
-    if length o.reads == 256 then Some TooMany else
-    if nat_lt o.limit (import_total o.reads + r.import) then Some OverImport else None
+-- what they imported, each
+abbrev pub imports_read : List ReadMade → List ℕ
+imports_read reads = map (λ r. r.import) reads
+
+-- what they imported in all
+abbrev pub import_total : List ReadMade → ℕ
+import_total reads = import_sum (imports_read reads)
+
+-- why a query refuses a read more, if it does
+abbrev pub refusal_now : Opened → ReadMade → Option Refusal
+refusal_now o r = read_refusal (length o.reads) o.limit (import_total o.reads) r.import

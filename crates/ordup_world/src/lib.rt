@@ -8,6 +8,7 @@ mod event;
 mod outcome;
 mod queries;
 mod runs;
+pub mod sizes;
 mod store;
 mod world;
 

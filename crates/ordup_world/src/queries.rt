@@ -1,11 +1,16 @@
-ghost use Rattle.std.specs.Prelude.{◌≡◌, ℕ, ◌+◌, ◌<◌, None, Some, List, [], cond, length, option_map, slice_index_or, IfOk, IfErr, IfSome, OnErr, IsSome, is_some};
+ghost use Rattle.std.specs.Prelude.{◌≡◌, ℕ, ◌+◌, ◌<◌, ◌≤◌, None, Some, List, [], cond, length, option_map, slice_index_or, IfOk, IfErr, IfSome, OnErr, IsSome, is_some};
 ghost use Rattle.ordup_site.specs.Sites.{SiteState};
 ghost use Rattle.ordup_world.specs.Events.{is_same};
-ghost use Rattle.ordup_world.specs.Standings.{find_query};
-ghost use Rattle.ordup_world.specs.Reading.{refusal_of, IsRead};
+ghost use Rattle.ordup_world.specs.Worlds.{find_query};
+ghost use Rattle.ordup_world.specs.OpenQueries.{refusal_of, IsRead, IsBegun};
 
+use crate::event::Answer;
+use crate::sizes::MOST_QUERIES;
+use crate::store::Store;
 use indexmap::IndexMap;
 use ordup_objects::{Name, ObjectId, Refusal, SiteId};
+use ordup_primary::Primary;
+use ordup_query::sizes::GREATEST_IMPORT_LIMIT;
 use ordup_query::{Query, ReadAnswer};
 use ordup_site::Site;
 use std::alloc::{AllocError, Allocator, Global};
@@ -20,7 +25,7 @@ pub(crate) struct OpenQuery<A: Allocator + Copy = Global> {
 }
 
 impl<A: Allocator + Copy> Model for OpenQuery<A> {
-    ghost use Rattle.ordup_world.specs.Standings.{OpenState};
+    ghost use Rattle.ordup_world.specs.Worlds.{OpenState};
 
     ghost Value = { OpenState };
 
@@ -29,17 +34,17 @@ impl<A: Allocator + Copy> Model for OpenQuery<A> {
 
 impl<A: Allocator + Copy> OpenQuery<A> {
     ghost use Rattle.ordup_site.specs.Sites.{SiteState};
-    ghost use Rattle.ordup_query.specs.Queries.{read_refusal};
-    ghost use Rattle.ordup_world.specs.Reading.{site_at, with_answer, Answers};
+    ghost use Rattle.ordup_query.specs.Queries.{refusal_at};
+    ghost use Rattle.ordup_world.specs.OpenQueries.{site_at, with_answer, IsAnswered};
 
     /// Reads an object at the site of the query.
     fn read(&mut self, sites: &[Site<A>], object: ObjectId) -> Result<ReadAnswer, Refusal>
         requires site { self.old.site < length sites.now }
         requires marked { object < length self.old.query.marks }
         requires known { (s : ℕ) (d : SiteState) → s < length sites.now → object < length (slice_index_or sites.now s d).values }
-        ensures ok { IfOk result (λ a. Answers self.old (site_at sites.now self.old.site) object a) }
+        ensures ok { IfOk result (λ a. IsAnswered self.old (site_at sites.now self.old.site) object a) }
         ensures query { IfOk result (λ a. self.new ≡ with_answer self.old a) }
-        ensures refused { IfErr result (λ e. read_refusal self.old.query (site_at sites.now self.old.site) object ≡ Some e) }
+        ensures refused { IfErr result (λ e. refusal_at self.old.query (site_at sites.now self.old.site) object ≡ Some e) }
         ensures err { OnErr result (self.new ≡ self.old) }
     {
         self.query.read(&sites[self.site.index()], object)
@@ -53,7 +58,7 @@ pub(crate) struct OpenQueries<A: Allocator + Copy = Global> {
 }
 
 impl<A: Allocator + Copy> Model for OpenQueries<A> {
-    ghost use Rattle.ordup_world.specs.Standings.{Queries};
+    ghost use Rattle.ordup_world.specs.Worlds.{Queries};
 
     ghost Value = { Queries };
 
@@ -61,6 +66,11 @@ impl<A: Allocator + Copy> Model for OpenQueries<A> {
 }
 
 impl<A: Allocator + Copy> OpenQueries<A> {
+    ghost use Rattle.ordup_world.specs.Worlds.{StoreState, IsSound, with_queries};
+    ghost use Rattle.ordup_world.specs.StoreInside.{state_of};
+    ghost use Rattle.ordup_world.specs.Steps.{StepsWorld};
+    ghost use Rattle.ordup_world.specs.declared.event.Event.{Event};
+
     /// No open query.
     pub(crate) fn new(alloc: A) -> Self
         ensures { result ≡ [] }
@@ -70,22 +80,91 @@ impl<A: Allocator + Copy> OpenQueries<A> {
         }
     }
 
+    /// A query begins at the site, with what is acknowledged now as its reference.
+    pub(crate) fn begin(
+        &mut self,
+        store: &Store<A>,
+        name: Name,
+        site: SiteId,
+        limit: u64,
+    ) -> Answer<A>
+        requires { IsSound (with_queries (state_of store.now) self.old) }
+        ensures { StepsWorld (with_queries (state_of store.now) self.old) (Event.Begin name site limit) result (with_queries (state_of store.now) self.new) }
+    {
+        if site.index() >= store.sites.len() {
+            return Answer::Refused(Refusal::UnknownSite);
+        }
+        if limit > GREATEST_IMPORT_LIMIT {
+            return Answer::Refused(Refusal::OutOfRange);
+        }
+        if self.len() == MOST_QUERIES {
+            return Answer::Refused(Refusal::TooMany);
+        }
+        if self.contains(name) {
+            return Answer::Refused(Refusal::QueryOpen);
+        }
+        let Ok(open) = open(&store.primary, site, limit) else {
+            return Answer::Refused(Refusal::NoMemory);
+        };
+        let Ok(()) = self.insert(name, open) else {
+            return Answer::Refused(Refusal::NoMemory);
+        };
+        Answer::Begun {
+            query: name,
+            place: store.primary.acked(),
+        }
+    }
+
+    /// The query reads an object at its site.
+    pub(crate) fn read(&mut self, store: &Store<A>, name: Name, object: ObjectId) -> Answer<A>
+        requires { IsSound (with_queries (state_of store.now) self.old) }
+        ensures { StepsWorld (with_queries (state_of store.now) self.old) (Event.Read name object) result (with_queries (state_of store.now) self.new) }
+    {
+        if object.index() >= store.primary.setup().objects().len() {
+            return Answer::Refused(Refusal::UnknownObject);
+        }
+        match self.read_at(name, store.sites.as_slice(), object) {
+            Ok(answer) => Answer::ReadOut(answer),
+            Err(refusal) => Answer::Refused(refusal),
+        }
+    }
+
+    /// The query ends, and is answered what its reads added up to.
+    pub(crate) fn end(&mut self, name: Name) -> Answer<A>
+        ensures { (store : StoreState) → IsSound (with_queries store self.old) → StepsWorld (with_queries store self.old) (Event.End name) result (with_queries store self.new) }
+    {
+        match self.remove(name) {
+            Some(open) => Answer::Ended(open.query.end()),
+            None => Answer::Refused(Refusal::UnknownQuery),
+        }
+    }
+
+    /// The query ends without an answer.
+    pub(crate) fn abandon(&mut self, name: Name) -> Answer<A>
+        ensures { (store : StoreState) → IsSound (with_queries store self.old) → StepsWorld (with_queries store self.old) (Event.Abandon name) result (with_queries store self.new) }
+    {
+        match self.remove(name) {
+            Some(_open) => Answer::Abandoned(name),
+            None => Answer::Refused(Refusal::UnknownQuery),
+        }
+    }
+
     /// How many queries are open.
-    pub(crate) fn len(&self) -> usize
+    fn len(&self) -> usize
         ensures { result ≡ length self.now }
     {
         self.entries.len()
     }
 
     /// Whether a query of this name is open.
-    pub(crate) fn contains(&self, name: Name) -> bool
+    fn contains(&self, name: Name) -> bool
         ensures { result ≡ is_some (find_query name self.now) }
     {
         self.entries.contains_key(&name)
     }
 
     /// A query begins, whose name is that of no open query.
-    pub(crate) fn insert(&mut self, name: Name, query: OpenQuery<A>) -> Result<(), AllocError>
+    fn insert(&mut self, name: Name, query: OpenQuery<A>) -> Result<(), AllocError>
         requires { find_query name self.old ≡ None }
         ensures found { IfOk result (λ _. (q : List ℕ) → find_query q self.new ≡ cond (is_same name q) (Some query) (find_query q self.old)) }
         ensures len { IfOk result (λ _. length self.new ≡ length self.old + 1) }
@@ -99,7 +178,7 @@ impl<A: Allocator + Copy> OpenQueries<A> {
     }
 
     /// The query of this name reads an object at its site.
-    pub(crate) fn read(
+    fn read_at(
         &mut self,
         name: Name,
         sites: &[Site<A>],
@@ -119,7 +198,7 @@ impl<A: Allocator + Copy> OpenQueries<A> {
     }
 
     /// The open query of this name ends.
-    pub(crate) fn remove(&mut self, name: Name) -> Option<OpenQuery<A>>
+    fn remove(&mut self, name: Name) -> Option<OpenQuery<A>>
         ensures query { result ≡ find_query name self.old }
         ensures found { (q : List ℕ) → find_query q self.new ≡ cond (is_same name q) None (find_query q self.old) }
         ensures len { IsSome result → length self.new + 1 ≡ length self.old }
@@ -127,4 +206,19 @@ impl<A: Allocator + Copy> OpenQueries<A> {
     {
         self.entries.swap_remove(&name)
     }
+}
+
+/// A query that begins at a site now: its reference is what is acknowledged.
+fn open<A: Allocator + Copy>(
+    primary: &Primary<A>,
+    site: SiteId,
+    limit: u64,
+) -> Result<OpenQuery<A>, Refusal>
+    requires { limit ≤ 1000000000000000000 }
+    ensures begun { IfOk result (λ o. IsBegun primary.now site limit o) }
+    ensures refused { IfErr result (λ e. e ≡ Refusal.NoMemory) }
+{
+    let marks = primary.marks()?;
+    let query = Query::begin(primary.acked(), marks, limit)?;
+    Ok(OpenQuery { site, query })
 }

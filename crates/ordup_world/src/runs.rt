@@ -2,9 +2,9 @@ ghost use Rattle.std.specs.Prelude.{◌≡◌, ◌≤◌, None, [], IfOk, IfErr,
 ghost use Rattle.ordup_objects.specs.Refusals.{IsRefusal};
 ghost use Rattle.ordup_primary.specs.Declarations.{start_refusal};
 ghost use Rattle.ordup_world.specs.Events.{AreAnswers, past_after};
-ghost use Rattle.ordup_world.specs.Standings.{StandsFor, IsSound, KeepsLimits};
-ghost use Rattle.ordup_world.specs.Importing.{KeepImports};
-ghost use Rattle.ordup_world.specs.Keeping.{Along, KeepSites};
+ghost use Rattle.ordup_world.specs.Worlds.{StandsFor, IsSound, KeepsLimits};
+ghost use Rattle.ordup_world.specs.Imports.{KeepImports};
+ghost use Rattle.ordup_world.specs.Along.{Along, KeepSites};
 
 use crate::event::{Answer, Event};
 use crate::outcome::Run;
@@ -23,7 +23,7 @@ pub fn run<A: Allocator + Copy>(
     events: Vec<Event<A>, A>,
 ) -> Result<Run<A>, Refusal>
     ensures answers { IfOk result (λ run. AreAnswers setup [] events.items run.answers.items) }
-    ensures state { IfOk result (λ run. StandsFor run.world (past_after [] events.items run.answers.items)) }
+    ensures state { IfOk result (λ run. StandsFor setup run.world (past_after [] events.items run.answers.items)) }
     ensures setup { IfOk result (λ run. run.world.primary.setup ≡ setup) }
     ensures sound { IfOk result (λ run. IsSound run.world) }
     ensures limits { IfOk result (λ run. KeepsLimits run.world) }
@@ -47,7 +47,7 @@ fn start<A: Allocator + Copy>(
 ) -> Result<(World<A>, Vec<Answer<A>, A>), Refusal>
     ensures answers { IfOk result (λ started. started.1.items ≡ []) }
     ensures room { IfOk result (λ started. count ≤ vec_capacity started.1) }
-    ensures state { IfOk result (λ started. StandsFor {A = A} started.0 []) }
+    ensures state { IfOk result (λ started. StandsFor {A = A} setup started.0 []) }
     ensures setup { IfOk result (λ started. started.0.primary.setup ≡ setup) }
     ensures sound { IfOk result (λ started. IsSound started.0) }
     ensures limits { IfOk result (λ started. KeepsLimits started.0) }

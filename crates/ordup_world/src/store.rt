@@ -1,43 +1,31 @@
 ghost use Rattle.std.specs.Prelude.{◌≡◌, true, [], length, replicate, IfOk, IfErr};
 ghost use Rattle.ordup_primary.specs.Declarations.{is_ready};
-ghost use Rattle.ordup_world.specs.Standings.{first_site};
+ghost use Rattle.ordup_world.specs.Worlds.{first_site};
 
 use crate::event::Answer;
 use ordup_objects::{MessageSet, Refusal, SiteId};
 use ordup_primary::{Primary, Setup};
 use ordup_site::Site;
 use std::alloc::{Allocator, Global};
-use std::marker::Model;
 
-/// The primary and its sites: a world without its queries.
+/// The primary and its sites, in order of declaration: a world without its queries.
 #[derive(Drop)]
 pub(crate) struct Store<A: Allocator + Copy = Global> {
-    primary: Primary<A>,
-    sites: Vec<Site<A>, A>,
-}
-
-impl<A: Allocator + Copy> Model for Store<A> {
-    ghost use Rattle.ordup_world.specs.Standings.{StoreState, IsStore};
-
-    ghost Value = { StoreState };
-
-    ghost view = { λ s. record { primary = s.primary; sites = s.sites.items } };
-
-    ghost invariant = { λ s. IsStore (record { primary = s.primary; sites = s.sites.items }) };
+    pub(crate) primary: Primary<A>,
+    pub(crate) sites: Vec<Site<A>, A>,
 }
 
 impl<A: Allocator + Copy> Store<A> {
-    ghost use Rattle.ordup_world.specs.Events.{Past, later, IsAnswer, OnRefused};
-    ghost use Rattle.ordup_world.specs.Standings.{IsStoreAfter, IsStore};
-    ghost use Rattle.ordup_world.specs.Growing.{Grows};
+    ghost use Rattle.ordup_world.specs.Worlds.{IsStoreAfter, IsStore};
+    ghost use Rattle.ordup_world.specs.StoreInside.{state_of};
+    ghost use Rattle.ordup_world.specs.Steps.{StepsStore};
     ghost use Rattle.ordup_world.specs.declared.event.Event.{Event};
 
     /// The primary and the sites at the start, where an object and a site are declared.
     pub(crate) fn start(alloc: A, setup: Setup<A>) -> Result<Self, Refusal>
         requires { is_ready setup ≡ true }
-        ensures setup { IfOk result (λ store. store.primary.setup ≡ setup) }
-        ensures state { IfOk result (λ store. IsStoreAfter {A = A} store []) }
-        ensures sound { IfOk result (λ store. IsStore store) }
+        ensures state { IfOk result (λ store. IsStoreAfter {A = A} setup (state_of store) []) }
+        ensures sound { IfOk result (λ store. IsStore (state_of store)) }
         ensures refused { IfErr result (λ e. e ≡ Refusal.NoMemory) }
     {
         let sites = first_sites(alloc, &setup)?;
@@ -45,49 +33,26 @@ impl<A: Allocator + Copy> Store<A> {
         Ok(Store { primary, sites })
     }
 
-    /// The primary.
-    pub(crate) fn primary(&self) -> &Primary<A>
-        ensures { result.now ≡ self.now.primary }
-    {
-        &self.primary
-    }
-
-    /// The sites, in order of declaration.
-    pub(crate) fn sites(&self) -> &[Site<A>]
-        ensures { result.now ≡ self.now.sites }
-    {
-        self.sites.as_slice()
-    }
-
     /// The primary numbers a message set as the next update.
     pub(crate) fn propose(&mut self, set: MessageSet<A>) -> Answer<A>
-        ensures answer { (past : Past A) → IsStoreAfter self.old past → IsAnswer self.old.primary.setup past (Event.Propose set) result }
-        ensures state { (past : Past A) → IsStoreAfter self.old past → IsStoreAfter self.new (later past (Event.Propose set) result) }
-        ensures setup { self.new.primary.setup ≡ self.old.primary.setup }
-        ensures refused { OnRefused result (self.new ≡ self.old) }
-        ensures sound { IsStore self.new }
-        ensures grows { Grows self.old self.new }
+        requires { IsStore (state_of self.old) }
+        ensures { StepsStore (state_of self.old) (Event.Propose set) result (state_of self.new) }
     {
         if !set.is_over(self.primary.setup().objects().len()) {
             return Answer::Refused(Refusal::UnknownObject);
         }
-        let number = match self.primary.propose(set) {
-            Ok(number) => number,
-            Err(refusal) => return Answer::Refused(refusal),
-        };
-        Answer::Proposed(number)
+        match self.primary.propose(set) {
+            Ok(number) => Answer::Proposed(number),
+            Err(refusal) => Answer::Refused(refusal),
+        }
     }
 
     /// The first update that was not sent to the site goes into its feed.
     pub(crate) fn send(&mut self, site: SiteId) -> Answer<A>
-        ensures answer { (past : Past A) → IsStoreAfter self.old past → IsAnswer self.old.primary.setup past (Event.Send site) result }
-        ensures state { (past : Past A) → IsStoreAfter self.old past → IsStoreAfter self.new (later past (Event.Send site) result) }
-        ensures setup { self.new.primary.setup ≡ self.old.primary.setup }
-        ensures refused { OnRefused result (self.new ≡ self.old) }
-        ensures sound { IsStore self.new }
-        ensures grows { Grows self.old self.new }
+        requires { IsStore (state_of self.old) }
+        ensures { StepsStore (state_of self.old) (Event.Send site) result (state_of self.new) }
     {
-        if site.index() >= self.primary.setup().sites() {
+        if site.index() >= self.sites.len() {
             return Answer::Refused(Refusal::UnknownSite);
         }
         let sent = self.primary.sent(site);
@@ -106,36 +71,28 @@ impl<A: Allocator + Copy> Store<A> {
 
     /// The site applies the next update of its feed.
     pub(crate) fn apply(&mut self, site: SiteId) -> Answer<A>
-        ensures answer { (past : Past A) → IsStoreAfter self.old past → IsAnswer self.old.primary.setup past (Event.Apply site) result }
-        ensures state { (past : Past A) → IsStoreAfter self.old past → IsStoreAfter self.new (later past (Event.Apply site) result) }
-        ensures setup { self.new.primary.setup ≡ self.old.primary.setup }
-        ensures refused { OnRefused result (self.new ≡ self.old) }
-        ensures sound { IsStore self.new }
-        ensures grows { Grows self.old self.new }
+        requires { IsStore (state_of self.old) }
+        ensures { StepsStore (state_of self.old) (Event.Apply site) result (state_of self.new) }
     {
-        if site.index() >= self.primary.setup().sites() {
+        if site.index() >= self.sites.len() {
             return Answer::Refused(Refusal::UnknownSite);
         }
         let sent = self.primary.sent(site);
-        let replica = &mut self.sites[site.index()];
-        if replica.applied() == sent {
+        let applied = self.sites[site.index()].applied();
+        if applied == sent {
             return Answer::Refused(Refusal::NothingToApply);
         }
-        let number = replica.applied() + 1;
-        replica.apply(self.primary.log().set(number));
+        let number = applied + 1;
+        self.sites[site.index()].apply(self.primary.log().set(number));
         Answer::Applied { site, number }
     }
 
     /// The site reports how many updates it applied.
     pub(crate) fn report(&mut self, site: SiteId) -> Answer<A>
-        ensures answer { (past : Past A) → IsStoreAfter self.old past → IsAnswer self.old.primary.setup past (Event.Report site) result }
-        ensures state { (past : Past A) → IsStoreAfter self.old past → IsStoreAfter self.new (later past (Event.Report site) result) }
-        ensures setup { self.new.primary.setup ≡ self.old.primary.setup }
-        ensures refused { OnRefused result (self.new ≡ self.old) }
-        ensures sound { IsStore self.new }
-        ensures grows { Grows self.old self.new }
+        requires { IsStore (state_of self.old) }
+        ensures { StepsStore (state_of self.old) (Event.Report site) result (state_of self.new) }
     {
-        if site.index() >= self.primary.setup().sites() {
+        if site.index() >= self.sites.len() {
             return Answer::Refused(Refusal::UnknownSite);
         }
         let place = self.sites[site.index()].applied();
@@ -145,38 +102,33 @@ impl<A: Allocator + Copy> Store<A> {
 
     /// The primary settles the head.
     pub(crate) fn settle(&mut self) -> Answer<A>
-        ensures answer { (past : Past A) → IsStoreAfter self.old past → IsAnswer self.old.primary.setup past Event.Settle result }
-        ensures state { (past : Past A) → IsStoreAfter self.old past → IsStoreAfter self.new (later past Event.Settle result) }
-        ensures setup { self.new.primary.setup ≡ self.old.primary.setup }
-        ensures refused { OnRefused result (self.new ≡ self.old) }
-        ensures sound { IsStore self.new }
-        ensures grows { Grows self.old self.new }
+        requires { IsStore (state_of self.old) }
+        ensures { StepsStore (state_of self.old) Event.Settle result (state_of self.new) }
     {
-        let settled = match self.primary.settle() {
-            Ok(settled) => settled,
-            Err(refusal) => return Answer::Refused(refusal),
-        };
-        Answer::Settlement(settled)
+        match self.primary.settle() {
+            Ok(settled) => Answer::Settlement(settled),
+            Err(refusal) => Answer::Refused(refusal),
+        }
     }
 
     /// The numbers and the values of the site.
     pub(crate) fn show(&self, site: SiteId) -> Answer<A>
-        ensures answer { (past : Past A) → IsStoreAfter self.now past → IsAnswer self.now.primary.setup past (Event.Show site) result }
+        requires { IsStore (state_of self.now) }
+        ensures { StepsStore (state_of self.now) (Event.Show site) result (state_of self.now) }
     {
-        if site.index() >= self.primary.setup().sites() {
+        if site.index() >= self.sites.len() {
             return Answer::Refused(Refusal::UnknownSite);
         }
         let replica = &self.sites[site.index()];
-        let values = match replica.values().copy(*self.sites.allocator()) {
-            Ok(values) => values,
-            Err(refusal) => return Answer::Refused(refusal),
-        };
-        Answer::Shown {
-            sent: self.primary.sent(site),
-            applied: replica.applied(),
-            reported: self.primary.reported(site),
-            rounds: self.primary.rounds(site).len() as u64,
-            values,
+        match replica.values().copy(*self.sites.allocator()) {
+            Ok(values) => Answer::Shown {
+                sent: self.primary.sent(site),
+                applied: replica.applied(),
+                reported: self.primary.reported(site),
+                rounds: self.primary.rounds(site).len() as u64,
+                values,
+            },
+            Err(refusal) => Answer::Refused(refusal),
         }
     }
 }

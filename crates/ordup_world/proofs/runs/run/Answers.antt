@@ -2,9 +2,9 @@ use Rattle.std.proofs.Common.{arith, ◌≡◌, ◌++◌, ◌∷◌, [], ◌∙�
 use Rattle.std.specs.Vec.Iter.{into_iter_items}
 use Rattle.ordup_world.specs.Events.{past_after, later}
 use Rattle.ordup_world.proofs.RunLemmas.{all_yielded, past_after-push, AreAnswers-push}
-use Rattle.ordup_world.proofs.KeepingLemmas.{KeepSites-stands, Along-push}
-use Rattle.ordup_world.specs.Keeping.{KeepSites}
-use Rattle.ordup_world.proofs.ImportingLemmas.{KeepImports-along}
+use Rattle.ordup_world.proofs.AlongLemmas.{KeepSites-stands, Along-push}
+use Rattle.ordup_world.specs.Along.{KeepSites}
+use Rattle.ordup_world.proofs.ImportLemmas.{KeepImports-along}
 use Rattle.ordup_world.proofs.runs.run.Goals as goal
 
 pub loop-event-preserved : goal.loop-event-preserved
@@ -17,12 +17,12 @@ loop-event-preserved g c =
       setup = c.step.ensures.setup ∙ before.setup;
       sound = c.step.ensures.sound;
       limits = c.step.ensures.limits;
-      answers = rw c.push_reserved.ensures.items (AreAnswers-push c.args.setup [] c.loop-event.yielded c.loop-event.answers.items c.in-Some.event c.step.result before.answers (rw before.setup at (c.step.ensures.answer mid before.state)));
+      answers = rw c.push_reserved.ensures.items (AreAnswers-push c.args.setup [] c.loop-event.yielded c.loop-event.answers.items c.in-Some.event c.step.result before.answers (c.step.ensures.answer c.args.setup mid before.state));
       along =
-          let after = c.step.ensures.state mid before.state in
-          let now = KeepSites-stands c.step.new.self (later mid c.in-Some.event c.step.result) c.step.ensures.sound c.step.ensures.limits after in
-          rw c.push_reserved.ensures.items (Along-push (KeepSites c.args.setup) c.args.setup [] c.loop-event.yielded c.loop-event.answers.items c.in-Some.event c.step.result before.answers before.along (rw (c.step.ensures.setup ∙ before.setup) at now));
-      state = rw (c.push_reserved.ensures.items, past_after-push c.args.setup [] c.loop-event.yielded c.loop-event.answers.items c.in-Some.event c.step.result before.answers) (c.step.ensures.state mid before.state);
+          let after = c.step.ensures.state c.args.setup mid before.state in
+          let now = KeepSites-stands c.args.setup c.step.new.self (later mid c.in-Some.event c.step.result) c.step.ensures.sound c.step.ensures.limits after in
+          rw c.push_reserved.ensures.items (Along-push (KeepSites c.args.setup) c.args.setup [] c.loop-event.yielded c.loop-event.answers.items c.in-Some.event c.step.result before.answers before.along now);
+      state = rw (c.push_reserved.ensures.items, past_after-push c.args.setup [] c.loop-event.yielded c.loop-event.answers.items c.in-Some.event c.step.result before.answers) (c.step.ensures.state c.args.setup mid before.state);
     }
 
 pub returns-clause-answers : goal.returns-clause-answers
@@ -60,6 +60,6 @@ loop-event-init g c =
       sound = started.sound;
       limits = started.limits;
       answers = rw started.answers tt;
-      along = rw started.setup at (KeepSites-stands c.in_ok-world.world [] started.sound started.limits started.state);
+      along = KeepSites-stands c.args.setup c.in_ok-world.world [] started.sound started.limits started.state;
       state = started.state;
     }

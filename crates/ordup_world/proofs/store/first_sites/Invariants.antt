@@ -1,5 +1,5 @@
 use Rattle.std.proofs.Common.{◌≡◌, replicate}
-use Rattle.ordup_world.specs.Standings.{first_site}
+use Rattle.ordup_world.specs.Worlds.{first_site}
 use Rattle.ordup_world.proofs.store.first_sites.Given as goal
 
 -- the sites so far

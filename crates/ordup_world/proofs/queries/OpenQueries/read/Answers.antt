@@ -1,41 +1,37 @@
-use Rattle.std.proofs.Common.{◌≡◌, sym}
-use Rattle.std.specs.Prelude.{Some, None}
-use Rattle.ordup_world.specs.Standings.{find_query}
-use Rattle.ordup_world.proofs.QueryLemmas.{IsRead-made, refused-by, refused-unknown, unchanged-by, is_found}
+use Rattle.std.proofs.Common.{arith, ◌<◌, length}
+use Rattle.std.proofs.lemmas.Grind.{common_steps}
+use Rattle.ordup_world.specs.Worlds.{WorldState, with_queries, find_query}
+use Rattle.ordup_world.specs.StoreInside.{state_of}
+use Rattle.ordup_world.proofs.WorldLemmas.{if-found, values-known}
+use Rattle.ordup_world.proofs.QueryStepLemmas.{unknown-read, read_refused, read_out}
 use Rattle.ordup_world.proofs.queries.OpenQueries.read.Goals as goal
-use Rattle.ordup_world.proofs.queries.OpenQueries.read.Goals.{in-Some, in-None}
 
-pub returns-clause-ok : goal.returns-clause-ok
-returns-clause-ok g c = elim c.match-get_mut.branch [
-  | in-Some w ↦ (let held = c.get_mut.follows.holds w.read.new.self in
-      let found : find_query c.args.name c.self.inside.entries.entries ≡ Some w.in-Some.open.now = sym (rw w.in-Some.is at c.get_mut.follows.claims.0) in
-      rw (← c.self.view_is, w.result-is, w.self-inside-is) (IsRead-made c.self.inside.entries.entries (c.get_mut.follows.lender w.read.new.self).entries c.args.name c.args.sites.now c.args.object w.read.result w.in-Some.open.now w.read.new.self found
-      (held.3 (is_found (find_query c.args.name c.self.inside.entries.entries) w.in-Some.open.now found)).0 held.2 w.read.ensures.ok w.read.ensures.query))
-  | in-None w ↦ rw w.result-is tt
-]
+pub returns-then-index-len : goal.returns-then-index-len
+returns-then-index-len g c = unknown-read (with_queries (state_of c.args.store.now) c.args.self.now) c.args.name c.args.object c.requires (grind (arith, common_steps))
 
-pub returns-clause-refused : goal.returns-clause-refused
-returns-clause-refused g c = elim c.match-get_mut.branch [
-  | in-Some w ↦ (let found : find_query c.args.name c.self.inside.entries.entries ≡ Some w.in-Some.open.now = sym (rw w.in-Some.is at c.get_mut.follows.claims.0) in
-      rw (← c.self.view_is, w.result-is) (refused-by c.self.inside.entries.entries c.args.name c.args.sites.now c.args.object w.read.result w.in-Some.open.now found w.read.ensures.refused))
-  | in-None w ↦ (let none : find_query c.args.name c.self.inside.entries.entries ≡ None = sym (rw w.in-None.is at c.get_mut.follows.claims.0) in
-      rw (← c.self.view_is, w.result-is) (refused-unknown c.self.inside.entries.entries c.args.name c.args.sites.now c.args.object none))
-]
+pub read_at-requires-clause-site : goal.read_at-requires-clause-site
+read_at-requires-clause-site g c =
+    let w : WorldState = with_queries (state_of c.args.store.now) c.args.self.now in
+    rw c.as_slice.ensures.value (if-found (find_query c.args.name w.queries) (λ o. o.site < length w.sites) (λ o found. (c.requires.queries c.args.name o found).site))
 
-pub returns-clause-err : goal.returns-clause-err
-returns-clause-err g c = elim c.match-get_mut.branch [
-  | in-Some w ↦ (let held = c.get_mut.follows.holds w.read.new.self in
-      let found : find_query c.args.name c.self.inside.entries.entries ≡ Some w.in-Some.open.now = sym (rw w.in-Some.is at c.get_mut.follows.claims.0) in
-      rw (← c.self.view_is, w.result-is, w.self-inside-is) (unchanged-by c.self.inside.entries.entries (c.get_mut.follows.lender w.read.new.self).entries c.args.name w.read.result w.in-Some.open.now w.read.new.self found held.0 w.read.ensures.err))
-  | in-None w ↦ rw (w.result-is, w.self-inside-is, c.get_mut.follows.holds-at-none) c.self.view_is
-]
+pub read_at-requires-clause-marked : goal.read_at-requires-clause-marked
+read_at-requires-clause-marked g c =
+    let w : WorldState = with_queries (state_of c.args.store.now) c.args.self.now in
+    let known : c.args.object < length w.primary.setup.objects = grind (arith, common_steps) in
+    if-found (find_query c.args.name w.queries) (λ o. c.args.object < length o.query.marks) (λ o found. omega (arith, known, (c.requires.queries c.args.name o found).count))
 
-pub read-requires-clause-site : goal.read-requires-clause-site
-read-requires-clause-site g c =
-    let found : find_query c.args.name c.self.inside.entries.entries ≡ Some c.in-Some.open.now = sym (rw c.in-Some.is at c.get_mut.follows.claims.0) in
-    rw found at (rw (← c.self.view_is) at c.requires.site)
+pub read_at-requires-clause-known : goal.read_at-requires-clause-known
+read_at-requires-clause-known g c =
+    let w : WorldState = with_queries (state_of c.args.store.now) c.args.self.now in
+    let known : c.args.object < length w.primary.setup.objects = grind (arith, common_steps) in
+    rw c.as_slice.ensures.value (λ s d lt. omega (arith, known, values-known w c.requires s d lt))
 
-pub read-requires-clause-marked : goal.read-requires-clause-marked
-read-requires-clause-marked g c =
-    let found : find_query c.args.name c.self.inside.entries.entries ≡ Some c.in-Some.open.now = sym (rw c.in-Some.is at c.get_mut.follows.claims.0) in
-    rw found at (rw (← c.self.view_is) at c.requires.marked)
+pub returns-in-Ok : goal.returns-in-Ok
+returns-in-Ok g c =
+    read_out (with_queries (state_of c.args.store.now) c.args.self.now) c.read_at.new.self c.args.name c.args.object c.in-Ok.answer c.requires (grind (arith, common_steps))
+    (rw c.as_slice.ensures.value at c.in-Ok.ensures.ok)
+
+pub returns-in-Err : goal.returns-in-Err
+returns-in-Err g c =
+    read_refused (with_queries (state_of c.args.store.now) c.args.self.now) c.read_at.new.self c.args.name c.args.object c.in-Err.refusal c.requires (grind (arith, common_steps))
+    (rw c.as_slice.ensures.value at c.in-Err.ensures.refused) c.in-Err.ensures.err

@@ -1,25 +1,19 @@
-use Rattle.ordup_world.specs.Standings.{StoreState}
+use Rattle.ordup_world.specs.StoreInside.{state_of}
 use Rattle.ordup_world.proofs.StoreLemmas.{IsStore-start}
 use Rattle.ordup_world.proofs.AfterLemmas.{IsStoreAfter-start}
 use Rattle.ordup_world.proofs.store.Store.start.Goals as goal
 
-pub invariant_of-result : goal.invariant_of-result
-invariant_of-result g c =
-    let w : StoreState = record { primary = c.in_ok-primary.primary; sites = c.in_ok-sites.sites.items } in
-    let made = c.in_ok-primary.ensures in
-    IsStore-start w made.sound (rw (← made.setup) at made.log) (rw (← made.setup) at made.sites) (rw (← made.setup) at c.in_ok-sites.ensures.sites)
-
 pub returns-clause-state : goal.returns-clause-state
 returns-clause-state g c =
-    let w : StoreState = record { primary = c.in_ok-primary.primary; sites = c.in_ok-sites.sites.items } in
     let made = c.in_ok-primary.ensures in
     let log = rw (← made.setup) at made.log in
     let known = rw (← made.setup) at made.sites in
     let sites = rw (← made.setup) at c.in_ok-sites.ensures.sites in
-    IsStoreAfter-start w (IsStore-start w made.sound log known sites) log made.numbers.0 made.numbers.1 known sites
+    let w = state_of (record { primary = c.in_ok-primary.primary; sites = c.in_ok-sites.sites }) in
+    rw (← made.setup) (IsStoreAfter-start w (IsStore-start w made.sound log known sites) log made.numbers.0 made.numbers.1 known sites)
 
 pub returns-clause-sound : goal.returns-clause-sound
 returns-clause-sound g c =
-    let w : StoreState = record { primary = c.in_ok-primary.primary; sites = c.in_ok-sites.sites.items } in
     let made = c.in_ok-primary.ensures in
-    IsStore-start w made.sound (rw (← made.setup) at made.log) (rw (← made.setup) at made.sites) (rw (← made.setup) at c.in_ok-sites.ensures.sites)
+    IsStore-start (state_of (record { primary = c.in_ok-primary.primary; sites = c.in_ok-sites.sites })) made.sound (rw (← made.setup) at made.log) (rw (← made.setup) at made.sites)
+    (rw (← made.setup) at c.in_ok-sites.ensures.sites)

@@ -1,5 +1,9 @@
-use Rattle.ordup_world.proofs.ImportingLemmas.{KeepImports-later}
+use Rattle.ordup_world.proofs.StoreLemmas.{KeepsLimits-sound}
+use Rattle.ordup_world.proofs.ImportLemmas.{KeepImports-later}
 use Rattle.ordup_world.proofs.world.World.step.Goals as goal
 
+pub returns-clause-limits : goal.returns-clause-limits
+returns-clause-limits g c = KeepsLimits-sound c.take.new.self c.take.ensures.sound.store
+
 pub returns-clause-imports : goal.returns-clause-imports
-returns-clause-imports g c past is are = KeepImports-later _ past _ c.take.result are (c.take.ensures.answer past is)
+returns-clause-imports g c setup past is are = KeepImports-later setup past _ c.take.result are (c.take.ensures.answer setup past is)

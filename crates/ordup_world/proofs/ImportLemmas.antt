@@ -13,10 +13,11 @@ use Rattle.ordup_objects.proofs.SerialLemmas.{serial-longer}
 use Rattle.ordup_primary.specs.Declarations.{Declared}
 use Rattle.ordup_primary.specs.Primaries.{acked_after}
 use Rattle.ordup_query.proofs.ImportLemmas.{moved_between}
-use Rattle.ordup_world.specs.Queries.{ReadMade, Opened, import_total, value_sum, values_read, read_refusal}
+use Rattle.ordup_world.specs.Queries.{ReadMade, Opened, import_total, values_read, refusal_now}
 use Rattle.ordup_world.specs.Events.{Past, Decisions, is_same, sets_of, log_of, applied, decisions, settled, read_now, with_read, opened, reply, refused_or, is_refused, later, IsAnswer, AreAnswers}
-use Rattle.ordup_world.specs.Importing.{KeepsImport, values_on, AreAccepted, KeepImports}
-use Rattle.ordup_world.specs.Keeping.{Along}
+use Rattle.ordup_query.specs.Queries.{value_sum}
+use Rattle.ordup_world.specs.Imports.{KeepsImport, values_on, AreAccepted, KeepImports}
+use Rattle.ordup_world.specs.Along.{Along}
 use Rattle.ordup_world.specs.declared.event.Event.{Event}
 use Rattle.ordup_world.specs.declared.event.Event.TheVariants.{Propose, Send, Apply, Report, Settle, Begin, Read, End, Abandon, Show}
 use Rattle.ordup_world.specs.declared.event.Answer.{Answer}
@@ -52,7 +53,7 @@ acked_after-few : (acked n : ℕ) (sites : List ℕ) → acked + 1 ≤ n → ack
 acked_after-few acked n [] le = le
 acked_after-few acked n (s ∷ sites) le = omega arith
 
-within-limit : (k : Opened) (r : ReadMade) → read_refusal k r ≡ None → import_total k.reads + r.import ≤ k.limit
+within-limit : (k : Opened) (r : ReadMade) → refusal_now k r ≡ None → import_total k.reads + r.import ≤ k.limit
 within-limit k r fine = elim (cases_Bool (length k.reads == 256)) [
   | inl full ↦ absurd (some-none (rw full at fine))
   | inr few ↦ elim (cases_Bool (nat_lt k.limit (import_total k.reads + r.import))) [
@@ -100,9 +101,9 @@ module _ {A : Type 0} where
   unrefused (Some r) a fine = absurd (true-false fine)
 
   -- an accepted read is refused by nothing
-  accepted-read : (setup : Declared) (past : Past A) (q : List ℕ) (x : ℕ) (k : Opened) → opened setup q past ≡ Some k → is_refused (reply setup past (Read q x)) ≡ false → read_refusal k (read_now setup past k.site k.place x) ≡ None
+  accepted-read : (setup : Declared) (past : Past A) (q : List ℕ) (x : ℕ) (k : Opened) → opened setup q past ≡ Some k → is_refused (reply setup past (Read q x)) ≡ false → refusal_now k (read_now setup past k.site k.place x) ≡ None
   accepted-read setup past q x k found fine = elim (cases_Bool (nat_lt x (length setup.objects))) [
-    | inl known ↦ unrefused (read_refusal k (read_now setup past k.site k.place x)) _ (rw (known, found) at fine)
+    | inl known ↦ unrefused (refusal_now k (read_now setup past k.site k.place x)) _ (rw (known, found) at fine)
     | inr unknown ↦ absurd (true-false (rw unknown at fine))
   ]
 

@@ -3,27 +3,31 @@ use Rattle.std.proofs.Common.{◌<◌, List, [], ◌∷◌, ◌++◌, length, ar
 use Rattle.ordup_primary.specs.Declarations.{Declared}
 use Rattle.ordup_site.specs.Sites.{SiteState}
 use Rattle.ordup_world.specs.Events.{Past, later, AreAnswers, past_after}
-use Rattle.ordup_world.specs.Keeping.{Along, KeepSites}
-use Rattle.ordup_world.specs.Standings.{Standing, store_of, IsSound, KeepsLimits, StandsFor}
+use Rattle.ordup_world.specs.Along.{Along, KeepSites}
+use Rattle.ordup_world.specs.Worlds.{WorldState, store_of, IsSound, KeepsLimits, StandsFor}
 use Rattle.ordup_world.specs.declared.event.Event.{Event}
 use Rattle.ordup_world.specs.declared.event.Answer.{Answer}
 use Rattle.ordup_world.proofs.AfterLemmas.{updates-are}
 
 module _ {A : Type 0} where
-  -- a sound world that keeps its limits: so do the accepted events that it stands for
-  pub KeepSites-stands : (w : Standing) (past : Past A) → IsSound w → KeepsLimits w → StandsFor w past → KeepSites w.primary.setup past
-  KeepSites-stands w past sound limits stands s below =
+  KeepSites-own : (w : WorldState) (past : Past A) → IsSound w → KeepsLimits w → StandsFor w.primary.setup w past → KeepSites w.primary.setup past
+  KeepSites-own w past sound limits stands s below =
       let d : SiteState = record { applied = 0; values = []; travelled = [] } in
       let lt : s < length w.sites = omega (arith, below, sound.store.count, sound.store.primary.count) in
       let here = stands.store.sites s d lt in
-      let holds = sound.store.prefixes s d lt in
+      let holds = sound.store.sites s d lt in
       record {
-        told = omega (arith, here.reported, here.applied, holds.reported);
-        got = omega (arith, here.applied, here.sent, holds.applied);
-        logged = omega (arith, here.sent, holds.sent, updates-are (store_of w) past stands.store);
+        told = omega (arith, here.reported, here.applied, holds.holds.told);
+        got = omega (arith, here.applied, here.sent, holds.holds.got);
+        logged = omega (arith, here.sent, holds.holds.logged, updates-are (store_of w) past stands.store);
         feed = omega (arith, here.sent, here.applied, holds.feed);
         limits = rw (stands.store.log, here.applied, stands.store.acked) at (limits s d lt);
       }
+
+  -- a sound world that keeps its limits: so do the accepted events that it stands for
+  pub KeepSites-stands : (setup : Declared) (w : WorldState) (past : Past A) → IsSound w → KeepsLimits w → StandsFor setup w past → KeepSites setup past
+  KeepSites-stands setup w past sound limits stands =
+      rw (← stands.store.declared) (KeepSites-own w past sound limits (rw (← stands.store.declared) at stands))
 
   -- one event more
   pub Along-push : (Holds : Past A → Type 0) (setup : Declared) (past : Past A) (events : List (Event A)) (answers : List (Answer A)) (e : Event A) (a : Answer A) → AreAnswers setup past events answers

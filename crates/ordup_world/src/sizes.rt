@@ -1,0 +1,4 @@
+//! The sizes of a world, each in one place.
+
+/// The most queries that are open at a time.
+pub const MOST_QUERIES: usize = 64;

@@ -1,0 +1,5 @@
+pub mod ScheduleLemmas
+pub mod WindowLemmas
+pub mod PlaceLemmas
+pub mod RoundLemmas
+pub mod Examples

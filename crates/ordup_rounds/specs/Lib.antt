@@ -1,0 +1,4 @@
+pub mod Schedules
+pub mod Windows
+pub mod Rounds
+pub mod Fewest

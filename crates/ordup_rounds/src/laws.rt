@@ -1,0 +1,28 @@
+ghost use Rattle.ordup_rounds.specs.Fewest.{EachWindowHasARound, NoFewerRoundsThanWindows, PlacesAreFullRounds, CertifiedRoundsAreFewest, ForcedRoundsAreFewest};
+
+/// A law: a schedule that keeps the limits has a round at a place of each window.
+pub fn each_window_has_a_round()
+    ensures { EachWindowHasARound }
+{}
+
+/// A law: no list of disjoint windows is longer than a schedule that keeps the limits has rounds.
+pub fn no_fewer_rounds_than_windows()
+    ensures { NoFewerRoundsThanWindows }
+{}
+
+/// A law: a list of places is a schedule with just these rounds, all of them full.
+pub fn places_are_full_rounds()
+    ensures { PlacesAreFullRounds }
+{}
+
+/// A law: no schedule that keeps the limits has fewer rounds than a certificate shows.
+///
+/// An auditor needs no more than this: nothing is asked of the reports, nor of how rounds and windows were found.
+pub fn certified_rounds_are_fewest()
+    ensures { CertifiedRoundsAreFewest }
+{}
+
+/// A law: rounds just where the report is too old are the fewest, up to each decided place, and their windows show it.
+pub fn forced_rounds_are_fewest()
+    ensures { ForcedRoundsAreFewest }
+{}

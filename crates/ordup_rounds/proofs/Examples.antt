@@ -1,14 +1,14 @@
 -- The definitions at a case of seven places, worked out by hand. The limit is 2 updates. The site had reported nothing at the decisions
 -- of the places 1 to 3, then 3 updates at those of 4 and 5, and 4 at those of 6 and 7. So it is forced at 3 and at 7.
-use Rattle.std.proofs.Common.{◌≡◌, ℕ, ◌-◌, ◌<◌, ◌≤◌, ◌==◌, Bool, true, Some, None, [], ◌∷◌, inl, inr, arith, refl}
-use Rattle.std.specs.Prelude.{◌||◌, if◌then◌else◌, nat_le, unwrap_or, slice_index}
-use Rattle.std.proofs.lemmas.Bool.{agree_below, agree_below_at, le-leb, leb-true, or_cases, true≢false, false≢true}
+use Rattle.std.proofs.Common.{◌≡◌, ℕ, ◌-◌, ◌<◌, ◌≤◌, ◌==◌, Bool, true, false, Some, None, List, [], ◌∷◌, length, not, inl, inr, arith, refl}
+use Rattle.std.specs.Prelude.{◌||◌, if◌then◌else◌, nat_le, nat_lt, unwrap_or, is_some, slice_index}
+use Rattle.std.proofs.lemmas.Bool.{agree_below, agree_below_at, le-leb, leb-true, or_cases, or_left, or_right, true≢false, false≢true}
 use Rattle.std.proofs.lemmas.List.Elements.{All-nil, All-cons}
 use Rattle.ordup_rounds.specs.declared.window.Window.{Window}
-use Rattle.ordup_rounds.specs.Schedules.{IsLimitTest, Schedule, IsSchedule, round_count, base, KeepsLimits}
-use Rattle.ordup_rounds.specs.Windows.{IsWindow, AreDisjointWindows}
+use Rattle.ordup_rounds.specs.Schedules.{IsLimitTest, Schedule, IsSchedule, round_count, base, StaysWithin}
+use Rattle.ordup_rounds.specs.Windows.{IsWindow, AreDisjointWindows, HasRoundIn}
 use Rattle.ordup_rounds.specs.Rounds.{AreRoundPlaces, count_upto, full_rounds, rounds_upto, windows_upto, AreRoundsReported}
-use Rattle.ordup_rounds.specs.Fewest.{AreFewest}
+use Rattle.ordup_rounds.specs.Fewest.{IsCertificate, AreFewest}
 use Rattle.ordup_rounds.proofs.RoundLemmas.{forced_rounds_are_fewest}
 
 abbrev few : ℕ → ℕ → Bool
@@ -30,18 +30,37 @@ limit = record {
   empty = λ a b le. le-leb (b - a) 2 (omega arith);
 }
 
+-- the limit may be lifted at a place
+limit-lifted : IsLimitTest (λ a b. b == 5 || few a b)
+limit-lifted = record {
+  later = λ a b c le kept. elim (or_cases (c == 5) (few a c) kept) [
+    | inl lifted ↦ or_left (c == 5) (few b c) lifted
+    | inr near ↦ or_right (c == 5) (few b c) (limit.later a b c le near)
+  ];
+  empty = λ a b le. or_right (b == 5) (few a b) (limit.empty a b le);
+}
+
+-- a span from a place to itself is empty
+limit-strict : IsLimitTest (λ a b. nat_lt b a) → ⊥
+limit-strict is = false≢true (is.empty 3 3 (omega arith))
+
 -- a test that passes at each of the first places, as it computes
 each : (test : ℕ → Bool) (n k : ℕ) → agree_below test (λ i. true) n ≡ true → k < n → test k ≡ true
 each test n k all there = agree_below_at test (λ i. true) n k all there
 
 -- ---- schedules
 
-counts : (round_count (waits 5) 2 ≡ 0) × (round_count (waits 5) 3 ≡ 1) × (round_count (waits 5) 6 ≡ 1) × (round_count (waits 5) 7 ≡ 2)
-counts = (refl, refl, refl, refl)
+counts : (round_count (waits 5) 2 ≡ 0) × (round_count (waits 5) 3 ≡ 1) × (round_count (waits 5) 7 ≡ 2)
+counts = (refl, refl, refl)
 
--- the base goes by a partial round at its own place, and by the report where that is further
-bases : (base reports (waits 5) 2 ≡ 0) × (base reports (waits 5) 3 ≡ 1) × (base reports (waits 5) 4 ≡ 3) × (base reports (waits 5) 7 ≡ 5)
-bases = (refl, refl, refl, refl)
+-- a partial round moves the base of its own place, and of later ones where the report is not further
+base-partial : (base reports (waits 5) 2 ≡ 0) × (base reports (waits 5) 3 ≡ 1) × (base reports (waits 5) 4 ≡ 3)
+    × (base (λ k. 0) (waits 5) 4 ≡ 1)
+base-partial = (refl, refl, refl, refl)
+
+-- by the furthest that a round waits for, and not by the last
+base-furthest : (base reports (waits 5) 7 ≡ 5) × (base (λ k. 0) (waits 0) 7 ≡ 1)
+base-furthest = (refl, refl)
 
 waits-own : IsSchedule 7 (waits 7)
 waits-own k m some le awaits =
@@ -57,21 +76,21 @@ waits-undecided k m some le awaits =
     let upto : nat_le (unwrap_or (waits 8 k) 0) k ≡ true = each (λ i. nat_le (unwrap_or (waits 8 i) 0) i) 7 k refl (omega arith) in
     leb-true m k (rw awaits at upto)
 
-keeps-undecided : KeepsLimits few reports 6 (waits 4)
+keeps-undecided : StaysWithin few reports 6 (waits 4)
 keeps-undecided k some le = each (λ i. few (base reports (waits 4) i) i) 7 k refl (omega arith)
 
 -- from 5 to 7 there are 2 updates: equal is not over
-keeps-equal : KeepsLimits few reports 7 (waits 5)
+keeps-equal : StaysWithin few reports 7 (waits 5)
 keeps-equal k some le = each (λ i. few (base reports (waits 5) i) i) 8 k refl (omega arith)
 
-keeps-too_little : KeepsLimits few reports 7 (waits 4) → ⊥
+keeps-too_little : StaysWithin few reports 7 (waits 4) → ⊥
 keeps-too_little keeps = false≢true (keeps 7 (omega arith) (omega arith))
 
-keeps-full : KeepsLimits few reports 7 (full_rounds (1 ∷ 5 ∷ []))
+keeps-full : StaysWithin few reports 7 (full_rounds (1 ∷ 5 ∷ []))
 keeps-full k some le = each (λ i. few (base reports (full_rounds (1 ∷ 5 ∷ [])) i) i) 8 k refl (omega arith)
 
--- the place from which a window starts is not in it
-keeps-too_early : KeepsLimits few reports 7 (full_rounds (1 ∷ 4 ∷ [])) → ⊥
+-- a round at 4 is no help to place 7
+keeps-too_early : StaysWithin few reports 7 (full_rounds (1 ∷ 4 ∷ [])) → ⊥
 keeps-too_early keeps = false≢true (keeps 7 (omega arith) (omega arith))
 
 -- ---- windows
@@ -90,6 +109,22 @@ window-reported is = absurd (let known : 4 ≤ 3 = is.unreported in omega arith)
 
 window-undecided : IsWindow few reports 6 (from_to 4 7) → ⊥
 window-undecided is = absurd (let last : 7 ≤ 6 = is.last in omega arith)
+
+window-empty : IsWindow (λ a b. false) reports 7 (from_to 4 4) → ⊥
+window-empty is = absurd (let forward : 4 < 4 = is.forward in omega arith)
+
+round-last : HasRoundIn (full_rounds (3 ∷ 7 ∷ [])) (from_to 4 7)
+round-last = (7, omega arith, omega arith, refl)
+
+-- the place from which a window starts is not in it
+round-before : HasRoundIn (full_rounds (4 ∷ 8 ∷ [])) (from_to 4 7) → ⊥
+round-before has =
+    let none : (nat_le has.0 4 || not (is_some (full_rounds (4 ∷ 8 ∷ []) has.0))) ≡ true =
+    each (λ i. nat_le i 4 || not (is_some (full_rounds (4 ∷ 8 ∷ []) i))) 8 has.0 refl (omega (arith, has.2)) in
+    elim (or_cases (nat_le has.0 4) (not (is_some (full_rounds (4 ∷ 8 ∷ []) has.0))) none) [
+      | inl before ↦ absurd (let le : has.0 ≤ 4 = leb-true has.0 4 before in omega (arith, has.1))
+      | inr missing ↦ absurd (false≢true (rw has.3 at missing))
+    ]
 
 -- without reports the spans from 0 to 3, from 2 to 5 and from 3 to 6 are windows; the second shares a place with each of the others
 disjoint-touching : AreDisjointWindows few (λ k. 0) 6 (from_to 0 3 ∷ from_to 3 6 ∷ [])
@@ -137,18 +172,36 @@ upto = (refl, refl)
 rule : (rounds_upto few reports 7 ≡ 3 ∷ 7 ∷ []) × (windows_upto few reports 7 ≡ from_to 0 3 ∷ from_to 4 7 ∷ [])
 rule = (refl, refl)
 
+-- by the report at the place itself, and not by the one before
+rule-own : windows_upto (λ a b. nat_lt b 3) (λ k. k - 2) 3 ≡ from_to 1 3 ∷ []
+rule-own = refl
+
 -- a place was kept, or reported, or is not before another
 abbrev is_answered : ℕ → ℕ → Bool
 is_answered j k = nat_le k j || (few (reports j) j || nat_le j (reports k))
 
 reported : AreRoundsReported few reports 7
 reported j k some lt last over =
-    let at : agree_below (is_answered j) (λ i. true) 8 ≡ true = each (λ i. agree_below (is_answered i) (λ l. true) 8) 8 j refl (omega arith) in
+    let at : agree_below (is_answered j) (λ i. true) 8 ≡ true =
+    each (λ i. agree_below (is_answered i) (λ l. true) 8) 8 j refl (omega arith) in
     elim (or_cases (nat_le k j) (few (reports j) j || nat_le j (reports k)) (each (is_answered j) 8 k at (omega arith))) [
       | inl before ↦ absurd (let le : k ≤ j = leb-true k j before in omega arith)
       | inr answered ↦ leb-true j (reports k) (rw over at answered)
     ]
 
--- so no schedule that keeps the limit has fewer rounds than two
 fewest : AreFewest few reports 7 (3 ∷ 7 ∷ []) (from_to 0 3 ∷ from_to 4 7 ∷ [])
 fewest = forced_rounds_are_fewest few reports 7 limit reported
+
+-- so each schedule that keeps the limit has a round up to place 6, and two up to 7
+rounds-least : (p : Schedule) → IsSchedule 7 p → StaysWithin few reports 7 p → (1 ≤ round_count p 6) × (2 ≤ round_count p 7)
+rounds-least p is keeps = (fewest.fewest p is keeps 6 (omega arith), fewest.fewest p is keeps 7 (omega arith))
+
+windows-most : (ws : List Window) → AreDisjointWindows few reports 7 ws → length ws ≤ 2
+windows-most = fewest.longest
+
+-- a certificate wants both windows, and both rounds
+certificate-one_window : IsCertificate few reports 7 (3 ∷ 7 ∷ []) (from_to 4 7 ∷ []) → ⊥
+certificate-one_window is = absurd (let count : 1 ≡ 2 = is.count in omega arith)
+
+certificate-one_round : IsCertificate few reports 7 (7 ∷ []) (from_to 4 7 ∷ []) → ⊥
+certificate-one_round is = false≢true (is.keeps 3 (omega arith) (omega arith))

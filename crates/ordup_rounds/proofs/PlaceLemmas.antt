@@ -1,5 +1,6 @@
 -- Lists of round places, as schedules of full rounds.
-use Rattle.std.proofs.Common.{◌≡◌, ℕ, zero, suc, ◌+◌, ◌<◌, ◌≤◌, ◌==◌, Bool, true, false, Some, None, cond, List, [], ◌∷◌, ◌++◌, length, inl, inr, arith, refl, sym, ap, ◌∙◌}
+use Rattle.std.proofs.Common.{◌≡◌, ℕ, zero, suc, ◌+◌, ◌<◌, ◌≤◌, ◌==◌, Bool, true, false, Some, None}
+use Rattle.std.proofs.Common.{cond, List, [], ◌∷◌, ◌++◌, length, inl, inr, arith, refl, sym, ap, ◌∙◌}
 use Rattle.std.specs.Prelude.{if◌then◌else◌, nat_le, is_some, unwrap_or, All, AllPairs}
 use Rattle.std.specs.List.{list_any}
 use Rattle.std.proofs.lemmas.Bool.{cases_order, le-leb, lt-leb, eq-eqb, ne_eqb}
@@ -115,7 +116,8 @@ module _ (decided : ℕ) (places : List ℕ) (are : AreRoundPlaces decided place
       ∙ count_upto-all decided places (All-weaker (λ k. (0 < k) × (k ≤ decided)) (λ k. k ≤ decided) (λ k is. is.1) places are.each)
 
 pub places_are_full_rounds : PlacesAreFullRounds
-places_are_full_rounds decided places are = (λ k m some le awaits. full-own (has_place k places) k m awaits, round_count-full decided places are)
+places_are_full_rounds decided places are =
+    (λ k m some le awaits. full-own (has_place k places) k m awaits, round_count-full decided places are)
 
 -- up to one of them, its round waits for it
 pub awaited_place-full : (places : List ℕ) (k : ℕ) → 0 < k → has_place k places ≡ true → k ≤ awaited_place (full_rounds places) k

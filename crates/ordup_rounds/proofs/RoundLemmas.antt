@@ -7,11 +7,12 @@ use Rattle.std.proofs.lemmas.List.Elements.{All-nil, All-push, All-weaker}
 use Rattle.std.proofs.lemmas.List.Folds.{list_any-append}
 use Rattle.std.proofs.lemmas.List.Quantifiers.{all_pairs_push}
 use Rattle.ordup_rounds.specs.declared.window.Window.{Window}
-use Rattle.ordup_rounds.specs.Schedules.{IsLimitTest, KeepsLimits, base}
+use Rattle.ordup_rounds.specs.Schedules.{IsLimitTest, StaysWithin, base}
 use Rattle.ordup_rounds.specs.Windows.{IsWindow, AreDisjointWindows}
 use Rattle.ordup_rounds.specs.Rounds.{AreRoundPlaces, count_upto, full_rounds, rounds_upto, windows_upto, AreRoundsReported}
 use Rattle.ordup_rounds.specs.Fewest.{IsCertificate, CertifiedRoundsAreFewest, ForcedRoundsAreFewest}
-use Rattle.ordup_rounds.proofs.PlaceLemmas.{has_place, count_upto-all, count_upto-push, round_count-places, places_are_full_rounds, awaited_place-full}
+use Rattle.ordup_rounds.proofs.PlaceLemmas.{has_place, count_upto-all, count_upto-push}
+use Rattle.ordup_rounds.proofs.PlaceLemmas.{round_count-places, places_are_full_rounds, awaited_place-full}
 use Rattle.ordup_rounds.proofs.WindowLemmas.{no_fewer_rounds_than_windows}
 
 pub certified_rounds_are_fewest : CertifiedRoundsAreFewest
@@ -34,6 +35,21 @@ record IsForced (within : ℕ → ℕ → Bool) (reported_at : ℕ → ℕ) (d :
   pub from : w.from ≡ reported_at w.to
   pub over : within w.from w.to ≡ false
   pub last : w.to ≤ d
+
+-- tests and reports that agree on the decided places give the same rounds, and the same windows
+pub rounds_upto-same : (v w : ℕ → ℕ → Bool) (f g : ℕ → ℕ) (d : ℕ) → ((k : ℕ) → 0 < k → k ≤ d → v (f k) k ≡ w (g k) k)
+    → rounds_upto v f d ≡ rounds_upto w g d
+rounds_upto-same v w f g zero same = refl
+rounds_upto-same v w f g (suc d) same =
+    rw (same (suc d) (omega arith) (omega arith), rounds_upto-same v w f g d (λ k some le. same k some (omega arith))) refl
+
+pub windows_upto-same : (v w : ℕ → ℕ → Bool) (f g : ℕ → ℕ) (d : ℕ) → ((k : ℕ) → 0 < k → k ≤ d → v (f k) k ≡ w (g k) k)
+    → ((k : ℕ) → 0 < k → k ≤ d → f k ≡ g k) → windows_upto v f d ≡ windows_upto w g d
+windows_upto-same v w f g zero same reports = refl
+windows_upto-same v w f g (suc d) same reports =
+    let rest : windows_upto v f d ≡ windows_upto w g d =
+    windows_upto-same v w f g d (λ k some le. same k some (omega arith)) (λ k some le. reports k some (omega arith)) in
+    rw (same (suc d) (omega arith) (omega arith), reports (suc d) (omega arith) (omega arith), rest) refl
 
 module _ (within : ℕ → ℕ → Bool) (reported_at : ℕ → ℕ) where
   -- ---- the rounds
@@ -80,7 +96,7 @@ module _ (within : ℕ → ℕ → Bool) (reported_at : ℕ → ℕ) where
   ]
 
   -- so they keep the limits
-  rounds_upto-keep : IsLimitTest within → (d : ℕ) → KeepsLimits within reported_at d (full_rounds (rounds_upto within reported_at d))
+  rounds_upto-keep : IsLimitTest within → (d : ℕ) → StaysWithin within reported_at d (full_rounds (rounds_upto within reported_at d))
   rounds_upto-keep test d k some le =
       let rounds = rounds_upto within reported_at d in
       elim (cases_Bool (within (reported_at k) k)) [
@@ -146,7 +162,8 @@ module _ (within : ℕ → ℕ → Bool) (reported_at : ℕ → ℕ) where
       (rw is.from at is.over)) windows (windows_upto-forced d) in
       elim (cases_Bool (within (reported_at (suc d)) (suc d))) [
         | inl kept ↦ rw kept pairs
-        | inr forced ↦ rw forced (all_pairs_push (λ v w. v.to ≤ w.from) windows (record { from = reported_at (suc d); to = suc d }) pairs ends)
+        | inr forced ↦ rw forced
+            (all_pairs_push (λ v w. v.to ≤ w.from) windows (record { from = reported_at (suc d); to = suc d }) pairs ends)
       ]
 
   windows_upto-disjoint : IsLimitTest within → (d : ℕ) → AreRoundsReported within reported_at d
@@ -184,8 +201,8 @@ forced_rounds_are_fewest within reported_at decided test reported =
       longest = λ ws are.
           omega (
             arith,
-            no_fewer_rounds_than_windows within reported_at decided test (full_rounds rounds) (places_are_full_rounds decided rounds places).0
-                (rounds_upto-keep within reported_at test decided) ws are,
+            no_fewer_rounds_than_windows within reported_at decided test (full_rounds rounds)
+                (places_are_full_rounds decided rounds places).0 (rounds_upto-keep within reported_at test decided) ws are,
             round_count-places decided rounds places,
           );
       fewest = λ p is keeps e le.

@@ -2,7 +2,7 @@
 use Rattle.std.proofs.Common.{◌≡◌, ℕ, zero, suc, ◌+◌, ◌<◌, ◌≤◌, Bool, true, List, [], ◌∷◌, length, get_or, inl, inr, arith, sym, ◌∙◌}
 use Rattle.std.proofs.lemmas.Bool.{false≢true}
 use Rattle.ordup_rounds.specs.declared.window.Window.{Window}
-use Rattle.ordup_rounds.specs.Schedules.{IsLimitTest, Schedule, IsSchedule, KeepsLimits, base, round_count}
+use Rattle.ordup_rounds.specs.Schedules.{IsLimitTest, Schedule, IsSchedule, StaysWithin, base, round_count}
 use Rattle.ordup_rounds.specs.Windows.{IsWindow, AreDisjointWindows, HasRoundIn}
 use Rattle.ordup_rounds.specs.Fewest.{EachWindowHasARound, NoFewerRoundsThanWindows}
 use Rattle.ordup_rounds.proofs.ScheduleLemmas.{round_count-le, round_count-lt, near_or_round}
@@ -14,13 +14,14 @@ each_window_has_a_round within reported_at decided test p is keeps w window =
     elim (near_or_round decided p is w.from w.to (omega arith) window.last) [
       | inl near ↦ (
           let kept : within (base reported_at p w.to) w.to ≡ true = keeps w.to (omega arith) window.last in
-          let alone : within w.from w.to ≡ true = test.later (base reported_at p w.to) w.from w.to (omega (arith, window.unreported)) kept in
+          let before : base reported_at p w.to ≤ w.from = omega (arith, window.unreported) in
+          let alone : within w.from w.to ≡ true = test.later (base reported_at p w.to) w.from w.to before kept in
           absurd (false≢true (sym window.over ∙ alone)))
       | inr has ↦ has
     ]
 
 module _ (within : ℕ → ℕ → Bool) (reported_at : ℕ → ℕ) (decided : ℕ) (test : IsLimitTest within)
-    (p : Schedule) (is : IsSchedule decided p) (keeps : KeepsLimits within reported_at decided p) where
+    (p : Schedule) (is : IsSchedule decided p) (keeps : StaysWithin within reported_at decided p) where
   -- so there are more rounds up to its end than before it
   rounds_more : (w : Window) → IsWindow within reported_at decided w → round_count p w.from < round_count p w.to
   rounds_more w window =

@@ -1,14 +1,14 @@
 -- The fewest rounds, how windows show them, and the laws of both.
 use Rattle.std.specs.Prelude.{◌≡◌, ℕ, ◌≤◌, Bool, List, length}
 use Rattle.ordup_rounds.specs.declared.window.Window.{Window}
-use Rattle.ordup_rounds.specs.Schedules.{IsLimitTest, Schedule, IsSchedule, KeepsLimits, round_count}
+use Rattle.ordup_rounds.specs.Schedules.{IsLimitTest, Schedule, IsSchedule, StaysWithin, round_count}
 use Rattle.ordup_rounds.specs.Windows.{IsWindow, AreDisjointWindows, HasRoundIn}
 use Rattle.ordup_rounds.specs.Rounds.{AreRoundPlaces, count_upto, full_rounds, rounds_upto, windows_upto, AreRoundsReported}
 
 -- a certificate: rounds that keep the limits, and as many disjoint windows
 pub record IsCertificate (within : ℕ → ℕ → Bool) (reported_at : ℕ → ℕ) (decided : ℕ) (rounds : List ℕ) (windows : List Window) : Type 0 where
   pub places : AreRoundPlaces decided rounds
-  pub keeps : KeepsLimits within reported_at decided (full_rounds rounds)
+  pub keeps : StaysWithin within reported_at decided (full_rounds rounds)
   pub disjoint : AreDisjointWindows within reported_at decided windows
   pub count : length windows ≡ length rounds
 
@@ -17,21 +17,21 @@ pub record IsCertificate (within : ℕ → ℕ → Bool) (reported_at : ℕ → 
 pub record AreFewest (within : ℕ → ℕ → Bool) (reported_at : ℕ → ℕ) (decided : ℕ) (rounds : List ℕ) (windows : List Window) : Type 0 where
   pub certificate : IsCertificate within reported_at decided rounds windows
   pub longest : (ws : List Window) → AreDisjointWindows within reported_at decided ws → length ws ≤ length rounds
-  pub fewest : (p : Schedule) → IsSchedule decided p → KeepsLimits within reported_at decided p →
+  pub fewest : (p : Schedule) → IsSchedule decided p → StaysWithin within reported_at decided p →
       (e : ℕ) → e ≤ decided → count_upto e rounds ≤ round_count p e
 
 -- a schedule that keeps the limits has a round in each window
 abbrev pub EachWindowHasARound : Type 0
 EachWindowHasARound =
     (within : ℕ → ℕ → Bool) (reported_at : ℕ → ℕ) (decided : ℕ) → IsLimitTest within →
-    (p : Schedule) → IsSchedule decided p → KeepsLimits within reported_at decided p →
+    (p : Schedule) → IsSchedule decided p → StaysWithin within reported_at decided p →
     (w : Window) → IsWindow within reported_at decided w → HasRoundIn p w
 
 -- so it has at least as many rounds as there are disjoint windows
 abbrev pub NoFewerRoundsThanWindows : Type 0
 NoFewerRoundsThanWindows =
     (within : ℕ → ℕ → Bool) (reported_at : ℕ → ℕ) (decided : ℕ) → IsLimitTest within →
-    (p : Schedule) → IsSchedule decided p → KeepsLimits within reported_at decided p →
+    (p : Schedule) → IsSchedule decided p → StaysWithin within reported_at decided p →
     (windows : List Window) → AreDisjointWindows within reported_at decided windows → length windows ≤ round_count p decided
 
 -- a list of round places is a schedule, which has just these rounds
@@ -45,7 +45,7 @@ abbrev pub CertifiedRoundsAreFewest : Type 0
 CertifiedRoundsAreFewest =
     (within : ℕ → ℕ → Bool) (reported_at : ℕ → ℕ) (decided : ℕ) → IsLimitTest within →
     (rounds : List ℕ) (windows : List Window) → IsCertificate within reported_at decided rounds windows →
-    (p : Schedule) → IsSchedule decided p → KeepsLimits within reported_at decided p → length rounds ≤ round_count p decided
+    (p : Schedule) → IsSchedule decided p → StaysWithin within reported_at decided p → length rounds ≤ round_count p decided
 
 -- the rounds and the windows of the rule keep the promise
 abbrev pub ForcedRoundsAreFewest : Type 0

@@ -34,5 +34,5 @@ abbrev pub base : (ℕ → ℕ) → Schedule → ℕ → ℕ
 base reported_at p k = max (reported_at k) (awaited_place p k)
 
 -- a schedule keeps the limits where the span from the base of each decided place to the place passes none
-abbrev pub KeepsLimits : (ℕ → ℕ → Bool) → (ℕ → ℕ) → ℕ → Schedule → Type 0
-KeepsLimits within reported_at decided p = (k : ℕ) → 0 < k → k ≤ decided → within (base reported_at p k) k ≡ true
+abbrev pub StaysWithin : (ℕ → ℕ → Bool) → (ℕ → ℕ) → ℕ → Schedule → Type 0
+StaysWithin within reported_at decided p = (k : ℕ) → 0 < k → k ≤ decided → within (base reported_at p k) k ≡ true

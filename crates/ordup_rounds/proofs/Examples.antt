@@ -139,6 +139,9 @@ disjoint-touching = record {
 window-between : IsWindow few (λ k. 0) 6 (from_to 2 5)
 window-between = record { forward = omega arith; last = omega arith; over = refl; unreported = omega arith }
 
+disjoint-light : AreDisjointWindows few (λ k. 0) 6 (from_to 0 3 ∷ from_to 4 6 ∷ []) → ⊥
+disjoint-light are = true≢false (are.each 1 (from_to 0 0) (omega arith)).over
+
 disjoint-shared : AreDisjointWindows few (λ k. 0) 6 (from_to 0 3 ∷ from_to 2 5 ∷ []) → ⊥
 disjoint-shared are = absurd (let apart : 3 ≤ 2 = are.apart 0 (from_to 0 0) (omega arith) in omega arith)
 
@@ -199,9 +202,18 @@ rounds-least p is keeps = (fewest.fewest p is keeps 6 (omega arith), fewest.fewe
 windows-most : (ws : List Window) → AreDisjointWindows few reports 7 ws → length ws ≤ 2
 windows-most = fewest.longest
 
--- a certificate wants both windows, and both rounds
+-- a certificate has both windows and both rounds, in their order
+certificate-both : IsCertificate few reports 7 (3 ∷ 7 ∷ []) (from_to 0 3 ∷ from_to 4 7 ∷ [])
+certificate-both = fewest.certificate
+
 certificate-one_window : IsCertificate few reports 7 (3 ∷ 7 ∷ []) (from_to 4 7 ∷ []) → ⊥
 certificate-one_window is = absurd (let count : 1 ≡ 2 = is.count in omega arith)
 
 certificate-one_round : IsCertificate few reports 7 (7 ∷ []) (from_to 4 7 ∷ []) → ⊥
 certificate-one_round is = false≢true (is.keeps 3 (omega arith) (omega arith))
+
+certificate-places : IsCertificate few reports 7 (7 ∷ 3 ∷ []) (from_to 0 3 ∷ from_to 4 7 ∷ []) → ⊥
+certificate-places is = absurd (let lt : 7 < 3 = is.places.ascending 0 (omega arith) in omega arith)
+
+certificate-windows : IsCertificate few reports 7 (3 ∷ 7 ∷ []) (from_to 4 7 ∷ from_to 0 3 ∷ []) → ⊥
+certificate-windows is = absurd (let apart : 7 ≤ 0 = is.disjoint.apart 0 (from_to 0 0) (omega arith) in omega arith)

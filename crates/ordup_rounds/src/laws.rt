@@ -5,12 +5,12 @@ pub fn each_window_has_a_round()
     ensures { EachWindowHasARound }
 {}
 
-/// A law: no list of disjoint windows is longer than a schedule that keeps the limits has rounds.
+/// A law: a schedule that keeps the limits has at least as many rounds as any list of disjoint windows has windows.
 pub fn no_fewer_rounds_than_windows()
     ensures { NoFewerRoundsThanWindows }
 {}
 
-/// A law: a list of places is a schedule with just these rounds, all of them full.
+/// A law: an ascending list of decided places is a schedule, which has just these rounds, all of them full.
 pub fn places_are_full_rounds()
     ensures { PlacesAreFullRounds }
 {}

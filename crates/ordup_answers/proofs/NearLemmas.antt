@@ -11,7 +11,9 @@ use Rattle.ordup_objects.specs.declared.change.Change.{Change}
 use Rattle.ordup_objects.specs.declared.change.Op.{Op}
 use Rattle.ordup_objects.specs.declared.change.Op.TheVariants.{Add, Set, Mul, Max, Min, Take}
 use Rattle.ordup_objects.specs.States.{in_range}
-use Rattle.ordup_objects.specs.Sets.{set_refusal, is_over, is_op_in_range, reads_known, repeats}
+use Rattle.ordup_objects.specs.Ops.{number_of, source_of, is_none_or}
+use Rattle.ordup_objects.specs.Repeats.{repeats}
+use Rattle.ordup_objects.specs.Sets.{set_refusal, are_known, are_in_range, are_of_one_object}
 use Rattle.ordup_answers.specs.Near.{nearest, near_op, near_changes}
 use Rattle.ordup_answers.specs.Leaves.{IsRefusedBy}
 
@@ -35,46 +37,46 @@ nearest-in_range z within = nearest-exact z (omega (arith, leb-true (unsigned_ab
 
 -- ---- changes
 
-reads_known-near : (n : ℕ) (o : Op) → reads_known n (near_op o) ≡ reads_known n o
-reads_known-near n (Add z) = refl
-reads_known-near n (Set z) = refl
-reads_known-near n (Mul z) = refl
-reads_known-near n (Max z) = refl
-reads_known-near n (Min z) = refl
-reads_known-near n (Take y) = refl
+source_of-near : (o : Op) → source_of (near_op o) ≡ source_of o
+source_of-near (Add z) = refl
+source_of-near (Set z) = refl
+source_of-near (Mul z) = refl
+source_of-near (Max z) = refl
+source_of-near (Min z) = refl
+source_of-near (Take y) = refl
 
-is_op_in_range-near : (o : Op) → is_op_in_range (near_op o) ≡ is_op_in_range o
-is_op_in_range-near (Add z) = in_range-nearest z
-is_op_in_range-near (Set z) = in_range-nearest z
-is_op_in_range-near (Mul z) = in_range-nearest z
-is_op_in_range-near (Max z) = in_range-nearest z
-is_op_in_range-near (Min z) = in_range-nearest z
-is_op_in_range-near (Take y) = refl
+number_in_range-near : (o : Op) → is_none_or (number_of (near_op o)) in_range ≡ is_none_or (number_of o) in_range
+number_in_range-near (Add z) = in_range-nearest z
+number_in_range-near (Set z) = in_range-nearest z
+number_in_range-near (Mul z) = in_range-nearest z
+number_in_range-near (Max z) = in_range-nearest z
+number_in_range-near (Min z) = in_range-nearest z
+number_in_range-near (Take y) = refl
 
 -- ---- sets
 
-is_over-near : (n : ℕ) (m : List Change) → is_over n (near_changes m) ≡ is_over n m
-is_over-near n [] = refl
-is_over-near n (c ∷ m) = rw (reads_known-near n c.op, is_over-near n m) refl
+are_known-near : (n : ℕ) (m : List Change) → are_known n (near_changes m) ≡ are_known n m
+are_known-near n [] = refl
+are_known-near n (c ∷ m) = rw (source_of-near c.op, are_known-near n m) refl
 
-are_in_range-near : (m : List Change) → list_all (λ (c : Change). is_op_in_range c.op) (near_changes m) ≡ list_all (λ (c : Change). is_op_in_range c.op) m
+are_in_range-near : (m : List Change) → are_in_range (near_changes m) ≡ are_in_range m
 are_in_range-near [] = refl
-are_in_range-near (c ∷ m) = rw (is_op_in_range-near c.op, are_in_range-near m) refl
+are_in_range-near (c ∷ m) = rw (number_in_range-near c.op, are_in_range-near m) refl
 
 changes_object-near : (x : ℕ) (m : List Change) → list_any (λ (d : Change). d.object == x) (near_changes m) ≡ list_any (λ (d : Change). d.object == x) m
 changes_object-near x [] = refl
 changes_object-near x (c ∷ m) = rw (changes_object-near x m) refl
 
-repeats-near : (m : List Change) → repeats (near_changes m) ≡ repeats m
+repeats-near : (m : List Change) → repeats are_of_one_object (near_changes m) ≡ repeats are_of_one_object m
 repeats-near [] = refl
 repeats-near (c ∷ m) = rw (changes_object-near c.object m, repeats-near m) refl
 
 pub set_refusal-near : (n : ℕ) (m : List Change) → set_refusal n (near_changes m) ≡ set_refusal n m
-set_refusal-near n m = rw (is_over-near n m, are_in_range-near m, length-map, repeats-near m) refl
+set_refusal-near n m = rw (are_known-near n m, are_in_range-near m, length-map, repeats-near m) refl
 
 -- ---- what is accepted
 
-near_op-in_range : (o : Op) → is_op_in_range o ≡ true → near_op o ≡ o
+near_op-in_range : (o : Op) → is_none_or (number_of o) in_range ≡ true → near_op o ≡ o
 near_op-in_range (Add z) within = ap (λ n. Add n) (nearest-in_range z within)
 near_op-in_range (Set z) within = ap (λ n. Set n) (nearest-in_range z within)
 near_op-in_range (Mul z) within = ap (λ n. Mul n) (nearest-in_range z within)
@@ -82,19 +84,19 @@ near_op-in_range (Max z) within = ap (λ n. Max n) (nearest-in_range z within)
 near_op-in_range (Min z) within = ap (λ n. Min n) (nearest-in_range z within)
 near_op-in_range (Take y) within = refl
 
-near_changes-in_range : (m : List Change) → list_all (λ (c : Change). is_op_in_range c.op) m ≡ true → near_changes m ≡ m
+near_changes-in_range : (m : List Change) → are_in_range m ≡ true → near_changes m ≡ m
 near_changes-in_range [] within = refl
-near_changes-in_range (c ∷ m) within = elim (cases_Bool (is_op_in_range c.op)) [
+near_changes-in_range (c ∷ m) within = elim (cases_Bool (is_none_or (number_of c.op) in_range)) [
   | inl here ↦
       let rest = near_changes-in_range m (rw here at within) in
       rw rest (ap (λ (o : Op). let d : Change = record { object = c.object; op = o } in d ∷ m) (near_op-in_range c.op here))
   | inr out ↦ absurd (let e = rw out at within in cc)
 ]
 
-are_in_range-allowed : (n : ℕ) (m : List Change) → set_refusal n m ≡ None → list_all (λ (c : Change). is_op_in_range c.op) m ≡ true
-are_in_range-allowed n m allowed = elim (cases_Bool (list_all (λ (c : Change). is_op_in_range c.op) m)) [
+are_in_range-allowed : (n : ℕ) (m : List Change) → set_refusal n m ≡ None → are_in_range m ≡ true
+are_in_range-allowed n m allowed = elim (cases_Bool (are_in_range m)) [
   | inl within ↦ within
-  | inr out ↦ elim (cases_Bool (is_over n m)) [
+  | inr out ↦ elim (cases_Bool (are_known n m)) [
     | inl known ↦ absurd (let refused : set_refusal n m ≡ Some OutOfRange = rw (known, out) refl in cc)
     | inr unknown ↦ absurd (let refused : set_refusal n m ≡ Some UnknownObject = rw unknown refl in cc)
   ]

@@ -9,14 +9,15 @@ use Rattle.std.proofs.lemmas.List.Folds.{list_any-append}
 use Rattle.std.proofs.lemmas.Bool.{lt-ltb, le-leb, leb-true, and_parts, le-ltb, false≢true}
 use Rattle.std.proofs.lemmas.List.Folds.{list_all_at, list_all_more}
 use Rattle.ordup_objects.specs.Serial.{History}
+use Rattle.ordup_objects.proofs.RepeatLemmas.{repeats-push}
 use Rattle.ordup_log.specs.Groups.{GroupList, IsGroup}
-use Rattle.ordup_log.specs.Spans.{span, IsScopeOver}
+use Rattle.ordup_log.specs.Spans.{span, IsScopeKnown}
 use Rattle.ordup_log.specs.declared.scope.Scope.{Scope}
 use Rattle.ordup_log.specs.declared.scope.Scope.TheVariants.{Object, Group, All as Everything, Count}
 use Rattle.ordup_log.proofs.MostLemmas.{span-object-most, span-group-most}
 use Rattle.ordup_log.proofs.SpanLemmas.{span-inner, span-longer, span-count}
 use Rattle.ordup_limits.specs.declared.limit.Limit.{Limit}
-use Rattle.ordup_limits.specs.Limits.{Limits, keeps, within, first_passed, is_same_scope, repeats_scope, AreLimits, LongerHistoriesKeepLimits, LaterSpansKeepLimits, EmptySpansKeepLimits}
+use Rattle.ordup_limits.specs.Limits.{Limits, keeps, within, first_passed, is_same_scope, are_on_one_scope, AreLimits, LongerHistoriesKeepLimits, LaterSpansKeepLimits, EmptySpansKeepLimits}
 
 -- an empty span weighs nothing, so it keeps each limit
 pub within-empty : EmptySpansKeepLimits
@@ -87,29 +88,22 @@ pub keeps-count : (h : History) (groups : GroupList) (a b : ℕ) (limit : Limit)
 keeps-count h groups a b limit count = rw (count, span-count h groups a b) refl
 
 -- a limit of no less than all objects weigh is kept
-kept_by_all : (h : History) (groups : GroupList) (s : Scope) (a b amount : ℕ) → All (λ g. IsGroup g.1) groups → IsScopeOver (length h.start) groups s → a ≤ b → b ≤ length h.sets
+kept_by_all : (h : History) (groups : GroupList) (s : Scope) (a b amount : ℕ) → All (λ g. IsGroup g.1) groups → IsScopeKnown (length h.start) groups s → a ≤ b → b ≤ length h.sets
     → span h groups Everything a b ≤ amount → (s ≡ Count → ⊥) → span h groups s a b ≤ amount
 kept_by_all h groups (Object x) a b amount are known forward last all other = omega (arith, span-object-most h groups x a b known)
 kept_by_all h groups (Group g) a b amount are known forward last all other = omega (arith, span-group-most h groups g a b (are g ([], []) known).distinct forward last)
 kept_by_all h groups Everything a b amount are known forward last all other = all
 kept_by_all h groups Count a b amount are known forward last all other = absurd (other refl)
 
-pub keeps-all : (h : History) (groups : GroupList) (a b : ℕ) (limit : Limit) → All (λ g. IsGroup g.1) groups → IsScopeOver (length h.start) groups limit.scope → a ≤ b → b ≤ length h.sets
+pub keeps-all : (h : History) (groups : GroupList) (a b : ℕ) (limit : Limit) → All (λ g. IsGroup g.1) groups → IsScopeKnown (length h.start) groups limit.scope → a ≤ b → b ≤ length h.sets
     → span h groups Everything a b ≤ limit.amount → (limit.scope ≡ Count → ⊥) → true ≡ keeps h groups a b limit
 keeps-all h groups a b limit are known forward last all other =
     sym (le-leb (span h groups limit.scope a b) limit.amount (kept_by_all h groups limit.scope a b limit.amount are known forward last all other))
 
--- limits of distinct scopes stay so by one more, on a scope that none of them has
-repeats_scope-push : (limits : Limits) (l : Limit) → repeats_scope limits ≡ false → list_any (λ m. is_same_scope m.scope l.scope) limits ≡ false → repeats_scope (limits ++ l ∷ []) ≡ false
-repeats_scope-push [] l distinct none = refl
-repeats_scope-push (m ∷ limits) l distinct none =
-    let apart = or_parts (list_any (λ k. is_same_scope m.scope k.scope) limits) (repeats_scope limits) distinct in
-    let other = or_parts (is_same_scope m.scope l.scope) (list_any (λ k. is_same_scope k.scope l.scope) limits) none in
-    rw (list_any-append (λ k. is_same_scope m.scope k.scope) limits (l ∷ []), apart.0, other.0, repeats_scope-push limits l apart.1 other.1) refl
-
+-- limits stay limits with one more, on a scope that none of them has
 pub AreLimits-push : (limits : Limits) (l : Limit) → AreLimits limits → length limits < 64 → l.amount ≤ 1000000000000000000 → list_any (λ m. is_same_scope m.scope l.scope) limits ≡ false → (more : Limits) → more ≡ limits ++ l ∷ [] → AreLimits more
 AreLimits-push limits l are room few none more e = rw e (record {
   few = omega (arith, length_push limits l);
   amounts = All-push (λ (m : Limit). m.amount ≤ 1000000000000000000) limits l are.amounts few;
-  distinct = repeats_scope-push limits l are.distinct none;
+  distinct = repeats-push are_on_one_scope limits l are.distinct none;
 })

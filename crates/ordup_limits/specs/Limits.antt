@@ -5,9 +5,10 @@ use Rattle.std.specs.Option.{option_or}
 use Rattle.ordup_objects.specs.declared.refusal.Refusal.{Refusal}
 use Rattle.ordup_objects.specs.declared.refusal.Refusal.TheVariants.{UnknownObject, UnknownGroup, OutOfRange, TooMany, Repeated}
 use Rattle.ordup_objects.specs.declared.change.Change.{Change}
+use Rattle.ordup_objects.specs.Repeats.{repeats}
 use Rattle.ordup_objects.specs.Serial.{History, with_more}
 use Rattle.ordup_log.specs.Groups.{GroupList}
-use Rattle.ordup_log.specs.Spans.{span, IsScopeOver}
+use Rattle.ordup_log.specs.Spans.{span, IsScopeKnown}
 use Rattle.ordup_limits.specs.declared.limit.Limit.{Limit}
 use Rattle.ordup_log.specs.declared.scope.Scope.{Scope}
 use Rattle.ordup_log.specs.declared.scope.Scope.TheVariants.{Object, Group, All as Everything, Count}
@@ -71,16 +72,15 @@ abbrev pub limit_refusal : ℕ → GroupList → Limits → Scope → ℕ → Op
 limit_refusal n groups limits scope amount = option_or (scope_refusal n groups scope) (amount_refusal limits scope amount)
 
 -- two limits are on one scope
-abbrev pub repeats_scope : Limits → Bool
-repeats_scope [] = false
-repeats_scope (l ∷ limits) = list_any (λ m. is_same_scope l.scope m.scope) limits || repeats_scope limits
+abbrev pub are_on_one_scope : Limit → Limit → Bool
+are_on_one_scope l m = is_same_scope l.scope m.scope
 
 -- at most 64 limits of distinct scopes, with amounts from 0 to 10^18
 pub record AreLimits (limits : Limits) : Type 0 where
   pub few : length limits ≤ 64
   pub amounts : All (λ limit. limit.amount ≤ 1000000000000000000) limits
-  pub distinct : repeats_scope limits ≡ false
+  pub distinct : repeats are_on_one_scope limits ≡ false
 
 -- the objects and groups of the limits are there
-abbrev pub AreLimitsOver : ℕ → GroupList → Limits → Type 0
-AreLimitsOver n groups limits = All (λ limit. IsScopeOver n groups limit.scope) limits
+abbrev pub AreScopesKnown : ℕ → GroupList → Limits → Type 0
+AreScopesKnown n groups limits = All (λ limit. IsScopeKnown n groups limit.scope) limits

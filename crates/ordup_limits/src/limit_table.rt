@@ -1,8 +1,8 @@
 ghost use Rattle.std.specs.Prelude.{◌≡◌, ◌≤◌, ◌<◌, ◌↔◌, ◌++◌, ◌∷◌, [], ℕ, None, Some, IfOk, IfErr, IfSome, IsTrue, IsNone, OnOk, length, slice_get};
 ghost use Rattle.std.specs.List.{list_any};
 ghost use Rattle.ordup_objects.specs.Refusals.{IsRefusal};
-ghost use Rattle.ordup_log.specs.Spans.{span, IsScopeOver};
-ghost use Rattle.ordup_limits.specs.Limits.{scope_refusal, limit_refusal, is_same_scope, keeps, within, first_passed, AreLimitsOver, AreLimits};
+ghost use Rattle.ordup_log.specs.Spans.{span, IsScopeKnown};
+ghost use Rattle.ordup_limits.specs.Limits.{scope_refusal, limit_refusal, is_same_scope, keeps, within, first_passed, AreScopesKnown, AreLimits};
 
 use crate::limit::Limit;
 use crate::sizes::{GREATEST_AMOUNT, MOST_LIMITS};
@@ -53,7 +53,7 @@ impl<A: Allocator + Copy> LimitTable<A> {
         scope: Scope,
         amount: u64,
     ) -> Result<(), Refusal>
-        ensures known { OnOk result (IsScopeOver (length objects.now) groups.now scope) }
+        ensures known { OnOk result (IsScopeKnown (length objects.now) groups.now scope) }
         ensures added { OnOk result (self.new ≡ self.old ++ (record { scope = scope; amount = amount }) ∷ []) }
         ensures allowed { OnOk result (limit_refusal (length objects.now) groups.now self.old scope amount ≡ None) }
         ensures refused { IfErr result (λ e. IsRefusal (limit_refusal (length objects.now) groups.now self.old scope amount) e) }
@@ -98,7 +98,7 @@ impl<A: Allocator + Copy> LimitTable<A> {
     /// Where the first place is not before the second the span is empty, and passes none.
     pub fn over(&self, log: &Log<A>, groups: &Groups<A>, from: u64, to: u64) -> Option<usize>
         requires last { to ≤ length log.now.sets }
-        requires known { AreLimitsOver (length log.now.start) groups.now self.now }
+        requires known { AreScopesKnown (length log.now.start) groups.now self.now }
         ensures over { result ≡ first_passed log.now groups.now self.now from to }
         ensures within { IsNone result ↔ IsTrue (within log.now groups.now self.now from to) }
     {
@@ -119,7 +119,7 @@ fn first_passed<A: Allocator + Copy>(
 ) -> Option<usize>
     requires forward { from ≤ to }
     requires last { to ≤ length log.now.sets }
-    requires known { AreLimitsOver (length log.now.start) groups.now limits.now }
+    requires known { AreScopesKnown (length log.now.start) groups.now limits.now }
     ensures over { result ≡ first_passed log.now groups.now limits.now from to }
     ensures within { IsNone result ↔ IsTrue (within log.now groups.now limits.now from to) }
 {
@@ -146,7 +146,7 @@ fn keeps<A: Allocator + Copy>(
 ) -> bool
     requires forward { from ≤ to }
     requires last { to ≤ length log.now.sets }
-    requires known { IsScopeOver (length log.now.start) groups.now limit.scope }
+    requires known { IsScopeKnown (length log.now.start) groups.now limit.scope }
     requires all { IfSome all.old (λ weight. weight ≡ span log.now groups.now Scope.All from to) }
     ensures kept { result ≡ keeps log.now groups.now from to limit }
     ensures all { IfSome all.new (λ weight. weight ≡ span log.now groups.now Scope.All from to) }
@@ -190,7 +190,7 @@ pub fn check_scope<A: Allocator + Copy>(
     groups: &Groups<A>,
     scope: Scope,
 ) -> Result<(), Refusal>
-    ensures known { OnOk result (IsScopeOver (length objects.now) groups.now scope) }
+    ensures known { OnOk result (IsScopeKnown (length objects.now) groups.now scope) }
     ensures allowed { OnOk result (scope_refusal (length objects.now) groups.now scope ≡ None) }
     ensures refused { IfErr result (λ e. scope_refusal (length objects.now) groups.now scope ≡ Some e) }
 {

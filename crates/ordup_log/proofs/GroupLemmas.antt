@@ -7,13 +7,7 @@ use Rattle.ordup_objects.specs.Names.{is_name}
 use Rattle.std.proofs.lemmas.List.{length_push}
 use Rattle.std.proofs.lemmas.List.Elements.{All-map, All-same, All-push}
 use Rattle.ordup_objects.specs.Tables.{names_of, place_of, AreNames, AreDistinct}
-use Rattle.ordup_log.specs.Groups.{repeats_member, IsGroup}
-
--- one member further on
-pub repeats_member_more : (members : List ℕ) (i : ℕ) (d : ℕ) → i < length members → list_any (λ y. y == get_or members i d) (drop (i + 1) members) ≡ false → repeats_member (drop i members) ≡ repeats_member (drop (i + 1) members)
-repeats_member_more members i d h none =
-    let e : drop i members ≡ get_or members i d ∷ drop (i + 1) members = rw add-one (drop-cons members i d h) in
-    ap repeats_member e ∙ ap (λ b. b || repeats_member (drop (i + 1) members)) none
+use Rattle.ordup_log.specs.Groups.{IsGroup}
 
 -- what is beside the names does not change them
 names_of-map : {V W : Type 0} (f : V → W) (table : List (List ℕ × V)) → names_of (map (λ e. (e.0, f e.1)) table) ≡ names_of table

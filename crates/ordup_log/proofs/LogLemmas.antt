@@ -5,12 +5,12 @@ use Rattle.std.proofs.lemmas.Bool.{cases_lt}
 use Rattle.std.proofs.lemmas.List.{length_push, get_or_push}
 use Rattle.ordup_objects.specs.declared.change.Change.{Change}
 use Rattle.ordup_objects.specs.States.{State, after, is_legal}
-use Rattle.ordup_objects.specs.Sets.{IsSet, IsOver}
+use Rattle.ordup_objects.specs.Sets.{IsSet, AreKnown}
 use Rattle.ordup_objects.specs.Serial.{History, serial, with_update}
 use Rattle.ordup_objects.specs.Weights.{distances_of}
 use Rattle.ordup_log.specs.declared.log.Log.TheInside.{Inside}
 use Rattle.ordup_log.specs.LogInside.{IsLog, history_of}
-use Rattle.ordup_objects.proofs.SerialLemmas.{length-after, serial-longer, serial-last, IsLegal-append}
+use Rattle.ordup_objects.proofs.SerialLemmas.{length-after, serial-longer, serial-last, IsLegalHistory-longer}
 
 -- the distances of a log that grows are those of its updates
 distances-append : {A : Type 0} (h : History) (m : List Change) (kept : List (Vec ℕ A)) (ds : Vec ℕ A)
@@ -24,17 +24,17 @@ distances-append h m kept ds same each last k d lt = elim (cases_lt k (length h.
 
 -- a log keeps its invariant by one legal set more, with its distances and the values after it
 pub IsLog-append : {A : Type 0} (l : Inside A) (m : List Change) (ds : Vec ℕ A) (sets : Vec (List Change) A) (distances : Vec (Vec ℕ A) A) (end : State)
-    → IsLog l → IsSet m → IsOver (length l.start) m → is_legal m l.end ≡ true → vec_len l.sets < 1000000
+    → IsLog l → IsSet m → AreKnown (length l.start) m → is_legal m l.end ≡ true → vec_len l.sets < 1000000
     → sets.items ≡ l.sets.items ++ m ∷ [] → distances.items ≡ l.distances.items ++ ds ∷ [] → ds.items ≡ distances_of l.end m → end ≡ after m l.end
     → IsLog (record { start = l.start; sets = sets; distances = distances; end = end })
-IsLog-append l m ds sets distances end is set over legal few e f d g =
+IsLog-append l m ds sets distances end is set known legal few e f d g =
     let h : History = history_of l in
     let count : vec_len l.sets ≡ length h.sets = l.sets.ok.0 in
     let more : length sets.items ≡ length h.sets + 1 = ap length e ∙ length_push h.sets m in
     let now : l.end ≡ serial h (length h.sets) = is.end ∙ ap (serial h) count in
     record {
       few = omega (arith, sets.ok.0, more, count);
-      legal = rw e (IsLegal-append h m is.legal set over (rw (← now) legal));
+      legal = rw e (IsLegalHistory-longer h m is.legal set known (rw (← now) legal));
       same = ap length g ∙ length-after m l.end ∙ is.same;
       kept = omega (arith, sets.ok.0, distances.ok.0, l.sets.ok.0, l.distances.ok.0, more, ap length f, length_push l.distances.items ds, is.kept);
       each = λ k d0 lt. rw (e, f) (distances-append h m l.distances.items ds (omega (arith, l.sets.ok.0, l.distances.ok.0, is.kept)) is.each (d ∙ ap (λ v. distances_of v m) now) k d0 (omega (arith, ap length e)));

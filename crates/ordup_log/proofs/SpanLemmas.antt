@@ -1,10 +1,11 @@
--- Weights and sums over spans.
+-- Spans on every scope.
 use Rattle.std.proofs.Common.{◌≡◌, ℕ, zero, suc, ◌+◌, ◌-◌, ◌<◌, ◌≤◌, List, length, sum_by, inl, inr, arith, refl, ap}
 use Rattle.std.proofs.lemmas.Bool.{cases_lt}
 use Rattle.ordup_objects.specs.declared.change.Change.{Change}
 use Rattle.ordup_objects.specs.Serial.{History, with_more}
-use Rattle.ordup_objects.specs.Weights.{sum_from, sum_below}
-use Rattle.ordup_objects.proofs.SpanLemmas.{sum_from-add, sum_from-same, object_weight-longer}
+use Rattle.ordup_objects.specs.Sums.{sum_from}
+use Rattle.ordup_objects.proofs.SumLemmas.{sum_from-add, sum_from-same, sum_from-constant}
+use Rattle.ordup_objects.proofs.SpanLemmas.{object_weight-longer}
 use Rattle.ordup_log.specs.Groups.{GroupList, members_at}
 use Rattle.ordup_log.specs.Spans.{weight, span, InnerSpansWeighLess, LongerHistoriesKeepSpans}
 use Rattle.ordup_log.specs.declared.scope.Scope.{Scope}
@@ -15,7 +16,7 @@ weight-longer : (h : History) (more : List (List Change)) (groups : GroupList) (
     → weight (with_more h more) groups s j ≡ weight h groups s j
 weight-longer h more groups (Object x) j lt = object_weight-longer h more x j lt
 weight-longer h more groups (Group g) j lt = ap (λ w. sum_by w (members_at groups g)) (λ i x. object_weight-longer h more x j lt i)
-weight-longer h more groups Everything j lt = ap (λ w. sum_below w (length h.start)) (λ i x. object_weight-longer h more x j lt i)
+weight-longer h more groups Everything j lt = ap (λ w. sum_from w 0 (length h.start)) (λ i x. object_weight-longer h more x j lt i)
 weight-longer h more groups Count j lt = refl
 
 -- and the spans
@@ -25,14 +26,9 @@ span-longer h more groups s a b le = elim (cases_lt a b) [
   | inr ge ↦ (let none : b - a ≡ 0 = omega arith in rw none refl)
 ]
 
--- n ones add up to n
-sum_from-ones : (a n : ℕ) → sum_from (λ j. 1) a n ≡ n
-sum_from-ones a zero = refl
-sum_from-ones a (suc n) = omega (arith, sum_from-ones a n)
-
 -- a span on the number of updates weighs how many there are
 pub span-count : (h : History) (groups : GroupList) (a b : ℕ) → span h groups Count a b ≡ b - a
-span-count h groups a b = sum_from-ones a (b - a)
+span-count h groups a b = omega (arith, sum_from-constant 1 a (b - a))
 
 -- one place more
 pub span-more : (h : History) (groups : GroupList) (s : Scope) (a b : ℕ) → a ≤ b → span h groups s a (b + 1) ≡ span h groups s a b + weight h groups s b

@@ -5,9 +5,11 @@ use Rattle.std.proofs.lemmas.List.{length-map}
 use Rattle.std.proofs.lemmas.List.Sums.{sum_by-le}
 use Rattle.ordup_objects.specs.declared.change.Change.{Change}
 use Rattle.ordup_objects.specs.States.{value_at, after}
-use Rattle.ordup_objects.specs.Serial.{History, serial, IsLegal}
-use Rattle.ordup_objects.specs.Weights.{distance, object_weight, distance_by, distances_of, distance_beside, sum_below}
-use Rattle.ordup_objects.proofs.SetLemmas.{distance_beside-few, distance_beside-distances_of, sum_below-same, distances_of-few, distance-after, distances-after}
+use Rattle.ordup_objects.specs.Serial.{History, serial, IsLegalHistory}
+use Rattle.ordup_objects.specs.Sums.{sum_from}
+use Rattle.ordup_objects.specs.Weights.{distance, object_weight, distance_by, distances_of, distance_beside}
+use Rattle.ordup_objects.proofs.SumLemmas.{sum_from-same}
+use Rattle.ordup_objects.proofs.SetLemmas.{distance_beside-few, distance_beside-distances_of, distances_of-few, distance-after, distances-after}
 use Rattle.ordup_objects.proofs.SerialLemmas.{serial-suc, length-serial, IsState-serial}
 
 -- an update's weight on an object is how far its set moves the value
@@ -15,7 +17,7 @@ object_weight-is : (h : History) (x j : ℕ) → j < length h.sets → distance 
 object_weight-is h x j lt = rw (serial-suc h j lt) refl
 
 -- the weight of an update on an object, by its distances
-pub distance_beside-at : (h : History) → IsLegal h → (x j : ℕ) → j < length h.sets → distance_beside (get_or h.sets j []) (distances_of (serial h j) (get_or h.sets j [])) x ≡ object_weight h x j
+pub distance_beside-at : (h : History) → IsLegalHistory h → (x j : ℕ) → j < length h.sets → distance_beside (get_or h.sets j []) (distances_of (serial h j) (get_or h.sets j [])) x ≡ object_weight h x j
 distance_beside-at h legal x j lt =
     let size : length (serial h j) ≡ length h.start = length-serial h j (omega arith) in
     distance_beside-distances_of (serial h j) (get_or h.sets j []) x
@@ -23,18 +25,18 @@ distance_beside-at h legal x j lt =
     ∙ object_weight-is h x j lt
 
 -- the weight of an update on all objects, by its distances
-pub sum-at : (h : History) → IsLegal h → (j : ℕ) → j < length h.sets → sum (distances_of (serial h j) (get_or h.sets j [])) ≡ sum_below (λ x. object_weight h x j) (length h.start)
+pub sum-at : (h : History) → IsLegalHistory h → (j : ℕ) → j < length h.sets → sum (distances_of (serial h j) (get_or h.sets j [])) ≡ sum_from (λ x. object_weight h x j) 0 (length h.start)
 sum-at h legal j lt =
     let size : length (serial h j) ≡ length h.start = length-serial h j (omega arith) in
     sym (distances-after (serial h j) (get_or h.sets j []) (length h.start) (legal.sets j [] lt).distinct (rw size (legal.known j [] lt)) (sym size))
-    ∙ sum_below-same (λ x. distance (value_at (after (get_or h.sets j []) (serial h j)) x) (value_at (serial h j) x)) (λ x. object_weight h x j) (length h.start) (λ x. object_weight-is h x j lt)
+    ∙ sum_from-same _ (λ x. object_weight h x j) 0 (length h.start) (λ x below. object_weight-is h x j lt)
 
 -- each distance of an update is small
-pub distances-few : (h : History) → IsLegal h → (j : ℕ) → j < length h.sets → All (λ d. d ≤ 2000000000) (distances_of (serial h j) (get_or h.sets j []))
+pub distances-few : (h : History) → IsLegalHistory h → (j : ℕ) → j < length h.sets → All (λ d. d ≤ 2000000000) (distances_of (serial h j) (get_or h.sets j []))
 distances-few h legal j lt = distances_of-few (serial h j) (get_or h.sets j []) (IsState-serial h legal j (omega arith)) (legal.legal j lt)
 
 -- their sum is small
-pub sum-few : (h : History) → IsLegal h → (j : ℕ) → j < length h.sets → sum (distances_of (serial h j) (get_or h.sets j [])) ≤ 128000000000
+pub sum-few : (h : History) → IsLegalHistory h → (j : ℕ) → j < length h.sets → sum (distances_of (serial h j) (get_or h.sets j [])) ≤ 128000000000
 sum-few h legal j lt =
     omega (
       arith,
@@ -44,15 +46,15 @@ sum-few h legal j lt =
     )
 
 -- the distance of an update on an object is small
-pub distance_beside-few-at : (h : History) → IsLegal h → (x j : ℕ) → j < length h.sets → distance_beside (get_or h.sets j []) (distances_of (serial h j) (get_or h.sets j [])) x ≤ 2000000000
+pub distance_beside-few-at : (h : History) → IsLegalHistory h → (x j : ℕ) → j < length h.sets → distance_beside (get_or h.sets j []) (distances_of (serial h j) (get_or h.sets j [])) x ≤ 2000000000
 distance_beside-few-at h legal x j lt = distance_beside-few (get_or h.sets j []) (distances_of (serial h j) (get_or h.sets j [])) x (distances-few h legal j lt)
 
 -- the same of what a caller has of them
-pub distance_beside-few-in : (h : History) (m : List Change) (ds : List ℕ) (x j : ℕ) → IsLegal h → j < length h.sets → ds ≡ distances_of (serial h j) (get_or h.sets j []) → m ≡ get_or h.sets j [] → distance_beside m ds x ≤ 2000000000
+pub distance_beside-few-in : (h : History) (m : List Change) (ds : List ℕ) (x j : ℕ) → IsLegalHistory h → j < length h.sets → ds ≡ distances_of (serial h j) (get_or h.sets j []) → m ≡ get_or h.sets j [] → distance_beside m ds x ≤ 2000000000
 distance_beside-few-in h m ds x j legal lt f e = rw (f, e) (distance_beside-few-at h legal x j lt)
 
 -- the weight of an update on an object is small
-pub object_weight-few : (h : History) → IsLegal h → (x j : ℕ) → j < length h.sets → object_weight h x j ≤ 2000000000
+pub object_weight-few : (h : History) → IsLegalHistory h → (x j : ℕ) → j < length h.sets → object_weight h x j ≤ 2000000000
 object_weight-few h legal x j lt = omega (arith, distance_beside-at h legal x j lt, distance_beside-few-at h legal x j lt)
 
 -- one change further on
@@ -63,13 +65,13 @@ distance_beside_more m ds x i c lt same other =
     rw (e, f, other) refl
 
 -- what `weight` answers on an object
-pub object_answer : (h : History) (x j r : ℕ) (m : List Change) (ds : List ℕ) → IsLegal h → j < length h.sets → ds ≡ distances_of (serial h j) (get_or h.sets j []) → m ≡ get_or h.sets j [] → r ≡ distance_beside m ds x → (r ≡ object_weight h x j) × (r ≤ 128000000000)
+pub object_answer : (h : History) (x j r : ℕ) (m : List Change) (ds : List ℕ) → IsLegalHistory h → j < length h.sets → ds ≡ distances_of (serial h j) (get_or h.sets j []) → m ≡ get_or h.sets j [] → r ≡ distance_beside m ds x → (r ≡ object_weight h x j) × (r ≤ 128000000000)
 object_answer h x j r m ds legal lt f e g =
     let is : r ≡ object_weight h x j = g ∙ rw (f, e) (distance_beside-at h legal x j lt) in
     (is, omega (arith, is, object_weight-few h legal x j lt))
 
 -- what it answers on a group
-pub group_answer : (h : History) (members : List ℕ) (j r : ℕ) (m : List Change) (ds : List ℕ) → IsLegal h → length members ≤ 64 → j < length h.sets → ds ≡ distances_of (serial h j) (get_or h.sets j []) → m ≡ get_or h.sets j []
+pub group_answer : (h : History) (members : List ℕ) (j r : ℕ) (m : List Change) (ds : List ℕ) → IsLegalHistory h → length members ≤ 64 → j < length h.sets → ds ≡ distances_of (serial h j) (get_or h.sets j []) → m ≡ get_or h.sets j []
     → r ≡ sum_by (λ x. distance_beside m ds x) members → (r ≡ sum_by (λ x. object_weight h x j) members) × (r ≤ 128000000000)
 group_answer h members j r m ds legal few lt f e g =
     let each : (x : ℕ) → distance_beside m ds x ≡ object_weight h x j = λ x. rw (f, e) (distance_beside-at h legal x j lt) in
@@ -77,6 +79,6 @@ group_answer h members j r m ds legal few lt f e g =
     (is, omega (arith, is, sum_by-le (λ x. object_weight h x j) 2000000000 members (λ k d below. object_weight-few h legal (get_or members k d) j lt)))
 
 -- what it answers on all
-pub all_answer : (h : History) (j r : ℕ) (ds : List ℕ) → IsLegal h → j < length h.sets → ds ≡ distances_of (serial h j) (get_or h.sets j []) → r ≡ sum ds → (r ≡ sum_below (λ x. object_weight h x j) (length h.start)) × (r ≤ 128000000000)
+pub all_answer : (h : History) (j r : ℕ) (ds : List ℕ) → IsLegalHistory h → j < length h.sets → ds ≡ distances_of (serial h j) (get_or h.sets j []) → r ≡ sum ds → (r ≡ sum_from (λ x. object_weight h x j) 0 (length h.start)) × (r ≤ 128000000000)
 all_answer h j r ds legal lt f g =
     (g ∙ ap sum f ∙ sum-at h legal j lt, omega (arith, g, ap sum f, sum-few h legal j lt))

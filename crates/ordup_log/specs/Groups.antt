@@ -1,9 +1,10 @@
 -- Groups of objects.
-use Rattle.std.specs.Prelude.{◌≡◌, ℕ, ◌<◌, ◌≤◌, ◌==◌, ◌||◌, not, if◌then◌else◌, Option, Some, None, Bool, false, List, [], ◌∷◌, length, nat_lt, is_some, slice_index_or}
-use Rattle.std.specs.List.{list_all, list_any}
+use Rattle.std.specs.Prelude.{◌≡◌, ℕ, ◌<◌, ◌≤◌, ◌==◌, ◌||◌, not, if◌then◌else◌, Option, Some, None, Bool, false, List, [], length, nat_eq, nat_lt, is_some, slice_index_or, All}
+use Rattle.std.specs.List.{list_all}
 use Rattle.ordup_objects.specs.declared.refusal.Refusal.{Refusal}
 use Rattle.ordup_objects.specs.declared.refusal.Refusal.TheVariants.{BadName, NameTaken, UnknownObject, TooMany, Empty, Repeated}
 use Rattle.ordup_objects.specs.Names.{is_name}
+use Rattle.ordup_objects.specs.Repeats.{repeats}
 use Rattle.ordup_objects.specs.Tables.{place_of}
 
 -- the groups in order of declaration, each with its name and its members
@@ -14,14 +15,13 @@ GroupList = List (List ℕ × List ℕ)
 abbrev pub members_at : GroupList → ℕ → List ℕ
 members_at groups g = (slice_index_or groups g ([], [])).1
 
--- an object comes twice
-abbrev pub repeats_member : List ℕ → Bool
-repeats_member [] = false
-repeats_member (x ∷ xs) = list_any (λ y. y == x) xs || repeats_member xs
-
 -- each member is one of the first n objects
 abbrev pub are_members_known : ℕ → List ℕ → Bool
 are_members_known n members = list_all (λ x. nat_lt x n) members
+
+-- each member is one of the first n objects, as a fact
+abbrev pub AreMembersKnown : ℕ → List ℕ → Type 0
+AreMembersKnown n members = All (λ x. x < n) members
 
 -- why a group over n objects is refused, if it is
 abbrev pub group_refusal : ℕ → GroupList → List ℕ → List ℕ → Option Refusal
@@ -31,10 +31,10 @@ group_refusal n groups name members =
     if not (are_members_known n members) then Some UnknownObject else
     if length groups == 32 || nat_lt 64 (length members) then Some TooMany else
     if length members == 0 then Some Empty else
-    if repeats_member members then Some Repeated else None
+    if repeats nat_eq members then Some Repeated else None
 
 -- 1 to 64 distinct members
 pub record IsGroup (members : List ℕ) : Type 0 where
   pub some : 0 < length members
   pub few : length members ≤ 64
-  pub distinct : repeats_member members ≡ false
+  pub distinct : repeats nat_eq members ≡ false

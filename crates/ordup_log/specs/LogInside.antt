@@ -1,7 +1,7 @@
 -- What the fields of a log keep.
 use Rattle.std.specs.Prelude.{◌≡◌, ◌≤◌, ◌<◌, ℕ, [], length, vec_len, slice_index_or, Vec}
 use Rattle.ordup_objects.specs.Weights.{distances_of}
-use Rattle.ordup_objects.specs.Serial.{History, serial, IsLegal}
+use Rattle.ordup_objects.specs.Serial.{History, serial, IsLegalHistory}
 use Rattle.ordup_log.specs.declared.log.Log.TheInside.{Inside}
 
 module _ {A : Type 0} where
@@ -11,7 +11,7 @@ module _ {A : Type 0} where
   -- the log is legal, the distances are those of its updates, and the end has the serial result of all of it
   pub record IsLog (l : Inside A) : Type 0 where
     pub few : vec_len l.sets ≤ 1000000
-    pub legal : IsLegal (history_of l)
+    pub legal : IsLegalHistory (history_of l)
     pub same : length l.end ≡ length l.start
     pub kept : vec_len l.distances ≡ vec_len l.sets
     pub each : (k : ℕ) (d : Vec ℕ A) → k < length l.sets.items →

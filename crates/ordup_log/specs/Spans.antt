@@ -3,7 +3,8 @@ use Rattle.std.specs.Prelude.{ℕ, ◌-◌, ◌<◌, ◌≡◌, ◌≤◌, List,
 use Rattle.ordup_objects.specs.declared.change.Change.{Change}
 use Rattle.ordup_objects.specs.States.{value_at}
 use Rattle.ordup_objects.specs.Serial.{History, serial, with_more}
-use Rattle.ordup_objects.specs.Weights.{distance, object_weight, sum_from, sum_below}
+use Rattle.ordup_objects.specs.Sums.{sum_from}
+use Rattle.ordup_objects.specs.Weights.{distance, object_weight}
 use Rattle.ordup_log.specs.Groups.{GroupList, members_at}
 use Rattle.ordup_log.specs.declared.scope.Scope.{Scope}
 use Rattle.ordup_log.specs.declared.scope.Scope.TheVariants.{Object, Group, All as Everything, Count}
@@ -12,7 +13,7 @@ use Rattle.ordup_log.specs.declared.scope.Scope.TheVariants.{Object, Group, All 
 abbrev pub weight : History → GroupList → Scope → ℕ → ℕ
 weight h groups (Object x) j = object_weight h x j
 weight h groups (Group g) j = sum_by (λ x. object_weight h x j) (members_at groups g)
-weight h groups Everything j = sum_below (λ x. object_weight h x j) (length h.start)
+weight h groups Everything j = sum_from (λ x. object_weight h x j) 0 (length h.start)
 weight h groups Count j = 1
 
 -- the weight on a scope of the span from a to b: the sum over the places a + 1 to b
@@ -20,11 +21,11 @@ abbrev pub span : History → GroupList → Scope → ℕ → ℕ → ℕ
 span h groups s a b = sum_from (weight h groups s) a (b - a)
 
 -- the object or group of a scope is there
-abbrev pub IsScopeOver : ℕ → GroupList → Scope → Type 0
-IsScopeOver n groups (Object x) = x < n
-IsScopeOver n groups (Group g) = g < length groups
-IsScopeOver n groups Everything = Unit {0}
-IsScopeOver n groups Count = Unit {0}
+abbrev pub IsScopeKnown : ℕ → GroupList → Scope → Type 0
+IsScopeKnown n groups (Object x) = x < n
+IsScopeKnown n groups (Group g) = g < length groups
+IsScopeKnown n groups Everything = Unit {0}
+IsScopeKnown n groups Count = Unit {0}
 
 -- a span inside another weighs no more
 abbrev pub InnerSpansWeighLess : Type 0

@@ -1,8 +1,9 @@
-ghost use Rattle.std.specs.Prelude.{◌≡◌, ◌≤◌, ℕ, ◌<◌, None, Some, IfSome, IfOk, IfErr, List, [], ◌∷◌, ◌++◌, length, slice_get, option_map, All, nat_lt, ◌==◌};
+ghost use Rattle.std.specs.Prelude.{◌≡◌, ◌≤◌, ℕ, ◌<◌, None, Some, IfSome, IfOk, IfErr, List, [], ◌∷◌, ◌++◌, length, slice_get, option_map, All, nat_eq, nat_lt};
 ghost use Rattle.std.specs.List.{list_all, list_any};
 ghost use Rattle.ordup_objects.specs.Tables.{place_of, AreNames, AreDistinct};
+ghost use Rattle.ordup_objects.specs.Repeats.{repeats};
 ghost use Rattle.ordup_objects.specs.Refusals.{IsRefusal};
-ghost use Rattle.ordup_log.specs.Groups.{group_refusal, members_at, are_members_known, repeats_member, IsGroup};
+ghost use Rattle.ordup_log.specs.Groups.{group_refusal, members_at, are_members_known, AreMembersKnown, IsGroup};
 
 use ordup_objects::sizes::{MOST_GROUPS, MOST_MEMBERS};
 use ordup_objects::{Name, NameTable, ObjectId, ObjectTable, Refusal};
@@ -79,7 +80,7 @@ impl<A: Allocator + Copy> Groups<A> {
         members: &[ObjectId],
     ) -> Result<GroupId, Refusal>
         ensures group { IfOk result (λ group. group ≡ length self.old) }
-        ensures known { IfOk result (λ _. All (λ x. x < length objects.now) members.now) }
+        ensures known { IfOk result (λ _. AreMembersKnown (length objects.now) members.now) }
         ensures declared { IfOk result (λ _. self.new ≡ self.old ++ (name.now, members.now) ∷ []) }
         ensures allowed { IfOk result (λ _. group_refusal (length objects.now) self.old name.now members.now ≡ None) }
         ensures refused { IfErr result (λ e. IsRefusal (group_refusal (length objects.now) self.old name.now members.now) e) }
@@ -156,13 +157,13 @@ fn are_known(objects: usize, members: &[ObjectId]) -> bool
 }
 
 fn is_member(object: ObjectId, members: &[ObjectId]) -> bool
-    ensures { result ≡ list_any (λ y. y == object) members.now }
+    ensures { result ≡ list_any (nat_eq object) members.now }
 {
-    members.iter().any(|y| *y == object)
+    members.iter().any(|y| object == *y)
 }
 
 fn has_repeat(members: &[ObjectId]) -> bool
-    ensures { result ≡ repeats_member members.now }
+    ensures { result ≡ repeats nat_eq members.now }
 {
     for (i, member) in members.iter().enumerate() {
         if is_member(*member, &members[i + 1..]) {

@@ -34,12 +34,12 @@ impl<A: Allocator + Copy> Model for Log<A> {
 }
 
 impl<A: Allocator + Copy> Log<A> {
-    ghost use Rattle.ordup_objects.specs.Serial.{History, serial, set_at, with_update, IsLegal};
+    ghost use Rattle.ordup_objects.specs.Serial.{History, serial, set_at, with_update, IsLegalHistory};
     ghost use Rattle.ordup_objects.specs.States.{value_at};
-    ghost use Rattle.ordup_objects.specs.Sets.{IsOver, IsSet};
+    ghost use Rattle.ordup_objects.specs.Sets.{AreKnown, IsSet};
     ghost use Rattle.ordup_objects.specs.Refusals.{IsRefusal};
     ghost use Rattle.ordup_log.specs.Appending.{append_refusal};
-    ghost use Rattle.ordup_log.specs.Spans.{weight, span, IsScopeOver};
+    ghost use Rattle.ordup_log.specs.Spans.{weight, span, IsScopeKnown};
 
     /// A log without updates, over the initial values of the objects. It is refused `NoMemory` alone.
     pub fn new(alloc: A, objects: &ObjectTable<A>) -> Result<Self, Refusal>
@@ -61,7 +61,7 @@ impl<A: Allocator + Copy> Log<A> {
     pub fn len(&self) -> u64
         ensures len { result ≡ length self.now.sets }
         ensures few { length self.now.sets ≤ 1000000 }
-        ensures legal { IsLegal self.now }
+        ensures legal { IsLegalHistory self.now }
     {
         self.sets.len() as u64
     }
@@ -77,7 +77,7 @@ impl<A: Allocator + Copy> Log<A> {
     ///
     /// It is refused `LogFull` after 1,000,000 updates, `OutOfRange` where a result is out of range, and `NoMemory`.
     pub fn append(&mut self, set: MessageSet<A>) -> Result<u64, Refusal>
-        requires { IsOver (length self.old.start) set }
+        requires { AreKnown (length self.old.start) set }
         ensures number { IfOk result (λ k. k ≡ length self.old.sets + 1) }
         ensures added { IfOk result (λ _. self.new ≡ with_update self.old set) }
         ensures allowed { IfOk result (λ _. append_refusal self.old set ≡ None) }
@@ -108,7 +108,7 @@ impl<A: Allocator + Copy> Log<A> {
         requires first { 0 < number }
         requires last { number ≤ length self.now.sets }
         ensures set { result.now ≡ set_at self.now number }
-        ensures legal { IsLegal self.now }
+        ensures legal { IsLegalHistory self.now }
     {
         &self.sets[number as usize - 1]
     }
@@ -136,7 +136,7 @@ impl<A: Allocator + Copy> Log<A> {
     pub fn weight(&self, number: u64, scope: Scope, groups: &Groups<A>) -> u64
         requires first { 0 < number }
         requires last { number ≤ length self.now.sets }
-        requires known { IsScopeOver (length self.now.start) groups.now scope }
+        requires known { IsScopeKnown (length self.now.start) groups.now scope }
         ensures weight { result ≡ weight self.now groups.now scope (number - 1) }
         ensures few { result ≤ 128000000000 }
     {
@@ -156,7 +156,7 @@ impl<A: Allocator + Copy> Log<A> {
     pub fn span(&self, scope: Scope, groups: &Groups<A>, from: u64, to: u64) -> u64
         requires forward { from ≤ to }
         requires last { to ≤ length self.now.sets }
-        requires known { IsScopeOver (length self.now.start) groups.now scope }
+        requires known { IsScopeKnown (length self.now.start) groups.now scope }
         ensures span { result ≡ span self.now groups.now scope from to }
         ensures few { result ≤ 128000000000000000 }
     {
@@ -174,7 +174,7 @@ impl<A: Allocator + Copy> Log<A> {
         requires first { 0 < number }
         requires last { number ≤ length self.now.sets }
         ensures distances { result.now ≡ distances_of (serial self.now (number - 1)) (set_at self.now number) }
-        ensures legal { IsLegal self.now }
+        ensures legal { IsLegalHistory self.now }
     {
         &self.distances[number as usize - 1]
     }

@@ -23,7 +23,7 @@ fn set_of(alloc: Global, objects: &ObjectTable, changes: &[Change]) -> Result<Me
 
 /// Appends a message set.
 fn append(log: &mut Log, set: MessageSet) -> Result<u64, Refusal> {
-    if !set.is_over(log.objects()) {
+    if !set.are_known(log.objects()) {
         return Err(Refusal::UnknownObject);
     }
     log.append(set)

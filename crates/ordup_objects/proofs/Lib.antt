@@ -1,4 +1,6 @@
 pub mod NameLemmas
+pub mod RepeatLemmas
+pub mod SumLemmas
 pub mod SetLemmas
 pub mod TableLemmas
 pub mod SerialLemmas

@@ -9,8 +9,8 @@ use Rattle.std.proofs.lemmas.List.Elements.{All-push}
 use Rattle.std.proofs.lemmas.List.Sums.{fold-append}
 use Rattle.ordup_objects.specs.declared.change.Change.{Change}
 use Rattle.ordup_objects.specs.States.{State, result_at, after, is_legal, IsState}
-use Rattle.ordup_objects.specs.Sets.{IsSet, IsOver}
-use Rattle.ordup_objects.specs.Serial.{History, serial, with_update, IsLegal, LongerHistoriesKeepSerialResults}
+use Rattle.ordup_objects.specs.Sets.{IsSet, AreKnown}
+use Rattle.ordup_objects.specs.Serial.{History, serial, with_update, IsLegalHistory, LongerHistoriesKeepSerialResults}
 use Rattle.ordup_objects.proofs.SetLemmas.{IsState-after}
 
 -- one update more
@@ -32,7 +32,7 @@ length-serial h zero le = refl
 length-serial h (suc j) le = ap length (serial-suc h j (omega arith)) ∙ length-after (get_or h.sets j []) (serial h j) ∙ length-serial h j (omega arith)
 
 -- the values of a serial result are in range
-pub IsState-serial : (h : History) → IsLegal h → (j : ℕ) → j ≤ length h.sets → IsState (serial h j)
+pub IsState-serial : (h : History) → IsLegalHistory h → (j : ℕ) → j ≤ length h.sets → IsState (serial h j)
 IsState-serial h legal zero le = legal.start
 IsState-serial h legal (suc j) le =
     rw (serial-suc h j (omega arith)) (IsState-after (serial h j) (get_or h.sets j []) (IsState-serial h legal j (omega arith)) (legal.legal j (omega arith)))
@@ -49,11 +49,11 @@ serial-last h m =
     rw (e, serial-suc (with_update h m) (length h.sets) lt, get_or-append_seam h.sets m [] [], serial-longer h (m ∷ []) (length h.sets) (omega arith)) refl
 
 -- a legal log stays legal by one legal set more
-pub IsLegal-append : (h : History) (m : List Change) → IsLegal h → IsSet m → IsOver (length h.start) m → is_legal m (serial h (length h.sets)) ≡ true → IsLegal (with_update h m)
-IsLegal-append h m is set over legal = record {
+pub IsLegalHistory-longer : (h : History) (m : List Change) → IsLegalHistory h → IsSet m → AreKnown (length h.start) m → is_legal m (serial h (length h.sets)) ≡ true → IsLegalHistory (with_update h m)
+IsLegalHistory-longer h m is set known legal = record {
   start = is.start;
   sets = All-push IsSet h.sets m is.sets set;
-  known = All-push (IsOver (length h.start)) h.sets m is.known over;
+  known = All-push (AreKnown (length h.start)) h.sets m is.known known;
   legal = λ k lt. elim (cases_lt k (length h.sets)) [
     | inl before ↦ rw (get_or-append h.sets (m ∷ []) [] k before, serial-longer h (m ∷ []) k (omega arith)) (is.legal k before)
     | inr past ↦ (let at : k ≡ length h.sets = omega (arith, length_push h.sets m) in

@@ -12,8 +12,11 @@ use Rattle.std.proofs.lemmas.List.Sums.{sum_by-cons}
 use Rattle.std.specs.Int.RustNames.{unsigned_abs}
 use Rattle.ordup_objects.specs.declared.change.Change.{Change}
 use Rattle.ordup_objects.specs.States.{State, value_at, result_at, in_range, is_legal, after, IsInRange, IsState}
-use Rattle.ordup_objects.specs.Sets.{repeats, IsOver}
-use Rattle.ordup_objects.specs.Weights.{distance, distance_by, distances_of, distance_beside, sum_below}
+use Rattle.ordup_objects.specs.Sums.{sum_from}
+use Rattle.ordup_objects.specs.Repeats.{repeats}
+use Rattle.ordup_objects.specs.Sets.{are_of_one_object, AreKnown}
+use Rattle.ordup_objects.specs.Weights.{distance, distance_by, distances_of, distance_beside}
+use Rattle.ordup_objects.proofs.SumLemmas.{sum_from-same, sum_from-constant, without, sum_from-without}
 
 -- the value of an object after a set, by the change of the object
 abbrev pub value_after : State → List Change → ℕ → ℤ
@@ -24,12 +27,6 @@ value_after v (c ∷ m) x = cond (c.object == x) (result_at v c) (value_after v 
 abbrev pub moved_by : State → List Change → ℕ → ℕ
 moved_by v [] x = 0
 moved_by v (c ∷ m) x = cond (c.object == x) (distance_by v c) (moved_by v m x)
-
--- one change further on
-pub repeats_more : (m : List Change) (i : ℕ) (c : Change) → i < length m → list_any (λ d. d.object == (get_or m i c).object) (drop (i + 1) m) ≡ false → repeats (drop i m) ≡ repeats (drop (i + 1) m)
-repeats_more m i c h none =
-    let e : drop i m ≡ get_or m i c ∷ drop (i + 1) m = rw add-one (drop-cons m i c h) in
-    ap repeats e ∙ ap (λ b. b || repeats (drop (i + 1) m)) none
 
 -- results that are in range keep the values in range
 after_from : (v : State) (m : List Change) (w : State) → IsState w → is_legal m v ≡ true → IsState (fold (λ u c. slice_set u c.object (result_at v c)) w m)
@@ -48,10 +45,10 @@ others_kept v (c ∷ m) w x none =
     let both : (c.object == x) ≡ false × list_any (λ d. d.object == x) m ≡ false = or_parts _ _ none in
     others_kept v m _ x both.1 ∙ get_or-set_other w c.object x (result_at v c) (pos 0) (λ e. eqb-false c.object x both.0 (sym e))
 
-changed_one : (v : State) (m : List Change) (w : State) (x : ℕ) → repeats m ≡ false → All (λ c. c.object < length w) m → value_at w x ≡ value_at v x → value_at (fold (λ u c. slice_set u c.object (result_at v c)) w m) x ≡ value_after v m x
+changed_one : (v : State) (m : List Change) (w : State) (x : ℕ) → repeats are_of_one_object m ≡ false → All (λ c. c.object < length w) m → value_at w x ≡ value_at v x → value_at (fold (λ u c. slice_set u c.object (result_at v c)) w m) x ≡ value_after v m x
 changed_one v [] w x distinct known same = same
 changed_one v (c ∷ m) w x distinct known same =
-    let apart : list_any (λ d. d.object == c.object) m ≡ false × repeats m ≡ false = or_parts _ _ distinct in
+    let apart : list_any (λ d. d.object == c.object) m ≡ false × repeats are_of_one_object m ≡ false = or_parts _ _ distinct in
     elim (cases_Bool (c.object == x)) [
       | inl e ↦ (let here : c.object ≡ x = eqb-true c.object x e in
           let none : list_any (λ d. d.object == x) m ≡ false = rw here at apart.0 in
@@ -62,8 +59,8 @@ changed_one v (c ∷ m) w x distinct known same =
     ]
 
 -- what a set makes of one value
-pub value_at-after : (v : State) (m : List Change) (x : ℕ) → repeats m ≡ false → IsOver (length v) m → value_at (after m v) x ≡ value_after v m x
-value_at-after v m x distinct over = changed_one v m v x distinct (λ k d h. (over k d h).0) refl
+pub value_at-after : (v : State) (m : List Change) (x : ℕ) → repeats are_of_one_object m ≡ false → AreKnown (length v) m → value_at (after m v) x ≡ value_after v m x
+value_at-after v m x distinct known = changed_one v m v x distinct (λ k d h. (known k d h).0) refl
 
 pub distance-same : (a : ℤ) → distance a a ≡ 0
 distance-same a = grind (arith, ints)
@@ -73,37 +70,12 @@ moved v [] x = distance-same (value_at v x)
 moved v (c ∷ m) x = elim (cases_Bool (c.object == x)) [ inl e ↦ rw e (ap (λ y. distance (result_at v c) (value_at v y)) (sym (eqb-true c.object x e))) | inr e ↦ rw e (moved v m x) ]
 
 -- how far a set moves one value
-pub distance-after : (v : State) (m : List Change) (x : ℕ) → repeats m ≡ false → IsOver (length v) m → distance (value_at (after m v) x) (value_at v x) ≡ moved_by v m x
-distance-after v m x distinct over = rw (value_at-after v m x distinct over) (moved v m x)
+pub distance-after : (v : State) (m : List Change) (x : ℕ) → repeats are_of_one_object m ≡ false → AreKnown (length v) m → distance (value_at (after m v) x) (value_at v x) ≡ moved_by v m x
+distance-after v m x distinct known = rw (value_at-after v m x distinct known) (moved v m x)
 
 pub distance_beside-distances_of : (v : State) (m : List Change) (x : ℕ) → distance_beside m (distances_of v m) x ≡ moved_by v m x
 distance_beside-distances_of v [] x = refl
 distance_beside-distances_of v (c ∷ m) x = ap (cond (c.object == x) (distance_by v c)) (distance_beside-distances_of v m x)
-
-pub sum_below-same : (f g : ℕ → ℕ) (n : ℕ) → ((x : ℕ) → f x ≡ g x) → sum_below f n ≡ sum_below g n
-sum_below-same f g zero h = refl
-sum_below-same f g (suc n) h = omega (arith, sum_below-same f g n h, h n)
-
-sum_below-add : (f g : ℕ → ℕ) (n : ℕ) → sum_below (λ x. f x + g x) n ≡ sum_below f n + sum_below g n
-sum_below-add f g zero = refl
-sum_below-add f g (suc n) = omega (arith, sum_below-add f g n)
-
-sum_below-zero : (n : ℕ) → sum_below (λ x. 0) n ≡ 0
-sum_below-zero zero = refl
-sum_below-zero (suc n) = omega (arith, sum_below-zero n)
-
--- one place alone counts
-sum_below-past : (i d n : ℕ) → n ≤ i → sum_below (λ x. cond (i == x) d 0) n ≡ 0
-sum_below-past i d zero h = refl
-sum_below-past i d (suc n) h = grind (arith, sum_below-past i d n)
-
-sum_below-one : (i d n : ℕ) → i < n → sum_below (λ x. cond (i == x) d 0) n ≡ d
-sum_below-one i d zero h = absurd (omega arith)
-sum_below-one i d (suc n) h =
-    elim (cases_lt i n) [
-      | inl lt ↦ (let other : (i == n) ≡ false = ne_eqb i n (λ e. omega arith) in rw (other, sum_below-one i d n lt) (omega arith))
-      | inr le ↦ (let same : (i == n) ≡ true = eq-eqb i n (omega arith) in rw (same, sum_below-past i d n le) (omega arith))
-    ]
 
 moved_by-none : (v : State) (m : List Change) (x : ℕ) → list_any (λ d. d.object == x) m ≡ false → moved_by v m x ≡ 0
 moved_by-none v [] x none = refl
@@ -111,32 +83,37 @@ moved_by-none v (c ∷ m) x none =
     let both : (c.object == x) ≡ false × list_any (λ d. d.object == x) m ≡ false = or_parts _ _ none in
     rw both.0 (moved_by-none v m x both.1)
 
-split_off : (v : State) (c : Change) (m : List Change) (x : ℕ) → list_any (λ d. d.object == c.object) m ≡ false → moved_by v (c ∷ m) x ≡ cond (c.object == x) (distance_by v c) 0 + moved_by v m x
-split_off v c m x none =
-    elim (cases_Bool (c.object == x)) [
-      | inl e ↦ (let here : c.object ≡ x = eqb-true c.object x e in
-          rw e (omega (arith, moved_by-none v m x (rw here at none))))
-      | inr e ↦ rw e (omega arith)
-    ]
+-- without the change of an object the others move what they move
+moved_by-without : (v : State) (c : Change) (m : List Change) (x : ℕ) → list_any (λ d. d.object == c.object) m ≡ false
+    → without c.object (moved_by v (c ∷ m)) x ≡ moved_by v m x
+moved_by-without v c m x none = elim (cases_Bool (c.object == x)) [
+  | inl e ↦ (let here : c.object ≡ x = eqb-true c.object x e in rw e (sym (moved_by-none v m x (rw here at none))))
+  | inr e ↦ rw e refl
+]
 
--- over all objects a set moves what its changes move
-pub sum_below-moved_by : (v : State) (m : List Change) (n : ℕ) → repeats m ≡ false → All (λ c. c.object < n) m → sum_below (moved_by v m) n ≡ sum (distances_of v m)
-sum_below-moved_by v [] n distinct known = sum_below-zero n
-sum_below-moved_by v (c ∷ m) n distinct known =
-    let apart : list_any (λ d. d.object == c.object) m ≡ false × repeats m ≡ false = or_parts _ _ distinct in
-    sum_below-same (moved_by v (c ∷ m)) (λ x. cond (c.object == x) (distance_by v c) 0 + moved_by v m x) n (λ x. split_off v c m x apart.0)
-    ∙ sum_below-add (λ x. cond (c.object == x) (distance_by v c) 0) (moved_by v m) n
-    ∙ omega (
+-- all objects together are moved by what the changes of a set move
+sum_from-moved_by : (v : State) (m : List Change) (n : ℕ) → repeats are_of_one_object m ≡ false → All (λ c. c.object < n) m
+    → sum_from (moved_by v m) 0 n ≡ sum (distances_of v m)
+sum_from-moved_by v [] n distinct known = omega (arith, sum_from-constant 0 0 n)
+sum_from-moved_by v (c ∷ m) n distinct known =
+    let apart : list_any (λ d. d.object == c.object) m ≡ false × repeats are_of_one_object m ≡ false = or_parts _ _ distinct in
+    let lt : c.object < n = known 0 c (omega arith) in
+    let here : moved_by v (c ∷ m) c.object ≡ distance_by v c = rw (eq-eqb c.object c.object refl) refl in
+    omega (
       arith,
-      sum_below-one c.object (distance_by v c) n (known 0 c (omega arith)),
-      sum_below-moved_by v m n apart.1 (λ k d h. known (suc k) d (omega arith)),
+      here,
+      sum_from-without c.object (moved_by v (c ∷ m)) 0 n (omega arith) (omega arith),
+      sum_from-same (without c.object (moved_by v (c ∷ m))) (moved_by v m) 0 n (λ x below. moved_by-without v c m x apart.0),
+      sum_from-moved_by v m n apart.1 (λ k d h. known (suc k) d (omega arith)),
       sum_by-cons (λ (x : ℕ). x) (distance_by v c) (distances_of v m),
     )
 
 -- a set moves its objects' values by its distances, and others by none
-pub distances-after : (v : State) (m : List Change) (n : ℕ) → repeats m ≡ false → IsOver (length v) m → n ≡ length v → sum_below (λ x. distance (value_at (after m v) x) (value_at v x)) n ≡ sum (distances_of v m)
-distances-after v m n distinct over e =
-    sum_below-same _ (moved_by v m) n (λ x. distance-after v m x distinct over) ∙ sum_below-moved_by v m n distinct (λ k d h. let lt : (get_or m k d).object < length v = (over k d h).0 in omega arith)
+pub distances-after : (v : State) (m : List Change) (n : ℕ) → repeats are_of_one_object m ≡ false → AreKnown (length v) m → n ≡ length v
+    → sum_from (λ x. distance (value_at (after m v) x) (value_at v x)) 0 n ≡ sum (distances_of v m)
+distances-after v m n distinct known e =
+    sum_from-same _ (moved_by v m) 0 n (λ x below. distance-after v m x distinct known)
+    ∙ sum_from-moved_by v m n distinct (λ k d h. let lt : (get_or m k d).object < length v = (known k d h).0 in omega arith)
 
 distance-in_range : (a b : ℤ) → unsigned_abs a ≤ 1000000000 → unsigned_abs b ≤ 1000000000 → distance a b ≤ 2000000000
 distance-in_range a b h k = grind (arith, ints)

@@ -1,26 +1,16 @@
--- Sums over spans.
-use Rattle.std.proofs.Common.{◌≡◌, ℕ, zero, suc, ◌+◌, ◌-◌, ◌<◌, ◌≤◌, ℤ, List, length, arith, refl, ap, ◌∙◌, inl, inr}
+-- Spans on one object.
+use Rattle.std.proofs.Common.{◌≡◌, ℕ, zero, suc, ◌+◌, ◌-◌, ◌<◌, ◌≤◌, ℤ, List, length, arith, refl, sym, ap, ◌∙◌, inl, inr}
 use Rattle.std.proofs.lemmas.Bool.{cases_lt}
 use Rattle.std.proofs.lemmas.Int.{ints}
 use Rattle.ordup_objects.specs.declared.change.Change.{Change}
 use Rattle.ordup_objects.specs.States.{value_at}
 use Rattle.ordup_objects.specs.Serial.{History, serial, with_more}
-use Rattle.ordup_objects.specs.Weights.{distance, object_weight, sum_from, object_span, ValuesMoveByTheirWeights, LongerHistoriesKeepObjectSpans}
+use Rattle.ordup_objects.specs.Marks.{LongerHistoriesKeepMarks}
+use Rattle.ordup_objects.specs.Sums.{sum_from}
+use Rattle.ordup_objects.specs.Weights.{distance, object_weight, object_span, ValuesMoveByTheirWeights, LongerHistoriesKeepObjectSpans}
 use Rattle.ordup_objects.proofs.SerialLemmas.{serial-longer}
 use Rattle.ordup_objects.proofs.SetLemmas.{distance-same}
-
--- the first m places, and then the others
-pub sum_from-add : (f : ℕ → ℕ) (a m n : ℕ) → sum_from f a (m + n) ≡ sum_from f a m + sum_from f (a + m) n
-sum_from-add f a m zero = ap (sum_from f a) (let e : m + 0 ≡ m = omega arith in e) ∙ (omega arith)
-sum_from-add f a m (suc n) =
-    let e : m + suc n ≡ suc (m + n) = omega arith in
-    let place : a + (m + n) ≡ a + m + n = omega arith in
-    omega (arith, ap (sum_from f a) e, sum_from-add f a m n, ap f place)
-
--- sums of the same numbers are the same
-pub sum_from-same : (f g : ℕ → ℕ) (a n : ℕ) → ((j : ℕ) → j < a + n → f j ≡ g j) → sum_from f a n ≡ sum_from g a n
-sum_from-same f g a zero h = refl
-sum_from-same f g a (suc n) h = omega (arith, sum_from-same f g a n (λ j lt. h j (omega arith)), h (a + n) (omega arith))
+use Rattle.ordup_objects.proofs.SumLemmas.{sum_from-add, sum_from-same}
 
 -- one place more
 pub object_span-suc : (h : History) (x j : ℕ) → object_span h x 0 (suc j) ≡ object_span h x 0 j + object_weight h x j
@@ -47,6 +37,10 @@ object_span-longer h more x a b le = elim (cases_lt a b) [
   | inl lt ↦ sum_from-same _ _ a (b - a) (λ i below. object_weight-longer h more x i (omega arith))
   | inr ge ↦ (let none : b - a ≡ 0 = omega arith in rw none refl)
 ]
+
+-- and the marks
+pub AreMarks-longer : LongerHistoriesKeepMarks
+AreMarks-longer h place marks more le are = λ x lt. are x lt ∙ sym (object_span-longer h more x 0 place le)
 
 distance-triangle : (x y z : ℤ) → distance x z ≤ distance x y + distance y z
 distance-triangle x y z = grind (arith, ints)

@@ -2,7 +2,11 @@ pub mod Refusals
 pub mod Names
 pub mod NameInside
 pub mod States
+pub mod Ops
+pub mod Repeats
 pub mod Sets
 pub mod Tables
 pub mod Serial
+pub mod Sums
 pub mod Weights
+pub mod Marks

@@ -2,7 +2,7 @@
 use Rattle.std.specs.Prelude.{◌≡◌, ℕ, ◌-◌, ◌<◌, ◌≤◌, true, List, [], ◌∷◌, ◌++◌, length, take, slice_index_or, All, fold, ℤ}
 use Rattle.ordup_objects.specs.declared.change.Change.{Change}
 use Rattle.ordup_objects.specs.States.{State, is_legal, after, IsState}
-use Rattle.ordup_objects.specs.Sets.{IsSet, IsOver}
+use Rattle.ordup_objects.specs.Sets.{IsSet, AreKnown}
 
 -- the initial state, and the message sets in their order
 pub record History : Type 0 where
@@ -30,9 +30,9 @@ abbrev pub LongerHistoriesKeepSerialResults : Type 0
 LongerHistoriesKeepSerialResults =
     (h : History) (more : List (List Change)) (j : ℕ) → j ≤ length h.sets → serial (with_more h more) j ≡ serial h j
 
--- each update is a message set over the objects, and legal on the serial result before it
-pub record IsLegal (h : History) : Type 0 where
+-- each update is a message set on objects that are there, and legal on the serial result before it
+pub record IsLegalHistory (h : History) : Type 0 where
   pub start : IsState h.start
   pub sets : All IsSet h.sets
-  pub known : All (IsOver (length h.start)) h.sets
+  pub known : All (AreKnown (length h.start)) h.sets
   pub legal : (k : ℕ) → k < length h.sets → is_legal (slice_index_or h.sets k []) (serial h k) ≡ true

@@ -1,7 +1,8 @@
 -- Weights on one object: the distance that its value travels.
-use Rattle.std.specs.Prelude.{◌≡◌, ℕ, zero, suc, ◌+◌, ◌-◌, ◌≤◌, ℤ, ◌-ℤ◌, List, [], ◌∷◌, length, ◌==◌, map, if◌then◌else◌}
+use Rattle.std.specs.Prelude.{◌≡◌, ℕ, suc, ◌-◌, ◌≤◌, ℤ, ◌-ℤ◌, List, [], ◌∷◌, length, ◌==◌, map, if◌then◌else◌}
 use Rattle.std.specs.Int.RustNames.{unsigned_abs}
 use Rattle.ordup_objects.specs.declared.change.Change.{Change}
+use Rattle.ordup_objects.specs.Sums.{sum_from}
 use Rattle.ordup_objects.specs.States.{State, value_at, result_at}
 use Rattle.ordup_objects.specs.Serial.{History, serial, with_more}
 
@@ -12,11 +13,6 @@ distance a b = unsigned_abs (a -ℤ b)
 -- the weight on an object of the update after the first j
 abbrev pub object_weight : History → ℕ → ℕ → ℕ
 object_weight h x j = distance (value_at (serial h (suc j)) x) (value_at (serial h j) x)
-
--- f at n numbers from a on, added up
-abbrev pub sum_from : (ℕ → ℕ) → ℕ → ℕ → ℕ
-sum_from f a zero = 0
-sum_from f a (suc n) = sum_from f a n + f (a + n)
 
 -- the weight on an object of the span from a to b: the sum over the places a + 1 to b
 abbrev pub object_span : History → ℕ → ℕ → ℕ → ℕ
@@ -44,8 +40,3 @@ abbrev pub distance_beside : List Change → List ℕ → ℕ → ℕ
 distance_beside [] ds x = 0
 distance_beside (c ∷ m) [] x = 0
 distance_beside (c ∷ m) (d ∷ ds) x = if c.object == x then d else distance_beside m ds x
-
--- f at the first n numbers, added up
-abbrev pub sum_below : (ℕ → ℕ) → ℕ → ℕ
-sum_below f zero = 0
-sum_below f (suc n) = sum_below f n + f n

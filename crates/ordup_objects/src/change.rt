@@ -1,4 +1,5 @@
-ghost use Rattle.std.specs.Prelude.{◌≡◌};
+ghost use Rattle.std.specs.Prelude.{◌≡◌, option_map};
+ghost use Rattle.ordup_objects.specs.Ops.{number_of, source_of};
 
 use std::marker::Model;
 
@@ -49,6 +50,32 @@ pub enum Op {
     Min(i64),
     /// The value that an object, this one or another, had before the message set.
     Take(ObjectId),
+}
+
+impl Op {
+    /// The number of the operation, if it has one.
+    pub fn number(self) -> Option<i64>
+        ensures { result ≡ number_of self }
+    {
+        match self {
+            Op::Add(n) => Some(n),
+            Op::Set(n) => Some(n),
+            Op::Mul(n) => Some(n),
+            Op::Max(n) => Some(n),
+            Op::Min(n) => Some(n),
+            Op::Take(_) => None,
+        }
+    }
+
+    /// The object whose value the operation reads besides its own, if there is one.
+    pub fn source(self) -> Option<ObjectId>
+        ensures { option_map (λ o. o) result ≡ source_of self }
+    {
+        match self {
+            Op::Take(object) => Some(object),
+            _ => None,
+        }
+    }
 }
 
 /// A change of one object.

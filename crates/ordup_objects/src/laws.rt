@@ -1,3 +1,4 @@
+ghost use Rattle.ordup_objects.specs.Marks.{LongerHistoriesKeepMarks};
 ghost use Rattle.ordup_objects.specs.Serial.{LongerHistoriesKeepSerialResults};
 ghost use Rattle.ordup_objects.specs.Weights.{ValuesMoveByTheirWeights, LongerHistoriesKeepObjectSpans};
 
@@ -18,4 +19,11 @@ pub fn longer_histories_keep_serial_results()
 /// A law: updates that are added later leave what a span weighs on an object as it was.
 pub fn longer_histories_keep_object_spans()
     ensures { LongerHistoriesKeepObjectSpans }
+{}
+
+/// A law: the marks of a place of a history are those of the same place of each longer one.
+///
+/// So what a query took as its reference stays one, however the log grows.
+pub fn longer_histories_keep_marks()
+    ensures { LongerHistoriesKeepMarks }
 {}

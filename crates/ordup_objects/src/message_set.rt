@@ -1,6 +1,9 @@
 ghost use Rattle.std.specs.Prelude.{◌≡◌, ◌≤◌, ℕ, ◌<◌, None, Some, IsTrue, IfOk, IfErr, List, length, nat_lt, ◌&&◌, ◌==◌};
 ghost use Rattle.std.specs.List.{list_all, list_any};
-ghost use Rattle.ordup_objects.specs.Sets.{is_known, is_over, repeats, reads_known, is_op_in_range, set_refusal, IsSet, IsOver};
+ghost use Rattle.ordup_objects.specs.Ops.{number_of, is_none_or};
+ghost use Rattle.ordup_objects.specs.Repeats.{repeats};
+ghost use Rattle.ordup_objects.specs.States.{in_range};
+ghost use Rattle.ordup_objects.specs.Sets.{is_known, are_known, are_in_range, are_of_one_object, set_refusal, IsSet, AreKnown};
 
 use crate::change::{Change, ObjectId, Op};
 use crate::object_table::ObjectTable;
@@ -37,11 +40,11 @@ impl<A: Allocator + Copy> MessageSet<A> {
     /// `TooMany` above 64 changes, `Empty` without one, and `Repeated` where two change one object.
     pub fn new(objects: &ObjectTable<A>, changes: Vec<Change, A>) -> Result<Self, Refusal>
         ensures set { IfOk result (λ set. set ≡ changes.items) }
-        ensures over { IfOk result (λ set. IsOver (length objects.now) set) }
+        ensures known { IfOk result (λ set. AreKnown (length objects.now) set) }
         ensures allowed { IfOk result (λ _. set_refusal (length objects.now) changes.items ≡ None) }
         ensures refused { IfErr result (λ e. set_refusal (length objects.now) changes.items ≡ Some e) }
     {
-        if !is_over(objects.len(), &changes) {
+        if !are_known(objects.len(), &changes) {
             return Err(Refusal::UnknownObject);
         }
         if !are_in_range(&changes) {
@@ -79,52 +82,37 @@ impl<A: Allocator + Copy> MessageSet<A> {
     }
 
     /// Whether the objects of each change are among the first so many.
-    pub fn is_over(&self, objects: usize) -> bool
-        ensures over { result ≡ is_over objects self.now }
-        ensures fact { IsTrue result → IsOver objects self.now }
+    pub fn are_known(&self, objects: usize) -> bool
+        ensures known { result ≡ are_known objects self.now }
+        ensures fact { IsTrue result → AreKnown objects self.now }
     {
-        is_over(objects, self.changes.as_slice())
-    }
-}
-
-fn reads_known(objects: usize, op: Op) -> bool
-    ensures { result ≡ reads_known objects op }
-{
-    match op {
-        Op::Take(object) => object.index() < objects,
-        _ => true,
+        are_known(objects, self.changes.as_slice())
     }
 }
 
 fn is_known(objects: usize, change: Change) -> bool
     ensures { result ≡ is_known objects change }
 {
-    change.object.index() < objects && reads_known(objects, change.op)
+    change.object.index() < objects
+        && change.op.source().is_none_or(|object| object.index() < objects)
 }
 
-fn is_over(objects: usize, changes: &[Change]) -> bool
-    ensures { result ≡ is_over objects changes.now }
+fn are_known(objects: usize, changes: &[Change]) -> bool
+    ensures { result ≡ are_known objects changes.now }
 {
     changes.iter().all(|c| is_known(objects, *c))
 }
 
-fn is_op_in_range(op: Op) -> bool
-    ensures { result ≡ is_op_in_range op }
+fn has_number_in_range(op: Op) -> bool
+    ensures { result ≡ is_none_or (number_of op) in_range }
 {
-    match op {
-        Op::Add(n) => is_in_range(n),
-        Op::Set(n) => is_in_range(n),
-        Op::Mul(n) => is_in_range(n),
-        Op::Max(n) => is_in_range(n),
-        Op::Min(n) => is_in_range(n),
-        Op::Take(_) => true,
-    }
+    op.number().is_none_or(is_in_range)
 }
 
 fn are_in_range(changes: &[Change]) -> bool
-    ensures { result ≡ list_all (λ c. is_op_in_range c.op) changes.now }
+    ensures { result ≡ are_in_range changes.now }
 {
-    changes.iter().all(|c| is_op_in_range(c.op))
+    changes.iter().all(|c| has_number_in_range(c.op))
 }
 
 fn is_changed(object: ObjectId, changes: &[Change]) -> bool
@@ -134,7 +122,7 @@ fn is_changed(object: ObjectId, changes: &[Change]) -> bool
 }
 
 fn has_repeat(changes: &[Change]) -> bool
-    ensures { result ≡ repeats changes.now }
+    ensures { result ≡ repeats are_of_one_object changes.now }
 {
     for (i, change) in changes.iter().enumerate() {
         if is_changed(change.object, &changes[i + 1..]) {

@@ -1,6 +1,7 @@
-ghost use Rattle.std.specs.Prelude.{◌≡◌, ◌≤◌, ℕ, ◌<◌, ◌↔◌, IsTrue, IsOk, IfOk, IfErr, OnOk, OnErr, length, All, take, map, sum};
+ghost use Rattle.std.specs.Prelude.{◌≡◌, ◌≤◌, ℕ, ◌<◌, ◌↔◌, IsTrue, IfSome, IsOk, IfOk, IfErr, OnOk, OnErr, length, All, take, map, sum};
 ghost use Rattle.ordup_objects.specs.States.{value_at, result_of, result_at, in_range, is_legal, after, IsInRange, IsState};
-ghost use Rattle.ordup_objects.specs.Sets.{ReadsKnown, IsOpInRange, IsKnownChange, IsOver};
+ghost use Rattle.ordup_objects.specs.Ops.{number_of, source_of};
+ghost use Rattle.ordup_objects.specs.Sets.{AreKnown, AreInRange};
 ghost use Rattle.ordup_objects.specs.Tables.{initial_state};
 ghost use Rattle.ordup_objects.specs.Weights.{distances_of};
 
@@ -80,7 +81,7 @@ impl<A: Allocator + Copy> Values<A> {
     ///
     /// Where a result is out of range it is refused `OutOfRange`, and no value changes.
     pub fn apply(&mut self, set: &MessageSet<A>) -> Result<(), Refusal>
-        requires { IsOver (length self.old) set.now }
+        requires { AreKnown (length self.old) set.now }
         ensures ok { OnOk result (self.new ≡ after set.now self.old) }
         ensures legal { IsOk result ↔ IsTrue (is_legal set.now self.old) }
         ensures len { length self.new ≡ length self.old }
@@ -95,7 +96,7 @@ impl<A: Allocator + Copy> Values<A> {
 
     /// Whether a message set is legal on these values: whether each result is in range.
     pub fn allows(&self, set: &MessageSet<A>) -> bool
-        requires { IsOver (length self.now) set.now }
+        requires { AreKnown (length self.now) set.now }
         ensures { result ≡ is_legal set.now self.now }
     {
         allows_all(self.values.as_slice(), set.changes())
@@ -103,7 +104,7 @@ impl<A: Allocator + Copy> Values<A> {
 
     /// How far each change of a set would move its object's value. It is refused memory alone.
     pub fn distances(&self, alloc: A, set: &MessageSet<A>) -> Result<Vec<u64, A>, AllocError>
-        requires { IsOver (length self.now) set.now }
+        requires { AreKnown (length self.now) set.now }
         ensures { IfOk result (λ r. r.items ≡ distances_of self.now set.now) }
     {
         distances_in(alloc, self.values.as_slice(), set.changes())
@@ -136,8 +137,8 @@ fn initial_values<A: Allocator + Copy>(
 fn result_of(values: &[i64], value: i64, op: Op) -> i64
     requires state { IsState values.now }
     requires value { IsInRange value }
-    requires reads { ReadsKnown (length values.now) op }
-    requires number { IsOpInRange op }
+    requires source { IfSome (source_of op) (λ y. y < length values.now) }
+    requires number { IfSome (number_of op) IsInRange }
     ensures { result ≡ result_of values.now value op }
 {
     match op {
@@ -153,7 +154,8 @@ fn result_of(values: &[i64], value: i64, op: Op) -> i64
 /// Computes each change's result in the values before the set.
 fn results_of(values: &[i64], changes: &[Change], results: &mut [i64]) -> Result<(), Refusal>
     requires state { IsState values.now }
-    requires changes { All (IsKnownChange (length values.now)) changes.now }
+    requires known { AreKnown (length values.now) changes.now }
+    requires numbers { AreInRange changes.now }
     requires room { length changes.now ≤ length results.old }
     ensures legal { IsOk result ↔ IsTrue (is_legal changes.now values.now) }
     ensures results { OnOk result (take (length changes.now) results.new ≡ map (result_at values.now) changes.now) }
@@ -191,7 +193,8 @@ fn distances_in<A: Allocator + Copy>(
     changes: &[Change],
 ) -> Result<Vec<u64, A>, AllocError>
     requires state { IsState values.now }
-    requires changes { All (IsKnownChange (length values.now)) changes.now }
+    requires known { AreKnown (length values.now) changes.now }
+    requires numbers { AreInRange changes.now }
     ensures { IfOk result (λ r. r.items ≡ distances_of values.now changes.now) }
 {
     let mut distances = Vec::with_capacity(alloc, changes.len())?;
@@ -204,7 +207,8 @@ fn distances_in<A: Allocator + Copy>(
 
 fn allows_all(values: &[i64], changes: &[Change]) -> bool
     requires state { IsState values.now }
-    requires changes { All (IsKnownChange (length values.now)) changes.now }
+    requires known { AreKnown (length values.now) changes.now }
+    requires numbers { AreInRange changes.now }
     ensures { result ≡ is_legal changes.now values.now }
 {
     changes.iter().all(|c| is_in_range(result_of(values, values[c.object.index()], c.op)))

@@ -7,14 +7,16 @@ use Rattle.std.proofs.lemmas.Bool.{cases_Bool, cases_eq, or_parts, eq-eqb, ne_eq
 use Rattle.std.proofs.lemmas.List.{get_or-set_other, get_or_default}
 use Rattle.std.proofs.lemmas.Grind.{get_or-set_at}
 use Rattle.ordup_objects.specs.declared.change.Change.{Change}
-use Rattle.ordup_objects.specs.Sets.{repeats}
-use Rattle.ordup_objects.specs.Serial.{History, serial, with_update, IsLegal}
-use Rattle.ordup_objects.specs.Weights.{object_weight, object_span, sum_from, distance_beside, distances_of}
+use Rattle.ordup_objects.specs.Repeats.{repeats}
+use Rattle.ordup_objects.specs.Sets.{are_of_one_object}
+use Rattle.ordup_objects.specs.Serial.{History, serial, with_update, IsLegalHistory}
+use Rattle.ordup_objects.specs.Weights.{object_weight, object_span, distance_beside, distances_of}
 use Rattle.ordup_log.specs.declared.scope.Scope.TheVariants.{Object}
 use Rattle.ordup_log.proofs.SpanLemmas.{span-more}
-use Rattle.ordup_objects.proofs.SpanLemmas.{object_span-longer}
+use Rattle.ordup_objects.proofs.SumLemmas.{sum_from-few}
+use Rattle.ordup_objects.proofs.RepeatLemmas.{repeats-drop}
 use Rattle.ordup_log.proofs.WeightLemmas.{distance_beside-at, object_weight-few}
-use Rattle.ordup_primary.specs.Marks.{AreMarks}
+use Rattle.ordup_objects.specs.Marks.{AreMarks}
 
 -- ---- spans from the start of the log
 
@@ -24,17 +26,11 @@ object_span-next h x place some =
     let e : place - 1 + 1 ≡ place = omega arith in
     rw e at (span-more h [] (Object x) 0 (place - 1) (omega arith))
 
-sum_from-few : (f : ℕ → ℕ) (most n : ℕ) → ((j : ℕ) → j < n → f j ≤ most) → sum_from f 0 n ≤ most * n
-sum_from-few f most zero few = omega arith
-sum_from-few f most (suc n) few =
-    let e : 0 + n ≡ n = omega arith in
-    omega (arith, sum_from-few f most n (λ j lt. few j (omega arith)), few n (omega arith), ap f e)
-
 -- a span is small
-pub object_span-few : (h : History) → IsLegal h → (x place : ℕ) → place ≤ length h.sets → object_span h x 0 place ≤ 2000000000 * place
+pub object_span-few : (h : History) → IsLegalHistory h → (x place : ℕ) → place ≤ length h.sets → object_span h x 0 place ≤ 2000000000 * place
 object_span-few h legal x place le =
     let e : place - 0 ≡ place = omega arith in
-    rw e (sum_from-few (object_weight h x) 2000000000 place (λ j lt. object_weight-few h legal x j (omega arith)))
+    rw e (sum_from-few (object_weight h x) 2000000000 0 place (λ j lt. object_weight-few h legal x j (omega arith)))
 
 -- ---- what is left of an update
 
@@ -50,41 +46,36 @@ distance_beside-none (c ∷ m) (d ∷ ds) x none =
     rw both.0 (distance_beside-none m ds x both.1)
 
 -- all changes of an update weigh what it weighs
-pub left_by-all : (h : History) → IsLegal h → (x j : ℕ) → j < length h.sets → left_by h x j (get_or h.sets j []) ≡ object_weight h x j
+pub left_by-all : (h : History) → IsLegalHistory h → (x j : ℕ) → j < length h.sets → left_by h x j (get_or h.sets j []) ≡ object_weight h x j
 left_by-all h legal x j lt = elim (cases_Bool (list_any (λ c. c.object == x) (get_or h.sets j []))) [
   | inl changed ↦ rw changed refl
   | inr other ↦ rw other (sym (distance_beside-none (get_or h.sets j []) (distances_of (serial h j) (get_or h.sets j [])) x other) ∙ distance_beside-at h legal x j lt)
 ]
 
-repeats-drop : (m : List Change) (i : ℕ) → repeats m ≡ false → repeats (drop i m) ≡ false
-repeats-drop m zero distinct = distinct
-repeats-drop [] (suc i) distinct = distinct
-repeats-drop (c ∷ m) (suc i) distinct = repeats-drop m i (or_parts _ _ distinct).1
-
 -- ---- an update's changes, one after the other
 
 -- at first all of them are left
-pub raised-first : (h : History) → IsLegal h → (place x : ℕ) (marks : List ℕ) (m : List Change) → 0 < place → place ≤ length h.sets → m ≡ get_or h.sets (place - 1) [] → AreMarks h (place - 1) marks → x < length h.start
+pub raised-first : (h : History) → IsLegalHistory h → (place x : ℕ) (marks : List ℕ) (m : List Change) → 0 < place → place ≤ length h.sets → m ≡ get_or h.sets (place - 1) [] → AreMarks h (place - 1) marks → x < length marks
     → get_or marks x 0 + left_by h x (place - 1) m ≡ object_span h x 0 place
 raised-first h legal place x marks m some le same are lt =
     omega (
       arith,
-      are.each x lt,
+      are x lt,
       ap (left_by h x (place - 1)) same,
       left_by-all h legal x (place - 1) (omega arith),
       object_span-next h x place some,
     )
 
 -- the object of a change is there
-pub object-there : (h : History) → IsLegal h → (j i : ℕ) (m : List Change) (c : Change) → j < length h.sets → m ≡ get_or h.sets j [] → i < length m → c ≡ get_or m i c → c.object < length h.start
+pub object-there : (h : History) → IsLegalHistory h → (j i : ℕ) (m : List Change) (c : Change) → j < length h.sets → m ≡ get_or h.sets j [] → i < length m → c ≡ get_or m i c → c.object < length h.start
 object-there h legal j i m c lt same below at = rw at (rw same (legal.known j [] lt i c (rw same at below)).0)
 
 -- one change less is left, and the mark of its object is raised by what the update weighs
-pub raised-at : (h : History) (m : List Change) (marks : List ℕ) (x j i y mark weight total : ℕ) (c : Change) → i < length m → repeats m ≡ false → c ≡ get_or m i c → y ≡ c.object → y < length marks → mark ≡ get_or marks y mark → weight ≡ object_weight h c.object j
+pub raised-at : (h : History) (m : List Change) (marks : List ℕ) (x j i y mark weight total : ℕ) (c : Change) → i < length m → repeats are_of_one_object m ≡ false → c ≡ get_or m i c → y ≡ c.object → y < length marks → mark ≡ get_or marks y mark → weight ≡ object_weight h c.object j
     → get_or marks x 0 + left_by h x j (drop i m) ≡ total → get_or (set marks y (mark + weight)) x 0 + left_by h x j (drop (i + 1) m) ≡ total
 raised-at h m marks x j i y mark weight total c lt distinct at same there read is before =
     let e : drop i m ≡ c ∷ drop (i + 1) m = rw add-one (drop-cons m i c lt) ∙ ap (λ d. d ∷ drop (i + 1) m) (sym at) in
-    let apart : list_any (λ d. d.object == c.object) (drop (i + 1) m) ≡ false × repeats (drop (i + 1) m) ≡ false = or_parts _ _ (rw e at (repeats-drop m i distinct)) in
+    let apart : list_any (λ d. d.object == c.object) (drop (i + 1) m) ≡ false × repeats are_of_one_object (drop (i + 1) m) ≡ false = or_parts _ _ (rw e at (repeats-drop are_of_one_object m i distinct)) in
     let left = rw e at before in
     elim (cases_eq x y) [
       | inl here ↦ (let changed : x ≡ c.object = here ∙ same in
@@ -93,12 +84,3 @@ raised-at h m marks x j i y mark weight total c lt distinct at same there read i
           rw (new, changed, apart.0) (omega (arith, is, rw (old, changed, eq-eqb c.object c.object refl) at left)))
       | inr other ↦ rw (get_or-set_other marks y x (mark + weight) 0 other) (rw (ne_eqb c.object x (λ f. other (sym f ∙ sym same))) at left)
     ]
-
--- ---- marks of a log
-
--- updates that are added later leave the marks as they were
-pub AreMarks-append : (h : History) (m : List Change) (place : ℕ) (marks : List ℕ) → place ≤ length h.sets → AreMarks h place marks → AreMarks (with_update h m) place marks
-AreMarks-append h m place marks le are = record {
-  count = are.count;
-  each = λ x lt. are.each x lt ∙ sym (object_span-longer h (m ∷ []) x 0 place le);
-}

@@ -10,11 +10,11 @@ use Rattle.std.proofs.lemmas.Grind.{get_or-set_at}
 use Rattle.ordup_objects.specs.declared.change.Change.{Change}
 use Rattle.ordup_objects.specs.States.{is_legal}
 use Rattle.ordup_objects.specs.Tables.{initial_state}
-use Rattle.ordup_objects.specs.Sets.{IsSet, IsOver}
-use Rattle.ordup_objects.specs.Serial.{History, serial, with_update, IsLegal}
+use Rattle.ordup_objects.specs.Sets.{IsSet, AreKnown}
+use Rattle.ordup_objects.specs.Serial.{History, serial, with_update, IsLegalHistory}
 use Rattle.ordup_objects.specs.declared.refusal.Refusal.TheVariants.{LogFull, OutOfRange, Empty}
 use Rattle.ordup_log.specs.Appending.{append_refusal}
-use Rattle.ordup_objects.proofs.SerialLemmas.{IsLegal-append}
+use Rattle.ordup_objects.proofs.SerialLemmas.{IsLegalHistory-longer}
 use Rattle.ordup_limits.proofs.LimitLemmas.{within-empty, within-later, within-longer}
 use Rattle.ordup_primary.specs.Declarations.{Declared, AreDeclared, limits_of, is_ready, start_refusal}
 use Rattle.ordup_primary.specs.Settling.{rounds_upto, last_place}
@@ -95,12 +95,12 @@ is_within-proposed : (p : PrimaryState) (m : List Change) (s a b : ℕ) → b �
 is_within-proposed p m s a b le = within-longer p.log (m ∷ []) p.setup.groups (limits_of p.setup s) a b le
 
 -- a primary with one update more
-pub IsPrimary-proposed : (p : PrimaryState) (m : List Change) → IsPrimary p → IsSet m → IsOver (length p.log.start) m → append_refusal p.log m ≡ None
+pub IsPrimary-proposed : (p : PrimaryState) (m : List Change) → IsPrimary p → IsSet m → AreKnown (length p.log.start) m → append_refusal p.log m ≡ None
     → IsPrimary (record p { log = with_update p.log m })
-IsPrimary-proposed p m is set over allowed = record {
+IsPrimary-proposed p m is set known allowed = record {
   ready = is.ready;
   start = is.start;
-  legal = IsLegal-append p.log m is.legal set over (legal-from_allowed p.log m allowed);
+  legal = IsLegalHistory-longer p.log m is.legal set known (legal-from_allowed p.log m allowed);
   few = omega (arith, length_push p.log.sets m, room-from_allowed p.log m is.few allowed);
   count = is.count;
   acked = is.acked;
@@ -316,7 +316,7 @@ ready-from_start d e = elim (cases_Bool (is_ready d)) [
   | inr other ↦ absurd (let refused : start_refusal d ≡ Some Empty = rw other refl in cc)
 ]
 
-pub IsPrimary-new : (p : PrimaryState) → AreDeclared p.setup → start_refusal p.setup ≡ None → p.log ≡ record { start = initial_state p.setup.objects; sets = [] } → IsLegal p.log → p.acked ≡ 0 → p.decided ≡ 0
+pub IsPrimary-new : (p : PrimaryState) → AreDeclared p.setup → start_refusal p.setup ≡ None → p.log ≡ record { start = initial_state p.setup.objects; sets = [] } → IsLegalHistory p.log → p.acked ≡ 0 → p.decided ≡ 0
     → p.sites ≡ replicate (length p.setup.sites) first_progress → IsPrimary p
 IsPrimary-new p declared ready log legal acked decided sites = record {
   ready = ready-from_start p.setup ready;

@@ -2,9 +2,9 @@
 use Rattle.std.proofs.Common.{◌≡◌, ℕ, ◌<◌, ◌≤◌, List, [], ◌∷◌, ◌++◌, length, arith, ap}
 use Rattle.std.proofs.lemmas.List.{length_push}
 use Rattle.std.proofs.lemmas.List.Elements.{All-push, All-nil}
-use Rattle.ordup_log.specs.Spans.{IsScopeOver}
+use Rattle.ordup_log.specs.Spans.{IsScopeKnown}
 use Rattle.ordup_limits.specs.declared.limit.Limit.{Limit}
-use Rattle.ordup_limits.specs.Limits.{Limits, AreLimitsOver}
+use Rattle.ordup_limits.specs.Limits.{Limits, AreScopesKnown}
 use Rattle.ordup_primary.specs.Declarations.{Declared, AreDeclared}
 
 -- one site more, without limits
@@ -15,5 +15,5 @@ AreDeclared-site d name capacity sites limits is room some e f = record {
   capacities = rw e (All-push (λ (s : List ℕ × ℕ). (1 ≤ s.1) × (s.1 ≤ 1024)) d.sites (name, capacity) is.capacities some);
   count = omega (arith, ap length e, ap length f, length_push d.sites (name, capacity), length_push d.limits [], is.count);
   members = is.members;
-  known = rw f (All-push (AreLimitsOver (length d.objects) d.groups) d.limits [] is.known (All-nil (λ (limit : Limit). IsScopeOver (length d.objects) d.groups limit.scope)));
+  known = rw f (All-push (AreScopesKnown (length d.objects) d.groups) d.limits [] is.known (All-nil (λ (limit : Limit). IsScopeKnown (length d.objects) d.groups limit.scope)));
 }

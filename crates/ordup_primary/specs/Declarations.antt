@@ -5,8 +5,9 @@ use Rattle.ordup_objects.specs.declared.refusal.Refusal.{Refusal}
 use Rattle.ordup_objects.specs.declared.refusal.Refusal.TheVariants.{BadName, NameTaken, UnknownSite, OutOfRange, TooMany, Empty}
 use Rattle.ordup_objects.specs.Names.{is_name}
 use Rattle.ordup_objects.specs.Tables.{place_of}
+use Rattle.ordup_log.specs.Groups.{AreMembersKnown}
 use Rattle.ordup_log.specs.declared.scope.Scope.{Scope}
-use Rattle.ordup_limits.specs.Limits.{Limits, scope_refusal, amount_refusal, AreLimitsOver}
+use Rattle.ordup_limits.specs.Limits.{Limits, scope_refusal, amount_refusal, AreScopesKnown}
 
 -- the objects with their initial values, the groups with their members, the sites with the capacities of their feeds, and the limits of each site, in order of declaration
 pub record Declared : Type 0 where
@@ -50,13 +51,13 @@ site_limit_refusal d s scope amount =
     if not (nat_lt s (length d.sites)) then Some UnknownSite else amount_refusal (limits_of d s) scope amount)
 
 -- the members of each group are among the first n objects
-abbrev pub AreGroupsOver : ℕ → List (List ℕ × List ℕ) → Type 0
-AreGroupsOver n groups = All (λ g. All (λ x. x < n) g.1) groups
+abbrev pub AreGroupsKnown : ℕ → List (List ℕ × List ℕ) → Type 0
+AreGroupsKnown n groups = All (λ g. AreMembersKnown n g.1) groups
 
 -- what the declarations keep: each site has its limits, and their objects and groups are there
 pub record AreDeclared (d : Declared) : Type 0 where
   pub few : length d.sites ≤ 16
   pub capacities : AreCapacities d.sites
   pub count : length d.limits ≡ length d.sites
-  pub members : AreGroupsOver (length d.objects) d.groups
-  pub known : All (AreLimitsOver (length d.objects) d.groups) d.limits
+  pub members : AreGroupsKnown (length d.objects) d.groups
+  pub known : All (AreScopesKnown (length d.objects) d.groups) d.limits

@@ -3,7 +3,7 @@ use Rattle.std.specs.Prelude.{◌≡◌, ℕ, ◌+◌, ◌-◌, ◌<◌, ◌≤�
 use Rattle.ordup_objects.specs.declared.refusal.Refusal.{Refusal}
 use Rattle.ordup_objects.specs.declared.refusal.Refusal.TheVariants.{NothingToSend, NothingToSettle}
 use Rattle.ordup_objects.specs.Tables.{initial_state}
-use Rattle.ordup_objects.specs.Serial.{History, IsLegal}
+use Rattle.ordup_objects.specs.Serial.{History, IsLegalHistory}
 use Rattle.ordup_limits.specs.Limits.{within}
 use Rattle.ordup_primary.specs.Declarations.{Declared, limits_of, is_ready}
 use Rattle.ordup_primary.specs.Settling.{forced_sites, waiting_sites, report_at, rounds_upto}
@@ -107,7 +107,7 @@ pub record IsSiteSound (keeps : ℕ → ℕ → Bool) (updates acked decided : �
 pub record IsPrimary (p : PrimaryState) : Type 0 where
   pub ready : is_ready p.setup ≡ true
   pub start : p.log.start ≡ initial_state p.setup.objects
-  pub legal : IsLegal p.log
+  pub legal : IsLegalHistory p.log
   pub few : length p.log.sets ≤ 1000000
   pub count : length p.sites ≡ length p.setup.sites
   pub acked : p.acked ≤ p.decided

@@ -1,6 +1,6 @@
 -- A primary in the fields of a `Primary`.
-use Rattle.std.specs.Prelude.{map, ◌<◌, vec_len, vec_capacity}
-use Rattle.ordup_primary.specs.Marks.{AreMarks}
+use Rattle.std.specs.Prelude.{◌≡◌, map, length, ◌<◌, vec_len, vec_capacity}
+use Rattle.ordup_objects.specs.Marks.{AreMarks}
 use Rattle.ordup_primary.specs.Primaries.{PrimaryState, SiteProgress, IsPrimary}
 use Rattle.ordup_primary.specs.declared.progress.Progress.{Progress}
 use Rattle.ordup_primary.specs.declared.primary.Primary.TheInside.{Inside}
@@ -16,7 +16,8 @@ module _ {A : Type 0} where
   abbrev pub HasRoom : Progress A → Type 0
   HasRoom site = (vec_len site.reports < vec_capacity site.reports) × (vec_len site.rounds < vec_capacity site.rounds)
 
-  -- what the fields keep: they stand for a primary, and the marks are those of the acknowledged updates
+  -- what the fields keep: they stand for a primary, and there is a mark for each object, by the acknowledged updates
   pub record KeepsMarks (p : Inside A) : Type 0 where
     pub primary : IsPrimary (state_of p)
+    pub count : length p.marks.items ≡ length p.log.start
     pub marks : AreMarks p.log p.acked p.marks.items

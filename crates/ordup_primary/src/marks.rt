@@ -1,5 +1,5 @@
 ghost use Rattle.std.specs.Prelude.{◌≡◌, ◌≤◌, ◌<◌, ◌-◌, ℕ, [], length, IfOk, IfErr};
-ghost use Rattle.ordup_primary.specs.Marks.{AreMarks};
+ghost use Rattle.ordup_objects.specs.Marks.{AreMarks};
 
 use ordup_log::{Groups, Log, Scope};
 use ordup_objects::Refusal;
@@ -10,6 +10,7 @@ pub(crate) fn first_marks<A: Allocator + Copy>(
     alloc: A,
     log: &Log<A>,
 ) -> Result<Vec<u64, A>, Refusal>
+    ensures count { IfOk result (λ marks. length marks.items ≡ length log.now.start) }
     ensures marks { IfOk result (λ marks. AreMarks log.now 0 marks.items) }
     ensures refused { IfErr result (λ e. e ≡ Refusal.NoMemory) }
 {
@@ -30,8 +31,10 @@ pub(crate) fn raise<A: Allocator + Copy>(
 )
     requires first { 0 < place }
     requires last { place ≤ length log.now.sets }
+    requires count { length marks.old.items ≡ length log.now.start }
     requires before { AreMarks log.now (place - 1) marks.old.items }
-    ensures { AreMarks log.now place marks.new.items }
+    ensures count { length marks.new.items ≡ length log.now.start }
+    ensures marks { AreMarks log.now place marks.new.items }
 {
     let _updates = log.len();
     let changes = log.set(place).changes();

@@ -44,9 +44,9 @@ impl<A: Allocator + Copy> Model for Primary<A> {
 
 impl<A: Allocator + Copy> Primary<A> {
     ghost use Rattle.ordup_objects.specs.Serial.{set_at, with_update, History};
-    ghost use Rattle.ordup_objects.specs.Sets.{IsOver};
+    ghost use Rattle.ordup_objects.specs.Sets.{AreKnown};
     ghost use Rattle.ordup_objects.specs.Tables.{initial_state};
-    ghost use Rattle.ordup_objects.specs.Weights.{object_span};
+    ghost use Rattle.ordup_objects.specs.Marks.{AreMarks};
     ghost use Rattle.ordup_log.specs.Appending.{append_refusal};
     ghost use Rattle.ordup_primary.specs.Primaries.{PrimaryState, IsPrimary, progress_at, reported_at, is_within, send_refusal, settle_refusal, forced_now, waiting_now, settled_as, acked_or_round, acked_or_waiting, acked_after, Decides};
 
@@ -77,7 +77,7 @@ impl<A: Allocator + Copy> Primary<A> {
     ///
     /// It is refused `LogFull` after 1,000,000 updates, `OutOfRange` where a result is out of range, and `NoMemory`.
     pub fn propose(&mut self, set: MessageSet<A>) -> Result<u64, Refusal>
-        requires { IsOver (length self.old.log.start) set }
+        requires { AreKnown (length self.old.log.start) set }
         ensures number { IfOk result (λ k. k ≡ length self.old.log.sets + 1) }
         ensures added { IfOk result (λ _. self.new ≡ record self.old { log = with_update self.old.log set }) }
         ensures allowed { IfOk result (λ _. append_refusal self.old.log set ≡ None) }
@@ -227,7 +227,7 @@ impl<A: Allocator + Copy> Primary<A> {
     /// acknowledged now and those that the site has applied then. It is refused `NoMemory` alone.
     pub fn marks(&self) -> Result<Vec<u64, A>, Refusal>
         ensures count { IfOk result (λ marks. length marks.items ≡ length self.now.log.start) }
-        ensures marks { IfOk result (λ marks. (x : ℕ) → x < length self.now.log.start → slice_index marks.items x ≡ object_span self.now.log x 0 self.now.acked) }
+        ensures marks { IfOk result (λ marks. AreMarks self.now.log self.now.acked marks.items) }
         ensures refused { IfErr result (λ e. e ≡ Refusal.NoMemory) }
     {
         match Vec::from_slice(*self.marks.allocator(), self.marks.as_slice()) {

@@ -2,8 +2,8 @@ ghost use Rattle.std.specs.Prelude.{◌≡◌, ◌≤◌, ℕ, ◌<◌, None, So
 ghost use Rattle.ordup_objects.specs.Tables.{place_of, object_refusal};
 ghost use Rattle.ordup_objects.specs.Refusals.{IsRefusal};
 ghost use Rattle.ordup_log.specs.Groups.{group_refusal};
-ghost use Rattle.ordup_limits.specs.Limits.{AreLimitsOver};
-ghost use Rattle.ordup_primary.specs.Declarations.{Declared, AreDeclared, AreGroupsOver, is_ready, site_refusal, site_limit_refusal, capacity_of, limits_of};
+ghost use Rattle.ordup_limits.specs.Limits.{AreScopesKnown};
+ghost use Rattle.ordup_primary.specs.Declarations.{Declared, AreDeclared, AreGroupsKnown, is_ready, site_refusal, site_limit_refusal, capacity_of, limits_of};
 
 use ordup_limits::{GroupId, Groups, LimitTable, Scope, check_scope};
 use ordup_objects::sizes::{GREATEST_CAPACITY, MOST_SITES};
@@ -135,7 +135,7 @@ impl<A: Allocator + Copy> Setup<A> {
     /// The groups.
     pub fn groups(&self) -> &Groups<A>
         ensures groups { result.now ≡ self.now.groups }
-        ensures members { AreGroupsOver (length self.now.objects) self.now.groups }
+        ensures members { AreGroupsKnown (length self.now.objects) self.now.groups }
     {
         &self.groups
     }
@@ -181,7 +181,7 @@ impl<A: Allocator + Copy> Setup<A> {
     pub fn limits(&self, site: SiteId) -> &LimitTable<A>
         requires { site < length self.now.sites }
         ensures limits { result.now ≡ limits_of self.now site }
-        ensures known { AreLimitsOver (length self.now.objects) self.now.groups result.now }
+        ensures known { AreScopesKnown (length self.now.objects) self.now.groups result.now }
     {
         &self.limits[site.index()]
     }

@@ -1,7 +1,7 @@
 ghost use Rattle.std.specs.Prelude.{◌≡◌, [], length, map, replicate, IfOk, IfErr};
-ghost use Rattle.ordup_objects.specs.Serial.{History, IsLegal};
+ghost use Rattle.ordup_objects.specs.Serial.{History, IsLegalHistory};
 ghost use Rattle.ordup_objects.specs.Tables.{initial_state};
-ghost use Rattle.ordup_primary.specs.Marks.{AreMarks};
+ghost use Rattle.ordup_objects.specs.Marks.{AreMarks};
 ghost use Rattle.ordup_primary.specs.Primaries.{first_progress};
 ghost use Rattle.ordup_primary.specs.PrimaryInside.{progress_of};
 
@@ -19,8 +19,9 @@ pub(crate) fn first_parts<A: Allocator + Copy>(
     setup: &Setup<A>,
 ) -> Result<(Log<A>, Vec<Progress<A>, A>, Vec<u64, A>), Refusal>
     ensures log { IfOk result (λ parts. parts.0 ≡ record { start = initial_state setup.now.objects; sets = [] }) }
-    ensures legal { IfOk result (λ parts. IsLegal parts.0) }
+    ensures legal { IfOk result (λ parts. IsLegalHistory parts.0) }
     ensures sites { IfOk result (λ parts. map progress_of parts.1.items ≡ replicate (length setup.now.sites) first_progress) }
+    ensures count { IfOk result (λ parts. length parts.2.items ≡ length parts.0.start) }
     ensures marks { IfOk result (λ parts. AreMarks parts.0 0 parts.2.items) }
     ensures refused { IfErr result (λ e. e ≡ Refusal.NoMemory) }
 {

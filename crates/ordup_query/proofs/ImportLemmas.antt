@@ -1,14 +1,15 @@
 -- What a read imports.
-use Rattle.std.proofs.Common.{◌≡◌, ℕ, ◌<◌, ◌≤◌, ℤ, List, length, min, max, inl, inr, arith, ap, sym, ◌∙◌}
+use Rattle.std.proofs.Common.{◌≡◌, ℕ, ◌<◌, ◌≤◌, ℤ, List, length, min, max, inl, inr, arith, ap, ◌∙◌}
 use Rattle.std.specs.Int.{abs_diff}
 use Rattle.std.proofs.lemmas.Int.{ints}
 use Rattle.std.proofs.lemmas.Bool.{cases_lt}
 use Rattle.ordup_objects.specs.States.{value_at}
 use Rattle.ordup_objects.specs.Serial.{History, serial}
 use Rattle.ordup_objects.specs.Weights.{distance, object_span}
-use Rattle.ordup_objects.proofs.SpanLemmas.{object_span-add, object_span-longer, moved}
+use Rattle.ordup_objects.proofs.SpanLemmas.{object_span-add, moved}
 use Rattle.ordup_site.specs.Sites.{SiteState, HasApplied}
-use Rattle.ordup_query.specs.Imports.{import_of, AreMarks, charge, LongerHistoriesKeepMarks, ChargesAreImports}
+use Rattle.ordup_objects.specs.Marks.{AreMarks}
+use Rattle.ordup_query.specs.Imports.{import_of, charge, ChargesAreImports}
 
 distance-other : (a b : ℤ) → distance a b ≡ distance b a
 distance-other a b = grind (arith, ints)
@@ -50,7 +51,3 @@ import-near s marks x charged value marked e f h j p site reference =
     let is : charged ≡ import_of h x j p = import-import_of s marks x charged marked e h j p site reference in
     let read : value ≡ value_at (serial h j) x = f ∙ ap (λ v. value_at v x) site.values in
     rw (is, read) (moved_between h x j p)
-
--- the marks on a longer history
-pub AreMarks-longer : LongerHistoriesKeepMarks
-AreMarks-longer h p marks more le are = λ x lt. are x lt ∙ sym (object_span-longer h more x 0 p le)

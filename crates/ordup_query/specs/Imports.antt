@@ -1,27 +1,14 @@
 -- What a read imports, and what is charged for it.
-use Rattle.std.specs.Prelude.{◌≡◌, ℕ, ◌<◌, ◌≤◌, List, length, slice_index_or, min, max}
+use Rattle.std.specs.Prelude.{◌≡◌, ℕ, ◌<◌, List, length, min, max}
 use Rattle.std.specs.Int.{abs_diff}
-use Rattle.ordup_objects.specs.declared.change.Change.{Change}
-use Rattle.ordup_objects.specs.Serial.{History, with_more}
+use Rattle.ordup_objects.specs.Serial.{History}
 use Rattle.ordup_objects.specs.Weights.{object_span}
+use Rattle.ordup_objects.specs.Marks.{mark_at, AreMarks}
 use Rattle.ordup_site.specs.Sites.{SiteState, travelled_at, HasApplied}
 
 -- what a read of an object imports at a site that applied j updates, by the reference p: the weight on the object of the span between
 abbrev pub import_of : History → ℕ → ℕ → ℕ → ℕ
 import_of h x j p = object_span h x (min j p) (max j p)
-
--- the mark of an object
-abbrev pub mark_at : List ℕ → ℕ → ℕ
-mark_at marks x = slice_index_or marks x 0
-
--- the marks of the reference p: the weight on each object of the updates up to it
-abbrev pub AreMarks : History → ℕ → List ℕ → Type 0
-AreMarks h p marks = (x : ℕ) → x < length marks → mark_at marks x ≡ object_span h x 0 p
-
--- the marks of a reference on a history are those on each longer one
-abbrev pub LongerHistoriesKeepMarks : Type 0
-LongerHistoriesKeepMarks =
-    (h : History) (p : ℕ) (marks : List ℕ) (more : List (List Change)) → p ≤ length h.sets → AreMarks h p marks → AreMarks (with_more h more) p marks
 
 -- what is charged for a read: how far what the value travelled is from the mark
 abbrev pub charge : SiteState → List ℕ → ℕ → ℕ

@@ -1,4 +1,4 @@
-ghost use Rattle.ordup_query.specs.Imports.{ChargesAreImports, LongerHistoriesKeepMarks};
+ghost use Rattle.ordup_query.specs.Imports.{ChargesAreImports};
 
 /// A law: what is charged for a read is what it imports, where the marks are those of a reference on a history of which the
 /// site applied a prefix.
@@ -6,9 +6,4 @@ ghost use Rattle.ordup_query.specs.Imports.{ChargesAreImports, LongerHistoriesKe
 /// So a read is refused `OverImport` exactly where its import would bring the total over the limit.
 pub fn charges_are_imports()
     ensures { ChargesAreImports }
-{}
-
-/// A law: the marks of a reference on a history are those of the same reference on each longer one.
-pub fn longer_histories_keep_marks()
-    ensures { LongerHistoriesKeepMarks }
 {}

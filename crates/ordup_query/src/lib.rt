@@ -10,5 +10,6 @@ mod query;
 pub mod sizes;
 
 pub use answer::{QueryAnswer, ReadAnswer};
-pub use laws::{charges_are_imports, longer_histories_keep_marks};
+pub use laws::charges_are_imports;
+pub use ordup_objects::longer_histories_keep_marks;
 pub use query::Query;

@@ -12,7 +12,8 @@ use Rattle.std.specs.Int.RustNames.{unsigned_abs}
 use Rattle.ordup_objects.specs.declared.change.Change.{Change}
 use Rattle.ordup_objects.specs.declared.refusal.Refusal.{Refusal}
 use Rattle.ordup_objects.specs.States.{State, value_at, after, is_legal, IsState}
-use Rattle.ordup_objects.specs.Sets.{repeats, IsSet, IsOver}
+use Rattle.ordup_objects.specs.Repeats.{repeats}
+use Rattle.ordup_objects.specs.Sets.{are_of_one_object, IsSet, AreKnown}
 use Rattle.ordup_objects.specs.Weights.{distance, distances_of}
 use Rattle.ordup_objects.proofs.SetLemmas.{value_after, value_at-after, distance-same, distance-after, distance_beside-distances_of, distance_beside-few, distances_of-few}
 use Rattle.ordup_site.specs.Travelling.{Moves, travelled_on}
@@ -46,12 +47,12 @@ others_stay v (c ∷ m) (b ∷ before) ts x none =
     others_stay v m before _ x both.1 ∙ get_or-set_other ts c.object x _ 0 (λ e. eqb-false c.object x both.0 (sym e))
 
 -- how far a changed object travels
-moved_one : (v w : State) (m : List Change) (before : List ℤ) (ts : List ℕ) (x : ℕ) → repeats m ≡ false → All (λ c. c.object < length ts) m → take (length m) before ≡ map (λ c. value_at v c.object) m
+moved_one : (v w : State) (m : List Change) (before : List ℤ) (ts : List ℕ) (x : ℕ) → repeats are_of_one_object m ≡ false → All (λ c. c.object < length ts) m → take (length m) before ≡ map (λ c. value_at v c.object) m
     → get_or (travelled_on w m before ts) x 0 ≡ get_or ts x 0 + cond (list_any (λ c. c.object == x) m) (distance (value_at w x) (value_at v x)) 0
 moved_one v w [] before ts x distinct known read = omega arith
 moved_one v w (c ∷ m) [] ts x distinct known read = absurd (cc)
 moved_one v w (c ∷ m) (b ∷ before) ts x distinct known read =
-    let apart : list_any (λ d. d.object == c.object) m ≡ false × repeats m ≡ false = or_parts _ _ distinct in
+    let apart : list_any (λ d. d.object == c.object) m ≡ false × repeats are_of_one_object m ≡ false = or_parts _ _ distinct in
     let first : b ≡ value_at v c.object = cc in
     let rest : take (length m) before ≡ map (λ d. value_at v d.object) m = cc in
     elim (cases_Bool (c.object == x)) [
@@ -70,13 +71,13 @@ value_after-other v (c ∷ m) x none =
     rw both.0 (value_after-other v m x both.1)
 
 -- by a set each value travels as far as it moves
-travelled_on-after : (v : State) (m : List Change) (before : List ℤ) (ts : List ℕ) (x : ℕ) → repeats m ≡ false → IsOver (length v) m → length ts ≡ length v → take (length m) before ≡ map (λ c. value_at v c.object) m
+travelled_on-after : (v : State) (m : List Change) (before : List ℤ) (ts : List ℕ) (x : ℕ) → repeats are_of_one_object m ≡ false → AreKnown (length v) m → length ts ≡ length v → take (length m) before ≡ map (λ c. value_at v c.object) m
     → get_or (travelled_on (after m v) m before ts) x 0 ≡ get_or ts x 0 + distance (value_at (after m v) x) (value_at v x)
-travelled_on-after v m before ts x distinct over same read =
-    let one = moved_one v (after m v) m before ts x distinct (λ k d h. let lt = (over k d h).0 in omega arith) read in
+travelled_on-after v m before ts x distinct known same read =
+    let one = moved_one v (after m v) m before ts x distinct (λ k d h. let lt = (known k d h).0 in omega arith) read in
     elim (cases_Bool (list_any (λ c. c.object == x) m)) [
       | inl e ↦ rw e at one
-      | inr e ↦ (let stays : value_at (after m v) x ≡ value_at v x = value_at-after v m x distinct over ∙ value_after-other v m x e in
+      | inr e ↦ (let stays : value_at (after m v) x ≡ value_at v x = value_at-after v m x distinct known ∙ value_after-other v m x e in
           let none : distance (value_at (after m v) x) (value_at v x) ≡ 0 = rw stays (distance-same (value_at v x)) in
           rw e at one ∙ omega (arith, none))
     ]
@@ -91,9 +92,9 @@ pub distance-in_range : (a b : ℤ) → unsigned_abs a ≤ 1000000000 → unsign
 distance-in_range a b h k = grind (arith, ints)
 
 -- a legal set moves a value by no more than the range is wide
-distance-few : (v : State) (m : List Change) (x : ℕ) → IsSet m → IsOver (length v) m → IsState v → is_legal m v ≡ true → distance (value_at (after m v) x) (value_at v x) ≤ 2000000000
-distance-few v m x is over state legal =
-    omega (arith, distance-after v m x is.distinct over, distance_beside-distances_of v m x, distance_beside-few m (distances_of v m) x (distances_of-few v m state legal))
+distance-few : (v : State) (m : List Change) (x : ℕ) → IsSet m → AreKnown (length v) m → IsState v → is_legal m v ≡ true → distance (value_at (after m v) x) (value_at v x) ≤ 2000000000
+distance-few v m x is known state legal =
+    omega (arith, distance-after v m x is.distinct known, distance_beside-distances_of v m x, distance_beside-few m (distances_of v m) x (distances_of-few v m state legal))
 
 -- what an `Ok` says, where the call answered it
 at_ok : (r : Result (Unit {0}) Refusal) (P : Type 0) → IsOk r → OnOk r P → P
@@ -101,14 +102,14 @@ at_ok (Ok done) P is h = h
 at_ok (Err e) P is h = absurd (cc)
 
 -- a legal set that was applied to the values, and what they travelled by it
-pub Moves-applied : (m : List Change) (v w : State) (ts us : List ℕ) (before : List ℤ) (applied : Result (Unit {0}) Refusal) → IsSet m → IsOver (length v) m → is_legal m v ≡ true → IsState v → length ts ≡ length v
+pub Moves-applied : (m : List Change) (v w : State) (ts us : List ℕ) (before : List ℤ) (applied : Result (Unit {0}) Refusal) → IsSet m → AreKnown (length v) m → is_legal m v ≡ true → IsState v → length ts ≡ length v
     → IsOk applied ↔ IsTrue (is_legal m v) → OnOk applied (w ≡ after m v) → length w ≡ length v → take (length m) before ≡ map (λ c. value_at v c.object) m → us ≡ travelled_on w m before ts → Moves m v ts w us
-Moves-applied m v w ts us before applied is over legal state same ok put objects read moved =
+Moves-applied m v w ts us before applied is known legal state same ok put objects read moved =
     let e : w ≡ after m v = at_ok applied _ (ok.1 legal) put in
     record {
       values = e;
       objects = objects;
-      travelled = λ x. rw (moved, e) (travelled_on-after v m before ts x is.distinct over same read);
-      few = λ x. rw e (distance-few v m x is over state legal);
+      travelled = λ x. rw (moved, e) (travelled_on-after v m before ts x is.distinct known same read);
+      few = λ x. rw e (distance-few v m x is known state legal);
       count = ap length moved ∙ length-travelled_on w m before ts;
     }

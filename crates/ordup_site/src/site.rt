@@ -1,7 +1,7 @@
 ghost use Rattle.std.specs.Prelude.{◌≡◌, ◌≤◌, ◌<◌, ◌+◌, ◌*◌, ℕ, ℤ, List, [], IsTrue, IfOk, IfErr, All, length, map, take, replicate, slice_index_or};
 ghost use Rattle.ordup_objects.specs.Tables.{initial_state};
 ghost use Rattle.ordup_objects.specs.States.{value_at, is_legal, after, IsInRange, IsState};
-ghost use Rattle.ordup_objects.specs.Sets.{IsOver};
+ghost use Rattle.ordup_objects.specs.Sets.{AreKnown};
 ghost use Rattle.ordup_objects.specs.Serial.{History, set_at, with_update};
 ghost use Rattle.ordup_objects.specs.Weights.{distance};
 ghost use Rattle.ordup_site.specs.Sites.{HasApplied, travelled_at};
@@ -55,10 +55,10 @@ impl<A: Allocator + Copy> Site<A> {
 
     /// Applies a message set. It takes no memory, and its work grows with the changes of the set alone.
     ///
-    /// The caller sees to it that the set is over the objects of the site (`MessageSet::is_over`), that it is legal on the values
-    /// (`Values::allows`), and that the site applied fewer than 1,000,000 updates.
+    /// The caller sees to it that the set changes and reads objects of the site (`MessageSet::are_known`), that it is legal on the
+    /// values (`Values::allows`), and that the site applied fewer than 1,000,000 updates.
     pub fn apply(&mut self, set: &MessageSet<A>)
-        requires known { IsOver (length self.old.values) set.now }
+        requires known { AreKnown (length self.old.values) set.now }
         requires legal { IsTrue (is_legal set.now self.old.values) }
         requires room { self.old.applied < 1000000 }
         ensures applied { self.new.applied ≡ self.old.applied + 1 }
@@ -120,7 +120,7 @@ fn move_values<A: Allocator + Copy>(
     travelled: &mut [u64],
     set: &MessageSet<A>,
 )
-    requires known { IsOver (length values.old) set.now }
+    requires known { AreKnown (length values.old) set.now }
     requires legal { IsTrue (is_legal set.now values.old) }
     requires same { length travelled.old ≡ length values.old }
     requires bounded { All (λ t. t ≤ 2000000000000000) travelled.old }

@@ -11,7 +11,7 @@ use Rattle.ordup_objects.specs.declared.change.Op.{Op}
 use Rattle.ordup_objects.specs.declared.change.Op.TheVariants.{Add, Set, Mul, Max, Min, Take}
 use Rattle.ordup_objects.specs.States.{is_legal}
 use Rattle.ordup_objects.specs.Tables.{initial_state}
-use Rattle.ordup_objects.specs.Sets.{IsOver, ReadsKnown, is_over, is_known, reads_known}
+use Rattle.ordup_objects.specs.Sets.{AreKnown, are_known, is_known}
 use Rattle.ordup_objects.specs.Serial.{History, set_at, with_more, with_update}
 use Rattle.ordup_objects.proofs.SerialLemmas.{length-serial}
 use Rattle.ordup_limits.proofs.LimitLemmas.{within-later}
@@ -162,9 +162,9 @@ IsStore-applied w s site new is lt at less next =
       ];
     }
 
--- the next update of a site is over its objects
-pub next_over : (w : StoreState) (s : ℕ) (site : SiteState) → IsStore w → s < length w.sites → site ≡ get_or w.sites s site → site.applied < (progress_at w.primary s).sent → IsOver (length site.values) (set_at w.primary.log (site.applied + 1))
-next_over w s site is lt at less =
+-- the objects of the next update of a site are there
+pub next_known : (w : StoreState) (s : ℕ) (site : SiteState) → IsStore w → s < length w.sites → site ≡ get_or w.sites s site → site.applied < (progress_at w.primary s).sent → AreKnown (length site.values) (set_at w.primary.log (site.applied + 1))
+next_known w s site is lt at less =
     let holds = holds-at w s site is lt at in
     let place : site.applied + 1 - 1 ≡ site.applied = omega arith in
     let size : length site.values ≡ length w.primary.log.start = ap length holds.holds.prefix.values ∙ length-serial w.primary.log site.applied (omega (arith, holds.holds.logged, holds.holds.got)) in
@@ -176,22 +176,6 @@ next_legal w s site is lt at less =
     let holds = holds-at w s site is lt at in
     let place : site.applied + 1 - 1 ≡ site.applied = omega arith in
     rw (holds.holds.prefix.values, place) (is.primary.legal.legal site.applied (omega (arith, holds.holds.logged)))
-
-reads_known-true : (n : ℕ) (op : Op) → reads_known n op ≡ true → ReadsKnown n op
-reads_known-true n (Add a) h = tt
-reads_known-true n (Set a) h = tt
-reads_known-true n (Mul a) h = tt
-reads_known-true n (Max a) h = tt
-reads_known-true n (Min a) h = tt
-reads_known-true n (Take y) h = ltb-true y n h
-
--- changes that pass the test are over the first n objects
-pub is_over-true : (n : ℕ) (m : List Change) → is_over n m ≡ true → IsOver n m
-is_over-true n [] h = All-nil (λ c. (c.object < n) × ReadsKnown n c.op)
-is_over-true n (c ∷ m) h =
-    let both : is_known n c ≡ true × is_over n m ≡ true = and_parts _ _ h in
-    let known : nat_lt c.object n ≡ true × reads_known n c.op ≡ true = and_parts _ _ both.0 in
-    All-cons (λ c. (c.object < n) × ReadsKnown n c.op) c m (ltb-true c.object n known.0, reads_known-true n c.op known.1) (is_over-true n m both.1)
 
 -- ---- a store at the start
 

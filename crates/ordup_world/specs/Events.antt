@@ -6,7 +6,7 @@ use Rattle.ordup_objects.specs.declared.refusal.Refusal.{Refusal}
 use Rattle.ordup_objects.specs.declared.refusal.Refusal.TheVariants.{UnknownObject, UnknownSite, OutOfRange, TooMany, NothingToSend, FeedFull, NothingToApply, NothingToSettle, UnknownQuery, QueryOpen, NoMemory}
 use Rattle.ordup_objects.specs.States.{value_at}
 use Rattle.ordup_objects.specs.Tables.{initial_state}
-use Rattle.ordup_objects.specs.Sets.{is_over}
+use Rattle.ordup_objects.specs.Sets.{are_known}
 use Rattle.ordup_objects.specs.Serial.{History, serial}
 use Rattle.ordup_log.specs.Appending.{append_refusal}
 use Rattle.ordup_limits.specs.Limits.{Limits, within}
@@ -151,7 +151,7 @@ module _ {A : Type 0} where
   -- the reply to an event after the past: the first refusal that applies, or else the answer
   abbrev pub reply : Declared → Past A → Event A → Answer A
   reply setup past (Propose m) =
-      if not (is_over (length setup.objects) m) then Refused UnknownObject else
+      if not (are_known (length setup.objects) m) then Refused UnknownObject else
       refused_or (append_refusal (log_of setup past) m) (Proposed (length (sets_of past) + 1))
   reply setup past (Send s) =
       if not (nat_lt s (length setup.sites)) then Refused UnknownSite else

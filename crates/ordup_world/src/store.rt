@@ -38,7 +38,7 @@ impl<A: Allocator + Copy> Store<A> {
         requires { IsStore (state_of self.old) }
         ensures { StepsStore (state_of self.old) (Event.Propose set) result (state_of self.new) }
     {
-        if !set.is_over(self.primary.setup().objects().len()) {
+        if !set.are_known(self.primary.setup().objects().len()) {
             return Answer::Refused(Refusal::UnknownObject);
         }
         match self.primary.propose(set) {

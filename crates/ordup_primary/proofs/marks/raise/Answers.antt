@@ -2,7 +2,8 @@ use Rattle.std.proofs.Common.{arith, ◌∙◌, ◌-◌, ◌<◌, length, ap}
 use Rattle.std.proofs.lemmas.Grind.{common_steps}
 use Rattle.std.proofs.Math.ListN.{length-set}
 use Rattle.std.proofs.lemmas.List.{get_or_default}
-use Rattle.ordup_objects.specs.Sets.{repeats}
+use Rattle.ordup_objects.specs.Repeats.{repeats}
+use Rattle.ordup_objects.specs.Sets.{are_of_one_object}
 use Rattle.ordup_objects.specs.Weights.{object_span}
 use Rattle.ordup_primary.proofs.MarkLemmas.{object_span-few, raised-first, object-there, raised-at}
 use Rattle.ordup_primary.proofs.marks.raise.Goals as goal
@@ -12,7 +13,7 @@ loop-change-init g c =
     let h = c.args.log.now in
     let changes = rw c.set.ensures.set at c.changes-changes.ensures.changes in
     record {
-      count = c.requires.before.count;
+      count = c.requires.count;
       each = λ x lt. raised-first h c.set.ensures.legal c.args.place x c.args.marks.now.items c.changes-changes.result.now c.requires.first c.requires.last changes c.requires.before lt;
     }
 
@@ -40,9 +41,9 @@ loop-change-preserved g c =
       count = length-set c.loop-change.marks.items c.index.result _ ∙ before.count;
       each = λ x lt.
           raised-at h c.changes-changes.result.now c.loop-change.marks.items x (c.args.place - 1) c.loop-change.change-index c.index.result c.index_mut.result.now c.weight.result (object_span h x 0 c.args.place) c.change-item.result c.loop-change-test.true
-          (ap repeats c.changes-changes.ensures.changes ∙ c.changes-changes.ensures.set.distinct) c.change-item.is c.index.ensures (omega (arith, before.count)) c.index_mut.ensures.value c.weight.ensures.weight
-          (before.each x lt);
+          (ap (repeats are_of_one_object) c.changes-changes.ensures.changes ∙ c.changes-changes.ensures.set.distinct) c.change-item.is c.index.ensures (omega (arith, before.count)) c.index_mut.ensures.value c.weight.ensures.weight
+          (before.each x (rw (length-set c.loop-change.marks.items c.index.result _) at lt));
     }
 
-pub returns : goal.returns
-returns g c = grind (arith, common_steps)
+pub returns-clause-marks : goal.returns-clause-marks
+returns-clause-marks g c = grind (arith, common_steps)

@@ -5,5 +5,5 @@ use Rattle.ordup_objects.proofs.message_set.MessageSet.new.Goals as goal
 pub invariant_of-result : goal.invariant_of-result
 invariant_of-result g c = grind (arith, common_steps)
 
-pub returns-clause-over : goal.returns-clause-over
-returns-clause-over g c = grind (arith, common_steps)
+pub returns-clause-known : goal.returns-clause-known
+returns-clause-known g c = grind (arith, common_steps)

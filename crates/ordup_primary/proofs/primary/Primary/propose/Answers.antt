@@ -1,8 +1,8 @@
-use Rattle.std.proofs.Common.{arith, rules}
+use Rattle.std.proofs.Common.{arith, rules, ◌∷◌, []}
 use Rattle.std.proofs.lemmas.Grind.{common_steps}
 use Rattle.ordup_objects.specs.Sets.{IsSet}
 use Rattle.ordup_primary.specs.PrimaryInside.{state_of}
-use Rattle.ordup_primary.proofs.MarkLemmas.{AreMarks-append}
+use Rattle.ordup_objects.proofs.SpanLemmas.{AreMarks-longer}
 use Rattle.ordup_primary.proofs.PrimaryLemmas.{IsPrimary-proposed}
 use Rattle.ordup_primary.proofs.primary.Primary.propose.Goals as goal
 
@@ -12,7 +12,8 @@ invariant_of-self-2 g c =
     let before = c.self.invariant in
     rw c.in_ok-number.ensures.added (record {
       primary = IsPrimary-proposed (state_of c.self.inside) c.args.set before.primary set (rw (← c.self.view_is) at c.requires) c.in_ok-number.ensures.allowed;
-      marks = AreMarks-append c.self.inside.log c.args.set c.self.inside.acked c.self.inside.marks.items (omega (arith, before.primary.acked, before.primary.decided)) before.marks;
+      count = before.count;
+      marks = AreMarks-longer c.self.inside.log c.self.inside.acked c.self.inside.marks.items (c.args.set ∷ []) (omega (arith, before.primary.acked, before.primary.decided)) before.marks;
     })
 
 pub returns-clause-sound : goal.returns-clause-sound

@@ -9,7 +9,7 @@ pub invariant_of-self : goal.invariant_of-self
 invariant_of-self g c =
     let lt = rw (← c.self.view_is) at c.requires.site in
     let e = view-set c.self.inside c.index.result c.args.site c.index_mut.result.now (record c.index_mut.result.now { reported = c.args.place }) (reported_as c.args.place) c.index.ensures lt c.index_mut.ensures.value refl in
-    record { primary = IsPrimary-reported c.self.inside _ c.args.site c.args.place c.self.invariant.primary lt (rw (← c.self.view_is) at c.requires.risen) (rw (← c.self.view_is) at c.requires.sent) e; marks = c.self.invariant.marks }
+    record { primary = IsPrimary-reported c.self.inside _ c.args.site c.args.place c.self.invariant.primary lt (rw (← c.self.view_is) at c.requires.risen) (rw (← c.self.view_is) at c.requires.sent) e; count = c.self.invariant.count; marks = c.self.invariant.marks }
 
 pub returns-clause-noted : goal.returns-clause-noted
 returns-clause-noted g c =

@@ -1,5 +1,6 @@
 -- Limits, and which of them a span passes.
-use Rattle.std.specs.Prelude.{◌≡◌, ◌≤◌, ◌||◌, [], ◌∷◌, ℕ, ◌==◌, not, if◌then◌else◌, Option, Some, None, Bool, true, false, List, length, nat_lt, nat_le, All}
+use Rattle.std.specs.Prelude.{◌≡◌, ◌≤◌, ◌||◌, [], ◌∷◌, ℕ, ◌==◌, not, if◌then◌else◌, Option, Some, None, Bool, true, false, List}
+use Rattle.std.specs.Prelude.{length, nat_lt, nat_le, All}
 use Rattle.std.specs.List.{list_all, list_any, position}
 use Rattle.std.specs.Option.{option_or}
 use Rattle.ordup_objects.specs.declared.refusal.Refusal.{Refusal}
@@ -9,6 +10,7 @@ use Rattle.ordup_objects.specs.Repeats.{repeats}
 use Rattle.ordup_objects.specs.Serial.{History, with_more}
 use Rattle.ordup_log.specs.Groups.{GroupList}
 use Rattle.ordup_log.specs.Spans.{span, IsScopeKnown}
+use Rattle.ordup_limits.specs.Sizes.{most_limits, greatest_amount}
 use Rattle.ordup_limits.specs.declared.limit.Limit.{Limit}
 use Rattle.ordup_log.specs.declared.scope.Scope.{Scope}
 use Rattle.ordup_log.specs.declared.scope.Scope.TheVariants.{Object, Group, All as Everything, Count}
@@ -31,7 +33,8 @@ LongerHistoriesKeepLimits =
     (h : History) (more : List (List Change)) (groups : GroupList) (limits : Limits) (a b : ℕ) → b ≤ length h.sets →
     within (with_more h more) groups limits a b ≡ within h groups limits a b
 
--- A span that begins later and ends at the same place keeps the limits that the longer one keeps. Of spans that end elsewhere nothing is said.
+-- A span that begins later and ends at the same place keeps the limits that the longer one keeps. Of spans that end elsewhere
+-- nothing is said.
 abbrev pub LaterSpansKeepLimits : Type 0
 LaterSpansKeepLimits =
     (h : History) (groups : GroupList) (limits : Limits) (a b c : ℕ) → a ≤ b →
@@ -63,8 +66,8 @@ is_same_scope _ _ = false
 -- why an amount on a scope is refused beside these limits, if it is
 abbrev pub amount_refusal : Limits → Scope → ℕ → Option Refusal
 amount_refusal limits scope amount =
-    if nat_lt 1000000000000000000 amount then Some OutOfRange else
-    if length limits == 64 then Some TooMany else
+    if nat_lt greatest_amount amount then Some OutOfRange else
+    if length limits == most_limits then Some TooMany else
     if list_any (λ limit. is_same_scope limit.scope scope) limits then Some Repeated else None
 
 -- why a limit is refused beside these, if it is
@@ -77,8 +80,8 @@ are_on_one_scope l m = is_same_scope l.scope m.scope
 
 -- at most 64 limits of distinct scopes, with amounts from 0 to 10^18
 pub record AreLimits (limits : Limits) : Type 0 where
-  pub few : length limits ≤ 64
-  pub amounts : All (λ limit. limit.amount ≤ 1000000000000000000) limits
+  pub few : length limits ≤ most_limits
+  pub amounts : All (λ limit. limit.amount ≤ greatest_amount) limits
   pub distinct : repeats are_on_one_scope limits ≡ false
 
 -- the objects and groups of the limits are there

@@ -79,6 +79,7 @@ impl<A: Allocator + Copy> LimitTable<A> {
     /// How many limits there are, at most 64.
     pub fn len(&self) -> usize
         ensures len { result ≡ length self.now }
+        // What each table keeps, for the proofs of its users.
         ensures limits { AreLimits self.now }
     {
         self.limits.len()
@@ -151,6 +152,7 @@ fn keeps<A: Allocator + Copy>(
     ensures kept { result ≡ keeps log.now groups.now from to limit }
     ensures all { IfSome all.new (λ weight. weight ≡ span log.now groups.now Scope.All from to) }
 {
+    // For the proof: the members of a group are distinct.
     let _groups = groups.len();
     match limit.scope {
         Scope::All => weight_of_all(log, groups, from, to, all) <= limit.amount,

@@ -4,6 +4,7 @@ use Rattle.std.proofs.Math.ListN.{get_or-append}
 use Rattle.std.proofs.lemmas.Bool.{cases_lt}
 use Rattle.std.proofs.lemmas.List.{length_push, get_or_push}
 use Rattle.ordup_objects.specs.declared.change.Change.{Change}
+use Rattle.ordup_objects.specs.Sizes.{most_updates}
 use Rattle.ordup_objects.specs.States.{State, after, is_legal}
 use Rattle.ordup_objects.specs.Sets.{IsSet, AreKnown}
 use Rattle.ordup_objects.specs.Serial.{History, serial, with_update}
@@ -13,21 +14,35 @@ use Rattle.ordup_log.specs.LogInside.{IsLog, history_of}
 use Rattle.ordup_objects.proofs.SerialLemmas.{length-after, serial-longer, serial-last, IsLegalHistory-longer}
 
 -- the distances of a log that grows are those of its updates
-distances-append : {A : Type 0} (h : History) (m : List Change) (kept : List (Vec ℕ A)) (ds : Vec ℕ A)
-    → length kept ≡ length h.sets → ((k : ℕ) (d : Vec ℕ A) → k < length h.sets → (get_or kept k d).items ≡ distances_of (serial h k) (get_or h.sets k [])) → ds.items ≡ distances_of (serial h (length h.sets)) m
-    → (k : ℕ) (d : Vec ℕ A) → k < length (h.sets ++ m ∷ []) → (get_or (kept ++ ds ∷ []) k d).items ≡ distances_of (serial (with_update h m) k) (get_or (h.sets ++ m ∷ []) k [])
-distances-append h m kept ds same each last k d lt = elim (cases_lt k (length h.sets)) [
-  | inl before ↦ rw (get_or-append kept (ds ∷ []) d k (omega arith), get_or-append h.sets (m ∷ []) [] k before, serial-longer h (m ∷ []) k (omega arith)) (each k d before)
+distances-longer : {A : Type 0} (h : History) (m : List Change) (kept : List (Vec ℕ A)) (ds : Vec ℕ A)
+    → length kept ≡ length h.sets
+    → ((k : ℕ) (d : Vec ℕ A) → k < length h.sets → (get_or kept k d).items ≡ distances_of (serial h k) (get_or h.sets k []))
+    → ds.items ≡ distances_of (serial h (length h.sets)) m
+    → (k : ℕ) (d : Vec ℕ A) → k < length (h.sets ++ m ∷ [])
+    → (get_or (kept ++ ds ∷ []) k d).items ≡ distances_of (serial (with_update h m) k) (get_or (h.sets ++ m ∷ []) k [])
+distances-longer h m kept ds same each last k d lt = elim (cases_lt k (length h.sets)) [
+  | inl before ↦ rw (
+    get_or-append kept (ds ∷ []) d k (omega arith),
+    get_or-append h.sets (m ∷ []) [] k before,
+    serial-longer h (m ∷ []) k (omega arith),
+  ) (each k d before)
   | inr past ↦ (let at : k ≡ length h.sets = omega (arith, length_push h.sets m) in
-      rw (get_or_push kept ds d k (omega arith), get_or_push h.sets m [] k (sym at), at, serial-longer h (m ∷ []) (length h.sets) (omega arith)) last)
+      rw (
+        get_or_push kept ds d k (omega arith),
+        get_or_push h.sets m [] k (sym at),
+        at,
+        serial-longer h (m ∷ []) (length h.sets) (omega arith),
+      ) last)
 ]
 
 -- a log keeps its invariant by one legal set more, with its distances and the values after it
-pub IsLog-append : {A : Type 0} (l : Inside A) (m : List Change) (ds : Vec ℕ A) (sets : Vec (List Change) A) (distances : Vec (Vec ℕ A) A) (end : State)
-    → IsLog l → IsSet m → AreKnown (length l.start) m → is_legal m l.end ≡ true → vec_len l.sets < 1000000
-    → sets.items ≡ l.sets.items ++ m ∷ [] → distances.items ≡ l.distances.items ++ ds ∷ [] → ds.items ≡ distances_of l.end m → end ≡ after m l.end
+pub IsLog-longer : {A : Type 0} (l : Inside A) (m : List Change) (ds : Vec ℕ A) (sets : Vec (List Change) A)
+    (distances : Vec (Vec ℕ A) A) (end : State)
+    → IsLog l → IsSet m → AreKnown (length l.start) m → is_legal m l.end ≡ true → vec_len l.sets < most_updates
+    → sets.items ≡ l.sets.items ++ m ∷ [] → distances.items ≡ l.distances.items ++ ds ∷ [] → ds.items ≡ distances_of l.end m
+    → end ≡ after m l.end
     → IsLog (record { start = l.start; sets = sets; distances = distances; end = end })
-IsLog-append l m ds sets distances end is set known legal few e f d g =
+IsLog-longer l m ds sets distances end is set known legal few e f d g =
     let h : History = history_of l in
     let count : vec_len l.sets ≡ length h.sets = l.sets.ok.0 in
     let more : length sets.items ≡ length h.sets + 1 = ap length e ∙ length_push h.sets m in
@@ -36,7 +51,20 @@ IsLog-append l m ds sets distances end is set known legal few e f d g =
       few = omega (arith, sets.ok.0, more, count);
       legal = rw e (IsLegalHistory-longer h m is.legal set known (rw (← now) legal));
       same = ap length g ∙ length-after m l.end ∙ is.same;
-      kept = omega (arith, sets.ok.0, distances.ok.0, l.sets.ok.0, l.distances.ok.0, more, ap length f, length_push l.distances.items ds, is.kept);
-      each = λ k d0 lt. rw (e, f) (distances-append h m l.distances.items ds (omega (arith, l.sets.ok.0, l.distances.ok.0, is.kept)) is.each (d ∙ ap (λ v. distances_of v m) now) k d0 (omega (arith, ap length e)));
+      kept = omega (
+        arith,
+        sets.ok.0,
+        distances.ok.0,
+        l.sets.ok.0,
+        l.distances.ok.0,
+        more,
+        ap length f,
+        length_push l.distances.items ds,
+        is.kept,
+      );
+      each =
+          λ k d0 lt. rw (e, f) (distances-longer h m l.distances.items ds
+          (omega (arith, l.sets.ok.0, l.distances.ok.0, is.kept)) is.each (d ∙ ap (λ v. distances_of v m) now) k d0
+          (omega (arith, ap length e)));
       end = rw (sets.ok.0, e, length_push h.sets m, serial-last h m, ← now) g;
     }

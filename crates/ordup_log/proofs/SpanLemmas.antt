@@ -31,7 +31,8 @@ pub span-count : (h : History) (groups : GroupList) (a b : ℕ) → span h group
 span-count h groups a b = omega (arith, sum_from-constant 1 a (b - a))
 
 -- one place more
-pub span-more : (h : History) (groups : GroupList) (s : Scope) (a b : ℕ) → a ≤ b → span h groups s a (b + 1) ≡ span h groups s a b + weight h groups s b
+pub span-more : (h : History) (groups : GroupList) (s : Scope) (a b : ℕ) → a ≤ b
+    → span h groups s a (b + 1) ≡ span h groups s a b + weight h groups s b
 span-more h groups s a b le =
     let e : b + 1 - a ≡ suc (b - a) = omega arith in
     let f : a + (b - a) ≡ b = omega arith in

@@ -1,8 +1,10 @@
 -- Groups of objects.
-use Rattle.std.specs.Prelude.{◌≡◌, ℕ, ◌<◌, ◌≤◌, ◌==◌, ◌||◌, not, if◌then◌else◌, Option, Some, None, Bool, false, List, [], length, nat_eq, nat_lt, is_some, slice_index_or, All}
+use Rattle.std.specs.Prelude.{◌≡◌, ℕ, ◌<◌, ◌≤◌, ◌==◌, ◌||◌, not, if◌then◌else◌, Option, Some, None, Bool, false, List, []}
+use Rattle.std.specs.Prelude.{length, nat_eq, nat_lt, is_some, slice_index_or, All}
 use Rattle.std.specs.List.{list_all}
 use Rattle.ordup_objects.specs.declared.refusal.Refusal.{Refusal}
 use Rattle.ordup_objects.specs.declared.refusal.Refusal.TheVariants.{BadName, NameTaken, UnknownObject, TooMany, Empty, Repeated}
+use Rattle.ordup_objects.specs.Sizes.{most_groups, most_members}
 use Rattle.ordup_objects.specs.Names.{is_name}
 use Rattle.ordup_objects.specs.Repeats.{repeats}
 use Rattle.ordup_objects.specs.Tables.{place_of}
@@ -29,12 +31,12 @@ group_refusal n groups name members =
     if not (is_name name) then Some BadName else
     if is_some (place_of name groups) then Some NameTaken else
     if not (are_members_known n members) then Some UnknownObject else
-    if length groups == 32 || nat_lt 64 (length members) then Some TooMany else
+    if length groups == most_groups || nat_lt most_members (length members) then Some TooMany else
     if length members == 0 then Some Empty else
     if repeats nat_eq members then Some Repeated else None
 
 -- 1 to 64 distinct members
 pub record IsGroup (members : List ℕ) : Type 0 where
   pub some : 0 < length members
-  pub few : length members ≤ 64
+  pub few : length members ≤ most_members
   pub distinct : repeats nat_eq members ≡ false

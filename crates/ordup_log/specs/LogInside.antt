@@ -1,5 +1,6 @@
 -- What the fields of a log keep.
 use Rattle.std.specs.Prelude.{◌≡◌, ◌≤◌, ◌<◌, ℕ, [], length, vec_len, slice_index_or, Vec}
+use Rattle.ordup_objects.specs.Sizes.{most_updates}
 use Rattle.ordup_objects.specs.Weights.{distances_of}
 use Rattle.ordup_objects.specs.Serial.{History, serial, IsLegalHistory}
 use Rattle.ordup_log.specs.declared.log.Log.TheInside.{Inside}
@@ -10,7 +11,7 @@ module _ {A : Type 0} where
 
   -- the log is legal, the distances are those of its updates, and the end has the serial result of all of it
   pub record IsLog (l : Inside A) : Type 0 where
-    pub few : vec_len l.sets ≤ 1000000
+    pub few : vec_len l.sets ≤ most_updates
     pub legal : IsLegalHistory (history_of l)
     pub same : length l.end ≡ length l.start
     pub kept : vec_len l.distances ≡ vec_len l.sets

@@ -1,5 +1,6 @@
 ghost use Rattle.std.specs.Prelude.{◌≡◌, ◌≤◌, ℕ, ◌<◌, None, Some, IfSome, IfOk, IfErr, List, [], ◌∷◌, ◌++◌, length, slice_get, option_map, All, nat_eq, nat_lt};
 ghost use Rattle.std.specs.List.{list_all, list_any};
+ghost use Rattle.ordup_objects.specs.Sizes.{most_groups};
 ghost use Rattle.ordup_objects.specs.Tables.{place_of, AreNames, AreDistinct};
 ghost use Rattle.ordup_objects.specs.Repeats.{repeats};
 ghost use Rattle.ordup_objects.specs.Refusals.{IsRefusal};
@@ -50,13 +51,14 @@ pub struct Groups<A: Allocator + Copy = Global> {
 
 impl<A: Allocator + Copy> Model for Groups<A> {
     ghost use Rattle.std.specs.Prelude.{List, ℕ, length, map, All, ◌≤◌};
+    ghost use Rattle.ordup_objects.specs.Sizes.{most_groups};
     ghost use Rattle.ordup_log.specs.Groups.{IsGroup};
 
     ghost Value = { List (List ℕ × List ℕ) };
 
     ghost view = { λ t. map (λ g. (g.0, g.1.items)) t.groups };
 
-    ghost invariant = { λ t. (length t.groups ≤ 32) × All (λ g. IsGroup g.1.items) t.groups };
+    ghost invariant = { λ t. (length t.groups ≤ most_groups) × All (λ g. IsGroup g.1.items) t.groups };
 }
 
 impl<A: Allocator + Copy> Groups<A> {
@@ -124,7 +126,8 @@ impl<A: Allocator + Copy> Groups<A> {
     /// How many groups there are, at most 32.
     pub fn len(&self) -> usize
         ensures len { result ≡ length self.now }
-        ensures few { length self.now ≤ 32 }
+        // What each table keeps, for the proofs of its users.
+        ensures few { length self.now ≤ most_groups }
         ensures groups { All (λ g. IsGroup g.1) self.now }
         ensures names { AreNames self.now }
         ensures distinct { AreDistinct self.now }

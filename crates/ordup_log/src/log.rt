@@ -1,4 +1,5 @@
 ghost use Rattle.std.specs.Prelude.{◌≡◌, ◌≤◌, ◌+◌, ◌-◌, ℕ, ◌<◌, None, IfOk, IfErr, List, [], ◌∷◌, ◌++◌, length, sum, sum_by, ◌^◌, ◌*◌};
+ghost use Rattle.ordup_objects.specs.Sizes.{greatest_distance, most_members, most_updates, greatest_weight};
 ghost use Rattle.ordup_objects.specs.Tables.{initial_state};
 ghost use Rattle.ordup_objects.specs.Weights.{distance_beside, distances_of};
 
@@ -46,6 +47,7 @@ impl<A: Allocator + Copy> Log<A> {
         ensures empty { IfOk result (λ log. log ≡ record { start = initial_state objects.now; sets = [] }) }
         ensures refused { IfErr result (λ e. e ≡ Refusal.NoMemory) }
     {
+        // For the proof: the initial values are in range.
         let _count = objects.len();
         let start = Values::initial(alloc, objects)?;
         let end = Values::initial(alloc, objects)?;
@@ -60,7 +62,8 @@ impl<A: Allocator + Copy> Log<A> {
     /// How many updates there are.
     pub fn len(&self) -> u64
         ensures len { result ≡ length self.now.sets }
-        ensures few { length self.now.sets ≤ 1000000 }
+        // What each log keeps, for the proofs of its users.
+        ensures few { length self.now.sets ≤ most_updates }
         ensures legal { IsLegalHistory self.now }
     {
         self.sets.len() as u64
@@ -108,6 +111,7 @@ impl<A: Allocator + Copy> Log<A> {
         requires first { 0 < number }
         requires last { number ≤ length self.now.sets }
         ensures set { result.now ≡ set_at self.now number }
+        // The log keeps this too: said here for proofs about one update.
         ensures legal { IsLegalHistory self.now }
     {
         &self.sets[number as usize - 1]
@@ -138,7 +142,7 @@ impl<A: Allocator + Copy> Log<A> {
         requires last { number ≤ length self.now.sets }
         requires known { IsScopeKnown (length self.now.start) groups.now scope }
         ensures weight { result ≡ weight self.now groups.now scope (number - 1) }
-        ensures few { result ≤ 128000000000 }
+        ensures few { result ≤ greatest_weight }
     {
         let distances = self.distances_at(number);
         match scope {
@@ -158,9 +162,11 @@ impl<A: Allocator + Copy> Log<A> {
         requires last { to ≤ length self.now.sets }
         requires known { IsScopeKnown (length self.now.start) groups.now scope }
         ensures span { result ≡ span self.now groups.now scope from to }
-        ensures few { result ≤ 128000000000000000 }
+        ensures few { result ≤ most_updates * greatest_weight }
     {
+        // The prover joins the turns of a loop over a borrowed scope, not over a copied one.
         let scope = &scope;
+        // For the proof: there are few enough updates for the sum to fit.
         let _updates = self.len();
         let mut total = 0;
         for place in from..to {
@@ -196,8 +202,8 @@ fn distance_beside(changes: &[Change], distances: &[u64], object: ObjectId) -> u
 /// The numbers beside the changes of several objects, added up.
 fn distance_beside_members(changes: &[Change], distances: &[u64], members: &[ObjectId]) -> u64
     requires len { length distances.now ≡ length changes.now }
-    requires few { (x : ℕ) → distance_beside changes.now distances.now x ≤ 2000000000 }
-    requires members { length members.now ≤ 64 }
+    requires few { (x : ℕ) → distance_beside changes.now distances.now x ≤ greatest_distance }
+    requires members { length members.now ≤ most_members }
     ensures { result ≡ sum_by (λ x. distance_beside changes.now distances.now x) members.now }
 {
     let mut total = 0;

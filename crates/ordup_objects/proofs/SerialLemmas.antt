@@ -29,13 +29,15 @@ length-after m v = length-put m v v
 -- a serial result has as many values as the start
 pub length-serial : (h : History) (j : ℕ) → j ≤ length h.sets → length (serial h j) ≡ length h.start
 length-serial h zero le = refl
-length-serial h (suc j) le = ap length (serial-suc h j (omega arith)) ∙ length-after (get_or h.sets j []) (serial h j) ∙ length-serial h j (omega arith)
+length-serial h (suc j) le =
+    ap length (serial-suc h j (omega arith)) ∙ length-after (get_or h.sets j []) (serial h j) ∙ length-serial h j (omega arith)
 
 -- the values of a serial result are in range
 pub IsState-serial : (h : History) → IsLegalHistory h → (j : ℕ) → j ≤ length h.sets → IsState (serial h j)
 IsState-serial h legal zero le = legal.start
 IsState-serial h legal (suc j) le =
-    rw (serial-suc h j (omega arith)) (IsState-after (serial h j) (get_or h.sets j []) (IsState-serial h legal j (omega arith)) (legal.legal j (omega arith)))
+    rw (serial-suc h j (omega arith))
+    (IsState-after (serial h j) (get_or h.sets j []) (IsState-serial h legal j (omega arith)) (legal.legal j (omega arith)))
 
 -- updates that are added later leave the serial results as they were
 pub serial-longer : LongerHistoriesKeepSerialResults
@@ -46,10 +48,16 @@ pub serial-last : (h : History) (m : List Change) → serial (with_update h m) (
 serial-last h m =
     let lt : length h.sets < length (h.sets ++ m ∷ []) = omega (arith, length_push h.sets m) in
     let e : length h.sets + 1 ≡ suc (length h.sets) = omega arith in
-    rw (e, serial-suc (with_update h m) (length h.sets) lt, get_or-append_seam h.sets m [] [], serial-longer h (m ∷ []) (length h.sets) (omega arith)) refl
+    rw (
+      e,
+      serial-suc (with_update h m) (length h.sets) lt,
+      get_or-append_seam h.sets m [] [],
+      serial-longer h (m ∷ []) (length h.sets) (omega arith),
+    ) refl
 
 -- a legal log stays legal by one legal set more
-pub IsLegalHistory-longer : (h : History) (m : List Change) → IsLegalHistory h → IsSet m → AreKnown (length h.start) m → is_legal m (serial h (length h.sets)) ≡ true → IsLegalHistory (with_update h m)
+pub IsLegalHistory-longer : (h : History) (m : List Change) → IsLegalHistory h → IsSet m → AreKnown (length h.start) m
+    → is_legal m (serial h (length h.sets)) ≡ true → IsLegalHistory (with_update h m)
 IsLegalHistory-longer h m is set known legal = record {
   start = is.start;
   sets = All-push IsSet h.sets m is.sets set;

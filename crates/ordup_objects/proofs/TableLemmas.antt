@@ -17,12 +17,15 @@ absent p xs h = elim (cases_lt (position_or_len p xs) (length xs)) [
   | inr le ↦ le
 ]
 
-inserted_last : {V : Type 0} (name : List ℕ) (entry : V) (table : List (List ℕ × V)) → length (names_of table) ≤ position_or_len (pointwise nat_eq name) (names_of table)
+inserted_last : {V : Type 0} (name : List ℕ) (entry : V) (table : List (List ℕ × V))
+    → length (names_of table) ≤ position_or_len (pointwise nat_eq name) (names_of table)
     → insert_entry (pointwise nat_eq) table name entry ≡ table ++ (name, entry) ∷ []
 inserted_last name entry [] h = refl
 inserted_last name entry (e ∷ table) h = elim (cases_Bool (pointwise nat_eq name e.0)) [
-  | inl same ↦ absurd (let zero_there : position_or_len (pointwise nat_eq name) (names_of (e ∷ table)) ≡ 0 = rw same refl in omega (arith, zero_there))
-  | inr other ↦ (let one : position_or_len (pointwise nat_eq name) (names_of (e ∷ table)) ≡ 1 + position_or_len (pointwise nat_eq name) (names_of table) = rw other refl in
+  | inl same ↦ (let first : position_or_len (pointwise nat_eq name) (names_of (e ∷ table)) ≡ 0 = rw same refl in
+      absurd (omega (arith, first)))
+  | inr other ↦ (let rest = position_or_len (pointwise nat_eq name) (names_of table) in
+      let one : position_or_len (pointwise nat_eq name) (names_of (e ∷ table)) ≡ 1 + rest = rw other refl in
       rw other (ap (λ es. e ∷ es) (inserted_last name entry table (omega (arith, one)))))
 ]
 
@@ -32,7 +35,8 @@ pub insert_entry-absent : {V : Type 0} (name : List ℕ) (entry : V) (table : Li
 insert_entry-absent name entry table h = inserted_last name entry table (absent (pointwise nat_eq name) (names_of table) h)
 
 -- the initial value of the object at a place
-pub initial-at : (objects : List (List ℕ × ℤ)) (i : ℕ) (name : List ℕ) (value : ℤ) → slice_get objects i ≡ Some (name, value) → value ≡ value_at (initial_state objects) i
+pub initial-at : (objects : List (List ℕ × ℤ)) (i : ℕ) (name : List ℕ) (value : ℤ) → slice_get objects i ≡ Some (name, value)
+    → value ≡ value_at (initial_state objects) i
 initial-at [] i name value h = absurd (cc)
 initial-at (e ∷ objects) zero name value h = cc
 initial-at (e ∷ objects) (suc i) name value h = initial-at objects i name value h

@@ -1,3 +1,4 @@
+pub mod Sizes
 pub mod Refusals
 pub mod Names
 pub mod NameInside

@@ -2,6 +2,7 @@
 use Rattle.std.specs.Prelude.{◌≡◌, ℕ, ◌-◌, ◌≤◌, ◌++◌, List, length, take, drop, replicate, true}
 use Rattle.std.proofs.Common.{arith, length-take, ◌∙◌, ap}
 use Rattle.std.proofs.lemmas.List.{take-append-drop}
+use Rattle.ordup_objects.specs.Sizes.{most_name_bytes}
 use Rattle.ordup_objects.specs.Names.{is_name}
 use Rattle.ordup_objects.specs.declared.name.Name.TheInside.{Inside}
 
@@ -10,13 +11,13 @@ bytes_of a = take a.len a.bytes
 
 -- the bytes of a name, and then zeros
 pub record IsPadded (a : Inside) : Type 0 where
-  pub few : a.len ≤ 16
-  pub room : length a.bytes ≡ 16
-  pub zeros : drop a.len a.bytes ≡ replicate (16 - a.len) 0
+  pub few : a.len ≤ most_name_bytes
+  pub room : length a.bytes ≡ most_name_bytes
+  pub zeros : drop a.len a.bytes ≡ replicate (most_name_bytes - a.len) 0
   pub name : is_name (take a.len a.bytes) ≡ true
 
 abbrev pub inside_of : List ℕ → Inside
-inside_of xs = record { bytes = xs ++ replicate (16 - length xs) 0; len = length xs }
+inside_of xs = record { bytes = xs ++ replicate (most_name_bytes - length xs) 0; len = length xs }
 
 same_inside : (a : Inside) (xs : List ℕ) (n : ℕ) → xs ≡ a.bytes → n ≡ a.len → (let b : Inside = record { bytes = xs; len = n } in b ≡ a)
 same_inside a xs n e f =
@@ -26,5 +27,6 @@ same_inside a xs n e f =
 pub inside_of-bytes_of : (a : Inside) → IsPadded a → inside_of (bytes_of a) ≡ a
 inside_of-bytes_of a is =
     let len : length (take a.len a.bytes) ≡ a.len = simp length-take (omega (arith, is.room, is.few)) in
-    let bytes : take a.len a.bytes ++ replicate (16 - length (take a.len a.bytes)) 0 ≡ a.bytes = rw (len, ← is.zeros) (take-append-drop a.len a.bytes) in
+    let bytes : take a.len a.bytes ++ replicate (most_name_bytes - length (take a.len a.bytes)) 0 ≡ a.bytes =
+    rw (len, ← is.zeros) (take-append-drop a.len a.bytes) in
     same_inside a _ _ bytes len

@@ -1,6 +1,7 @@
 -- Names.
 use Rattle.std.specs.Prelude.{ℕ, ◌&&◌, ◌||◌, ◌==◌, Bool, false, List, [], ◌∷◌, length, nat_le}
 use Rattle.std.specs.List.{list_all}
+use Rattle.ordup_objects.specs.Sizes.{most_name_bytes}
 
 -- a to z
 abbrev pub is_letter : ℕ → Bool
@@ -16,4 +17,4 @@ begins_with_letter (b ∷ bytes) = is_letter b
 
 -- 1 to 16 bytes of a to z, 0 to 9 and _ that begin with a letter
 abbrev pub is_name : List ℕ → Bool
-is_name bytes = begins_with_letter bytes && nat_le (length bytes) 16 && list_all is_name_byte bytes
+is_name bytes = begins_with_letter bytes && nat_le (length bytes) most_name_bytes && list_all is_name_byte bytes

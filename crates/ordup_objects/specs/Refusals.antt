@@ -1,7 +1,12 @@
 -- The numbers and names of refusals, and how a call says that it was refused.
 use Rattle.std.specs.Prelude.{◌≡◌, ℕ, List, Option, Some, None, codes}
 use Rattle.ordup_objects.specs.declared.refusal.Refusal.{Refusal}
-use Rattle.ordup_objects.specs.declared.refusal.Refusal.TheVariants.{Syntax, NotStarted, AlreadyStarted, BadName, NameTaken, UnknownObject, UnknownGroup, UnknownSite, OutOfRange, TooMany, Empty, Repeated, LogFull, NothingToSend, FeedFull, NothingToApply, NothingToSettle, UnknownQuery, QueryOpen, OverImport, Behind, NotYet, Stopped, HeadPending, LagOver, NoMemory, Mixed}
+use Rattle.ordup_objects.specs.declared.refusal.Refusal.TheVariants.{Syntax, NotStarted, AlreadyStarted, BadName, NameTaken}
+use Rattle.ordup_objects.specs.declared.refusal.Refusal.TheVariants.{UnknownObject, UnknownGroup, UnknownSite, OutOfRange}
+use Rattle.ordup_objects.specs.declared.refusal.Refusal.TheVariants.{TooMany, Empty, Repeated, LogFull, NothingToSend, FeedFull}
+use Rattle.ordup_objects.specs.declared.refusal.Refusal.TheVariants.{NothingToApply, NothingToSettle, UnknownQuery, QueryOpen}
+use Rattle.ordup_objects.specs.declared.refusal.Refusal.TheVariants.{OverImport, Behind, NotYet, Stopped, HeadPending, LagOver}
+use Rattle.ordup_objects.specs.declared.refusal.Refusal.TheVariants.{NoMemory, Mixed}
 
 -- the number by which answers show a refusal
 abbrev pub refusal_number : Refusal → ℕ

@@ -1,9 +1,11 @@
 -- Which lists of changes are message sets.
-use Rattle.std.specs.Prelude.{◌≡◌, ℕ, ◌<◌, ◌≤◌, ◌&&◌, ◌==◌, not, if◌then◌else◌, Option, Some, None, IfSome, Bool, false, List, length, nat_lt, All}
+use Rattle.std.specs.Prelude.{◌≡◌, ℕ, ◌<◌, ◌≤◌, ◌&&◌, ◌==◌, not, if◌then◌else◌, Option, Some, None, IfSome, Bool, false, List}
+use Rattle.std.specs.Prelude.{length, nat_lt, All}
 use Rattle.std.specs.List.{list_all}
 use Rattle.ordup_objects.specs.declared.refusal.Refusal.{Refusal}
 use Rattle.ordup_objects.specs.declared.refusal.Refusal.TheVariants.{UnknownObject, OutOfRange, TooMany, Empty, Repeated}
 use Rattle.ordup_objects.specs.declared.change.Change.{Change}
+use Rattle.ordup_objects.specs.Sizes.{most_changes}
 use Rattle.ordup_objects.specs.Ops.{number_of, source_of, is_none_or}
 use Rattle.ordup_objects.specs.Repeats.{repeats}
 use Rattle.ordup_objects.specs.States.{in_range, IsInRange}
@@ -29,7 +31,7 @@ abbrev pub set_refusal : ℕ → List Change → Option Refusal
 set_refusal n m =
     if not (are_known n m) then Some UnknownObject else
     if not (are_in_range m) then Some OutOfRange else
-    if nat_lt 64 (length m) then Some TooMany else
+    if nat_lt most_changes (length m) then Some TooMany else
     if length m == 0 then Some Empty else
     if repeats are_of_one_object m then Some Repeated else None
 
@@ -48,6 +50,6 @@ AreInRange m = All (λ c. IfSome (number_of c.op) IsInRange) m
 -- 1 to 64 changes of distinct objects, with their numbers in range
 pub record IsSet (m : List Change) : Type 0 where
   pub some : 0 < length m
-  pub few : length m ≤ 64
+  pub few : length m ≤ most_changes
   pub numbers : AreInRange m
   pub distinct : repeats are_of_one_object m ≡ false

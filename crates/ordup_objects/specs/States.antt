@@ -3,6 +3,7 @@ use Rattle.std.specs.Prelude.{ℕ, ◌≤◌, Bool, List, slice_index_or, slice_
 use Rattle.std.specs.List.{list_all}
 use Rattle.std.specs.Int.{int_max, int_min}
 use Rattle.std.specs.Int.RustNames.{unsigned_abs}
+use Rattle.ordup_objects.specs.Sizes.{greatest_value}
 use Rattle.ordup_objects.specs.declared.change.Change.{Change}
 use Rattle.ordup_objects.specs.declared.change.Op.{Op}
 use Rattle.ordup_objects.specs.declared.change.Op.TheVariants.{Add, Set, Mul, Max, Min, Take}
@@ -29,7 +30,7 @@ result_at v c = result_of v (value_at v c.object) c.op
 
 -- from -1,000,000,000 to 1,000,000,000
 abbrev pub in_range : ℤ → Bool
-in_range z = nat_le (unsigned_abs z) 1000000000
+in_range z = nat_le (unsigned_abs z) greatest_value
 
 -- a set is legal on a state where each result is in range
 abbrev pub is_legal : List Change → State → Bool
@@ -41,7 +42,7 @@ after m v = fold (λ w c. slice_set w c.object (result_at v c)) v m
 
 -- a value that is in range, as a fact
 abbrev pub IsInRange : ℤ → Type 0
-IsInRange z = unsigned_abs z ≤ 1000000000
+IsInRange z = unsigned_abs z ≤ greatest_value
 
 -- each value is in range
 abbrev pub IsState : State → Type 0

@@ -1,9 +1,11 @@
 -- Tables of names, in order of declaration.
-use Rattle.std.specs.Prelude.{◌≡◌, ℕ, ℤ, ◌==◌, not, true, if◌then◌else◌, Option, Some, None, List, length, map, position, is_some, nat_eq, All}
+use Rattle.std.specs.Prelude.{◌≡◌, ℕ, ℤ, ◌==◌, not, true, if◌then◌else◌, Option, Some, None, List, length, map, position}
+use Rattle.std.specs.Prelude.{is_some, nat_eq, All}
 use Rattle.std.specs.Cmp.Lexicographic.{pointwise}
 use Rattle.std.specs.List.{IsDistinct}
 use Rattle.ordup_objects.specs.declared.refusal.Refusal.{Refusal}
 use Rattle.ordup_objects.specs.declared.refusal.Refusal.TheVariants.{BadName, NameTaken, OutOfRange, TooMany}
+use Rattle.ordup_objects.specs.Sizes.{most_objects}
 use Rattle.ordup_objects.specs.Names.{is_name}
 use Rattle.ordup_objects.specs.States.{State, in_range}
 
@@ -37,4 +39,4 @@ object_refusal objects name initial =
     if not (is_name name) then Some BadName else
     if is_some (place_of name objects) then Some NameTaken else
     if not (in_range initial) then Some OutOfRange else
-    if length objects == 256 then Some TooMany else None
+    if length objects == most_objects then Some TooMany else None

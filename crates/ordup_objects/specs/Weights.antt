@@ -20,7 +20,8 @@ object_span h x a b = sum_from (object_weight h x) a (b - a)
 
 -- a value moves by no more than the span between weighs
 abbrev pub ValuesMoveByTheirWeights : Type 0
-ValuesMoveByTheirWeights = (h : History) (x a b : ℕ) → a ≤ b → distance (value_at (serial h b) x) (value_at (serial h a) x) ≤ object_span h x a b
+ValuesMoveByTheirWeights =
+    (h : History) (x a b : ℕ) → a ≤ b → distance (value_at (serial h b) x) (value_at (serial h a) x) ≤ object_span h x a b
 
 -- updates that are added later leave the weights of spans as they were
 abbrev pub LongerHistoriesKeepObjectSpans : Type 0

@@ -1,6 +1,6 @@
 ghost use Rattle.std.specs.Prelude.{◌≡◌, ◌≤◌, ℕ, ◌<◌, None, Some, IsTrue, IfOk, IfErr, List, length, nat_lt, ◌&&◌, ◌==◌};
 ghost use Rattle.std.specs.List.{list_all, list_any};
-ghost use Rattle.ordup_objects.specs.Ops.{number_of, is_none_or};
+ghost use Rattle.ordup_objects.specs.Ops.{number_of, source_of, is_none_or};
 ghost use Rattle.ordup_objects.specs.Repeats.{repeats};
 ghost use Rattle.ordup_objects.specs.States.{in_range};
 ghost use Rattle.ordup_objects.specs.Sets.{is_known, are_known, are_in_range, are_of_one_object, set_refusal, IsSet, AreKnown};
@@ -76,6 +76,7 @@ impl<A: Allocator + Copy> MessageSet<A> {
     /// The changes, in the order given.
     pub fn changes(&self) -> &[Change]
         ensures changes { result.now ≡ self.now }
+        // What each set keeps, for the proofs of its users.
         ensures set { IsSet self.now }
     {
         self.changes.as_slice()
@@ -90,11 +91,16 @@ impl<A: Allocator + Copy> MessageSet<A> {
     }
 }
 
+fn has_known_source(objects: usize, op: Op) -> bool
+    ensures { result ≡ is_none_or (source_of op) (λ y. nat_lt y objects) }
+{
+    op.source().is_none_or(|object| object.index() < objects)
+}
+
 fn is_known(objects: usize, change: Change) -> bool
     ensures { result ≡ is_known objects change }
 {
-    change.object.index() < objects
-        && change.op.source().is_none_or(|object| object.index() < objects)
+    change.object.index() < objects && has_known_source(objects, change.op)
 }
 
 fn are_known(objects: usize, changes: &[Change]) -> bool

@@ -64,6 +64,7 @@ impl Name {
     /// The bytes of the name.
     pub fn as_bytes(&self) -> &[u8]
         ensures bytes { result.now ≡ self.now }
+        // What each name keeps, for the proofs of its users.
         ensures name { IsTrue (is_name self.now) }
     {
         &self.bytes[..self.len as usize]

@@ -43,6 +43,7 @@ impl<V, A: Allocator + Copy> NameTable<V, A> {
     /// How many names there are.
     pub fn len(&self) -> usize
         ensures len { result ≡ length self.now }
+        // What each table keeps, for the proofs of its users.
         ensures names { AreNames self.now }
         ensures distinct { AreDistinct self.now }
     {
@@ -73,6 +74,7 @@ impl<V, A: Allocator + Copy> NameTable<V, A> {
         ensures ok { IfOk result (λ _. self.new ≡ self.old ++ (name, entry) ∷ []) }
         ensures err { OnErr result (self.new ≡ self.old) }
     {
+        // For the proof: its bytes are a name.
         let _bytes = name.as_bytes();
         let Ok(_) = self.entries.insert(name, entry) else {
             return Err(AllocError);

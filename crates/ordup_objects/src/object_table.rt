@@ -1,4 +1,5 @@
 ghost use Rattle.std.specs.Prelude.{◌≡◌, ℕ, ◌<◌, ◌≤◌, None, Some, IfSome, IfOk, IfErr, List, [], ◌∷◌, ◌++◌, length, slice_get, option_map};
+ghost use Rattle.ordup_objects.specs.Sizes.{most_objects};
 ghost use Rattle.ordup_objects.specs.Tables.{place_of, object_refusal, initial_state, AreNames, AreDistinct};
 ghost use Rattle.ordup_objects.specs.Refusals.{IsRefusal};
 ghost use Rattle.ordup_objects.specs.States.{value_at, IsState};
@@ -20,6 +21,7 @@ pub struct ObjectTable<A: Allocator + Copy = Global> {
 
 impl<A: Allocator + Copy> Model for ObjectTable<A> {
     ghost use Rattle.std.specs.Prelude.{List, ℕ, ℤ, ◌≤◌, length};
+    ghost use Rattle.ordup_objects.specs.Sizes.{most_objects};
     ghost use Rattle.ordup_objects.specs.Tables.{initial_state};
     ghost use Rattle.ordup_objects.specs.States.{IsState};
 
@@ -27,7 +29,7 @@ impl<A: Allocator + Copy> Model for ObjectTable<A> {
 
     ghost view = { λ t. t.objects };
 
-    ghost invariant = { λ t. (length t.objects ≤ 256) × IsState (initial_state t.objects) };
+    ghost invariant = { λ t. (length t.objects ≤ most_objects) × IsState (initial_state t.objects) };
 }
 
 impl<A: Allocator + Copy> ObjectTable<A> {
@@ -73,6 +75,7 @@ impl<A: Allocator + Copy> ObjectTable<A> {
         ensures within { IfSome result (λ o. o < length self.now) }
     {
         let place = self.objects.find(name)?;
+        // For the proof: there are few enough objects for the place to fit.
         let _few = &self.objects;
         Some(ObjectId::new(place as u16))
     }
@@ -80,7 +83,8 @@ impl<A: Allocator + Copy> ObjectTable<A> {
     /// How many objects there are, at most 256.
     pub fn len(&self) -> usize
         ensures len { result ≡ length self.now }
-        ensures few { length self.now ≤ 256 }
+        // What each table keeps, for the proofs of its users.
+        ensures few { length self.now ≤ most_objects }
         ensures state { IsState (initial_state self.now) }
         ensures names { AreNames self.now }
         ensures distinct { AreDistinct self.now }

@@ -56,6 +56,7 @@ impl<A: Allocator + Copy> Values<A> {
     /// How many objects have a value.
     pub fn len(&self) -> usize
         ensures len { result ≡ length self.now }
+        // What each state keeps, for the proofs of its users.
         ensures state { IsState self.now }
     {
         self.values.len()

@@ -7,10 +7,6 @@ use Rattle.std.proofs.lemmas.List.{length_push, get_or_push}
 use Rattle.std.proofs.lemmas.List.Folds.{list_any-append}
 use Rattle.ordup_primary.specs.Settling.{where_below, rounds_upto, last_place}
 
--- one number more
-pub where_below-more : (test : ℕ → Bool) (n : ℕ) → where_below test (n + 1) ≡ (if test n then where_below test n ++ n ∷ [] else where_below test n)
-where_below-more test n = let e : n + 1 ≡ suc n = omega arith in rw e refl
-
 -- where none is listed, the test passes for none
 pub where_below-none : (test : ℕ → Bool) (n s : ℕ) → s < n → where_below test n ≡ [] → test s ≡ false
 where_below-none test zero s lt e = absurd (omega arith)

@@ -36,6 +36,7 @@ pub(crate) fn raise<A: Allocator + Copy>(
     ensures count { length marks.new.items ≡ length log.now.start }
     ensures marks { AreMarks log.now place marks.new.items }
 {
+    // For the proof: there are few enough updates for the marks to fit.
     let _updates = log.len();
     let changes = log.set(place).changes();
     for change in changes {

@@ -1,9 +1,10 @@
-ghost use Rattle.std.specs.Prelude.{◌≡◌, ◌≤◌, ℕ, ◌<◌, None, Some, IfSome, IfOk, IfErr, [], ◌∷◌, ◌++◌, length, slice_get, slice_set, option_map, OnOk};
+ghost use Rattle.std.specs.Prelude.{◌≡◌, ◌≤◌, ℕ, ◌<◌, None, Some, IfSome, IfOk, IfErr, [], length, slice_get, option_map, OnOk};
+ghost use Rattle.ordup_objects.specs.Sizes.{most_sites, greatest_capacity};
 ghost use Rattle.ordup_objects.specs.Tables.{place_of, object_refusal};
 ghost use Rattle.ordup_objects.specs.Refusals.{IsRefusal};
 ghost use Rattle.ordup_log.specs.Groups.{group_refusal};
 ghost use Rattle.ordup_limits.specs.Limits.{AreScopesKnown};
-ghost use Rattle.ordup_primary.specs.Declarations.{Declared, AreDeclared, AreGroupsKnown, is_ready, site_refusal, site_limit_refusal, capacity_of, limits_of};
+ghost use Rattle.ordup_primary.specs.Declarations.{Declared, AreDeclared, AreGroupsKnown, with_object, with_group, with_site, with_limit, is_ready, site_refusal, site_limit_refusal, capacity_of, limits_of};
 
 use ordup_limits::{GroupId, Groups, LimitTable, Scope, check_scope};
 use ordup_objects::sizes::{GREATEST_CAPACITY, MOST_SITES};
@@ -49,7 +50,7 @@ impl<A: Allocator + Copy> Setup<A> {
     /// It is refused `BadName`, `NameTaken`, `OutOfRange` for the value, `TooMany` for a 257th object, and `NoMemory`.
     pub fn object(&mut self, name: &[u8], initial: i64) -> Result<ObjectId, Refusal>
         ensures object { IfOk result (λ object. object ≡ length self.old.objects) }
-        ensures declared { IfOk result (λ _. self.new ≡ record self.old { objects = self.old.objects ++ (name.now, initial) ∷ [] }) }
+        ensures declared { IfOk result (λ _. self.new ≡ with_object self.old name.now initial) }
         ensures allowed { IfOk result (λ _. object_refusal self.old.objects name.now initial ≡ None) }
         ensures refused { IfErr result (λ e. IsRefusal (object_refusal self.old.objects name.now initial) e) }
         ensures err { IfErr result (λ _. self.new ≡ self.old) }
@@ -63,7 +64,7 @@ impl<A: Allocator + Copy> Setup<A> {
     /// and `NoMemory`.
     pub fn group(&mut self, name: &[u8], members: &[ObjectId]) -> Result<GroupId, Refusal>
         ensures group { IfOk result (λ group. group ≡ length self.old.groups) }
-        ensures declared { IfOk result (λ _. self.new ≡ record self.old { groups = self.old.groups ++ (name.now, members.now) ∷ [] }) }
+        ensures declared { IfOk result (λ _. self.new ≡ with_group self.old name.now members.now) }
         ensures allowed { IfOk result (λ _. group_refusal (length self.old.objects) self.old.groups name.now members.now ≡ None) }
         ensures refused { IfErr result (λ e. IsRefusal (group_refusal (length self.old.objects) self.old.groups name.now members.now) e) }
         ensures err { IfErr result (λ _. self.new ≡ self.old) }
@@ -76,7 +77,7 @@ impl<A: Allocator + Copy> Setup<A> {
     /// It is refused `BadName`, `NameTaken`, `OutOfRange` for the capacity, `TooMany` for a 17th site, and `NoMemory`.
     pub fn site(&mut self, name: &[u8], capacity: u64) -> Result<SiteId, Refusal>
         ensures site { IfOk result (λ site. site ≡ length self.old.sites) }
-        ensures declared { IfOk result (λ _. self.new ≡ record self.old { sites = self.old.sites ++ (name.now, capacity) ∷ []; limits = self.old.limits ++ [] ∷ [] }) }
+        ensures declared { IfOk result (λ _. self.new ≡ with_site self.old name.now capacity) }
         ensures allowed { IfOk result (λ _. site_refusal self.old.sites name.now capacity ≡ None) }
         ensures refused { IfErr result (λ e. IsRefusal (site_refusal self.old.sites name.now capacity) e) }
         ensures err { IfErr result (λ _. self.new ≡ self.old) }
@@ -105,11 +106,12 @@ impl<A: Allocator + Copy> Setup<A> {
     /// It is refused `UnknownObject`, `UnknownGroup`, `UnknownSite`, `OutOfRange` for the amount, `TooMany` for a 65th limit of
     /// the site, `Repeated` where the site has a limit on the scope, and `NoMemory`.
     pub fn limit(&mut self, site: SiteId, scope: Scope, amount: u64) -> Result<(), Refusal>
-        ensures declared { OnOk result (self.new ≡ record self.old { limits = slice_set self.old.limits site (limits_of self.old site ++ (record { scope = scope; amount = amount }) ∷ []) }) }
+        ensures declared { OnOk result (self.new ≡ with_limit self.old site scope amount) }
         ensures allowed { OnOk result (site_limit_refusal self.old site scope amount ≡ None) }
         ensures refused { IfErr result (λ e. IsRefusal (site_limit_refusal self.old site scope amount) e) }
         ensures err { IfErr result (λ _. self.new ≡ self.old) }
     {
+        // The prover joins branches over a borrowed scope, not over a copied one.
         let scope = &scope;
         check_scope(&self.objects, &self.groups, *scope)?;
         if site.index() >= self.sites() {
@@ -143,7 +145,7 @@ impl<A: Allocator + Copy> Setup<A> {
     /// How many sites there are, at most 16.
     pub fn sites(&self) -> usize
         ensures sites { result ≡ length self.now.sites }
-        ensures few { length self.now.sites ≤ 16 }
+        ensures few { length self.now.sites ≤ most_sites }
     {
         self.capacities.len()
     }
@@ -172,7 +174,7 @@ impl<A: Allocator + Copy> Setup<A> {
         requires { site < length self.now.sites }
         ensures capacity { result ≡ capacity_of self.now site }
         ensures some { 1 ≤ result }
-        ensures few { result ≤ 1024 }
+        ensures few { result ≤ greatest_capacity }
     {
         *self.capacities.at(site.index()).1
     }

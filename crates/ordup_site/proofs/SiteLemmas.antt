@@ -1,5 +1,6 @@
 -- What a site applied.
-use Rattle.std.proofs.Common.{◌≡◌, ℕ, suc, ◌+◌, ◌-◌, ◌<◌, List, [], ◌∷◌, ◌++◌, length, length-append, get_or, take, arith, refl, sym, ap, ◌∙◌}
+use Rattle.std.proofs.Common.{◌≡◌, ℕ, suc, ◌+◌, ◌-◌, ◌<◌, List, [], ◌∷◌, ◌++◌, length, length-append, get_or, take, arith, refl}
+use Rattle.std.proofs.Common.{sym, ap, ◌∙◌}
 use Rattle.std.proofs.Math.Seq.{take-append_seam}
 use Rattle.std.proofs.lemmas.List.{length_push, get_or_push}
 use Rattle.ordup_objects.specs.declared.change.Change.{Change}
@@ -27,14 +28,16 @@ pub record IsStep (s t : SiteState) (m : List Change) : Type 0 where
   pub travelled : (x : ℕ) → travelled_at t x ≡ travelled_at s x + distance (value_at t.values x) (value_at s.values x)
 
 -- values that a set moved are a step, with what they travelled written over the elements of a vector
-pub IsStep-moved : (s : SiteState) (m : List Change) (w : State) (us rest : List ℕ) (n : ℕ) → Moves m s.values s.travelled w us → n ≡ length s.travelled
+pub IsStep-moved : (s : SiteState) (m : List Change) (w : State) (us rest : List ℕ) (n : ℕ) → Moves m s.values s.travelled w us
+    → n ≡ length s.travelled
     → (let t : SiteState = record { applied = s.applied + 1; values = w; travelled = take n (us ++ rest) } in IsStep s t m)
 IsStep-moved s m w us rest n moves count =
     let same : n ≡ length us = count ∙ sym moves.count in
     rw (same, take-append_seam) (record { applied = refl; values = moves.values; travelled = moves.travelled })
 
 -- one update more of a history
-pub HasApplied-next : (s t : SiteState) (m : List Change) → IsStep s t m → (h : History) (j : ℕ) → HasApplied s h j → j < length h.sets → m ≡ set_at h (j + 1) → HasApplied t h (j + 1)
+pub HasApplied-next : (s t : SiteState) (m : List Change) → IsStep s t m → (h : History) (j : ℕ) → HasApplied s h j
+    → j < length h.sets → m ≡ set_at h (j + 1) → HasApplied t h (j + 1)
 HasApplied-next s t m step h j is lt next =
     let e : j + 1 ≡ suc j = omega arith in
     let place : j + 1 - 1 ≡ j = omega arith in
@@ -45,12 +48,15 @@ HasApplied-next s t m step h j is lt next =
       applied = omega (arith, step.applied, is.applied);
       values = values;
       travelled = λ x.
-          let weight : distance (value_at t.values x) (value_at s.values x) ≡ object_weight h x j = ap (λ v. distance (value_at v x) (value_at s.values x)) values ∙ ap (λ v. distance (value_at (serial h (suc j)) x) (value_at v x)) is.values in
+          let weight : distance (value_at t.values x) (value_at s.values x) ≡ object_weight h x j =
+          ap (λ v. distance (value_at v x) (value_at s.values x)) values
+          ∙ ap (λ v. distance (value_at (serial h (suc j)) x) (value_at v x)) is.values in
           omega (arith, step.travelled x, is.travelled x, weight, object_span-suc h x j);
     })
 
 -- the set is the last of those that the site applied
-pub HasApplied-last : (s t : SiteState) (m : List Change) → IsStep s t m → (h : History) → HasApplied s h (length h.sets) → HasApplied t (with_update h m) (length h.sets + 1)
+pub HasApplied-last : (s t : SiteState) (m : List Change) → IsStep s t m → (h : History) → HasApplied s h (length h.sets)
+    → HasApplied t (with_update h m) (length h.sets + 1)
 HasApplied-last s t m step h is =
     HasApplied-next s t m step (with_update h m) (length h.sets) (HasApplied-longer s h (length h.sets) (m ∷ []) is)
     (omega (arith, length_push h.sets m))

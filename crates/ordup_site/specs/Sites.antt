@@ -14,7 +14,8 @@ pub record SiteState : Type 0 where
 abbrev pub travelled_at : SiteState → ℕ → ℕ
 travelled_at s x = slice_index_or s.travelled x 0
 
--- the site applied the first j updates of a history and no others: it holds their serial result, and each value travelled their weight on its object
+-- the site applied the first j updates of a history and no others: it holds their serial result, and each value travelled their
+-- weight on its object
 pub record HasApplied (s : SiteState) (h : History) (j : ℕ) : Type 0 where
   pub within : j ≤ length h.sets
   pub applied : s.applied ≡ j

@@ -1,6 +1,7 @@
 -- How a set adds to what values travelled.
 use Rattle.std.specs.Prelude.{◌≡◌, ℕ, ◌+◌, ◌≤◌, ℤ, List, [], ◌∷◌, length, slice_index_or, slice_set}
 use Rattle.ordup_objects.specs.declared.change.Change.{Change}
+use Rattle.ordup_objects.specs.Sizes.{greatest_distance}
 use Rattle.ordup_objects.specs.States.{State, value_at, after}
 use Rattle.ordup_objects.specs.Weights.{distance}
 
@@ -9,7 +10,7 @@ pub record Moves (m : List Change) (v : State) (ts : List ℕ) (w : State) (us :
   pub values : w ≡ after m v
   pub objects : length w ≡ length v
   pub travelled : (x : ℕ) → slice_index_or us x 0 ≡ slice_index_or ts x 0 + distance (value_at w x) (value_at v x)
-  pub few : (x : ℕ) → distance (value_at w x) (value_at v x) ≤ 2000000000
+  pub few : (x : ℕ) → distance (value_at w x) (value_at v x) ≤ greatest_distance
   pub count : length us ≡ length ts
 
 -- each changed object travelled on, from the value beside its change to the one that it has now

@@ -1,4 +1,5 @@
 ghost use Rattle.std.specs.Prelude.{◌≡◌, ◌≤◌, ◌<◌, ◌+◌, ◌*◌, ℕ, ℤ, List, [], IsTrue, IfOk, IfErr, All, length, map, take, replicate, slice_index_or};
+ghost use Rattle.ordup_objects.specs.Sizes.{most_changes, most_updates, greatest_distance};
 ghost use Rattle.ordup_objects.specs.Tables.{initial_state};
 ghost use Rattle.ordup_objects.specs.States.{value_at, is_legal, after, IsInRange, IsState};
 ghost use Rattle.ordup_objects.specs.Sets.{AreKnown};
@@ -60,7 +61,7 @@ impl<A: Allocator + Copy> Site<A> {
     pub fn apply(&mut self, set: &MessageSet<A>)
         requires known { AreKnown (length self.old.values) set.now }
         requires legal { IsTrue (is_legal set.now self.old.values) }
-        requires room { self.old.applied < 1000000 }
+        requires room { self.old.applied < most_updates }
         ensures applied { self.new.applied ≡ self.old.applied + 1 }
         ensures values { self.new.values ≡ after set.now self.old.values }
         ensures travelled { (x : ℕ) → travelled_at self.new x ≡ travelled_at self.old x + distance (value_at self.new.values x) (value_at self.old.values x) }
@@ -83,7 +84,7 @@ impl<A: Allocator + Copy> Site<A> {
     /// How many updates the site applied, at most 1,000,000.
     pub fn applied(&self) -> u64
         ensures applied { result ≡ self.now.applied }
-        ensures few { result ≤ 1000000 }
+        ensures few { result ≤ most_updates }
     {
         self.applied
     }
@@ -101,7 +102,7 @@ impl<A: Allocator + Copy> Site<A> {
     pub fn travelled(&self, object: ObjectId) -> u64
         requires { object < length self.now.values }
         ensures travelled { result ≡ travelled_at self.now object }
-        ensures few { result ≤ 2000000000 * self.now.applied }
+        ensures few { result ≤ greatest_distance * self.now.applied }
     {
         self.travelled[object.index()]
     }
@@ -123,9 +124,10 @@ fn move_values<A: Allocator + Copy>(
     requires known { AreKnown (length values.old) set.now }
     requires legal { IsTrue (is_legal set.now values.old) }
     requires same { length travelled.old ≡ length values.old }
-    requires bounded { All (λ t. t ≤ 2000000000000000) travelled.old }
+    requires bounded { All (λ t. t ≤ greatest_distance * most_updates) travelled.old }
     ensures { Moves set.now values.old travelled.old values.new travelled.new }
 {
+    // For the proof: the values are in range.
     let _objects = values.len();
     let changes = set.changes();
     let mut before = [0; MOST_CHANGES];
@@ -156,10 +158,10 @@ fn travel_on<A: Allocator + Copy>(
 )
     requires objects { All (λ c. c.object < length values.now) changes.now }
     requires same { length travelled.old ≡ length values.now }
-    requires few { length changes.now ≤ 64 }
+    requires few { length changes.now ≤ most_changes }
     requires room { length changes.now ≤ length before.now }
     requires range { All IsInRange before.now }
-    requires bounded { All (λ t. t ≤ 2000000000000000) travelled.old }
+    requires bounded { All (λ t. t ≤ greatest_distance * most_updates) travelled.old }
     ensures { travelled.new ≡ travelled_on values.now changes.now before.now travelled.old }
 {
     for (i, change) in changes.iter().enumerate() {

@@ -8,7 +8,8 @@ use Rattle.ordup_objects.proofs.values.put_results.Goals as goal
 pub returns-clause-state : goal.returns-clause-state
 returns-clause-state c =
     let e : c.loop-i.values ≡ after c.args.changes.now c.args.values.now = grind (arith, common_steps) in
-    All-same IsInRange _ (after c.args.changes.now c.args.values.now) e (IsState-after c.args.values.now c.args.changes.now c.requires.state c.requires.legal)
+    All-same IsInRange _ (after c.args.changes.now c.args.values.now) e
+    (IsState-after c.args.values.now c.args.changes.now c.requires.state c.requires.legal)
 
 pub loop-i-preserved : goal.loop-i-preserved
 loop-i-preserved c = grind (arith, common_steps)

@@ -14,14 +14,18 @@ loop-change-init g c =
     let changes = rw c.set.ensures.set at c.changes-changes.ensures.changes in
     record {
       count = c.requires.count;
-      each = λ x lt. raised-first h c.set.ensures.legal c.args.place x c.args.marks.now.items c.changes-changes.result.now c.requires.first c.requires.last changes c.requires.before lt;
+      each =
+          λ x lt. raised-first h c.set.ensures.legal c.args.place x c.args.marks.now.items c.changes-changes.result.now
+          c.requires.first c.requires.last changes c.requires.before lt;
     }
 
 pub overflow_add-index_mut : goal.overflow_add-index_mut
 overflow_add-index_mut g c =
     let h = c.args.log.now in
     let changes = rw c.set.ensures.set at c.changes-changes.ensures.changes in
-    let there : c.change-item.result.object < length h.start = object-there h c.set.ensures.legal (c.args.place - 1) c.loop-change.change-index c.changes-changes.result.now c.change-item.result (omega arith) changes c.loop-change-test.true c.change-item.is in
+    let there : c.change-item.result.object < length h.start =
+    object-there h c.set.ensures.legal (c.args.place - 1) c.loop-change.change-index c.changes-changes.result.now
+    c.change-item.result (omega arith) changes c.loop-change-test.true c.change-item.is in
     omega (
       arith,
       c.index_mut.ensures.value,
@@ -36,12 +40,17 @@ loop-change-preserved g c =
     let h = c.args.log.now in
     let changes = rw c.set.ensures.set at c.changes-changes.ensures.changes in
     let before = c.loop-change.invariant in
-    let there : c.change-item.result.object < length h.start = object-there h c.set.ensures.legal (c.args.place - 1) c.loop-change.change-index c.changes-changes.result.now c.change-item.result (omega arith) changes c.loop-change-test.true c.change-item.is in
+    let there : c.change-item.result.object < length h.start =
+    object-there h c.set.ensures.legal (c.args.place - 1) c.loop-change.change-index c.changes-changes.result.now
+    c.change-item.result (omega arith) changes c.loop-change-test.true c.change-item.is in
     record {
       count = length-set c.loop-change.marks.items c.index.result _ ∙ before.count;
       each = λ x lt.
-          raised-at h c.changes-changes.result.now c.loop-change.marks.items x (c.args.place - 1) c.loop-change.change-index c.index.result c.index_mut.result.now c.weight.result (object_span h x 0 c.args.place) c.change-item.result c.loop-change-test.true
-          (ap (repeats are_of_one_object) c.changes-changes.ensures.changes ∙ c.changes-changes.ensures.set.distinct) c.change-item.is c.index.ensures (omega (arith, before.count)) c.index_mut.ensures.value c.weight.ensures.weight
+          raised-at h c.changes-changes.result.now c.loop-change.marks.items x (c.args.place - 1)
+          c.loop-change.change-index c.index.result c.index_mut.result.now c.weight.result
+          (object_span h x 0 c.args.place) c.change-item.result c.loop-change-test.true
+          (ap (repeats are_of_one_object) c.changes-changes.ensures.changes ∙ c.changes-changes.ensures.set.distinct)
+          c.change-item.is c.index.ensures (omega (arith, before.count)) c.index_mut.ensures.value c.weight.ensures.weight
           (before.each x (rw (length-set c.loop-change.marks.items c.index.result _) at lt));
     }
 

@@ -8,5 +8,6 @@ use Rattle.ordup_primary.proofs.marks.raise.Given as goal
 abbrev pub invariant-loop-change : goal.invariant-loop-change
 invariant-loop-change g l = record {
   count : length l.marks.items ≡ length l.log.start;
-  each : (x : ℕ) → x < length l.marks.items → mark_at l.marks.items x + left_by l.log x (l.place - 1) (drop l.change-index l.changes) ≡ object_span l.log x 0 l.place;
+  each : (x : ℕ) → x < length l.marks.items
+      → mark_at l.marks.items x + left_by l.log x (l.place - 1) (drop l.change-index l.changes) ≡ object_span l.log x 0 l.place;
 }

@@ -1,11 +1,12 @@
 use Rattle.std.proofs.Common.{arith, rules, ◌∙◌, ◌∷◌, [], ◌++◌, ap}
 use Rattle.std.proofs.lemmas.Grind.{common_steps}
-use Rattle.ordup_log.proofs.LogLemmas.{IsLog-append}
+use Rattle.ordup_log.proofs.LogLemmas.{IsLog-longer}
 use Rattle.ordup_log.proofs.log.Log.append.Goals as goal
 
 pub invariant_of-self-2 : goal.invariant_of-self-2
 invariant_of-self-2 g c =
-    IsLog-append c.self.inside c.args.set c.in-Ok.distances c.push_reserved.new.self c.push_reserved-2.new.self c.apply.new.self c.self.invariant
+    IsLog-longer c.self.inside c.args.set c.in-Ok.distances c.push_reserved.new.self c.push_reserved-2.new.self
+    c.apply.new.self c.self.invariant
     (rw c.set.view_is at c.set.invariant)
     (rw (← c.self.view_is) at c.requires)
     (search rules)

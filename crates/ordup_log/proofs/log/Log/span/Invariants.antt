@@ -1,4 +1,5 @@
 use Rattle.std.proofs.Common.{◌≡◌, ◌≤◌, ◌*◌}
+use Rattle.ordup_objects.specs.Sizes.{greatest_weight}
 use Rattle.ordup_log.specs.Spans.{span}
 use Rattle.ordup_log.proofs.log.Log.span.Given as goal
 
@@ -6,5 +7,5 @@ use Rattle.ordup_log.proofs.log.Log.span.Given as goal
 abbrev pub invariant-loop-place : goal.invariant-loop-place
 invariant-loop-place g l = record {
   so_far : l.total ≡ span l.self l.groups l.scope l.from l.place;
-  few : l.total ≤ 128000000000 * l.place;
+  few : l.total ≤ greatest_weight * l.place;
 }

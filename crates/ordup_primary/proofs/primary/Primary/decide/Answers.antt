@@ -10,7 +10,8 @@ invariant_of-self-then-is_empty g c =
     record {
       primary = IsPrimary-decided (state_of c.self.inside) _ c.self.invariant.primary (rw (← c.self.view_is) at c.requires.first) (omega (arith, here, rw (← c.self.view_is) at c.requires.some))
           (Decides-at c.self.inside c.take_room.new.sites.items c.put_down.new.sites.items c.as_slice.result.now c.args.head c.args.head c.in_ok-take_room.ensures.same forced c.put_down.ensures.count c.put_down.ensures.sites here (acked-none c.self.inside.acked c.args.head c.as_slice.result.now (c.if-is_empty.ensures ∙ ap (λ xs. length xs == 0) (c.as_slice-2.ensures ∙ sym c.as_slice.ensures)) here));
-      count = c.raise.ensures.count; marks = c.raise.ensures.marks;
+      count = c.raise.ensures.count;
+      marks = c.raise.ensures.marks;
     }
 
 pub returns-then-is_empty-clause-decides : goal.returns-then-is_empty-clause-decides
@@ -26,7 +27,8 @@ invariant_of-self-else-is_empty g c =
     record {
       primary = IsPrimary-decided (state_of c.self.inside) _ c.self.invariant.primary (rw (← c.self.view_is) at c.requires.first) (omega (arith, here, rw (← c.self.view_is) at c.requires.some))
           (Decides-at c.self.inside c.take_room.new.sites.items c.put_down.new.sites.items c.as_slice.result.now c.self.inside.acked c.args.head c.in_ok-take_room.ensures.same forced c.put_down.ensures.count c.put_down.ensures.sites here (acked-some c.self.inside.acked c.as_slice.result.now (c.if-is_empty.ensures ∙ ap (λ xs. length xs == 0) (c.as_slice-2.ensures ∙ sym c.as_slice.ensures))));
-      count = c.self.invariant.count; marks = c.self.invariant.marks;
+      count = c.self.invariant.count;
+      marks = c.self.invariant.marks;
     }
 
 pub returns-clause-decides : goal.returns-clause-decides

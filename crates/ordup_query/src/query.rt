@@ -4,7 +4,8 @@ ghost use Rattle.ordup_objects.specs.Serial.{History, serial};
 ghost use Rattle.ordup_objects.specs.Weights.{distance};
 ghost use Rattle.ordup_site.specs.Sites.{HasApplied};
 ghost use Rattle.ordup_query.specs.declared.answer.ReadAnswer.{ReadAnswer};
-ghost use Rattle.ordup_query.specs.Imports.{import_of, mark_at, AreMarks, charge};
+ghost use Rattle.ordup_query.specs.Imports.{import_of, charge};
+ghost use Rattle.ordup_objects.specs.Marks.{mark_at, AreMarks};
 ghost use Rattle.ordup_query.specs.Queries.{begin_refusal, refusal_at, value_sum, import_sum, HasRead};
 
 use crate::answer::{QueryAnswer, ReadAnswer};

@@ -6,7 +6,7 @@ use Rattle.ordup_objects.specs.declared.change.Change.{Change}
 use Rattle.ordup_objects.specs.declared.refusal.Refusal.{Refusal}
 use Rattle.ordup_objects.specs.declared.refusal.Refusal.TheVariants.{NothingToSend, FeedFull, NothingToApply}
 use Rattle.ordup_objects.specs.Refusals.{IsRefusal}
-use Rattle.ordup_objects.specs.Sets.{is_over}
+use Rattle.ordup_objects.specs.Sets.{are_known}
 use Rattle.ordup_objects.specs.Serial.{serial}
 use Rattle.ordup_log.specs.Appending.{append_refusal}
 use Rattle.ordup_primary.specs.Declarations.{Declared, capacity_of}
@@ -28,13 +28,13 @@ module _ {A : Type 0} where
   refused-answer setup past e (Some y) answer x same takes fine h = inl (ap Refused h ∙ sym same)
 
   -- Propose
-  reply-proposed : (w : StoreState) (past : Past A) (m : List Change) → IsStoreAfter w.primary.setup w past → is_over (length w.primary.setup.objects) m ≡ true → reply w.primary.setup past (Propose m) ≡ refused_or (append_refusal w.primary.log m) (Proposed (length w.primary.log.sets + 1))
+  reply-proposed : (w : StoreState) (past : Past A) (m : List Change) → IsStoreAfter w.primary.setup w past → are_known (length w.primary.setup.objects) m ≡ true → reply w.primary.setup past (Propose m) ≡ refused_or (append_refusal w.primary.log m) (Proposed (length w.primary.log.sets + 1))
   reply-proposed w past m is over = rw (over, is.log) refl
 
-  pub answer-proposed : (w : StoreState) (past : Past A) (m : List Change) (number : ℕ) → IsStoreAfter w.primary.setup w past → is_over (length w.primary.setup.objects) m ≡ true → append_refusal w.primary.log m ≡ None → number ≡ length w.primary.log.sets + 1 → IsAnswer w.primary.setup past (Propose m) (Proposed number)
+  pub answer-proposed : (w : StoreState) (past : Past A) (m : List Change) (number : ℕ) → IsStoreAfter w.primary.setup w past → are_known (length w.primary.setup.objects) m ≡ true → append_refusal w.primary.log m ≡ None → number ≡ length w.primary.log.sets + 1 → IsAnswer w.primary.setup past (Propose m) (Proposed number)
   answer-proposed w past m number is over allowed e = inl (ap Proposed e ∙ ap (λ r. refused_or r (Proposed (length w.primary.log.sets + 1))) (sym allowed) ∙ sym (reply-proposed w past m is over))
 
-  pub answer-propose_refused : (w : StoreState) (past : Past A) (m : List Change) (x : Refusal) → IsStoreAfter w.primary.setup w past → is_over (length w.primary.setup.objects) m ≡ true → IsRefusal (append_refusal w.primary.log m) x → IsAnswer w.primary.setup past (Propose m) (Refused x)
+  pub answer-propose_refused : (w : StoreState) (past : Past A) (m : List Change) (x : Refusal) → IsStoreAfter w.primary.setup w past → are_known (length w.primary.setup.objects) m ≡ true → IsRefusal (append_refusal w.primary.log m) x → IsAnswer w.primary.setup past (Propose m) (Refused x)
   answer-propose_refused w past m x is over h = refused-answer w.primary.setup past (Propose m) (append_refusal w.primary.log m) (Proposed (length w.primary.log.sets + 1)) x (reply-proposed w past m is over) refl refl h
 
   -- Send

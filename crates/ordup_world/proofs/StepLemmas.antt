@@ -7,7 +7,7 @@ use Rattle.ordup_objects.specs.declared.change.Change.{Change}
 use Rattle.ordup_objects.specs.declared.refusal.Refusal.{Refusal}
 use Rattle.ordup_objects.specs.declared.refusal.Refusal.TheVariants.{UnknownObject, UnknownSite, NothingToSend, FeedFull, NothingToApply}
 use Rattle.ordup_objects.specs.Refusals.{IsRefusal}
-use Rattle.ordup_objects.specs.Sets.{is_over}
+use Rattle.ordup_objects.specs.Sets.{are_known}
 use Rattle.ordup_objects.specs.Serial.{with_update}
 use Rattle.ordup_log.specs.Appending.{append_refusal}
 use Rattle.ordup_primary.specs.Declarations.{Declared, capacity_of}
@@ -76,10 +76,10 @@ module _ {A : Type 0} where
 
   -- ---- Propose
 
-  pub unknown-object : (w : StoreState) (m : List Change) → IsStore w → is_over (length w.primary.setup.objects) m ≡ false → StepsStore {A = A} w (Propose m) (Refused UnknownObject) w
+  pub unknown-object : (w : StoreState) (m : List Change) → IsStore w → are_known (length w.primary.setup.objects) m ≡ false → StepsStore {A = A} w (Propose m) (Refused UnknownObject) w
   unknown-object w m sound out = stays w (Propose m) UnknownObject sound (λ past is. inl (rw out refl))
 
-  pub proposed : (w : StoreState) (p : PrimaryState) (m : List Change) (number : ℕ) → IsStore w → is_over (length w.primary.setup.objects) m ≡ true
+  pub proposed : (w : StoreState) (p : PrimaryState) (m : List Change) (number : ℕ) → IsStore w → are_known (length w.primary.setup.objects) m ≡ true
       → append_refusal w.primary.log m ≡ None → number ≡ length w.primary.log.sets + 1 → IsPrimary p → p ≡ record w.primary { log = with_update w.primary.log m }
       → StepsStore {A = A} w (Propose m) (Proposed number) (record w { primary = p })
   proposed w p m number sound over allowed e primary added =
@@ -87,7 +87,7 @@ module _ {A : Type 0} where
       accepted w (record w { primary = p }) (Propose m) (Proposed number) refl (λ past. refl) new (Grows-proposed w p m added)
       (λ past is. answer-proposed w past m number is over allowed e) (λ past is. IsStoreAfter-proposed w past p m sound is new added)
 
-  pub propose_refused : (w : StoreState) (p : PrimaryState) (m : List Change) (r : Refusal) → IsStore w → is_over (length w.primary.setup.objects) m ≡ true
+  pub propose_refused : (w : StoreState) (p : PrimaryState) (m : List Change) (r : Refusal) → IsStore w → are_known (length w.primary.setup.objects) m ≡ true
       → IsRefusal (append_refusal w.primary.log m) r → p ≡ w.primary → StepsStore {A = A} w (Propose m) (Refused r) (record w { primary = p })
   propose_refused w p m r sound over why same = rw same (stays w (Propose m) r sound (λ past is. answer-propose_refused w past m r is over why))
 

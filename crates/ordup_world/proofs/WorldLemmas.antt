@@ -12,7 +12,8 @@ use Rattle.ordup_objects.proofs.SerialLemmas.{length-serial}
 use Rattle.ordup_query.specs.Queries.{value_sum}
 use Rattle.ordup_query.specs.Imports.{charge, import_of}
 use Rattle.ordup_query.specs.declared.answer.ReadAnswer.{ReadAnswer}
-use Rattle.ordup_query.proofs.ImportLemmas.{AreMarks-longer, charge-import_of}
+use Rattle.ordup_query.proofs.ImportLemmas.{charge-import_of}
+use Rattle.ordup_objects.proofs.SpanLemmas.{AreMarks-longer}
 use Rattle.ordup_world.specs.Queries.{Opened, import_total, values_read}
 use Rattle.ordup_world.specs.Events.{Past, is_same, later, applied, opened, open_count, decisions, log_of, read_now, with_read}
 use Rattle.ordup_world.specs.Worlds.{StoreState, with_queries, OpenState, Queries, WorldState, OpenNumbers, store_of, find_query, numbers_of, numbers_after, IsStore, IsOpenSound, IsSound, IsStoreAfter, StandsFor}

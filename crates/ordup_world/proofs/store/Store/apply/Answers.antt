@@ -5,7 +5,7 @@ use Rattle.ordup_primary.specs.Primaries.{progress_at}
 use Rattle.ordup_site.specs.Sites.{SiteState, HasApplied}
 use Rattle.ordup_world.specs.Worlds.{StoreState}
 use Rattle.ordup_world.specs.StoreInside.{state_of}
-use Rattle.ordup_world.proofs.StoreLemmas.{holds-at, next_over, next_legal}
+use Rattle.ordup_world.proofs.StoreLemmas.{holds-at, next_known, next_legal}
 use Rattle.ordup_world.proofs.StepLemmas.{unknown-apply, nothing_to_apply, applied_next}
 use Rattle.ordup_world.proofs.store.Store.apply.Goals as goal
 
@@ -26,7 +26,7 @@ apply-requires-clause-known g c =
     let less : site.applied < (progress_at w.primary c.args.site).sent =
     omega (arith, (holds-at w c.args.site site c.requires lt at).holds.got, here, c.sent-sent.ensures, c.if-applied-sent.false) in
     let set : c.set.result.now ≡ set_at w.primary.log (site.applied + 1) = rw (c.log.ensures, here) at c.set.ensures.set in
-    rw set (next_over w c.args.site site c.requires lt at less)
+    rw set (next_known w c.args.site site c.requires lt at less)
 
 pub apply-requires-clause-legal : goal.apply-requires-clause-legal
 apply-requires-clause-legal g c =

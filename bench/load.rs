@@ -333,9 +333,9 @@ impl<'a, W: Write> Store<'a, W> {
         Ok(())
     }
 
-    fn begin(&mut self, slot: usize, left: u64) -> io::Result<()> {
+    fn begin(&mut self, slot: usize, site: usize, left: u64) -> io::Result<()> {
         self.begun += 1;
-        let (name, site) = (format!("cart_{}", self.begun), self.any_site());
+        let name = format!("cart_{}", self.begun);
         self.script.line(format_args!("begin {name} {} {left}", self.sites[site].name))?;
         self.queries[slot] = Some(Query { name, site, left, marks: self.marks.clone(), reads: 0 });
         Ok(())
@@ -405,7 +405,8 @@ fn mixed<W: Write>(script: &mut Script<W>) -> io::Result<()> {
             let slot = store.random.below(4) as usize;
             if store.queries[slot].is_none() {
                 let left = store.random.below(100_000);
-                store.begin(slot, left)?;
+                let site = store.any_site();
+                store.begin(slot, site, left)?;
             } else if store.random.one_in(4) {
                 store.close(slot, "end")?;
             } else {
@@ -486,13 +487,124 @@ fn queries<W: Write>(script: &mut Script<W>) -> io::Result<()> {
         let Some(query) = &store.queries[slot] else {
             let most = if store.random.one_in(4) { 200_000 } else { 1_000_000_000_000 };
             let left = store.random.below(most);
-            store.begin(slot, left)?;
+            let site = store.any_site();
+            store.begin(slot, site, left)?;
             continue;
         };
         if query.reads == 256 || store.random.one_in(128) {
             store.close(slot, "end")?;
         } else if !store.read(slot)? && store.random.one_in(2) {
             store.close(slot, "abandon")?;
+        }
+    }
+    Ok(())
+}
+
+const GREATEST_AMOUNT: u64 = 1_000_000_000_000_000_000;
+const NORTH: usize = 0;
+const ARCHIVE: usize = 1;
+
+/// 16 objects, a group of four of them, and two sites with these limits each. The archive is behind in one way or another.
+fn two_sites<'a, W: Write>(script: &'a mut Script<W>, queries: usize, limits: &[(Scope, u64)]) -> Store<'a, W> {
+    let mut store = Store::new(script, goods(), queries);
+    store.group("drinks".to_owned(), vec![9, 10, 11, 12]);
+    for (name, capacity) in [("north", 8), ("archive", 1024)] {
+        store.site(name.to_owned(), capacity, limits.to_vec());
+    }
+    store
+}
+
+/// Two sites without limits, and up to 64 open queries at the archive. It applies one update in four, so it lags ever
+/// farther. Five lines in six are reads.
+fn behind<W: Write>(script: &mut Script<W>) -> io::Result<()> {
+    let mut store = two_sites(script, 64, &[]);
+    store.start()?;
+    while store.script.left > 0 {
+        if store.random.one_in(9) {
+            match store.random.below(13) {
+                0..=3 => store.propose(3)?,
+                4..=7 if store.acknowledged < store.log.len() => store.settle()?,
+                8..=11 => store.bring_up(NORTH, 0)?,
+                _ => {
+                    store.send(ARCHIVE)?;
+                    store.apply(ARCHIVE)?;
+                }
+            }
+            continue;
+        }
+        let slot = store.random.below(64) as usize;
+        match &store.queries[slot] {
+            None => store.begin(slot, ARCHIVE, GREATEST_AMOUNT)?,
+            Some(query) if query.reads == 256 => store.close(slot, "end")?,
+            Some(_) => _ = store.read(slot)?,
+        }
+    }
+    Ok(())
+}
+
+/// An update of one change is proposed, sent to and applied at both sites and settled. Then the north reports.
+fn carry<W: Write>(script: &mut Script<W>, change: std::fmt::Arguments) -> io::Result<()> {
+    script.line(format_args!("propose {change}"))?;
+    for site in ["north", "archive"] {
+        script.line(format_args!("send {site}"))?;
+        script.line(format_args!("apply {site}"))?;
+    }
+    script.line(format_args!("settle"))?;
+    script.line(format_args!("report north"))
+}
+
+fn any_addition(random: &mut Random) -> (&'static str, i64) {
+    let object = OBJECTS[random.below(16) as usize];
+    (object, random.below(2001) as i64 - 1000)
+}
+
+/// The archive never reports. So update 501 has a forced round, and waits for it to the end of the script. Updates go on,
+/// with four settlements each.
+fn waiting<W: Write>(script: &mut Script<W>) -> io::Result<()> {
+    let limits =
+        [(Scope::Object(10), 100_000), (Scope::Group(0), 200_000), (Scope::All, 1_000_000), (Scope::Count, 500)];
+    two_sites(script, 0, &limits).start()?;
+    let mut random = Random(1);
+    while script.left > 0 {
+        let (object, amount) = any_addition(&mut random);
+        carry(script, format_args!("add:{object}:{amount}"))?;
+        for _ in 0..3 {
+            script.line(format_args!("settle"))?;
+        }
+    }
+    Ok(())
+}
+
+/// Updates that move no value. The archive never reports, and its limits are never passed: each settlement weighs for it
+/// all updates.
+fn unmoved<W: Write>(script: &mut Script<W>) -> io::Result<()> {
+    let limits = [(Scope::Object(10), 0), (Scope::Group(0), 0), (Scope::All, 0), (Scope::Count, GREATEST_AMOUNT)];
+    two_sites(script, 0, &limits).start()?;
+    let mut random = Random(1);
+    while script.left > 0 {
+        let place = random.below(16) as usize;
+        let (object, value) = (OBJECTS[place], place * 100);
+        match random.below(4) {
+            0 => carry(script, format_args!("add:{object}:0"))?,
+            1 => carry(script, format_args!("set:{object}:{value}"))?,
+            2 => carry(script, format_args!("mul:{object}:1"))?,
+            _ => carry(script, format_args!("take:{object}:{object}"))?,
+        }
+    }
+    Ok(())
+}
+
+/// The archive reports after every 3,000 updates. The limits, on the group and on all objects, are never passed.
+fn spans<W: Write>(script: &mut Script<W>) -> io::Result<()> {
+    two_sites(script, 0, &[(Scope::Group(0), 500_000), (Scope::All, 5_000_000)]).start()?;
+    let mut random = Random(1);
+    let mut proposed = 0;
+    while script.left > 0 {
+        let (object, amount) = any_addition(&mut random);
+        carry(script, format_args!("add:{object}:{amount}"))?;
+        proposed += 1;
+        if proposed % 3000 == 0 {
+            script.line(format_args!("report archive"))?;
         }
     }
     Ok(())
@@ -511,6 +623,10 @@ fn main() -> ExitCode {
         "mixed" => mixed(&mut script),
         "wide" => wide(&mut script),
         "queries" => queries(&mut script),
+        "behind" => behind(&mut script),
+        "waiting" => waiting(&mut script),
+        "unmoved" => unmoved(&mut script),
+        "spans" => spans(&mut script),
         kind => {
             eprintln!("load: no kind of load is named {kind}");
             return ExitCode::from(2);

@@ -1,16 +1,18 @@
-//! Runs a program once, and prints the nanoseconds and the KiB that it took:
+//! Runs a program once, and prints two times in nanoseconds and the KiB that it took:
 //! `measure INPUT OUTPUT PROGRAM WORD..`.
 //!
 //! The program's standard input is the file INPUT and its standard output the file
-//! OUTPUT. The time runs from before the program is started until it has ended, and
-//! the memory is the most that was resident at one time. Linux, 64 bits.
+//! OUTPUT. The first time runs from before the program is started until it has ended.
+//! The second one is the processor's, for the program and for what the system did on its
+//! behalf. The memory is the most that was resident at one time. Linux, 64 bits.
 
 use std::env;
 use std::fs::File;
 use std::process::{Command, ExitCode};
 use std::time::Instant;
 
-/// The C library's `struct rusage`: two times of two words each, and 14 words.
+/// The C library's `struct rusage`: the processor's two times, in seconds and microseconds
+/// each, and 14 words.
 #[derive(Default)]
 #[repr(C)]
 struct Usage {
@@ -43,6 +45,8 @@ fn main() -> ExitCode {
         eprintln!("measure: {program} ended with wait status {status}");
         return ExitCode::FAILURE;
     }
-    println!("{} {}", took.as_nanos(), usage.most_resident);
+    let [seconds, microseconds, more_seconds, more_microseconds] = usage.times;
+    let processor = (seconds + more_seconds) * 1_000_000_000 + (microseconds + more_microseconds) * 1000;
+    println!("{} {processor} {}", took.as_nanos(), usage.most_resident);
     ExitCode::SUCCESS
 }

@@ -24,11 +24,7 @@ fn main(rt: HostRuntime) -> ExitCode {
         Ok(words) => words,
         Err(error) => return ExitCode::from(tell_lost_words(&mut faults, error.kind())),
     };
-    let words: Result<Vec<&str>, AllocError> = words
-        .iter()
-        .map(|word| word.as_str())
-        .collect(alloc);
-    let Ok(words) = words else {
+    let Ok(words) = texts(alloc, words.as_slice()) else {
         return ExitCode::from(tell(&mut faults, ScriptFault::NoMemory));
     };
     ExitCode::from(act(
@@ -42,7 +38,20 @@ fn main(rt: HostRuntime) -> ExitCode {
 
 /// The words that the program was started with. An argument that is no text is an error.
 fn arguments<R: Env + AllocGlobal>(rt: &R, alloc: Global) -> io::Result<Vec<String>> {
-    Ok(std::env::args(rt)?.collect(alloc)?)
+    let mut words = Vec::new(alloc);
+    for word in std::env::args(rt)? {
+        words.push(word)?;
+    }
+    Ok(words)
+}
+
+/// The words as texts.
+fn texts<'a>(alloc: Global, words: &'a [String]) -> Result<Vec<&'a str>, AllocError> {
+    let mut texts = Vec::with_capacity(alloc, words.len())?;
+    for word in words {
+        texts.push(word.as_str())?;
+    }
+    Ok(texts)
 }
 
 /// Tells why the words could not be had, and answers the exit status: there was no memory, or one of them is no text.

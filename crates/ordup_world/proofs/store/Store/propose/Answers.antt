@@ -4,8 +4,8 @@ use Rattle.ordup_world.specs.StoreInside.{state_of}
 use Rattle.ordup_world.proofs.StepLemmas.{unknown-object, proposed, propose_refused}
 use Rattle.ordup_world.proofs.store.Store.propose.Goals as goal
 
-pub returns-then-not-is_over : goal.returns-then-not-is_over
-returns-then-not-is_over g c = unknown-object (state_of c.args.self.now) c.args.set c.requires (grind (arith, common_steps))
+pub returns-then-not-are_known : goal.returns-then-not-are_known
+returns-then-not-are_known g c = unknown-object (state_of c.args.self.now) c.args.set c.requires (grind (arith, common_steps))
 
 pub returns-in-Ok : goal.returns-in-Ok
 returns-in-Ok g c =

@@ -54,10 +54,6 @@ module _ {A : Type 0} where
       → place ≡ w.primary.acked → IsAnswer w.primary.setup past (Begin name s limit) (Begun name place)
   answer-begun w past name s limit place is below le room none at = inl (ap (Begun name) (at ∙ is.store.acked) ∙ sym (reply-begun w past name s limit is below le room none))
 
-  pub answer-begin_refused : (w : WorldState) (past : Past A) (name : List ℕ) (s limit : ℕ) → StandsFor w.primary.setup w past → s < length w.primary.setup.sites → limit ≤ 1000000000000000000 → (length w.queries ≡ 64 → ⊥) → is_some (find_query name w.queries) ≡ false
-      → IsAnswer w.primary.setup past (Begin name s limit) (Refused NoMemory)
-  answer-begin_refused w past name s limit is below le room none = inr (refl, rw (reply-begun w past name s limit is below le room none) refl, refl)
-
   -- Read
   refusal-same : (w : WorldState) (past : Past A) (o : OpenState) (k : Opened) (x : ℕ) → IsSound w → StandsFor w.primary.setup w past → IsOpenSound (store_of w) o → x < length w.primary.setup.objects → numbers_of o ≡ numbers_after k
       → refusal_at o.query (site_at w.sites o.site) x ≡ refusal_now k (read_now w.primary.setup past k.site k.place x)

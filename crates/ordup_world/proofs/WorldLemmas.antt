@@ -121,10 +121,6 @@ module _ {A : Type 0} where
 pub same-name : (a b : List ℕ) → is_same a b ≡ true → a ≡ b
 same-name a b same = (bytes_eq-Decides a b).0 same
 
--- an entry beside a query that may be open
-numbered : Option OpenState → Option Opened → Type 0
-numbered o m = option_map numbers_of o ≡ option_map numbers_after m
-
 -- ---- a query begins
 
 module _ (w : WorldState) (name : List ℕ) (s limit : ℕ) (o : OpenState) (queries : Queries) where

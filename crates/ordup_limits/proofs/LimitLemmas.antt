@@ -21,6 +21,7 @@ use Rattle.ordup_limits.specs.Sizes.{most_limits, greatest_amount}
 use Rattle.ordup_limits.specs.declared.limit.Limit.{Limit}
 use Rattle.ordup_limits.specs.Limits.{Limits, keeps, within, first_passed, is_same_scope, are_on_one_scope, AreLimits}
 use Rattle.ordup_limits.specs.Limits.{LongerHistoriesKeepLimits, LaterSpansKeepLimits, EmptySpansKeepLimits}
+use Rattle.ordup_limits.specs.Limits.{LimitsAreTests}
 
 -- an empty span weighs nothing, so it keeps each limit
 pub within-empty : EmptySpansKeepLimits
@@ -87,6 +88,13 @@ within-later h groups (limit ∷ limits) a b c later is =
     le-leb (span h groups limit.scope b c) limit.amount
     (omega (arith, span-inner h groups limit.scope a b c c later (omega arith), most)) in
     rw (first, within-later h groups limits a b c later both.1) refl
+
+-- both are what is asked of a test of limits
+pub within-test : LimitsAreTests
+within-test h groups limits = record {
+  later = within-later h groups limits;
+  empty = within-empty h groups limits;
+}
 
 -- updates that are added later leave it as it was
 pub within-longer : LongerHistoriesKeepLimits

@@ -11,6 +11,7 @@ use Rattle.ordup_objects.specs.Serial.{History, with_more}
 use Rattle.ordup_log.specs.Groups.{GroupList}
 use Rattle.ordup_log.specs.Spans.{span, IsScopeKnown}
 use Rattle.ordup_limits.specs.Sizes.{most_limits, greatest_amount}
+use Rattle.ordup_rounds.specs.Schedules.{IsLimitTest}
 use Rattle.ordup_limits.specs.declared.limit.Limit.{Limit}
 use Rattle.ordup_log.specs.declared.scope.Scope.{Scope}
 use Rattle.ordup_log.specs.declared.scope.Scope.TheVariants.{Object, Group, All as Everything, Count}
@@ -43,6 +44,10 @@ LaterSpansKeepLimits =
 -- an empty span keeps all limits
 abbrev pub EmptySpansKeepLimits : Type 0
 EmptySpansKeepLimits = (h : History) (groups : GroupList) (limits : Limits) (a b : ℕ) → b ≤ a → within h groups limits a b ≡ true
+
+-- so the limits of a site are a test of spans, as the law of the fewest rounds asks for it
+abbrev pub LimitsAreTests : Type 0
+LimitsAreTests = (h : History) (groups : GroupList) (limits : Limits) → IsLimitTest (within h groups limits)
 
 -- the place of the first limit that the span from a to b passes
 abbrev pub first_passed : History → GroupList → Limits → ℕ → ℕ → Option ℕ

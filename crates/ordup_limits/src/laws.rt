@@ -1,4 +1,4 @@
-ghost use Rattle.ordup_limits.specs.Limits.{LongerHistoriesKeepLimits, LaterSpansKeepLimits, EmptySpansKeepLimits};
+ghost use Rattle.ordup_limits.specs.Limits.{LongerHistoriesKeepLimits, LaterSpansKeepLimits, EmptySpansKeepLimits, LimitsAreTests};
 
 /// A law: updates that are added later leave it as it was whether a span passes a limit.
 pub fn longer_histories_keep_limits()
@@ -13,4 +13,9 @@ pub fn later_spans_keep_limits()
 /// A law: an empty span keeps all limits.
 pub fn empty_spans_keep_limits()
     ensures { EmptySpansKeepLimits }
+{}
+
+/// A law: the limits of a site are a test of spans, as the law of the fewest rounds asks for it.
+pub fn limits_are_tests()
+    ensures { LimitsAreTests }
 {}

@@ -8,7 +8,10 @@ mod limit;
 mod limit_table;
 pub mod sizes;
 
-pub use laws::{empty_spans_keep_limits, later_spans_keep_limits, longer_histories_keep_limits};
+pub use laws::{
+    empty_spans_keep_limits, later_spans_keep_limits, limits_are_tests,
+    longer_histories_keep_limits,
+};
 pub use limit::Limit;
 pub use limit_table::{LimitTable, check_scope};
 pub use ordup_log::{GroupId, Groups, Scope};

@@ -15,14 +15,19 @@ use Rattle.ordup_objects.specs.Serial.{History, serial, with_update, IsLegalHist
 use Rattle.ordup_objects.specs.declared.refusal.Refusal.TheVariants.{LogFull, OutOfRange, Empty}
 use Rattle.ordup_log.specs.Appending.{append_refusal}
 use Rattle.ordup_objects.proofs.SerialLemmas.{IsLegalHistory-longer}
-use Rattle.ordup_limits.proofs.LimitLemmas.{within-empty, within-later, within-longer}
+use Rattle.ordup_rounds.specs.Schedules.{IsLimitTest}
+use Rattle.ordup_rounds.specs.Rounds.{rounds_upto, windows_upto}
+use Rattle.ordup_rounds.specs.Fewest.{AreFewest}
+use Rattle.ordup_rounds.proofs.RoundLemmas.{rounds_upto-same, windows_upto-same, forced_rounds_are_fewest}
+use Rattle.ordup_limits.proofs.LimitLemmas.{within-empty, within-later, within-longer, within-test}
 use Rattle.ordup_primary.specs.Declarations.{Declared, AreDeclared, limits_of, is_ready, start_refusal}
-use Rattle.ordup_primary.specs.Settling.{rounds_upto, last_place}
+use Rattle.ordup_primary.specs.Settling.{last_place}
 use Rattle.ordup_primary.specs.Primaries.{SiteProgress, PrimaryState, first_progress, progress_at, reported_at, is_within, forced_now, waiting_now, acked_after, decided_at, send_refusal, Decides, IsSiteSound, IsPrimary}
+use Rattle.ordup_primary.specs.Primaries.{HasFewestRounds}
 use Rattle.ordup_primary.specs.PrimaryInside.{progress_of, state_of}
 use Rattle.ordup_primary.specs.declared.primary.Primary.TheInside.{Inside}
 use Rattle.ordup_primary.specs.declared.progress.Progress.{Progress}
-use Rattle.ordup_primary.proofs.SettlingLemmas.{where_below-none, where_below-listed, rounds_upto-same, last_round-forced}
+use Rattle.ordup_primary.proofs.SettlingLemmas.{where_below-none, where_below-listed, last_round-forced}
 
 -- ---- one site in the place of another
 
@@ -50,6 +55,7 @@ IsSiteSound-sent keeps updates acked decided site is lt = record {
   count = is.count;
   risen = is.risen;
   rounds = is.rounds;
+  windows = is.windows;
   answered = is.answered;
   within = is.within;
   rising = is.rising;
@@ -65,6 +71,7 @@ IsSiteSound-reported p s place site is risen sent = record {
   count = is.count;
   risen = λ k. omega (arith, is.risen k);
   rounds = is.rounds;
+  windows = is.windows;
   answered = λ k some le forced. omega (arith, is.answered k some le forced);
   within = within-later p.log p.setup.groups (limits_of p.setup s) site.reported place p.acked risen is.within;
   rising = is.rising;
@@ -111,7 +118,15 @@ IsPrimary-proposed p m is set known allowed = record {
     sent = omega (arith, site.sent, length_push p.log.sets m);
     count = site.count;
     risen = site.risen;
-    rounds = site.rounds ∙ rounds_upto-same (is_within p s) (is_within (record p { log = with_update p.log m }) s) (reported_at (get_or p.sites s d)) (reported_at (get_or p.sites s d)) p.decided (λ k some le. sym (is_within-proposed p m s (reported_at (get_or p.sites s d) k) k (omega (arith, is.decided))));
+    rounds = site.rounds
+        ∙ rounds_upto-same (is_within p s) (is_within (record p { log = with_update p.log m }) s) (reported_at (get_or p.sites s d))
+        (reported_at (get_or p.sites s d)) p.decided
+        (λ k some le. sym (is_within-proposed p m s (reported_at (get_or p.sites s d) k) k (omega (arith, is.decided))));
+    windows = site.windows
+        ∙ windows_upto-same (is_within p s) (is_within (record p { log = with_update p.log m }) s) (reported_at (get_or p.sites s d))
+        (reported_at (get_or p.sites s d)) p.decided
+        (λ k some le. sym (is_within-proposed p m s (reported_at (get_or p.sites s d) k) k (omega (arith, is.decided))))
+        (λ k some le. refl);
     answered = λ k some le forced. site.answered k some le (sym (is_within-proposed p m s (reported_at (get_or p.sites s d) k) k (omega (arith, is.acked, is.decided))) ∙ forced);
     within = is_within-proposed p m s (get_or p.sites s d).reported p.acked (omega (arith, is.acked, is.decided)) ∙ site.within;
     rising = site.rising;
@@ -185,6 +200,7 @@ IsPrimary-waited p is later = elim (acked_after-some p.acked (waiting_now p)) [
       count = site.count;
       risen = site.risen;
       rounds = site.rounds;
+      windows = site.windows;
       answered = answered-more (is_within p s) p.acked (get_or p.sites s d) site.answered
           (λ forced. reported-at p s (get_or p.sites s d) (p.acked + 1) forced (rw (get_or_default p.sites s d first_progress lt) (where_below-none _ (length p.sites) s lt done.1)));
       within = done-at p s (get_or p.sites s d) (p.acked + 1) (site.risen (p.acked + 1 - 1)) (rw (get_or_default p.sites s d first_progress lt) (where_below-none _ (length p.sites) s lt done.1));
@@ -236,6 +252,25 @@ rounds-decided keeps acked site count rounds =
       | inr forced ↦ rw (next, here, forced, before) refl
     ]
 
+-- and the windows with that of the head
+windows-decided : (keeps : ℕ → ℕ → Bool) (acked : ℕ) (site : SiteProgress) → length site.reports ≡ acked
+    → site.windows ≡ windows_upto keeps (reported_at site) acked
+    → (decided_at (keeps site.reported (acked + 1)) (acked + 1) site).windows
+    ≡ windows_upto keeps (λ k. get_or (site.reports ++ site.reported ∷ []) (k - 1) 0) (acked + 1)
+windows-decided keeps acked site count windows =
+    let next : acked + 1 ≡ suc acked = omega arith in
+    let here : get_or (site.reports ++ site.reported ∷ []) (suc acked - 1) 0 ≡ site.reported =
+    get_or_push site.reports site.reported 0 (suc acked - 1) (omega arith) in
+    let reports : (k : ℕ) → 0 < k → k ≤ acked → get_or (site.reports ++ site.reported ∷ []) (k - 1) 0 ≡ reported_at site k =
+    λ k some le. get_or-append site.reports (site.reported ∷ []) 0 (k - 1) (omega arith) in
+    let before : windows_upto keeps (λ k. get_or (site.reports ++ site.reported ∷ []) (k - 1) 0) acked ≡ site.windows =
+    windows_upto-same keeps keeps (λ k. get_or (site.reports ++ site.reported ∷ []) (k - 1) 0) (reported_at site) acked
+    (λ k some le. ap (λ r. keeps r k) (reports k some le)) reports ∙ sym windows in
+    elim (cases_Bool (keeps site.reported (suc acked))) [
+      | inl kept ↦ rw (next, here, kept, before) refl
+      | inr forced ↦ rw (next, here, forced, before) refl
+    ]
+
 -- a site after the decision of the head
 IsSiteSound-decided : (keeps : ℕ → ℕ → Bool) (updates acked later : ℕ) (site : SiteProgress) → IsSiteSound keeps updates acked acked site → keeps site.reported later ≡ true
     → (later ≡ acked) ⊎ (later ≡ acked + 1) → IsSiteSound keeps updates later (acked + 1) (decided_at (keeps site.reported (acked + 1)) (acked + 1) site)
@@ -245,6 +280,7 @@ IsSiteSound-decided keeps updates acked later site is within step = record {
   count = length_push site.reports site.reported ∙ ap (λ n. n + 1) is.count;
   risen = risen-push site.reports site.reported is.risen;
   rounds = rounds-decided keeps acked site is.count is.rounds;
+  windows = windows-decided keeps acked site is.count is.windows;
   answered = λ k some le forced. elim (cases_lt acked k) [
     | inl past ↦ absurd (let next : k ≡ acked + 1 = elim step [ inl same ↦ omega (arith, same) | inr one ↦ omega (arith, one) ] in
         let e : k ≡ later = elim step [ inl same ↦ omega (arith, same) | inr one ↦ next ∙ sym one ] in
@@ -334,6 +370,7 @@ IsPrimary-new p declared ready log legal acked decided sites = record {
         count = refl;
         risen = λ k. omega arith;
         rounds = refl;
+        windows = refl;
         answered = λ k some le forced. absurd (omega arith);
         within = within-empty p.log p.setup.groups (limits_of p.setup s) 0 0 (omega arith);
         rising = λ j k le lt. absurd (omega arith);
@@ -354,10 +391,22 @@ send-allowed p s sent e more = rw (ne_eqb (progress_at p s).sent (length p.log.s
 -- ---- a primary in its fields
 
 abbrev pub sent_more : SiteProgress → SiteProgress
-sent_more site = record { sent = site.sent + 1; reported = site.reported; reports = site.reports; rounds = site.rounds }
+sent_more site = record {
+  sent = site.sent + 1;
+  reported = site.reported;
+  reports = site.reports;
+  rounds = site.rounds;
+  windows = site.windows;
+}
 
 abbrev pub reported_as : ℕ → SiteProgress → SiteProgress
-reported_as place site = record { sent = site.sent; reported = place; reports = site.reports; rounds = site.rounds }
+reported_as place site = record {
+  sent = site.sent;
+  reported = place;
+  reports = site.reports;
+  rounds = site.rounds;
+  windows = site.windows;
+}
 
 module _ {A : Type 0} where
   -- a site as callers see it
@@ -418,3 +467,16 @@ waits-by_last_round p s k is below later head late =
     let rounds = (is.sites s first_progress below).rounds ∙ ap (rounds_upto (is_within p s) (reported_at (progress_at p s))) decided in
     rw (rounds, lt-ltb (progress_at p s).reported k late, last_round-forced (is_within p s) (reported_at (progress_at p s)) k (omega arith))
     (sym (and-true (not (is_within p s (reported_at (progress_at p s) k) k))))
+
+-- ---- the fewest rounds
+
+-- by the law, since the rounds and the windows of a site are those of its rule
+fewest-sound : (keeps : ℕ → ℕ → Bool) (updates acked decided : ℕ) (site : SiteProgress) → IsLimitTest keeps
+    → IsSiteSound keeps updates acked decided site → AreFewest keeps (reported_at site) decided site.rounds site.windows
+fewest-sound keeps updates acked decided site test is =
+    rw (is.rounds, is.windows) (forced_rounds_are_fewest keeps (reported_at site) decided test is.before)
+
+pub HasFewestRounds-sound : (p : PrimaryState) → IsPrimary p → HasFewestRounds p
+HasFewestRounds-sound p is s lt =
+    fewest-sound (is_within p s) (length p.log.sets) p.acked p.decided (progress_at p s)
+    (within-test p.log p.setup.groups (limits_of p.setup s)) (is.sites s first_progress lt)

@@ -1,11 +1,13 @@
 -- Lists of the numbers for which a test passes, and rounds.
-use Rattle.std.proofs.Common.{◌≡◌, ℕ, zero, suc, ◌+◌, ◌<◌, ◌≤◌, ◌==◌, Bool, true, false, not, List, [], ◌∷◌, ◌++◌, length, ◌-◌, arith, refl, sym, ap, ◌∙◌, inl, inr}
-use Rattle.std.specs.Prelude.{◌||◌, if◌then◌else◌}
+use Rattle.std.proofs.Common.{◌≡◌, ℕ, zero, suc, ◌<◌, ◌≤◌, ◌==◌, Bool, true, false, not, List, [], ◌∷◌, ◌++◌, length, ◌-◌, arith, refl, sym}
+use Rattle.std.proofs.Common.{ap, ◌∙◌, inl, inr}
+use Rattle.std.specs.Prelude.{◌||◌}
 use Rattle.std.specs.List.{list_any}
 use Rattle.std.proofs.lemmas.Bool.{cases_Bool, cases_lt, ne_eqb, eq-eqb}
 use Rattle.std.proofs.lemmas.List.{length_push, get_or_push}
 use Rattle.std.proofs.lemmas.List.Folds.{list_any-append}
-use Rattle.ordup_primary.specs.Settling.{where_below, rounds_upto, last_place}
+use Rattle.ordup_rounds.specs.Rounds.{rounds_upto}
+use Rattle.ordup_primary.specs.Settling.{where_below, last_place}
 
 -- where none is listed, the test passes for none
 pub where_below-none : (test : ℕ → Bool) (n s : ℕ) → s < n → where_below test n ≡ [] → test s ≡ false
@@ -48,11 +50,6 @@ where_below-listed test (suc n) s lt = elim (cases_lt s n) [
 pub where_below-same : (p q : ℕ → Bool) (n : ℕ) → ((s : ℕ) → s < n → p s ≡ q s) → where_below p n ≡ where_below q n
 where_below-same p q zero same = refl
 where_below-same p q (suc n) same = rw (same n (omega arith), where_below-same p q n (λ s lt. same s (omega arith))) refl
-
--- tests that agree up to d give the same rounds
-pub rounds_upto-same : (v w : ℕ → ℕ → Bool) (f g : ℕ → ℕ) (d : ℕ) → ((k : ℕ) → 0 < k → k ≤ d → v (f k) k ≡ w (g k) k) → rounds_upto v f d ≡ rounds_upto w g d
-rounds_upto-same v w f g zero same = refl
-rounds_upto-same v w f g (suc d) same = rw (same (suc d) (omega arith) (omega arith), rounds_upto-same v w f g d (λ k some le. same k some (omega arith))) refl
 
 last_place-push : (places : List ℕ) (k : ℕ) → last_place (places ++ k ∷ []) ≡ k
 last_place-push places k = get_or_push places k 0 (length (places ++ k ∷ []) - 1) (omega (arith, length_push places k))

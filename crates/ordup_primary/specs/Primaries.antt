@@ -1,21 +1,27 @@
 -- What a primary holds, and what a settlement makes of it.
-use Rattle.std.specs.Prelude.{◌≡◌, ℕ, ◌+◌, ◌-◌, ◌<◌, ◌≤◌, ◌==◌, Bool, true, false, if◌then◌else◌, Option, Some, None, List, [], ◌∷◌, ◌++◌, length, slice_index_or}
+use Rattle.std.specs.Prelude.{◌≡◌, ℕ, ◌+◌, ◌<◌, ◌≤◌, ◌==◌, Bool, true, false, if◌then◌else◌, Option, Some, None, List, [], ◌∷◌, ◌++◌}
+use Rattle.std.specs.Prelude.{length, slice_index_or}
 use Rattle.ordup_objects.specs.declared.refusal.Refusal.{Refusal}
 use Rattle.ordup_objects.specs.declared.refusal.Refusal.TheVariants.{NothingToSend, NothingToSettle}
 use Rattle.ordup_objects.specs.Tables.{initial_state}
 use Rattle.ordup_objects.specs.Serial.{History, IsLegalHistory}
+use Rattle.ordup_rounds.specs.declared.window.Window.{Window}
+use Rattle.ordup_rounds.specs.Rounds.{rounds_upto, windows_upto, AreRoundsReported}
+use Rattle.ordup_rounds.specs.Fewest.{AreFewest}
 use Rattle.ordup_limits.specs.Limits.{within}
 use Rattle.ordup_primary.specs.Declarations.{Declared, limits_of, is_ready}
-use Rattle.ordup_primary.specs.Settling.{forced_sites, waiting_sites, report_at, rounds_upto}
+use Rattle.ordup_primary.specs.Settling.{forced_sites, waiting_sites, report_at}
 use Rattle.ordup_primary.specs.declared.settled.Settled.{Settled}
 use Rattle.ordup_primary.specs.declared.settled.Settled.TheVariants.{Acked, Round, Waiting}
 
--- what the primary knows of a site: how many updates were sent to it, how many it last reported, what it had reported at the decision of each place, and its rounds
+-- what the primary knows of a site: how many updates were sent to it, how many it last reported, what it had reported at the decision
+-- of each place, its rounds, and a window for each of them
 pub record SiteProgress : Type 0 where
   pub sent : ℕ
   pub reported : ℕ
   pub reports : List ℕ
   pub rounds : List ℕ
+  pub windows : List Window
 
 -- the declarations, the log, how many updates are acknowledged and how many are decided, and the sites in order of declaration
 pub record PrimaryState : Type 0 where
@@ -27,7 +33,7 @@ pub record PrimaryState : Type 0 where
 
 -- a site at the start
 abbrev pub first_progress : SiteProgress
-first_progress = record { sent = 0; reported = 0; reports = []; rounds = [] }
+first_progress = record { sent = 0; reported = 0; reports = []; rounds = []; windows = [] }
 
 abbrev pub progress_at : PrimaryState → ℕ → SiteProgress
 progress_at p s = slice_index_or p.sites s first_progress
@@ -80,9 +86,11 @@ decided_at is_kept k site = record {
   reported = site.reported;
   reports = site.reports ++ site.reported ∷ [];
   rounds = if is_kept then site.rounds else site.rounds ++ k ∷ [];
+  windows = if is_kept then site.windows else site.windows ++ record { from = site.reported; to = k } ∷ [];
 }
 
--- The first settlement of the head leaves it decided: at each site its report is put down, and a round where the span from it to the head passes a limit. It is acknowledged where no site is forced.
+-- The first settlement of the head leaves it decided: at each site its report is put down, and where the span from it to the head
+-- passes a limit, a round with the window from the one to the other. It is acknowledged where no site is forced.
 pub record Decides (p q : PrimaryState) : Type 0 where
   pub setup : q.setup ≡ p.setup
   pub log : q.log ≡ p.log
@@ -98,10 +106,11 @@ pub record IsSiteSound (keeps : ℕ → ℕ → Bool) (updates acked decided : �
   pub count : length site.reports ≡ decided
   pub risen : (k : ℕ) → slice_index_or site.reports k 0 ≤ site.reported
   pub rounds : site.rounds ≡ rounds_upto keeps (reported_at site) decided
+  pub windows : site.windows ≡ windows_upto keeps (reported_at site) decided
   pub answered : (k : ℕ) → 0 < k → k ≤ acked → keeps (reported_at site k) k ≡ false → k ≤ site.reported
   pub within : keeps site.reported acked ≡ true
   pub rising : (j k : ℕ) → j ≤ k → k < decided → slice_index_or site.reports j 0 ≤ slice_index_or site.reports k 0
-  pub before : (j k : ℕ) → 0 < j → j < k → k ≤ decided → keeps (reported_at site j) j ≡ false → j ≤ reported_at site k
+  pub before : AreRoundsReported keeps (reported_at site) decided
 
 -- what each primary keeps
 pub record IsPrimary (p : PrimaryState) : Type 0 where
@@ -114,3 +123,9 @@ pub record IsPrimary (p : PrimaryState) : Type 0 where
   pub next : p.decided ≤ p.acked + 1
   pub decided : p.decided ≤ length p.log.sets
   pub sites : (s : ℕ) (d : SiteProgress) → s < length p.sites → IsSiteSound (is_within p s) (length p.log.sets) p.acked p.decided (slice_index_or p.sites s d)
+
+-- the rounds of each site are the fewest of any schedule that keeps its limits, as its windows show
+abbrev pub HasFewestRounds : PrimaryState → Type 0
+HasFewestRounds p =
+    (s : ℕ) → s < length p.sites →
+    AreFewest (is_within p s) (reported_at (progress_at p s)) p.decided (progress_at p s).rounds (progress_at p s).windows

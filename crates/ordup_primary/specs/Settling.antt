@@ -20,11 +20,6 @@ forced_sites within now n k = where_below (λ s. not (within s (now s) k)) n
 abbrev pub waiting_sites : (ℕ → ℕ → ℕ → Bool) → (ℕ → ℕ) → (ℕ → ℕ) → ℕ → ℕ → List ℕ
 waiting_sites within before now n k = where_below (λ s. not (within s (before s) k) && nat_lt (now s) k) n
 
--- a site's rounds: the places up to d for which the span from what it had reported at the decision passes a limit
-abbrev pub rounds_upto : (ℕ → ℕ → Bool) → (ℕ → ℕ) → ℕ → List ℕ
-rounds_upto within reported_at zero = []
-rounds_upto within reported_at (suc d) = if within (reported_at (suc d)) (suc d) then rounds_upto within reported_at d else rounds_upto within reported_at d ++ suc d ∷ []
-
 -- the last of these places, 0 where there is none
 abbrev pub last_place : List ℕ → ℕ
 last_place places = slice_index_or places (length places - 1) 0

@@ -7,6 +7,7 @@ ghost use Rattle.ordup_primary.specs.declared.progress.Progress.{Progress};
 
 use crate::progress::Progress;
 use ordup_objects::{Refusal, SiteId};
+use ordup_rounds::Window;
 use std::alloc::Allocator;
 
 /// So many sites at the start: nothing was sent to them, and nothing is decided.
@@ -26,6 +27,7 @@ pub(crate) fn first_sites<A: Allocator + Copy>(
             reported: 0,
             reports: Vec::new(alloc),
             rounds: Vec::new(alloc),
+            windows: Vec::new(alloc),
         };
         if sites.push(site).is_err() {
             return Err(Refusal::NoMemory);
@@ -51,13 +53,16 @@ fn take_room_at<A: Allocator + Copy>(site: &mut Progress<A>) -> Result<(), Refus
     ensures room { OnOk result (HasRoom site.new) }
     ensures refused { IfErr result (λ e. e ≡ Refusal.NoMemory) }
 {
-    if site.reports.reserve(1).is_err() || site.rounds.reserve(1).is_err() {
+    if site.reports.reserve(1).is_err()
+        || site.rounds.reserve(1).is_err()
+        || site.windows.reserve(1).is_err()
+    {
         return Err(Refusal::NoMemory);
     }
     Ok(())
 }
 
-/// Puts down the decision of a place: at each site its report, and a round at those that are forced.
+/// Puts down the decision of a place: at each site its report, and a round with its window at those that are forced.
 pub(crate) fn put_down<A: Allocator + Copy>(
     sites: &mut Vec<Progress<A>, A>,
     forced: &[SiteId],
@@ -73,6 +78,11 @@ pub(crate) fn put_down<A: Allocator + Copy>(
         let site = &mut sites[place];
         site.reports.push_reserved(site.reported);
         if is_forced {
+            let window = Window {
+                from: site.reported,
+                to: number,
+            };
+            site.windows.push_reserved(window);
             site.rounds.push_reserved(number);
         }
     }

@@ -2,7 +2,7 @@
 //!
 //! The one contract above this layer: a settlement decides the head once, by what the sites had reported at that moment, and
 //! acknowledges it exactly when each site that it forced has reported it; so the acknowledged updates that a site has not
-//! reported weigh at most each of its limits.
+//! reported weigh at most each of its limits. And no schedule that keeps the limits of a site has fewer rounds than the site.
 #![tactic(auto)]
 
 mod decisions;
@@ -16,6 +16,7 @@ mod site_list;
 mod starting;
 
 pub use ordup_limits::{GroupId, Groups, LimitTable, Scope};
+pub use ordup_rounds::Window;
 pub use parcel::Parcel;
 pub use primary::Primary;
 pub use settled::Settled;

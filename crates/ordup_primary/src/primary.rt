@@ -13,6 +13,7 @@ use crate::site_list::SiteList;
 use crate::starting::first_parts;
 use ordup_log::Log;
 use ordup_objects::{MessageSet, Refusal, SiteId};
+use ordup_rounds::Window;
 use std::alloc::{Allocator, Global};
 use std::marker::Model;
 
@@ -49,6 +50,7 @@ impl<A: Allocator + Copy> Primary<A> {
     ghost use Rattle.ordup_objects.specs.Marks.{AreMarks};
     ghost use Rattle.ordup_log.specs.Appending.{append_refusal};
     ghost use Rattle.ordup_primary.specs.Primaries.{PrimaryState, IsPrimary, progress_at, reported_at, is_within, send_refusal, settle_refusal, forced_now, waiting_now, settled_as, acked_or_round, acked_or_waiting, acked_after, Decides};
+    ghost use Rattle.ordup_primary.specs.Primaries.{HasFewestRounds};
 
     /// A primary with an empty log, to which no site has reported.
     ///
@@ -146,6 +148,7 @@ impl<A: Allocator + Copy> Primary<A> {
         ensures refused { IfErr result (λ e. IsRefusal (settle_refusal self.old) e) }
         ensures err { IfErr result (λ _. self.new ≡ self.old) }
         ensures sound { IsPrimary self.new }
+        ensures fewest { HasFewestRounds self.new }
     {
         if self.acked == self.log.len() {
             return Err(Refusal::NothingToSettle);
@@ -219,6 +222,18 @@ impl<A: Allocator + Copy> Primary<A> {
         ensures { result.now ≡ (progress_at self.now site).rounds }
     {
         self.sites[site.index()].rounds.as_slice()
+    }
+
+    /// A window for each round of a site, in order: from what the site had reported at the decision to the decided place.
+    ///
+    /// The updates of a window pass a limit of the site alone, and no two windows share a place. So each schedule that keeps
+    /// the limits has a round in each of them, and none has fewer rounds than the site.
+    pub fn windows(&self, site: SiteId) -> &[Window]
+        requires { site < length self.now.sites }
+        ensures windows { result.now ≡ (progress_at self.now site).windows }
+        ensures fewest { HasFewestRounds self.now }
+    {
+        self.sites[site.index()].windows.as_slice()
     }
 
     /// For each object, in order of declaration, how much the acknowledged updates weigh on it.

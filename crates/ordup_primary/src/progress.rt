@@ -1,3 +1,4 @@
+use ordup_rounds::Window;
 use std::alloc::{Allocator, Global};
 
 /// What the primary knows of a site.
@@ -11,4 +12,6 @@ pub(crate) struct Progress<A: Allocator + Copy = Global> {
     pub(crate) reports: Vec<u64, A>,
     /// The places at which it was forced, in order.
     pub(crate) rounds: Vec<u64, A>,
+    /// One window for each of these rounds, from what it had reported at the decision to the place of the round.
+    pub(crate) windows: Vec<Window, A>,
 }

@@ -9,19 +9,31 @@ use Rattle.ordup_objects.specs.declared.change.Change.{Change}
 use Rattle.ordup_objects.specs.Tables.{initial_state}
 use Rattle.ordup_objects.specs.Serial.{History, serial, with_update}
 use Rattle.ordup_objects.proofs.SerialLemmas.{serial-longer}
+use Rattle.ordup_rounds.specs.Rounds.{rounds_upto, windows_upto}
+use Rattle.ordup_rounds.proofs.RoundLemmas.{rounds_upto-same, windows_upto-same}
 use Rattle.ordup_limits.specs.Limits.{within}
 use Rattle.ordup_primary.specs.Declarations.{Declared, limits_of}
-use Rattle.ordup_primary.specs.Settling.{where_below, report_at, rounds_upto}
+use Rattle.ordup_primary.specs.Settling.{where_below, report_at}
 use Rattle.ordup_primary.specs.Primaries.{PrimaryState, SiteProgress, Decides, first_progress, progress_at, reported_at, is_within, forced_now, waiting_now, acked_after, acked_or_round, acked_or_waiting, settled_as}
-use Rattle.ordup_primary.proofs.SettlingLemmas.{where_below-same, rounds_upto-same}
+use Rattle.ordup_primary.proofs.SettlingLemmas.{where_below-same}
 use Rattle.ordup_world.specs.Events.{Past, Decisions, sets_of, sent, applied, reported, rounds, log_of, is_within_after, forced_after, waiting_after, decisions, settlement_of}
+use Rattle.ordup_world.specs.Events.{windows}
 use Rattle.ordup_site.specs.Sites.{SiteState, HasApplied}
 use Rattle.ordup_world.specs.Worlds.{StoreState, first_site, IsStore, IsSiteAfter, IsStoreAfter}
 use Rattle.ordup_world.specs.declared.event.Event.{Event}
 use Rattle.ordup_world.specs.declared.event.Event.TheVariants.{Propose, Send, Apply, Report, Settle, Begin, Read, End, Abandon, Show}
 
 module _ {A : Type 0} where
-  -- the rounds follow from the rest
+  -- the spans of a site pass the same limits, by what it had reported
+  spans-same : (w : StoreState) (past : Past A) (s : ℕ) → w.primary.log ≡ log_of w.primary.setup past
+      → (progress_at w.primary s).reports ≡ (decisions w.primary.setup past).reports s → (k : ℕ)
+      → is_within w.primary s (reported_at (progress_at w.primary s) k) k
+      ≡ is_within_after w.primary.setup past s (report_at ((decisions w.primary.setup past).reports s) k) k
+  spans-same w past s log reports k =
+      ap (λ h. within h w.primary.setup.groups (limits_of w.primary.setup s) (reported_at (progress_at w.primary s) k) k) log
+      ∙ ap (λ rs. within (log_of w.primary.setup past) w.primary.setup.groups (limits_of w.primary.setup s) (get_or rs (k - 1) 0) k) reports
+
+  -- the rounds and the windows follow from the rest
   IsStoreAfter-made : (w : StoreState) (past : Past A) → IsStore w → w.primary.log ≡ log_of w.primary.setup past → w.primary.acked ≡ (decisions w.primary.setup past).acked → w.primary.decided ≡ (decisions w.primary.setup past).decided
       → ((s : ℕ) (d : SiteState) → s < length w.sites → IsSiteAfter w.primary.setup past s (progress_at w.primary s) (get_or w.sites s d)) → IsStoreAfter w.primary.setup w past
   IsStoreAfter-made w past is log acked decided sites = record {
@@ -33,10 +45,17 @@ module _ {A : Type 0} where
     rounds = λ s lt. (let known = is.primary.sites s first_progress (omega (arith, is.count)) in
         let here = sites s (record { applied = 0; values = []; travelled = [] }) lt in
         known.rounds
-        ∙ rounds_upto-same (is_within w.primary s) (is_within_after w.primary.setup past s) (reported_at (progress_at w.primary s)) (report_at ((decisions w.primary.setup past).reports s)) w.primary.decided
-        (λ k some le. ap (λ h. within h w.primary.setup.groups (limits_of w.primary.setup s) (reported_at (progress_at w.primary s) k) k) log
-        ∙ ap (λ rs. within (log_of w.primary.setup past) w.primary.setup.groups (limits_of w.primary.setup s) (get_or rs (k - 1) 0) k) here.reports)
+        ∙ rounds_upto-same (is_within w.primary s) (is_within_after w.primary.setup past s) (reported_at (progress_at w.primary s))
+        (report_at ((decisions w.primary.setup past).reports s)) w.primary.decided
+        (λ k some le. spans-same w past s log here.reports k)
         ∙ ap (rounds_upto (is_within_after w.primary.setup past s) (report_at ((decisions w.primary.setup past).reports s))) decided);
+    windows = λ s lt. (let known = is.primary.sites s first_progress (omega (arith, is.count)) in
+        let here = sites s (record { applied = 0; values = []; travelled = [] }) lt in
+        known.windows
+        ∙ windows_upto-same (is_within w.primary s) (is_within_after w.primary.setup past s) (reported_at (progress_at w.primary s))
+        (report_at ((decisions w.primary.setup past).reports s)) w.primary.decided
+        (λ k some le. spans-same w past s log here.reports k) (λ k some le. ap (λ rs. get_or rs (k - 1) 0) here.reports)
+        ∙ ap (windows_upto (is_within_after w.primary.setup past s) (report_at ((decisions w.primary.setup past).reports s))) decided);
   }
 
   -- how many updates there are
@@ -241,8 +260,10 @@ module _ {A : Type 0} where
 
   -- where another past has the same numbers
   IsStoreAfter-same : (setup : Declared) (w : StoreState) (past new : Past A) → sets_of new ≡ sets_of past → ((s : ℕ) → sent s new ≡ sent s past) → ((s : ℕ) → applied s new ≡ applied s past)
-      → ((s : ℕ) → reported s new ≡ reported s past) → decisions setup past ≡ decisions setup new → ((s : ℕ) → rounds setup s past ≡ rounds setup s new) → IsStoreAfter setup w past → IsStoreAfter setup w new
-  IsStoreAfter-same setup w past new sets sends applies reports same ends is = record {
+      → ((s : ℕ) → reported s new ≡ reported s past) → decisions setup past ≡ decisions setup new
+      → ((s : ℕ) → rounds setup s past ≡ rounds setup s new)
+      → ((s : ℕ) → windows setup s past ≡ windows setup s new) → IsStoreAfter setup w past → IsStoreAfter setup w new
+  IsStoreAfter-same setup w past new sets sends applies reports same ends shown is = record {
     declared = is.declared;
     log = rw sets is.log;
     acked = is.acked ∙ ap (λ (d : Decisions). d.acked) same;
@@ -255,14 +276,20 @@ module _ {A : Type 0} where
       reports = before.reports ∙ ap (λ (d : Decisions). d.reports s) same;
     });
     rounds = λ s lt. is.rounds s lt ∙ ends s;
+    windows = λ s lt. is.windows s lt ∙ shown s;
   }
 
   pub IsStoreAfter-aside : (setup : Declared) (w : StoreState) (past : Past A) (e : Event A) → stays_aside e ≡ true → IsStoreAfter setup w past → IsStoreAfter setup w (e ∷ past)
-  IsStoreAfter-aside setup w past (Begin q s limit) aside is = IsStoreAfter-same setup w past (Begin q s limit ∷ past) refl (λ t. refl) (λ t. refl) (λ t. refl) refl (λ t. refl) is
-  IsStoreAfter-aside setup w past (Read q x) aside is = IsStoreAfter-same setup w past (Read q x ∷ past) refl (λ t. refl) (λ t. refl) (λ t. refl) refl (λ t. refl) is
-  IsStoreAfter-aside setup w past (End q) aside is = IsStoreAfter-same setup w past (End q ∷ past) refl (λ t. refl) (λ t. refl) (λ t. refl) refl (λ t. refl) is
-  IsStoreAfter-aside setup w past (Abandon q) aside is = IsStoreAfter-same setup w past (Abandon q ∷ past) refl (λ t. refl) (λ t. refl) (λ t. refl) refl (λ t. refl) is
-  IsStoreAfter-aside setup w past (Show s) aside is = IsStoreAfter-same setup w past (Show s ∷ past) refl (λ t. refl) (λ t. refl) (λ t. refl) refl (λ t. refl) is
+  IsStoreAfter-aside setup w past (Begin q s limit) aside is =
+      IsStoreAfter-same setup w past (Begin q s limit ∷ past) refl (λ t. refl) (λ t. refl) (λ t. refl) refl (λ t. refl) (λ t. refl) is
+  IsStoreAfter-aside setup w past (Read q x) aside is =
+      IsStoreAfter-same setup w past (Read q x ∷ past) refl (λ t. refl) (λ t. refl) (λ t. refl) refl (λ t. refl) (λ t. refl) is
+  IsStoreAfter-aside setup w past (End q) aside is =
+      IsStoreAfter-same setup w past (End q ∷ past) refl (λ t. refl) (λ t. refl) (λ t. refl) refl (λ t. refl) (λ t. refl) is
+  IsStoreAfter-aside setup w past (Abandon q) aside is =
+      IsStoreAfter-same setup w past (Abandon q ∷ past) refl (λ t. refl) (λ t. refl) (λ t. refl) refl (λ t. refl) (λ t. refl) is
+  IsStoreAfter-aside setup w past (Show s) aside is =
+      IsStoreAfter-same setup w past (Show s ∷ past) refl (λ t. refl) (λ t. refl) (λ t. refl) refl (λ t. refl) (λ t. refl) is
   IsStoreAfter-aside setup w past (Propose m) aside is = absurd (cc)
   IsStoreAfter-aside setup w past (Send s) aside is = absurd (cc)
   IsStoreAfter-aside setup w past (Apply s) aside is = absurd (cc)

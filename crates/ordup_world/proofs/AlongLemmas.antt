@@ -1,9 +1,13 @@
 -- What is kept after each event of a list, one event more at the end.
 use Rattle.std.proofs.Common.{◌<◌, List, [], ◌∷◌, ◌++◌, length, arith}
+use Rattle.ordup_rounds.specs.Fewest.{AreFewest}
 use Rattle.ordup_primary.specs.Declarations.{Declared}
+use Rattle.ordup_primary.specs.Settling.{report_at}
+use Rattle.ordup_primary.specs.Primaries.{progress_at, is_within}
+use Rattle.ordup_primary.proofs.PrimaryLemmas.{HasFewestRounds-sound}
 use Rattle.ordup_site.specs.Sites.{SiteState}
 use Rattle.ordup_world.specs.Events.{Past, later, AreAnswers, past_after}
-use Rattle.ordup_world.specs.Along.{Along, KeepSites}
+use Rattle.ordup_world.specs.Along.{Along, KeepSites, HaveFewest}
 use Rattle.ordup_world.specs.Worlds.{WorldState, store_of, IsSound, KeepsLimits, StandsFor}
 use Rattle.ordup_world.specs.declared.event.Event.{Event}
 use Rattle.ordup_world.specs.declared.event.Answer.{Answer}
@@ -28,6 +32,20 @@ module _ {A : Type 0} where
   pub KeepSites-stands : (setup : Declared) (w : WorldState) (past : Past A) → IsSound w → KeepsLimits w → StandsFor setup w past → KeepSites setup past
   KeepSites-stands setup w past sound limits stands =
       rw (← stands.store.declared) (KeepSites-own w past sound limits (rw (← stands.store.declared) at stands))
+
+  HaveFewest-own : (w : WorldState) (past : Past A) → IsSound w → StandsFor w.primary.setup w past → HaveFewest w.primary.setup past
+  HaveFewest-own w past sound stands s below =
+      let lt : s < length w.sites = omega (arith, below, sound.store.count, sound.store.primary.count) in
+      let here = stands.store.sites s (record { applied = 0; values = []; travelled = [] }) lt in
+      let known = progress_at w.primary s in
+      let fewest : AreFewest (is_within w.primary s) (report_at known.reports) w.primary.decided known.rounds known.windows =
+      HasFewestRounds-sound w.primary sound.store.primary s (omega (arith, lt, sound.store.count)) in
+      rw (stands.store.rounds s lt, stands.store.windows s lt, here.reports, stands.store.decided, stands.store.log) at fewest
+
+  -- the rounds of a sound world are the fewest: so are those after the accepted events that it stands for
+  pub HaveFewest-stands : (setup : Declared) (w : WorldState) (past : Past A) → IsSound w → StandsFor setup w past → HaveFewest setup past
+  HaveFewest-stands setup w past sound stands =
+      rw (← stands.store.declared) (HaveFewest-own w past sound (rw (← stands.store.declared) at stands))
 
   -- one event more
   pub Along-push : (Holds : Past A → Type 0) (setup : Declared) (past : Past A) (events : List (Event A)) (answers : List (Answer A)) (e : Event A) (a : Answer A) → AreAnswers setup past events answers

@@ -1,7 +1,9 @@
 -- What is kept after each event of a list.
 use Rattle.std.specs.Prelude.{◌≡◌, ℕ, ◌+◌, ◌<◌, ◌≤◌, true, List, [], ◌∷◌, length}
+use Rattle.ordup_rounds.specs.Fewest.{AreFewest}
 use Rattle.ordup_primary.specs.Declarations.{Declared, capacity_of}
-use Rattle.ordup_world.specs.Events.{Past, sets_of, sent, applied, reported, is_within_after, decisions, later}
+use Rattle.ordup_primary.specs.Settling.{report_at}
+use Rattle.ordup_world.specs.Events.{Past, sets_of, sent, applied, reported, is_within_after, decisions, rounds, windows, later}
 use Rattle.ordup_world.specs.declared.event.Event.{Event}
 use Rattle.ordup_world.specs.declared.event.Answer.{Answer}
 
@@ -23,3 +25,10 @@ module _ {A : Type 0} where
   -- each site does
   abbrev pub KeepSites : Declared → Past A → Type 0
   KeepSites setup past = (s : ℕ) → s < length setup.sites → KeepsSite setup past s
+
+  -- the rounds of each site are the fewest of any schedule that keeps its limits, as its windows show
+  abbrev pub HaveFewest : Declared → Past A → Type 0
+  HaveFewest setup past =
+      (s : ℕ) → s < length setup.sites →
+      AreFewest (is_within_after setup past s) (report_at ((decisions setup past).reports s)) (decisions setup past).decided
+      (rounds setup s past) (windows setup s past)

@@ -9,9 +9,11 @@ use Rattle.ordup_objects.specs.Tables.{initial_state}
 use Rattle.ordup_objects.specs.Sets.{are_known}
 use Rattle.ordup_objects.specs.Serial.{History, serial}
 use Rattle.ordup_log.specs.Appending.{append_refusal}
+use Rattle.ordup_rounds.specs.declared.window.Window.{Window}
+use Rattle.ordup_rounds.specs.Rounds.{rounds_upto, windows_upto}
 use Rattle.ordup_limits.specs.Limits.{Limits, within}
 use Rattle.ordup_primary.specs.Declarations.{Declared, capacity_of, limits_of}
-use Rattle.ordup_primary.specs.Settling.{forced_sites, waiting_sites, report_at, rounds_upto}
+use Rattle.ordup_primary.specs.Settling.{forced_sites, waiting_sites, report_at}
 use Rattle.ordup_primary.specs.Primaries.{acked_after, acked_or_round, acked_or_waiting}
 use Rattle.ordup_primary.specs.declared.settled.Settled.{Settled}
 use Rattle.ordup_query.specs.Imports.{import_of}
@@ -102,6 +104,11 @@ module _ {A : Type 0} where
   -- the rounds of a site: the decided places for which the span from what it had reported at the decision passes a limit
   abbrev pub rounds : Declared → ℕ → Past A → List ℕ
   rounds setup s past = rounds_upto (is_within_after setup past s) (report_at ((decisions setup past).reports s)) (decisions setup past).decided
+
+  -- its windows: one for each round, from what it had reported at the decision to the decided place
+  abbrev pub windows : Declared → ℕ → Past A → List Window
+  windows setup s past =
+      windows_upto (is_within_after setup past s) (report_at ((decisions setup past).reports s)) (decisions setup past).decided
 
   -- a read of object x at site s by the reference p: the value that the site holds, and the weight on the object of the span between the two places
   abbrev pub read_now : Declared → Past A → ℕ → ℕ → ℕ → ReadMade

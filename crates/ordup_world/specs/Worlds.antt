@@ -9,7 +9,7 @@ use Rattle.ordup_site.specs.Sites.{SiteState, HoldsPrefix}
 use Rattle.ordup_objects.specs.Marks.{AreMarks}
 use Rattle.ordup_query.specs.Queries.{QueryState, value_sum}
 use Rattle.ordup_world.specs.Queries.{Opened, import_total, values_read}
-use Rattle.ordup_world.specs.Events.{Past, is_same, sent, applied, reported, log_of, decisions, rounds, opened, open_count}
+use Rattle.ordup_world.specs.Events.{Past, is_same, sent, applied, reported, log_of, decisions, rounds, windows, opened, open_count}
 
 -- the primary, and the sites in order of declaration
 pub record StoreState : Type 0 where
@@ -125,6 +125,7 @@ module _ {A : Type 0} where
     pub sites : (s : ℕ) (d : SiteState) → s < length w.sites →
         IsSiteAfter setup past s (progress_at w.primary s) (slice_index_or w.sites s d)
     pub rounds : (s : ℕ) → s < length w.sites → (progress_at w.primary s).rounds ≡ rounds setup s past
+    pub windows : (s : ℕ) → s < length w.sites → (progress_at w.primary s).windows ≡ windows setup s past
 
   -- the world is the one after the accepted events
   pub record StandsFor (setup : Declared) (w : WorldState) (past : Past A) : Type 0 where

@@ -1,10 +1,11 @@
 ghost use Rattle.std.specs.Prelude.{◌≡◌, ◌≤◌, None, [], IfOk, IfErr, vec_capacity};
 ghost use Rattle.ordup_objects.specs.Refusals.{IsRefusal};
 ghost use Rattle.ordup_primary.specs.Declarations.{start_refusal};
+ghost use Rattle.ordup_primary.specs.Primaries.{HasFewestRounds};
 ghost use Rattle.ordup_world.specs.Events.{AreAnswers, past_after};
 ghost use Rattle.ordup_world.specs.Worlds.{StandsFor, IsSound, KeepsLimits};
 ghost use Rattle.ordup_world.specs.Imports.{KeepImports};
-ghost use Rattle.ordup_world.specs.Along.{Along, KeepSites};
+ghost use Rattle.ordup_world.specs.Along.{Along, KeepSites, HaveFewest};
 
 use crate::event::{Answer, Event};
 use crate::outcome::Run;
@@ -27,8 +28,10 @@ pub fn run<A: Allocator + Copy>(
     ensures setup { IfOk result (λ run. run.world.primary.setup ≡ setup) }
     ensures sound { IfOk result (λ run. IsSound run.world) }
     ensures limits { IfOk result (λ run. KeepsLimits run.world) }
+    ensures rounds { IfOk result (λ run. HasFewestRounds run.world.primary) }
     ensures imports { IfOk result (λ run. Along (KeepImports setup) [] events.items run.answers.items) }
     ensures along { IfOk result (λ run. Along (KeepSites setup) [] events.items run.answers.items) }
+    ensures fewest { IfOk result (λ run. Along (HaveFewest setup) [] events.items run.answers.items) }
     ensures allowed { IfOk result (λ _. start_refusal setup ≡ None) }
     ensures refused { IfErr result (λ e. IsRefusal (start_refusal setup) e) }
 {

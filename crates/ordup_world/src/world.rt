@@ -34,6 +34,7 @@ impl<A: Allocator + Copy> World<A> {
     ghost use Rattle.ordup_world.specs.Steps.{StepsWorld};
     ghost use Rattle.ordup_world.specs.Imports.{AreAccepted, KeepImports};
     ghost use Rattle.ordup_primary.specs.Declarations.{Declared};
+    ghost use Rattle.ordup_primary.specs.Primaries.{HasFewestRounds};
 
     /// A started store, in which nothing has happened.
     ///
@@ -43,6 +44,7 @@ impl<A: Allocator + Copy> World<A> {
         ensures state { IfOk result (λ world. StandsFor {A = A} setup world []) }
         ensures sound { IfOk result (λ world. IsSound world) }
         ensures limits { IfOk result (λ world. KeepsLimits world) }
+        ensures fewest { IfOk result (λ world. HasFewestRounds world.primary) }
         ensures allowed { IfOk result (λ _. start_refusal setup ≡ None) }
         ensures refused { IfErr result (λ e. IsRefusal (start_refusal setup) e) }
     {
@@ -64,6 +66,7 @@ impl<A: Allocator + Copy> World<A> {
         ensures refused { OnRefused result (self.new ≡ self.old) }
         ensures sound { IsSound self.new }
         ensures limits { KeepsLimits self.new }
+        ensures fewest { HasFewestRounds self.new.primary }
         ensures imports { (setup : Declared) (past : Past A) → StandsFor setup self.old past → AreAccepted setup past → KeepImports setup (later past event result) }
     {
         self.take(event)
@@ -94,6 +97,7 @@ impl<A: Allocator + Copy> World<A> {
         ensures primary { result.now ≡ self.now.primary }
         ensures sound { IsSound self.now }
         ensures limits { KeepsLimits self.now }
+        ensures fewest { HasFewestRounds self.now.primary }
     {
         &self.store.primary
     }

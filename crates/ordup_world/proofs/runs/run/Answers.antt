@@ -2,8 +2,9 @@ use Rattle.std.proofs.Common.{arith, ◌≡◌, ◌++◌, ◌∷◌, [], ◌∙�
 use Rattle.std.specs.Vec.Iter.{into_iter_items}
 use Rattle.ordup_world.specs.Events.{past_after, later}
 use Rattle.ordup_world.proofs.RunLemmas.{all_yielded, past_after-push, AreAnswers-push}
-use Rattle.ordup_world.proofs.AlongLemmas.{KeepSites-stands, Along-push}
-use Rattle.ordup_world.specs.Along.{KeepSites}
+use Rattle.ordup_primary.proofs.PrimaryLemmas.{HasFewestRounds-sound}
+use Rattle.ordup_world.proofs.AlongLemmas.{KeepSites-stands, HaveFewest-stands, Along-push}
+use Rattle.ordup_world.specs.Along.{KeepSites, HaveFewest}
 use Rattle.ordup_world.proofs.ImportLemmas.{KeepImports-along}
 use Rattle.ordup_world.proofs.runs.run.Goals as goal
 
@@ -22,6 +23,12 @@ loop-event-preserved g c =
           let after = c.step.ensures.state c.args.setup mid before.state in
           let now = KeepSites-stands c.args.setup c.step.new.self (later mid c.in-Some.event c.step.result) c.step.ensures.sound c.step.ensures.limits after in
           rw c.push_reserved.ensures.items (Along-push (KeepSites c.args.setup) c.args.setup [] c.loop-event.yielded c.loop-event.answers.items c.in-Some.event c.step.result before.answers before.along now);
+      fewest =
+          let after = c.step.ensures.state c.args.setup mid before.state in
+          let now = HaveFewest-stands c.args.setup c.step.new.self (later mid c.in-Some.event c.step.result) c.step.ensures.sound after in
+          rw c.push_reserved.ensures.items
+          (Along-push (HaveFewest c.args.setup) c.args.setup [] c.loop-event.yielded c.loop-event.answers.items c.in-Some.event
+          c.step.result before.answers before.fewest now);
       state = rw (c.push_reserved.ensures.items, past_after-push c.args.setup [] c.loop-event.yielded c.loop-event.answers.items c.in-Some.event c.step.result before.answers) (c.step.ensures.state c.args.setup mid before.state);
     }
 
@@ -43,6 +50,18 @@ returns-clause-along g c =
     let all : c.loop-event.yielded ≡ c.args.events.items = all_yielded c.loop-event.yielded (into_iter_items c.loop-event.event-iterator) c.args.events.items (omega (arith, c.in-None.ensures.steps.0, c.loop-event.event-iterator.rest.ok)) before.left in
     rw all at before.along
 
+pub returns-clause-fewest : goal.returns-clause-fewest
+returns-clause-fewest g c =
+    let before = c.loop-event.invariant in
+    let left = c.loop-event.event-iterator in
+    let none : length (into_iter_items left) ≡ 0 = omega (arith, c.in-None.ensures.steps.0, left.rest.ok) in
+    let all : c.loop-event.yielded ≡ c.args.events.items =
+    all_yielded c.loop-event.yielded (into_iter_items left) c.args.events.items none before.left in
+    rw all at before.fewest
+
+pub returns-clause-rounds : goal.returns-clause-rounds
+returns-clause-rounds g c = HasFewestRounds-sound c.loop-event.world.primary c.loop-event.invariant.sound.store.primary
+
 pub returns-clause-imports : goal.returns-clause-imports
 returns-clause-imports g c =
     let before = c.loop-event.invariant in
@@ -61,5 +80,6 @@ loop-event-init g c =
       limits = started.limits;
       answers = rw started.answers tt;
       along = KeepSites-stands c.args.setup c.in_ok-world.world [] started.sound started.limits started.state;
+      fewest = HaveFewest-stands c.args.setup c.in_ok-world.world [] started.sound started.state;
       state = started.state;
     }

@@ -2,7 +2,7 @@ use Rattle.std.proofs.Common.{◌≡◌, ◌+◌, ◌≤◌, ◌++◌, [], vec_l
 use Rattle.std.specs.Vec.Iter.{into_iter_items, into_iter_len}
 use Rattle.ordup_world.specs.Events.{AreAnswers, past_after}
 use Rattle.ordup_world.specs.Worlds.{StandsFor, IsSound, KeepsLimits}
-use Rattle.ordup_world.specs.Along.{Along, KeepSites}
+use Rattle.ordup_world.specs.Along.{Along, KeepSites, HaveFewest}
 use Rattle.ordup_world.proofs.runs.run.Given as goal
 
 -- the answers so far are those to the events so far
@@ -15,5 +15,6 @@ invariant-loop-event g l = record {
   limits : KeepsLimits l.world;
   answers : AreAnswers l.fn.setup [] l.yielded l.answers.items;
   along : Along (KeepSites l.fn.setup) [] l.yielded l.answers.items;
+  fewest : Along (HaveFewest l.fn.setup) [] l.yielded l.answers.items;
   state : StandsFor l.fn.setup l.world (past_after [] l.yielded l.answers.items);
 }

@@ -1,4 +1,5 @@
 use Rattle.std.proofs.Common.{[]}
+use Rattle.ordup_primary.proofs.PrimaryLemmas.{HasFewestRounds-sound}
 use Rattle.ordup_world.specs.Worlds.{with_queries}
 use Rattle.ordup_world.specs.StoreInside.{state_of}
 use Rattle.ordup_world.proofs.StoreLemmas.{KeepsLimits-sound}
@@ -19,3 +20,6 @@ returns-clause-sound g c = rw c.new.ensures (IsSound-start (state_of c.in_ok-sto
 
 pub returns-clause-limits : goal.returns-clause-limits
 returns-clause-limits g c = KeepsLimits-sound (with_queries (state_of c.in_ok-store.store) []) c.in_ok-store.ensures.sound
+
+pub returns-clause-fewest : goal.returns-clause-fewest
+returns-clause-fewest g c = HasFewestRounds-sound c.in_ok-store.store.primary c.in_ok-store.ensures.sound.primary

@@ -90,17 +90,17 @@ impl<A: Allocator + Copy> Log<A> {
         if self.sets.len() == MOST_UPDATES {
             return Err(Refusal::LogFull);
         }
-        if !self.end.allows(&set) {
+        let Ok(results) = self.end.results(&set) else {
             return Err(Refusal::OutOfRange);
-        }
+        };
         let alloc = *self.sets.allocator();
-        let Ok(distances) = self.end.distances(alloc, &set) else {
+        let Ok(distances) = self.end.distances(alloc, &set, &results) else {
             return Err(Refusal::NoMemory);
         };
         if self.sets.reserve(1).is_err() || self.distances.reserve(1).is_err() {
             return Err(Refusal::NoMemory);
         }
-        self.end.apply(&set)?;
+        self.end.put(&set, &results);
         self.sets.push_reserved(set);
         self.distances.push_reserved(distances);
         Ok(self.sets.len() as u64)

@@ -1,5 +1,5 @@
 -- States, and what a message set makes of one.
-use Rattle.std.specs.Prelude.{ℕ, ◌≤◌, Bool, List, slice_index_or, slice_set, fold, nat_le, All, pos, ℤ, ◌+ℤ◌, ◌*ℤ◌}
+use Rattle.std.specs.Prelude.{◌≡◌, ℕ, ◌≤◌, Bool, List, length, map, take, slice_index_or, slice_set, fold, nat_le, All, pos, ℤ, ◌+ℤ◌, ◌*ℤ◌}
 use Rattle.std.specs.List.{list_all}
 use Rattle.std.specs.Int.{int_max, int_min}
 use Rattle.std.specs.Int.RustNames.{unsigned_abs}
@@ -35,6 +35,10 @@ in_range z = nat_le (unsigned_abs z) greatest_value
 -- a set is legal on a state where each result is in range
 abbrev pub is_legal : List Change → State → Bool
 is_legal m v = list_all (λ c. in_range (result_at v c)) m
+
+-- the front of a list is the results of a set, in the order of its changes
+abbrev pub AreResults : State → List Change → List ℤ → Type 0
+AreResults v m results = take (length m) results ≡ map (result_at v) m
 
 -- the state with the results in the places of the changed objects
 abbrev pub after : List Change → State → State

@@ -10,6 +10,7 @@ mod name;
 mod name_table;
 mod object_table;
 mod refusal;
+mod results;
 pub mod sizes;
 mod values;
 
@@ -23,4 +24,5 @@ pub use name::Name;
 pub use name_table::NameTable;
 pub use object_table::ObjectTable;
 pub use refusal::{Refusal, SiteId};
+pub use results::Results;
 pub use values::Values;

@@ -1,5 +1,5 @@
-ghost use Rattle.std.specs.Prelude.{◌≡◌, ◌≤◌, ℕ, ◌<◌, ◌↔◌, IsTrue, IfSome, IsOk, IfOk, IfErr, OnOk, OnErr, length, All, take, map, sum};
-ghost use Rattle.ordup_objects.specs.States.{value_at, result_of, result_at, in_range, is_legal, after, IsInRange, IsState};
+ghost use Rattle.std.specs.Prelude.{◌≡◌, ◌≤◌, ℕ, ◌<◌, ◌↔◌, IsTrue, IfSome, IsOk, is_ok, IfOk, IfErr, OnOk, OnErr, length, All};
+ghost use Rattle.ordup_objects.specs.States.{value_at, result_of, result_at, in_range, is_legal, AreResults, after, IsInRange, IsState};
 ghost use Rattle.ordup_objects.specs.Ops.{number_of, source_of};
 ghost use Rattle.ordup_objects.specs.Sets.{AreKnown, AreInRange};
 ghost use Rattle.ordup_objects.specs.Tables.{initial_state};
@@ -9,6 +9,7 @@ use crate::change::{Change, ObjectId, Op};
 use crate::message_set::MessageSet;
 use crate::object_table::ObjectTable;
 use crate::refusal::Refusal;
+use crate::results::Results;
 use crate::sizes::{GREATEST_VALUE, MOST_CHANGES};
 use std::alloc::{AllocError, Allocator, Global};
 use std::marker::Model;
@@ -88,10 +89,8 @@ impl<A: Allocator + Copy> Values<A> {
         ensures len { length self.new ≡ length self.old }
         ensures err { IfErr result (λ e. (e ≡ Refusal.OutOfRange) × (self.new ≡ self.old)) }
     {
-        let changes = set.changes();
-        let mut results = [0; MOST_CHANGES];
-        results_of(self.values.as_slice(), changes, &mut results)?;
-        put_results(&mut self.values, changes, &results);
+        let results = self.results(set)?;
+        self.put(set, &results);
         Ok(())
     }
 
@@ -100,15 +99,45 @@ impl<A: Allocator + Copy> Values<A> {
         requires { AreKnown (length self.now) set.now }
         ensures { result ≡ is_legal set.now self.now }
     {
-        allows_all(self.values.as_slice(), set.changes())
+        self.results(set).is_ok()
     }
 
-    /// How far each change of a set would move its object's value. It is refused memory alone.
-    pub fn distances(&self, alloc: A, set: &MessageSet<A>) -> Result<Vec<u64, A>, AllocError>
+    /// What each change of a set makes of its object's value. It is refused `OutOfRange` alone, where a result is out of range.
+    pub fn results(&self, set: &MessageSet<A>) -> Result<Results, Refusal>
         requires { AreKnown (length self.now) set.now }
+        ensures results { IfOk result (λ results. AreResults self.now set.now results) }
+        ensures legal { is_ok result ≡ is_legal set.now self.now }
+        ensures err { IfErr result (λ e. e ≡ Refusal.OutOfRange) }
+    {
+        let mut results = [0; MOST_CHANGES];
+        results_of(self.values.as_slice(), set.changes(), &mut results)?;
+        Ok(Results { results })
+    }
+
+    /// How far each change of a set would move its object's value, by its results on these values. It is refused memory alone.
+    pub fn distances(
+        &self,
+        alloc: A,
+        set: &MessageSet<A>,
+        results: &Results,
+    ) -> Result<Vec<u64, A>, AllocError>
+        requires known { AreKnown (length self.now) set.now }
+        requires results { AreResults self.now set.now results.now }
         ensures { IfOk result (λ r. r.items ≡ distances_of self.now set.now) }
     {
-        distances_in(alloc, self.values.as_slice(), set.changes())
+        let values = self.values.as_slice();
+        distances_in(alloc, values, set.changes(), &results.results)
+    }
+
+    /// Applies a legal set by its results on these values. It computes nothing again.
+    pub fn put(&mut self, set: &MessageSet<A>, results: &Results)
+        requires known { AreKnown (length self.old) set.now }
+        requires legal { IsTrue (is_legal set.now self.old) }
+        requires results { AreResults self.old set.now results.now }
+        ensures after { self.new ≡ after set.now self.old }
+        ensures len { length self.new ≡ length self.old }
+    {
+        put_results(&mut self.values, set.changes(), &results.results);
     }
 }
 
@@ -158,8 +187,8 @@ fn results_of(values: &[i64], changes: &[Change], results: &mut [i64]) -> Result
     requires known { AreKnown (length values.now) changes.now }
     requires numbers { AreInRange changes.now }
     requires room { length changes.now ≤ length results.old }
-    ensures legal { IsOk result ↔ IsTrue (is_legal changes.now values.now) }
-    ensures results { OnOk result (take (length changes.now) results.new ≡ map (result_at values.now) changes.now) }
+    ensures legal { is_ok result ≡ is_legal changes.now values.now }
+    ensures results { OnOk result (AreResults values.now changes.now results.new) }
     ensures err { IfErr result (λ e. e ≡ Refusal.OutOfRange) }
 {
     for (i, change) in changes.iter().enumerate() {
@@ -175,7 +204,7 @@ fn results_of(values: &[i64], changes: &[Change], results: &mut [i64]) -> Result
 /// Puts each result in the place of its change's object.
 fn put_results(values: &mut [i64], changes: &[Change], results: &[i64])
     requires objects { All (λ c. c.object < length values.old) changes.now }
-    requires results { take (length changes.now) results.now ≡ map (result_at values.old) changes.now }
+    requires results { AreResults values.old changes.now results.now }
     requires room { length changes.now ≤ length results.now }
     requires state { IsState values.old }
     requires legal { IsTrue (is_legal changes.now values.old) }
@@ -187,30 +216,21 @@ fn put_results(values: &mut [i64], changes: &[Change], results: &[i64])
     }
 }
 
-/// How far each change moves its object's value.
+/// How far each change moves its object's value, from the one that it has to its result.
 fn distances_in<A: Allocator + Copy>(
     alloc: A,
     values: &[i64],
     changes: &[Change],
+    results: &[i64],
 ) -> Result<Vec<u64, A>, AllocError>
-    requires state { IsState values.now }
-    requires known { AreKnown (length values.now) changes.now }
-    requires numbers { AreInRange changes.now }
+    requires objects { All (λ c. c.object < length values.now) changes.now }
+    requires results { AreResults values.now changes.now results.now }
+    requires room { length changes.now ≤ length results.now }
     ensures { IfOk result (λ r. r.items ≡ distances_of values.now changes.now) }
 {
     let mut distances = Vec::with_capacity(alloc, changes.len())?;
-    for change in changes {
-        let value = values[change.object.index()];
-        distances.push(result_of(values, value, change.op).abs_diff(value))?;
+    for (i, change) in changes.iter().enumerate() {
+        distances.push(results[i].abs_diff(values[change.object.index()]))?;
     }
     Ok(distances)
-}
-
-fn allows_all(values: &[i64], changes: &[Change]) -> bool
-    requires state { IsState values.now }
-    requires known { AreKnown (length values.now) changes.now }
-    requires numbers { AreInRange changes.now }
-    ensures { result ≡ is_legal changes.now values.now }
-{
-    changes.iter().all(|c| is_in_range(result_of(values, values[c.object.index()], c.op)))
 }

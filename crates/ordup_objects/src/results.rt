@@ -1,0 +1,21 @@
+use crate::sizes::MOST_CHANGES;
+use std::marker::Model;
+
+/// What each change of a message set makes of its object's value, in the order of the changes.
+///
+/// `Values::results` computes them once; `Values::distances` and `Values::put` go by them.
+#[derive(Debug, Drop)]
+pub struct Results {
+    pub(crate) results: [i64; MOST_CHANGES],
+}
+
+impl Model for Results {
+    ghost use Rattle.std.specs.Prelude.{◌≡◌, List, ℤ, length};
+    ghost use Rattle.ordup_objects.specs.Sizes.{most_changes};
+
+    ghost Value = { List ℤ };
+
+    ghost view = { λ r. r.results };
+
+    ghost invariant = { λ r. length r.results ≡ most_changes };
+}

@@ -1,6 +1,5 @@
 -- What a reply is, by the parts that answered it.
-use Rattle.std.proofs.Common.{◌≡◌, ℕ, cond, List, [], ◌∷◌, ◌++◌, None, ap, subst, ◌∙◌, inl, inr}
-use Rattle.std.specs.Prelude.{Result, Ok, Err, is_ok, OnOk, codes}
+use Rattle.std.proofs.Common.{◌≡◌, ℕ, List, [], ◌++◌, None, ap, subst, ◌∙◌, inl, inr}
 use Rattle.ordup_objects.specs.declared.refusal.Refusal.TheVariants.{NoMemory}
 use Rattle.ordup_primary.specs.Declarations.{Declared, start_refusal}
 use Rattle.ordup_world.specs.Events.{later, Past, IsAnswer}
@@ -9,41 +8,44 @@ use Rattle.ordup_world.specs.Standings.{Standing, StandsFor}
 use Rattle.ordup_world.specs.declared.event.Event.{Event}
 use Rattle.ordup_world.specs.declared.event.Answer.{Answer}
 use Rattle.ordup_world.specs.declared.event.Answer.TheVariants.{Refused}
+use Rattle.ordup_grammar.specs.declared.action.Action.{Action}
+use Rattle.ordup_grammar.specs.declared.command.Command.TheVariants.{Start}
 use Rattle.ordup_answers.specs.Sessions.{Session, declaring, running, Declares, IsWorldOf}
-use Rattle.ordup_answers.specs.Leaves.{LeavesRunning}
-use Rattle.ordup_grammar.specs.Commands as asked
-use Rattle.ordup_answers.specs.Replies.{event_reply, request_reply, subject_of, object_of}
-use Rattle.ordup_text.specs.Texts.{answer_text}
-
--- a list that was added where there was memory
-pub added_where_ok : {T E : Type 0} (r : Result T E) (old new more : List ℕ) → new ≡ cond (is_ok r) (old ++ more) old → OnOk r (new ≡ old ++ more)
-added_where_ok (Ok x) old new more e = e
-added_where_ok (Err x) old new more e = tt
+use Rattle.ordup_answers.specs.Answers.{Leaves}
+use Rattle.ordup_answers.specs.Events.{names_of}
+use Rattle.ordup_answers.specs.Replies.{event_reply, command_reply, reply_or_refusal}
+use Rattle.ordup_text.specs.Texts.{answer_text, started_text}
 
 module _ {A : Type 0} where
   -- what holds of the session that declares so holds of each session that does
-  pub at_declaring : (P : Session A → Type 0) (setup : Declared) → P (declaring setup) → (s : Session A) → Declares setup s → P s
+  at_declaring : (P : Session A → Type 0) (setup : Declared) → P (declaring setup) → (s : Session A) → Declares setup s → P s
   at_declaring P setup here (declaring d) is = subst (λ (e : Declared). P (declaring e)) is here
   at_declaring P setup here (running d past) is = absurd is
 
-  -- what holds of each running session of the world's setup and past holds of each session that the world runs
-  pub at_running : (P : Session A → Type 0) (w : Standing) → ((past : Past A) → StandsFor w past → P (running w.primary.setup past)) → (s : Session A) → IsWorldOf w s → P s
-  at_running P w here (declaring d) is = absurd is
-  at_running P w here (running d past) is = subst (λ (e : Declared). P (running e past)) is.0 (here past is.1)
-
   -- an answer that is not for want of memory is the reply
-  pub answered : (setup : Declared) (past : Past A) (e : Event A) (answer : Answer A) → IsAnswer setup past e answer → (answer ≡ Refused NoMemory → ⊥) → answer ≡ event_answer setup past e
+  answered : (setup : Declared) (past : Past A) (e : Event A) (answer : Answer A) → IsAnswer setup past e answer → (answer ≡ Refused NoMemory → ⊥) → answer ≡ event_answer setup past e
   answered setup past e answer (inl is) other = is
   answered setup past e answer (inr no_memory) other = absurd (other no_memory.2)
 
   -- what is left by an event
-  pub left_by_event : (w v : Standing) (past : Past A) (a : asked.Action) (e : Event A) (answer : Answer A) (setup : Declared) (old new : List ℕ) → IsAnswer w.primary.setup past e answer → StandsFor v (later past e answer) → v.primary.setup ≡ w.primary.setup
-      → setup ≡ w.primary.setup → (answer ≡ Refused NoMemory → ⊥) → new ≡ old ++ answer_text setup (subject_of a) (object_of a) answer → LeavesRunning v old new (event_reply w.primary.setup past a e)
-  left_by_event w v past a e answer setup old new is state kept same other text =
+  pub left_by_event : (w v : Standing) (past : Past A) (a : Action) (e : Event A) (answer : Answer A)
+      → IsAnswer w.primary.setup past e answer → StandsFor v (later past e answer) → v.primary.setup ≡ w.primary.setup
+      → (answer ≡ Refused NoMemory → ⊥)
+      → (setup : Declared) (subject object old new : List ℕ) → setup ≡ w.primary.setup → (subject, object) ≡ names_of a
+      → new ≡ old ++ answer_text setup subject object answer
+      → Leaves (IsWorldOf v) old new (event_reply w.primary.setup past a e)
+  left_by_event w v past a e answer is state kept other setup subject object old new same named text =
       let replied = answered w.primary.setup past e answer is other in
-      ((kept, subst (λ given. StandsFor v (later past e given)) replied state), text ∙ ap (λ d. old ++ answer_text d (subject_of a) (object_of a) answer) same ∙ ap (λ given. old ++ answer_text w.primary.setup (subject_of a) (object_of a) given) replied)
+      let text_in : Declared → List ℕ × List ℕ → Answer A → List ℕ = λ d names given. old ++ answer_text d names.0 names.1 given in (
+        (kept, subst (λ given. StandsFor v (later past e given)) replied state),
+        text ∙ ap (λ d. text_in d (subject, object) answer) same ∙ ap (λ names. text_in w.primary.setup names answer) named
+            ∙ ap (text_in w.primary.setup (names_of a)) replied,
+      )
 
   -- what is left by a start
-  pub started : (d : Declared) (w : Standing) (old new : List ℕ) → start_refusal d ≡ None → w.primary.setup ≡ d → StandsFor {A = A} w [] → new ≡ old ++ (codes "ok start" ++ 10 ∷ [])
-      → LeavesRunning {A = A} w old new (request_reply (declaring d) asked.start)
-  started d w old new ready same state text = rw ready ((same, state), text)
+  pub left_by_start : (d : Declared) (w : Standing) (old new : List ℕ) → (start_refusal d ≡ None) × IsWorldOf {A = A} w (running d [])
+      → new ≡ old ++ started_text → (s : Session A) → Declares d s
+      → Leaves (IsWorldOf w) old new (reply_or_refusal s (command_reply s Start))
+  left_by_start d w old new (ready, started) text s is =
+      let wanted : Session A → Type 0 = λ s. Leaves (IsWorldOf w) old new (reply_or_refusal s (command_reply s Start)) in
+      at_declaring wanted d (rw ready (started, text)) s is

@@ -1,3 +1,3 @@
 pub mod RefusalLemmas
-pub mod NearLemmas
+pub mod NearestNumberLemmas
 pub mod AnsweringLemmas

@@ -1,25 +1,19 @@
--- Refusals that may be for want of memory.
+-- What is given by calls that may be refused.
 use Rattle.std.proofs.Common.{◌≡◌, sym, ap, Option, Some, None, inl, inr}
+use Rattle.std.specs.Prelude.{◌⊎◌, Result, Ok, Err, OnOk, IfErr}
 use Rattle.ordup_objects.specs.declared.refusal.Refusal.{Refusal}
 use Rattle.ordup_objects.specs.declared.refusal.Refusal.TheVariants.{NoMemory}
 use Rattle.ordup_objects.specs.Refusals.{IsRefusal}
-use Rattle.std.specs.Prelude.{Err}
-use Rattle.ordup_primary.specs.Declarations.{Declared}
-use Rattle.ordup_grammar.specs.Commands.{Action}
-use Rattle.ordup_answers.specs.Replies.{event_of}
-use Rattle.ordup_answers.specs.Leaves.{IsRefusedBy, IsEventOf}
+use Rattle.ordup_answers.specs.Refusals.{unless, Makes}
 
--- the refusal of a call is the one that applies, or for want of memory
-pub refused_by_call : (o : Option Refusal) (e : Refusal) → IsRefusal o e → IsRefusedBy o e
-refused_by_call None e is = inr is
-refused_by_call (Some r) e is = inl (ap Some (sym is))
+module _ {T : Type 0} where
+  -- a call that gives no value is refused as it should be, or for want of memory
+  pub refused_by_call : (o : Option Refusal) (x : T) (e : Refusal) → IsRefusal o e → (unless o x ≡ Err e) ⊎ (e ≡ NoMemory)
+  refused_by_call None x e is = inr is
+  refused_by_call (Some r) x e is = inl (ap (λ (r : Refusal). Err r) (sym is))
 
--- a refusal that is not for want of memory is the one that applies
-pub refused_for : (o : Option Refusal) (e : Refusal) → IsRefusedBy o e → (e ≡ NoMemory → ⊥) → o ≡ Some e
-refused_for o e (inl is) other = is
-refused_for o e (inr no_memory) other = absurd (other no_memory)
-
--- where there is no event, and memory, the refusal is the one that comes before
-pub event_refused : {A : Type 0} (d : Declared) (a : Action) (e : Refusal) → IsEventOf {A = A} d a (Err e) → (e ≡ NoMemory → ⊥) → event_of {A = A} d a ≡ Err e
-event_refused d a e (inl is) other = is
-event_refused d a e (inr no_memory) other = absurd (other no_memory)
+  -- a call that changes a value makes of it what it should
+  pub made_by_call : (r : Result (Unit {0}) Refusal) (o : Option Refusal) (x old new : T) → OnOk r (new ≡ x) → OnOk r (o ≡ None)
+      → IfErr r (IsRefusal o) → IfErr r (λ _. new ≡ old) → Makes (unless o x) old new r
+  made_by_call (Ok done) o x old new is allowed refused same = rw (allowed, is)
+  made_by_call (Err e) o x old new is allowed refused same = (refused_by_call o x e refused, same)

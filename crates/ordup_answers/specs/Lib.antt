@@ -1,5 +1,9 @@
-pub mod Names
-pub mod Near
+pub mod Refusals
+pub mod Places
+pub mod Changes
+pub mod NearestNumbers
+pub mod Declarations
+pub mod Events
 pub mod Sessions
 pub mod Replies
-pub mod Leaves
+pub mod Answers

@@ -1,22 +1,19 @@
-//! What a line is answered: its command, and then the answer of the setup or of the world.
-ghost use Rattle.std.specs.Prelude.{◌≡◌, ◌++◌, OnOk};
+//! What a line is answered: what its command does to the setup or to the world, and the text that says so.
+ghost use Rattle.std.specs.Prelude.{◌≡◌, ◌++◌, [], None, Some, IfOk, IfErr, OnOk};
 ghost use Rattle.ordup_world.specs.Standings.{StandsFor};
 ghost use Rattle.ordup_world.specs.Events.{Past};
-ghost use Rattle.ordup_grammar.specs.Words.{words_of};
-ghost use Rattle.ordup_grammar.specs.Asked.{asked_request};
-ghost use Rattle.ordup_grammar.specs.Commands as commands;
-ghost use Rattle.ordup_grammar.specs.Commands.{request_of};
-ghost use Rattle.ordup_grammar.specs.CommandViews.{declaration_named, action_named, request_named, asked_named};
-ghost use Rattle.ordup_answers.specs.Sessions.{Session, Stands};
-ghost use Rattle.ordup_answers.specs.Replies.{asked_reply, request_reply, declared_reply, running_reply, event_reply, declared_text, subject_of, object_of};
-ghost use Rattle.ordup_answers.specs.Leaves.{LeavesDeclared, LeavesRunning, Leaves};
+ghost use Rattle.ordup_answers.specs.Sessions.{Session, Declares, IsWorldOf, Stands};
+ghost use Rattle.ordup_answers.specs.Replies.{request_reply, command_reply, reply_or_refusal, event_reply, declared_text};
+ghost use Rattle.ordup_answers.specs.Sessions.{running};
+ghost use Rattle.ordup_primary.specs.Declarations.{start_refusal};
+ghost use Rattle.ordup_answers.specs.Answers.{Leaves};
 
-use crate::acting::event;
-use crate::declaring::declare;
+use crate::declarations::declare;
+use crate::events::{event_of, names_of};
 use crate::script_end::ScriptEnd;
-use ordup_grammar::{Action, Asked, Command, Declaration};
+use ordup_grammar::{Action, Command, Declaration, Request};
 use ordup_objects::Refusal;
-use ordup_text::{push_answer, push_named, push_refused};
+use ordup_text::{push_answer, push_named, push_refused, push_started};
 use ordup_world::{Event, Setup, World};
 use std::alloc::{AllocError, Allocator};
 use std::mem;
@@ -25,73 +22,54 @@ use std::mem;
 pub fn answer<A: Allocator + Copy>(
     alloc: A,
     store: &mut ScriptEnd<A>,
-    asked: &Asked<'_>,
+    request: &Request<'_>,
     out: &mut Vec<u8, A>,
 ) -> Result<(), AllocError>
-    ensures { OnOk result ((s : Session A) → Stands store.old s → Leaves store.new out.old.items out.new.items (asked_reply s (asked_named asked.now))) }
+    ensures { OnOk result ((s : Session A) → Stands store.old s → Leaves (Stands store.new) out.old.items out.new.items (request_reply s request.now)) }
 {
-    match asked {
-        Asked::Nothing => Ok(()),
-        Asked::NoCommand => push_refused(out, Refusal::Syntax),
-        Asked::Words { first, rest } => answer_words(alloc, store, first, rest, out),
+    match request {
+        Request::Nothing => Ok(()),
+        Request::Command(command) => carry_out(alloc, store, command, out),
+        Request::NoCommand => push_refused(out, Refusal::Syntax),
     }
 }
 
-/// Answers words, which may spell a command.
-fn answer_words<A: Allocator + Copy>(
-    alloc: A,
-    store: &mut ScriptEnd<A>,
-    first: &[u8],
-    rest: &[u8],
-    out: &mut Vec<u8, A>,
-) -> Result<(), AllocError>
-    ensures { OnOk result ((s : Session A) → Stands store.old s → Leaves store.new out.old.items out.new.items (asked_reply s (asked_request (request_of first.now (words_of rest.now))))) }
-{
-    match Command::parse(first, rest) {
-        Some(command) => carry_out(alloc, store, &command, out),
-        None => push_refused(out, Refusal::Syntax),
-    }
-}
-
-/// Carries a command out and answers it.
+/// Carries a command out and answers it. Before the start nothing but declarations and the start belongs.
 fn carry_out<A: Allocator + Copy>(
     alloc: A,
     store: &mut ScriptEnd<A>,
     command: &Command<'_>,
     out: &mut Vec<u8, A>,
 ) -> Result<(), AllocError>
-    ensures { OnOk result ((s : Session A) → Stands store.old s → Leaves store.new out.old.items out.new.items (request_reply s (request_named command.now))) }
+    ensures { OnOk result ((s : Session A) → Stands store.old s → Leaves (Stands store.new) out.old.items out.new.items (reply_or_refusal s (command_reply s command.now))) }
 {
-    match command {
-        Command::Declare(declaration) => declare_in(alloc, store, declaration, out),
-        Command::Start => start(alloc, store, out),
-        Command::Act(action) => act_in(alloc, store, action, out),
+    match store {
+        ScriptEnd::Declared(setup) => match command {
+            Command::Declare(declaration) => answer_declaration(alloc, setup, declaration, out),
+            Command::Start => match start(alloc, setup) {
+                Ok(world) => {
+                    store.run(world);
+                    push_started(out)
+                }
+                Err(refusal) => push_refused(out, refusal),
+            },
+            _ => push_refused(out, Refusal::NotStarted),
+        },
+        ScriptEnd::Running(world) => match command {
+            Command::Act(action) => answer_action(alloc, world, action, out),
+            Command::Declare(_) | Command::Start => push_refused(out, Refusal::AlreadyStarted),
+        },
     }
 }
 
 /// Declares what a declaration says.
-fn declare_in<A: Allocator + Copy>(
-    alloc: A,
-    store: &mut ScriptEnd<A>,
-    declaration: &Declaration<'_>,
-    out: &mut Vec<u8, A>,
-) -> Result<(), AllocError>
-    ensures { OnOk result ((s : Session A) → Stands store.old s → Leaves store.new out.old.items out.new.items (request_reply s (commands.declare (declaration_named declaration.now)))) }
-{
-    match store {
-        ScriptEnd::Declared(setup) => answer_declaration(alloc, setup, declaration, out),
-        ScriptEnd::Running(_) => push_refused(out, Refusal::AlreadyStarted),
-    }
-}
-
-/// Declares what a declaration says, before the start.
 fn answer_declaration<A: Allocator + Copy>(
     alloc: A,
     setup: &mut Setup<A>,
     declaration: &Declaration<'_>,
     out: &mut Vec<u8, A>,
 ) -> Result<(), AllocError>
-    ensures { OnOk result (LeavesDeclared {A = A} setup.new out.old.items out.new.items (declared_reply setup.old (commands.declare (declaration_named declaration.now)))) }
+    ensures { OnOk result ((s : Session A) → Declares setup.old s → Leaves (Declares setup.new) out.old.items out.new.items (reply_or_refusal s (command_reply s (Command.Declare declaration.now)))) }
 {
     match declare(alloc, setup, declaration) {
         Ok(()) => push_declared(out, declaration),
@@ -104,63 +82,37 @@ fn push_declared<A: Allocator + Copy>(
     out: &mut Vec<u8, A>,
     declaration: &Declaration<'_>,
 ) -> Result<(), AllocError>
-    ensures { OnOk result (out.new.items ≡ out.old.items ++ declared_text (declaration_named declaration.now)) }
+    ensures { OnOk result (out.new.items ≡ out.old.items ++ declared_text declaration.now) }
 {
     match declaration {
-        Declaration::Object { name, .. } => push_named(out, b"ok object ", name),
-        Declaration::Group { name, .. } => push_named(out, b"ok group ", name),
-        Declaration::Site { name, .. } => push_named(out, b"ok site ", name),
-        Declaration::Limit { site, .. } => push_named(out, b"ok limit ", site),
+        Declaration::Object { name, .. } => push_named(out, b"ok object ", name.as_bytes()),
+        Declaration::Group { name, .. } => push_named(out, b"ok group ", name.as_bytes()),
+        Declaration::Site { name, .. } => push_named(out, b"ok site ", name.as_bytes()),
+        Declaration::Limit { site, .. } => push_named(out, b"ok limit ", site.as_bytes()),
     }
 }
 
-/// Starts the store.
-fn start<A: Allocator + Copy>(
-    alloc: A,
-    store: &mut ScriptEnd<A>,
-    out: &mut Vec<u8, A>,
-) -> Result<(), AllocError>
-    ensures { OnOk result ((s : Session A) → Stands store.old s → Leaves store.new out.old.items out.new.items (request_reply s commands.start)) }
+/// The store that starts with what is declared. Where it is refused, nothing changed.
+fn start<A: Allocator + Copy>(alloc: A, setup: &mut Setup<A>) -> Result<World<A>, Refusal>
+    ensures started { IfOk result (λ w. (start_refusal setup.old ≡ None) × IsWorldOf {A = A} w (running setup.old [])) }
+    ensures refused { IfErr result (λ e. (e ≡ Refusal.NoMemory → ⊥) → (start_refusal setup.old ≡ Some e) × (setup.new ≡ setup.old)) }
 {
-    let ScriptEnd::Declared(setup) = store else {
-        return push_refused(out, Refusal::AlreadyStarted);
-    };
     if !setup.is_ready() {
-        return push_refused(out, Refusal::Empty);
+        return Err(Refusal::Empty);
     }
-    let setup = mem::replace(setup, Setup::new(alloc));
-    let Ok(world) = World::start(alloc, setup) else {
-        return Err(AllocError);
-    };
-    *store = ScriptEnd::Running(world);
-    out.extend_from_slice(b"ok start\n")
+    World::start(alloc, mem::replace(setup, Setup::new(alloc)))
 }
 
 /// Lets an action happen.
-fn act_in<A: Allocator + Copy>(
-    alloc: A,
-    store: &mut ScriptEnd<A>,
-    action: &Action<'_>,
-    out: &mut Vec<u8, A>,
-) -> Result<(), AllocError>
-    ensures { OnOk result ((s : Session A) → Stands store.old s → Leaves store.new out.old.items out.new.items (request_reply s (commands.act (action_named action.now)))) }
-{
-    match store {
-        ScriptEnd::Declared(_) => push_refused(out, Refusal::NotStarted),
-        ScriptEnd::Running(world) => answer_action(alloc, world, action, out),
-    }
-}
-
-/// Lets an action happen, after the start.
 fn answer_action<A: Allocator + Copy>(
     alloc: A,
     world: &mut World<A>,
     action: &Action<'_>,
     out: &mut Vec<u8, A>,
 ) -> Result<(), AllocError>
-    ensures { OnOk result ((past : Past A) → StandsFor world.old past → LeavesRunning world.new out.old.items out.new.items (running_reply world.old.primary.setup past (commands.act (action_named action.now)))) }
+    ensures { OnOk result ((s : Session A) → IsWorldOf world.old s → Leaves (IsWorldOf world.new) out.old.items out.new.items (reply_or_refusal s (command_reply s (Command.Act action.now)))) }
 {
-    match event(alloc, world.primary().setup(), action) {
+    match event_of(alloc, world.primary().setup(), action) {
         Ok(event) => answer_event(world, action, event, out),
         Err(refusal) => push_refused(out, refusal),
     }
@@ -173,32 +125,9 @@ fn answer_event<A: Allocator + Copy>(
     event: Event<A>,
     out: &mut Vec<u8, A>,
 ) -> Result<(), AllocError>
-    ensures { OnOk result ((past : Past A) → StandsFor world.old past → LeavesRunning world.new out.old.items out.new.items (event_reply world.old.primary.setup past (action_named action.now) event)) }
+    ensures { OnOk result ((past : Past A) → StandsFor world.old past → Leaves (IsWorldOf world.new) out.old.items out.new.items (event_reply world.old.primary.setup past action.now event)) }
 {
     let answer = world.step(event);
-    let setup = world.primary().setup();
-    push_answer(out, setup, subject(action), object(action), &answer)
-}
-
-/// The site or query that an action names.
-fn subject<'a>(action: &Action<'a>) -> &'a [u8]
-    ensures { result.now ≡ subject_of (action_named action.now) }
-{
-    match action {
-        Action::Propose(_) | Action::Settle => &[],
-        Action::Send(site) | Action::Apply(site) | Action::Report(site) | Action::Show(site) =>
-            site,
-        Action::Begin { query, .. } | Action::Read { query, .. } => query,
-        Action::End(query) | Action::Abandon(query) => query,
-    }
-}
-
-/// The object that an action reads.
-fn object<'a>(action: &Action<'a>) -> &'a [u8]
-    ensures { result.now ≡ object_of (action_named action.now) }
-{
-    match action {
-        Action::Read { object, .. } => object,
-        _ => &[],
-    }
+    let (subject, object) = names_of(action);
+    push_answer(out, world.primary().setup(), subject, object, &answer)
 }

@@ -3,13 +3,14 @@
 //! The one contract above this layer: a line leaves the session and adds the text that the reply to it says.
 #![tactic(auto)]
 
-mod acting;
 mod answers;
-mod declaring;
-mod naming;
+mod changes;
+mod declarations;
+mod events;
+mod places;
 mod script_end;
 
 pub use answers::answer;
-pub use declaring::declare;
-pub use naming::find_set;
+pub use changes::set_in;
+pub use declarations::declare;
 pub use script_end::ScriptEnd;

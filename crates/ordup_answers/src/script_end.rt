@@ -1,3 +1,5 @@
+ghost use Rattle.std.specs.Prelude.{◌≡◌};
+
 use ordup_world::{Setup, World};
 use std::alloc::{Allocator, Global};
 
@@ -18,5 +20,12 @@ impl<A: Allocator + Copy> ScriptEnd<A> {
         ensures { Stands result first_session }
     {
         ScriptEnd::Declared(Setup::new(alloc))
+    }
+
+    /// Goes on with a started store.
+    pub(crate) fn run(&mut self, world: World<A>)
+        ensures { self.new ≡ ScriptEnd.Running world }
+    {
+        *self = ScriptEnd::Running(world);
     }
 }

@@ -2,7 +2,11 @@ pub mod NumberInside
 pub mod Numbers
 pub mod Lines
 pub mod Words
+pub mod Operations
+pub mod ChangeWords
+pub mod ChangeWordsInside
+pub mod Declarations
+pub mod Actions
 pub mod Commands
-pub mod Asked
-pub mod CommandViews
+pub mod Requests
 pub mod Holding

@@ -3,17 +3,25 @@
 //! The one contract above this layer: what a line asks for is a function of its bytes, whether it comes whole or in pieces.
 #![tactic(auto)]
 
-mod asked;
+mod action;
 mod change_words;
 mod command;
+mod declaration;
 mod line_buffer;
 mod number;
+mod operation;
+mod request;
 pub mod sizes;
+mod word;
 mod words;
 
-pub use asked::Asked;
-pub use change_words::{ChangeWord, ChangeWords, Operation};
-pub use command::{Action, Command, Declaration, ScopeWord};
+pub use action::Action;
+pub use change_words::{ChangeWord, ChangeWords};
+pub use command::Command;
+pub use declaration::{Declaration, ScopeWord};
 pub use line_buffer::{LineBuffer, find_line_feed};
 pub use number::{Number, decimals_read_back, numbers_are_decimals};
-pub use words::split_word;
+pub use operation::{NumberOp, Operation};
+pub use request::Request;
+pub use word::Word;
+pub use words::Words;

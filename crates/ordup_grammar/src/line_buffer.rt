@@ -1,10 +1,9 @@
 //! Lines that come in pieces: where one ends, and what no piece has ended yet.
 ghost use Rattle.std.specs.Prelude.{◌≡◌, ℕ, List, [], ◌++◌, ◌<◌, OnOk, true, false, length, position};
 ghost use Rattle.ordup_grammar.specs.Lines.{IsPart, is_line_feed};
-ghost use Rattle.ordup_grammar.specs.Asked.{asked_by};
-ghost use Rattle.ordup_grammar.specs.CommandViews.{asked_named};
+ghost use Rattle.ordup_grammar.specs.Requests.{request_of};
 
-use crate::asked::Asked;
+use crate::request::Request;
 use crate::sizes::MOST_LINE_BYTES;
 use memchr::memchr;
 use std::alloc::{AllocError, Allocator, Global};
@@ -71,14 +70,14 @@ impl<A: Allocator + Copy> LineBuffer<A> {
     }
 
     /// What the line that is held asks for, where it ends here.
-    #[tactic(auto, unfolding(crate::specs::Asked::asked_by))]
-    pub fn asked(&self) -> Asked<'_>
-        ensures { asked_named result ≡ asked_by self.now }
+    #[tactic(auto, unfolding(crate::specs::Requests::request_of))]
+    pub fn request(&self) -> Request<'_>
+        ensures { result ≡ request_of self.now }
     {
         if self.is_long {
-            Asked::NoCommand
+            Request::NoCommand
         } else {
-            Asked::by(&self.bytes)
+            Request::of(&self.bytes)
         }
     }
 

@@ -1,30 +1,98 @@
-ghost use Rattle.std.specs.Prelude.{◌≡◌, [], ◌∷◌, ◌==◌, IsFalse, MatchOption, codes, length, nat_eq, position};
+ghost use Rattle.std.specs.Prelude.{◌≡◌, ◌≤◌, [], ◌∷◌, ◌==◌, ℕ, List, IsFalse, MatchOption, codes, length, nat_eq, position};
 ghost use Rattle.std.specs.List.{slice_split, starts_with};
-ghost use Rattle.ordup_grammar.specs.Words.{words_of};
+ghost use Rattle.ordup_grammar.specs.Words.{words_of, only_word, two_words, name_and_number, only_number};
 
-/// The first word of a line and what follows it, if the line has a word. Words stand between spaces.
-pub fn split_word<'a>(line: &'a [u8]) -> Option<(&'a [u8], &'a [u8])>
-    ensures { MatchOption result (words_of line.now ≡ []) (λ found.
-        words_of line.now ≡ found.0.now ∷ words_of found.1.now) }
-{
-    let line = skip_spaces(line);
-    if line.is_empty() {
-        return None;
+use crate::number::Number;
+use crate::word::Word;
+use std::marker::Model;
+
+/// The words of a line, or those of them that are left. Words stand between spaces.
+#[derive(Debug, Drop)]
+pub struct Words<'a> {
+    line: &'a [u8],
+}
+
+impl<'a> Model for Words<'a> {
+    ghost Value = { List (List ℕ) };
+
+    ghost view = { λ w. words_of w.line.now };
+}
+
+impl<'a> Words<'a> {
+    /// The words of a line.
+    pub fn of(line: &'a [u8]) -> Self
+        ensures { result ≡ words_of line.now }
+    {
+        Words { line }
     }
-    Some(split_once(line, b' ').unwrap_or((line, &[])))
+
+    /// The same words once more. They are no more than the bytes of the line, and one.
+    pub fn copy(&self) -> Words<'a>
+        ensures same { result ≡ self.now }
+        ensures few { length self.now ≤ 9223372036854775808 }
+    {
+        Words { line: self.line }
+    }
+
+    /// Whether there is no word.
+    pub fn is_empty(&self) -> bool
+        ensures { result ≡ (length self.now == 0) }
+    {
+        self.split_first().is_none()
+    }
+
+    /// The first word and those after it, if there is a word.
+    pub fn split_first(&self) -> Option<(Word<'a>, Words<'a>)>
+        ensures { MatchOption result (self.now ≡ []) (λ found. self.now ≡ found.0 ∷ found.1) }
+    {
+        let line = skip_spaces(self.line);
+        if line.is_empty() {
+            return None;
+        }
+        match split_once(line, b' ') {
+            Some((word, rest)) => Some((Word::new(word), Words::of(rest))),
+            None => Some((Word::new(line), Words::of(&[]))),
+        }
+    }
+
+    /// The word, where there is exactly one.
+    pub(crate) fn only_word(&self) -> Option<Word<'a>>
+        ensures { result ≡ only_word self.now }
+    {
+        let (word, rest) = self.split_first()?;
+        if rest.is_empty() { Some(word) } else { None }
+    }
+
+    /// The words, where there are exactly two.
+    pub(crate) fn two_words(&self) -> Option<(Word<'a>, Word<'a>)>
+        ensures { result ≡ two_words self.now }
+    {
+        let (word, rest) = self.split_first()?;
+        let next = rest.only_word()?;
+        Some((word, next))
+    }
+
+    /// The name and the number, where there are exactly these two words.
+    pub(crate) fn name_and_number(&self) -> Option<(Word<'a>, Number)>
+        ensures { result ≡ name_and_number self.now }
+    {
+        let (name, word) = self.two_words()?;
+        let number = Number::parse(word.as_bytes())?;
+        Some((name, number))
+    }
+
+    /// The number, where it is the only word.
+    pub(crate) fn only_number(&self) -> Option<Number>
+        ensures { result ≡ only_number self.now }
+    {
+        Number::parse(self.only_word()?.as_bytes())
+    }
 }
 
-/// Whether a line has no word.
-pub(crate) fn is_blank(line: &[u8]) -> bool
-    ensures { result ≡ (length (words_of line.now) == 0) }
-{
-    split_word(line).is_none()
-}
-
-/// The line without the spaces at its front.
+/// The line without the spaces that it begins with.
 fn skip_spaces(line: &[u8]) -> &[u8]
     ensures words { words_of result.now ≡ words_of line.now }
-    ensures front { IsFalse (starts_with nat_eq result.now (codes " ")) }
+    ensures first { IsFalse (starts_with nat_eq result.now (codes " ")) }
 {
     let mut line = line;
     while let [b' ', rest @ ..] = line {

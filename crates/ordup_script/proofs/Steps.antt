@@ -2,12 +2,13 @@
 use Rattle.std.proofs.Common.{◌≡◌, ◌∙◌, sym, ap, subst, ℕ, ◌<◌, List, [], ◌∷◌, ◌++◌, length}
 use Rattle.ordup_answers.specs.declared.script_end.ScriptEnd.{ScriptEnd}
 use Rattle.ordup_script.specs.declared.engine.Engine.{Engine}
-use Rattle.ordup_answers.specs.Replies.{asked_reply, reply}
+use Rattle.ordup_answers.specs.Replies.{request_reply, reply}
 use Rattle.ordup_script.specs.Answered.{Answers}
-use Rattle.ordup_grammar.specs.Asked.{Asked, asked_by}
+use Rattle.ordup_grammar.specs.Requests.{request_of}
+use Rattle.ordup_grammar.specs.declared.request.Request.{Request}
 use Rattle.ordup_grammar.specs.Lines.{IsPart, Line, cut}
 use Rattle.ordup_answers.specs.Sessions.{Session, Stands}
-use Rattle.ordup_answers.specs.Leaves.{Leaves}
+use Rattle.ordup_answers.specs.Answers.{Leaves}
 use Rattle.ordup_script.specs.Scripts.{Continues, Progress}
 use Rattle.ordup_script.specs.Written.{Written, answered}
 use Rattle.ordup_grammar.specs.Holding.{Holds}
@@ -15,10 +16,10 @@ use Rattle.ordup_script.specs.Held.{Feeds, Finishes}
 use Rattle.ordup_script.proofs.Lines.{Continues-trans, ends, joins, last-line, last-nothing}
 
 -- what was answered is the reply to each line that asks for it
-pub answers_asked : {A : Type 0} (before after : ScriptEnd A) (old new : List ℕ) (wanted : Asked) (line : Line) → wanted ≡ asked_by line
-    → ((s : Session A) → Stands before s → Leaves after old new (asked_reply s wanted)) → Answers before old after new line
+pub answers_asked : {A : Type 0} (before after : ScriptEnd A) (old new : List ℕ) (wanted : Request) (line : Line) → wanted ≡ request_of line
+    → ((s : Session A) → Stands before s → Leaves (Stands after) old new (request_reply s wanted)) → Answers before old after new line
 unfolding reply
-answers_asked {A} before after old new wanted line is h s stands = subst (λ (w : Asked). Leaves {A = A} after old new (asked_reply s w)) is (h s stands)
+answers_asked {A} before after old new wanted line is h s stands = subst (λ (w : Request). Leaves {A = A} (Stands after) old new (request_reply s w)) is (h s stands)
 
 -- one piece after another
 pub Feeds-trans : {A : Type 0} {e f g : Engine A} {a b c x y : List ℕ} → Feeds e a f b x → Feeds f b g c y → Feeds e a g c (x ++ y)

@@ -1,15 +1,19 @@
 -- Plans: declarations, the start, and then proposals alone.
-use Rattle.std.specs.Prelude.{ℕ, ◌+◌, Bool, true, false, List, [], ◌∷◌, ◌++◌, length, Option, Some, None, Result, Ok, Err, if◌then◌else◌}
+use Rattle.std.specs.Prelude.{ℕ, ◌+◌, Bool, true, false, List, [], ◌∷◌, ◌++◌, Result, Ok, Err, if◌then◌else◌}
 use Rattle.ordup_objects.specs.declared.change.Change.{Change}
 use Rattle.ordup_objects.specs.declared.refusal.Refusal.{Refusal}
-use Rattle.ordup_objects.specs.Sets.{set_refusal}
 use Rattle.ordup_primary.specs.Declarations.{Declared, start_refusal}
 use Rattle.ordup_grammar.specs.Lines.{Line}
 use Rattle.ordup_script.specs.Scripts.{after_lines, lines_of}
-use Rattle.ordup_grammar.specs.Commands.{Action, Request, propose, send, apply, report, settle, begin, read, end, abandon, show, declare, start, act}
-use Rattle.ordup_grammar.specs.Asked.{Asked, nothing, no_command, asks, asked_by}
-use Rattle.ordup_answers.specs.Names.{changes_in}
-use Rattle.ordup_answers.specs.Replies.{declaration_refusal, declared_with}
+use Rattle.ordup_grammar.specs.declared.action.Action.TheVariants.{Propose}
+use Rattle.ordup_grammar.specs.declared.command.Command.{Command}
+use Rattle.ordup_grammar.specs.declared.command.Command.TheVariants.{Declare, Start, Act}
+use Rattle.ordup_grammar.specs.Requests.{request_of}
+use Rattle.ordup_grammar.specs.declared.request.Request.{Request}
+use Rattle.ordup_grammar.specs.declared.request.Request.TheVariants as request
+use Rattle.ordup_answers.specs.Changes.{set_in}
+use Rattle.ordup_answers.specs.Declarations.{with_declaration}
+use Rattle.ordup_answers.specs.Refusals.{unless}
 
 -- where a plan stands after some lines: what is declared, whether it is started, the sets, and how many lines there were;
 -- or the number of the first line that does not belong
@@ -18,50 +22,28 @@ pub data PlanState : Type 0 where
   malformed : ℕ → PlanState
 
 -- line k belongs where it is not refused
-abbrev pub belongs_unless : Option Refusal → ℕ → PlanState → PlanState
-belongs_unless None k next = next
-belongs_unless (Some r) k next = malformed k
+abbrev pub belongs_as : {T : Type 0} → ℕ → (T → PlanState) → Result T Refusal → PlanState
+belongs_as k next (Ok x) = next x
+belongs_as k next (Err r) = malformed k
 
--- after line k, before the start
-abbrev pub before_start : Declared → List (List Change) → ℕ → Request → PlanState
-before_start d sets k (declare x) = belongs_unless (declaration_refusal d x) k (planning (declared_with d x) false sets k)
-before_start d sets k start = belongs_unless (start_refusal d) k (planning d true sets k)
-before_start d sets k (act a) = malformed k
-
--- after line k, an action
-abbrev pub action_in : Declared → List (List Change) → ℕ → Action → PlanState
-action_in d sets k (propose changes) =
-    belongs_unless (set_refusal (length d.objects) (changes_in d.objects changes)) k (planning d true (sets ++ changes_in d.objects changes ∷ []) k)
-action_in d sets k (send s) = malformed k
-action_in d sets k (apply s) = malformed k
-action_in d sets k (report s) = malformed k
-action_in d sets k settle = malformed k
-action_in d sets k (begin q s amount) = malformed k
-action_in d sets k (read q x) = malformed k
-action_in d sets k (end q) = malformed k
-action_in d sets k (abandon q) = malformed k
-action_in d sets k (show s) = malformed k
-
--- after line k, after the start
-abbrev pub after_start : Declared → List (List Change) → ℕ → Request → PlanState
-after_start d sets k (declare x) = malformed k
-after_start d sets k start = malformed k
-after_start d sets k (act a) = action_in d sets k a
-
--- after line k, by its request
-abbrev pub request_in : Declared → Bool → List (List Change) → ℕ → Request → PlanState
-request_in d started sets k r = if started then after_start d sets k r else before_start d sets k r
+-- after line k, by its command: a declaration or the start before the start, and a proposal after it
+abbrev pub command_in : Declared → Bool → List (List Change) → ℕ → Command → PlanState
+command_in d false sets k (Declare x) = belongs_as k (λ e. planning e false sets k) (with_declaration d x)
+command_in d false sets k Start = belongs_as k (λ e. planning e true sets k) (unless (start_refusal d) d)
+command_in d true sets k (Act (Propose changes)) =
+    belongs_as k (λ set. planning d true (sets ++ set ∷ []) k) (set_in d.objects changes)
+command_in d started sets k _ = malformed k
 
 -- after one line more, by what it asks for
-abbrev pub asked_in : PlanState → Asked → PlanState
-asked_in (malformed n) asked = malformed n
-asked_in (planning d started sets k) nothing = planning d started sets (k + 1)
-asked_in (planning d started sets k) no_command = malformed (k + 1)
-asked_in (planning d started sets k) (asks r) = request_in d started sets (k + 1) r
+abbrev pub request_in : PlanState → Request → PlanState
+request_in (malformed n) r = malformed n
+request_in (planning d started sets k) request.Nothing = planning d started sets (k + 1)
+request_in (planning d started sets k) request.NoCommand = malformed (k + 1)
+request_in (planning d started sets k) (request.Command c) = command_in d started sets (k + 1) c
 
 -- after one line more
 abbrev pub planned : PlanState → Line → PlanState
-planned s line = asked_in s (asked_by line)
+planned s line = request_in s (request_of line)
 
 -- before the first line
 abbrev pub first_plan : PlanState

@@ -7,7 +7,7 @@ ghost use Rattle.ordup_grammar.specs.Holding.{Holds};
 ghost use Rattle.ordup_script.specs.Written.{start};
 
 use ordup_answers::{ScriptEnd, answer};
-use ordup_grammar::{Asked, LineBuffer, find_line_feed};
+use ordup_grammar::{LineBuffer, Request, find_line_feed};
 use std::alloc::{AllocError, Allocator, Global};
 
 /// Runs a script that comes in pieces. It holds the part of a line that no piece has ended yet.
@@ -34,7 +34,7 @@ impl<A: Allocator + Copy> Engine<A> {
     fn answer_held(&mut self, alloc: A, out: &mut Vec<u8, A>) -> Result<(), AllocError>
         ensures { OnOk result ((part : List ℕ) → Holds self.old.lines part → Answers self.old.store out.old.items self.new.store out.new.items (cut part)) }
     {
-        answer(alloc, &mut self.store, &self.lines.asked(), out)
+        answer(alloc, &mut self.store, &self.lines.request(), out)
     }
 
     /// Answers the line that this part ends.
@@ -44,7 +44,7 @@ impl<A: Allocator + Copy> Engine<A> {
             (part.now ++ 10 ∷ [])) }
     {
         if self.lines.is_empty() {
-            return answer(alloc, &mut self.store, &Asked::by(part), out);
+            return answer(alloc, &mut self.store, &Request::of(part), out);
         }
         self.lines.hold(part)?;
         self.answer_held(alloc, out)?;

@@ -1,12 +1,10 @@
 ghost use Rattle.std.specs.Prelude.{◌≡◌, ◌+◌, ◌<◌, ◌≤◌, true, false, None, [], ◌∷◌, ◌++◌, OnOk};
-ghost use Rattle.ordup_grammar.specs.CommandViews.{asked_named, request_named, declaration_named, named_changes};
-ghost use Rattle.ordup_grammar.specs.Commands as commands;
-ghost use Rattle.ordup_script.specs.Plans.{asked_in, request_in, first_plan, malformed};
+ghost use Rattle.ordup_script.specs.Plans.{request_in, command_in, first_plan, malformed};
 ghost use Rattle.ordup_script.specs.PlanInside.{plan_state};
 ghost use Rattle.ordup_script.specs.PlanRuns.{TellsLine};
 
-use ordup_answers::{declare, find_set};
-use ordup_grammar::{Action, Asked, ChangeWords, Command, Declaration};
+use ordup_answers::{declare, set_in};
+use ordup_grammar::{Action, ChangeWords, Command, Declaration, Request};
 use ordup_objects::{MessageSet, Refusal};
 use ordup_world::Setup;
 use std::alloc::{AllocError, Allocator, Global};
@@ -62,22 +60,19 @@ impl<A: Allocator + Copy> Planning<A> {
     }
 
     /// Takes what the next line asks for.
-    pub(crate) fn take(&mut self, alloc: A, asked: &Asked<'_>) -> Result<(), AllocError>
+    pub(crate) fn take(&mut self, alloc: A, request: &Request<'_>) -> Result<(), AllocError>
         requires { self.old.lines < 9223372036854775808 }
         ensures lines { OnOk result (self.new.lines ≤ self.old.lines + 1) }
-        ensures plan { OnOk result (plan_state self.new ≡ asked_in (plan_state self.old) (asked_named asked.now)) }
+        ensures plan { OnOk result (plan_state self.new ≡ request_in (plan_state self.old) request.now) }
     {
         if self.is_malformed {
             return Ok(());
         }
         self.lines += 1;
-        match asked {
-            Asked::Nothing => Ok(()),
-            Asked::NoCommand => self.reject(),
-            Asked::Words { first, rest } => match Command::parse(first, rest) {
-                Some(command) => self.follow(alloc, &command),
-                None => self.reject(),
-            },
+        match request {
+            Request::Nothing => Ok(()),
+            Request::NoCommand => self.reject(),
+            Request::Command(command) => self.follow(alloc, command),
         }
     }
 
@@ -93,21 +88,21 @@ impl<A: Allocator + Copy> Planning<A> {
     /// Follows a command, where it belongs.
     fn follow(&mut self, alloc: A, command: &Command<'_>) -> Result<(), AllocError>
         requires { self.old.is_malformed ≡ false }
-        ensures plan { OnOk result (plan_state self.new ≡ request_in self.old.setup self.old.is_started self.old.sets.items self.old.lines (request_named command.now)) }
+        ensures plan { OnOk result (plan_state self.new ≡ command_in self.old.setup self.old.is_started self.old.sets.items self.old.lines command.now) }
         ensures lines { OnOk result (self.new.lines ≡ self.old.lines) }
     {
         match command {
             Command::Declare(declaration) => self.declare(alloc, declaration),
             Command::Start => self.start(),
             Command::Act(Action::Propose(words)) => self.propose(alloc, words),
-            Command::Act(_) => self.reject(),
+            _ => self.reject(),
         }
     }
 
     /// Follows a declaration, before the start.
     fn declare(&mut self, alloc: A, declaration: &Declaration<'_>) -> Result<(), AllocError>
         requires { self.old.is_malformed ≡ false }
-        ensures plan { OnOk result (plan_state self.new ≡ request_in self.old.setup self.old.is_started self.old.sets.items self.old.lines (commands.declare (declaration_named declaration.now))) }
+        ensures plan { OnOk result (plan_state self.new ≡ command_in self.old.setup self.old.is_started self.old.sets.items self.old.lines (Command.Declare declaration.now)) }
         ensures lines { OnOk result (self.new.lines ≡ self.old.lines) }
     {
         if self.is_started {
@@ -123,7 +118,7 @@ impl<A: Allocator + Copy> Planning<A> {
     /// Follows the start, where there is none yet.
     fn start(&mut self) -> Result<(), AllocError>
         requires { self.old.is_malformed ≡ false }
-        ensures plan { OnOk result (plan_state self.new ≡ request_in self.old.setup self.old.is_started self.old.sets.items self.old.lines commands.start) }
+        ensures plan { OnOk result (plan_state self.new ≡ command_in self.old.setup self.old.is_started self.old.sets.items self.old.lines Command.Start) }
         ensures lines { OnOk result (self.new.lines ≡ self.old.lines) }
     {
         if self.is_started || !self.setup.is_ready() {
@@ -136,13 +131,13 @@ impl<A: Allocator + Copy> Planning<A> {
     /// Follows a proposal, after the start.
     fn propose(&mut self, alloc: A, words: &ChangeWords<'_>) -> Result<(), AllocError>
         requires { self.old.is_malformed ≡ false }
-        ensures plan { OnOk result (plan_state self.new ≡ request_in self.old.setup self.old.is_started self.old.sets.items self.old.lines (commands.act (commands.propose (named_changes words.now)))) }
+        ensures plan { OnOk result (plan_state self.new ≡ command_in self.old.setup self.old.is_started self.old.sets.items self.old.lines (Command.Act (Action.Propose words.now))) }
         ensures lines { OnOk result (self.new.lines ≡ self.old.lines) }
     {
         if !self.is_started {
             return self.reject();
         }
-        match find_set(alloc, self.setup.objects(), words) {
+        match set_in(alloc, self.setup.objects(), words) {
             Ok(set) => self.add(set),
             Err(Refusal::NoMemory) => Err(AllocError),
             Err(_) => self.reject(),

@@ -4,13 +4,13 @@ ghost use Rattle.ordup_grammar.specs.Lines.{IsPart, cut};
 ghost use Rattle.ordup_script.specs.Scripts.{Progress, last};
 ghost use Rattle.ordup_grammar.specs.Holding.{Holds};
 ghost use Rattle.ordup_script.specs.declared.sizes.TheConstants.{MOST_SCRIPT_BYTES};
-ghost use Rattle.ordup_script.specs.Plans.{PlanState, asked_in, planned, plan_result};
+ghost use Rattle.ordup_script.specs.Plans.{PlanState, request_in, planned, plan_result};
 ghost use Rattle.ordup_script.specs.PlanInside.{plan_state};
 ghost use Rattle.ordup_script.specs.PlanRuns.{IsPlanAt, PassesPlan, PassesWhole, ReadsBy, ReadsPlan, Tells, plan_start};
 
 use crate::plan::{Plan, Planning};
 use crate::sizes::{MOST_SCRIPT_BYTES, PIECE};
-use ordup_grammar::{Asked, LineBuffer, find_line_feed};
+use ordup_grammar::{LineBuffer, Request, find_line_feed};
 use std::alloc::{AllocError, Allocator, Global};
 use std::io::Read;
 
@@ -55,7 +55,7 @@ impl<A: Allocator + Copy> PlanReader<A> {
         ensures plan { OnOk result ((part : List ℕ) → Holds self.old.lines part → plan_state self.new.plan ≡ planned (plan_state self.old.plan) (cut part)) }
         ensures lines { OnOk result (self.new.plan.lines ≤ self.old.plan.lines + 1) }
     {
-        self.plan.take(alloc, &self.lines.asked())
+        self.plan.take(alloc, &self.lines.request())
     }
 
     /// Takes the line that this part ends.
@@ -66,7 +66,7 @@ impl<A: Allocator + Copy> PlanReader<A> {
         ensures lines { OnOk result (self.new.plan.lines ≤ self.old.plan.lines + 1) }
     {
         if self.lines.is_empty() {
-            return self.plan.take(alloc, &Asked::by(part));
+            return self.plan.take(alloc, &Request::of(part));
         }
         self.lines.hold(part)?;
         self.take_held(alloc)?;

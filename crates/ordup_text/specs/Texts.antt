@@ -15,6 +15,10 @@ use Rattle.ordup_world.specs.declared.event.Answer.TheVariants.{Proposed, Sent, 
 abbrev pub refused_text : Refusal → List ℕ
 refused_text r = codes "refused " ++ decimal (refusal_number r) ++ 32 ∷ [] ++ refusal_name r ++ 10 ∷ []
 
+-- `ok start`
+abbrev pub started_text : List ℕ
+started_text = codes "ok start" ++ 10 ∷ []
+
 -- what was done, and a name
 abbrev pub named_text : List ℕ → List ℕ → List ℕ
 named_text done name = done ++ name ++ 10 ∷ []

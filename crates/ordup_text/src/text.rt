@@ -1,7 +1,7 @@
 //! The text of answers.
 ghost use Rattle.std.specs.Prelude.{◌≡◌, ◌++◌, ◌∷◌, [], OnOk, length, slice_index_or};
 ghost use Rattle.std.specs.Fmt.{decimal, signed_decimal};
-ghost use Rattle.ordup_text.specs.Texts.{refused_text, named_text, done_text, numbered_text, value_text, values_text, shown_text, sites_text, listed_text, settled_text, read_text, ended_text, answer_text};
+ghost use Rattle.ordup_text.specs.Texts.{refused_text, started_text, named_text, done_text, numbered_text, value_text, values_text, shown_text, sites_text, listed_text, settled_text, read_text, ended_text, answer_text};
 
 use itoa::Buffer;
 use ordup_objects::{Name, ObjectId, ObjectTable, Refusal, SiteId};
@@ -67,6 +67,13 @@ pub fn push_refused<A: Allocator + Copy>(
 
 /// The number of the refusal for want of memory.
 const NO_MEMORY: u8 = 26;
+
+/// Adds the answer to the start.
+pub fn push_started<A: Allocator + Copy>(out: &mut Vec<u8, A>) -> Result<(), AllocError>
+    ensures { OnOk result (out.new.items ≡ out.old.items ++ started_text) }
+{
+    out.extend_from_slice(b"ok start\n")
+}
 
 /// Adds an answer that ends with a name.
 pub fn push_named<A: Allocator + Copy>(

@@ -9,7 +9,7 @@ pub returns-then-is_empty : goal.returns-then-is_empty
 returns-then-is_empty g c =
     on_ok_weaker c.answer.result (λ h.
     answers_part c.args.self.now _ c.args.out.now.items c.answer.new.out.items c.args.part.now c.requires (λ held is. c.is_empty.ensures.empty held is c.if-is_empty.true)
-    (answers_asked _ _ _ _ _ (cut c.args.part.now) c.by.ensures h) refl) c.answer.ensures
+    (answers_asked _ _ _ _ _ (cut c.args.part.now) c.of.ensures h) refl) c.answer.ensures
 
 pub returns : goal.returns
 returns g c =

@@ -1,0 +1,159 @@
+-- A set with the nearest numbers is refused as the set is, and is the set where it is accepted.
+use Rattle.std.proofs.Common.{
+  ◌≡◌,
+  ◌∙◌,
+  sym,
+  refl,
+  ap,
+  ℕ,
+  ◌<◌,
+  ◌≤◌,
+  ℤ,
+  Bool,
+  true,
+  ◌==◌,
+  List,
+  [],
+  ◌∷◌,
+  length,
+  Option,
+  Some,
+  None,
+  inl,
+  inr,
+  arith,
+}
+use Rattle.std.specs.Prelude.{unsigned_abs, Result, Ok, Err, IfOk, IfErr}
+use Rattle.std.specs.List.{list_all, list_any}
+use Rattle.std.proofs.lemmas.Bool.{cases_Bool, cases_lt, leb-true, lt-leb}
+use Rattle.std.proofs.lemmas.Int.{ints}
+use Rattle.std.proofs.lemmas.List.{length-map}
+use Rattle.ordup_objects.specs.declared.change.Change.{Change}
+use Rattle.ordup_objects.specs.declared.refusal.Refusal.{Refusal}
+use Rattle.ordup_objects.specs.declared.refusal.Refusal.TheVariants.{OutOfRange, UnknownObject}
+use Rattle.ordup_objects.specs.States.{in_range}
+use Rattle.ordup_objects.specs.Sets.{set_refusal, is_over, is_op_in_range, reads_known, repeats}
+use Rattle.ordup_grammar.specs.declared.change_words.ChangeWord.{ChangeWord}
+use Rattle.ordup_grammar.specs.declared.operation.NumberOp.{NumberOp}
+use Rattle.ordup_grammar.specs.declared.operation.NumberOp.TheVariants.{Add}
+use Rattle.ordup_grammar.specs.declared.operation.Operation.{Operation}
+use Rattle.ordup_grammar.specs.declared.operation.Operation.TheVariants.{WithNumber, Take}
+use Rattle.ordup_answers.specs.Changes.{op_with, op_in, change_in, changes_in, set_in}
+use Rattle.ordup_answers.specs.NearestNumbers.{nearest, nearest_operation, nearest_change, nearest_changes}
+use Rattle.ordup_answers.specs.Refusals.{Gives}
+
+-- ---- numbers
+
+nearest-exact : (z : ℤ) → unsigned_abs z ≤ 1000000000 → nearest z ≡ z
+nearest-exact z close = grind (arith, ints)
+
+nearest-far : (z : ℤ) → 1000000000 < unsigned_abs z → 1000000000 < unsigned_abs (nearest z)
+nearest-far z far = grind (arith, ints)
+
+pub in_range-nearest : (z : ℤ) → in_range (nearest z) ≡ in_range z
+in_range-nearest z = elim (cases_lt 1000000000 (unsigned_abs z)) [
+  | inl out ↦
+      lt-leb (unsigned_abs (nearest z)) 1000000000 (nearest-far z out) ∙ sym (lt-leb (unsigned_abs z) 1000000000 out)
+  | inr within ↦ ap in_range (nearest-exact z within)
+]
+
+-- what is in range is its own nearest number
+nearest-in_range : (z : ℤ) → in_range z ≡ true → nearest z ≡ z
+nearest-in_range z within = nearest-exact z (omega (arith, leb-true (unsigned_abs z) 1000000000 within))
+
+-- ---- operations with a number
+
+-- such an operation reads no object but its own
+reads_known-op_with : (n : ℕ) (kind : NumberOp) (z : ℤ) → reads_known n (op_with kind z) ≡ true
+reads_known-op_with n Add z = refl
+reads_known-op_with n _ z = refl
+
+is_op_in_range-op_with : (kind : NumberOp) (z : ℤ) → is_op_in_range (op_with kind z) ≡ in_range z
+is_op_in_range-op_with Add z = refl
+is_op_in_range-op_with _ z = refl
+
+-- ---- sets
+
+module _ (objects : List (List ℕ × ℤ)) where
+  reads_known-nearest : (n : ℕ) (o : Operation) → reads_known n (op_in objects (nearest_operation o)) ≡ reads_known n (op_in objects o)
+  reads_known-nearest n (WithNumber kind z) = reads_known-op_with n kind (nearest z) ∙ sym (reads_known-op_with n kind z)
+  reads_known-nearest n (Take y) = refl
+
+  is_op_in_range-nearest : (o : Operation) → is_op_in_range (op_in objects (nearest_operation o)) ≡ is_op_in_range (op_in objects o)
+  is_op_in_range-nearest (WithNumber kind z) =
+      is_op_in_range-op_with kind (nearest z) ∙ in_range-nearest z ∙ sym (is_op_in_range-op_with kind z)
+  is_op_in_range-nearest (Take y) = refl
+
+  is_over-nearest : (n : ℕ) (m : List ChangeWord) → is_over n (changes_in objects (nearest_changes m)) ≡ is_over n (changes_in objects m)
+  is_over-nearest n [] = refl
+  is_over-nearest n (c ∷ m) = rw (reads_known-nearest n c.operation, is_over-nearest n m) refl
+
+  -- each number is in range
+  abbrev are_in_range : List ChangeWord → Bool
+  are_in_range m = list_all (λ (c : Change). is_op_in_range c.op) (changes_in objects m)
+
+  are_in_range-nearest : (m : List ChangeWord) → are_in_range (nearest_changes m) ≡ are_in_range m
+  are_in_range-nearest [] = refl
+  are_in_range-nearest (c ∷ m) = rw (is_op_in_range-nearest c.operation, are_in_range-nearest m) refl
+
+  -- an object is changed
+  abbrev is_changed : ℕ → List ChangeWord → Bool
+  is_changed x m = list_any (λ (d : Change). d.object == x) (changes_in objects m)
+
+  is_changed-nearest : (x : ℕ) (m : List ChangeWord) → is_changed x (nearest_changes m) ≡ is_changed x m
+  is_changed-nearest x [] = refl
+  is_changed-nearest x (c ∷ m) = rw (is_changed-nearest x m) refl
+
+  repeats-nearest : (m : List ChangeWord) → repeats (changes_in objects (nearest_changes m)) ≡ repeats (changes_in objects m)
+  repeats-nearest [] = refl
+  repeats-nearest (c ∷ m) = rw (is_changed-nearest (change_in objects c).object m, repeats-nearest m) refl
+
+  -- why changes are no message set
+  abbrev refusal_of : List ChangeWord → Option Refusal
+  refusal_of m = set_refusal (length objects) (changes_in objects m)
+
+  set_refusal-nearest : (m : List ChangeWord) → refusal_of (nearest_changes m) ≡ refusal_of m
+  set_refusal-nearest m =
+      let lengths : length (changes_in objects (nearest_changes m)) ≡ length (changes_in objects m) = simp length-map in
+      rw (is_over-nearest (length objects) m, are_in_range-nearest m, lengths, repeats-nearest m) refl
+
+  -- ---- what is accepted
+
+  nearest_operation-in_range : (o : Operation) → is_op_in_range (op_in objects o) ≡ true → nearest_operation o ≡ o
+  nearest_operation-in_range (WithNumber kind z) within =
+      ap (λ n. WithNumber kind n) (nearest-in_range z (sym (is_op_in_range-op_with kind z) ∙ within))
+  nearest_operation-in_range (Take y) within = refl
+
+  nearest_change-in_range : (c : ChangeWord) → is_op_in_range (op_in objects c.operation) ≡ true → nearest_change c ≡ c
+  nearest_change-in_range c within =
+      let with : Operation → ChangeWord = λ o. record { object = c.object; operation = o } in
+      ap with (nearest_operation-in_range c.operation within)
+
+  nearest_changes-in_range : (m : List ChangeWord) → are_in_range m ≡ true → nearest_changes m ≡ m
+  nearest_changes-in_range [] within = refl
+  nearest_changes-in_range (c ∷ m) within = elim (cases_Bool (is_op_in_range (op_in objects c.operation))) [
+    | inl here ↦ rw (nearest_change-in_range c here, nearest_changes-in_range m (rw here at within)) refl
+    | inr out ↦ absurd (let e = rw out at within in cc)
+  ]
+
+  are_in_range-allowed : (m : List ChangeWord) → refusal_of m ≡ None → are_in_range m ≡ true
+  are_in_range-allowed m allowed = elim (cases_Bool (are_in_range m)) [
+    | inl within ↦ within
+    | inr out ↦ elim (cases_Bool (is_over (length objects) (changes_in objects m))) [
+      | inl known ↦ absurd (let refused : refusal_of m ≡ Some OutOfRange = rw (known, out) refl in cc)
+      | inr unknown ↦ absurd (let refused : refusal_of m ≡ Some UnknownObject = rw unknown refl in cc)
+    ]
+  ]
+
+  -- ---- the set that is made of the nearest numbers
+
+  pub set_made : (r : Result (List Change) Refusal) (m : List ChangeWord) (items : List Change) → items ≡ changes_in objects (nearest_changes m)
+      → IfOk r (λ set. set ≡ items) → IfOk r (λ _. set_refusal (length objects) items ≡ None)
+      → IfErr r (λ e. set_refusal (length objects) items ≡ Some e) → Gives (set_in objects m) r
+  set_made (Ok set) m items is made allowed refused =
+      let fine : refusal_of m ≡ None = sym (set_refusal-nearest m) ∙ ap (set_refusal (length objects)) (sym is) ∙ allowed in
+      let same : changes_in objects m ≡ set = ap (changes_in objects) (sym (nearest_changes-in_range m (are_in_range-allowed m fine))) ∙ sym is ∙ sym made in
+      rw (fine, same) refl
+  set_made (Err e) m items is made allowed refused =
+      let same : refusal_of m ≡ Some e = sym (set_refusal-nearest m) ∙ ap (set_refusal (length objects)) (sym is) ∙ refused in
+      inl (rw same refl)

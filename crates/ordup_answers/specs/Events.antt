@@ -1,0 +1,59 @@
+-- The events that the actions of a script stand for.
+use Rattle.std.specs.Prelude.{ℕ, List, [], length, Result, Ok, Err, nat_lt, if◌then◌else◌}
+use Rattle.ordup_objects.specs.Names.{is_name}
+use Rattle.ordup_objects.specs.declared.refusal.Refusal.{Refusal}
+use Rattle.ordup_objects.specs.declared.refusal.Refusal.TheVariants.{BadName, UnknownObject, UnknownQuery}
+use Rattle.ordup_primary.specs.Declarations.{Declared}
+use Rattle.ordup_world.specs.declared.event.Event.{Event}
+use Rattle.ordup_world.specs.declared.event.Event.TheVariants as event
+use Rattle.ordup_grammar.specs.Numbers.{amount_of}
+use Rattle.ordup_grammar.specs.declared.action.Action.{Action}
+use Rattle.ordup_grammar.specs.declared.action.Action.TheVariants.{
+  Propose,
+  Send,
+  Apply,
+  Report,
+  Settle,
+  Begin,
+  Read,
+  End,
+  Abandon,
+  Show,
+}
+use Rattle.ordup_answers.specs.Changes.{set_in}
+use Rattle.ordup_answers.specs.Places.{place_among}
+use Rattle.ordup_answers.specs.Refusals.{made_of}
+
+-- the name of a query: none is open by what is no name
+abbrev pub query_name : List ℕ → Result (List ℕ) Refusal
+query_name q = if is_name q then Ok q else Err UnknownQuery
+
+module _ {A : Type 0} where
+  -- the event that an action stands for, or why there is none
+  abbrev pub event_of : Declared → Action → Result (Event A) Refusal
+  event_of d (Propose changes) = made_of (λ set. event.Propose set) (set_in d.objects changes)
+  event_of d (Send s) = Ok (event.Send (place_among d.sites s))
+  event_of d (Apply s) = Ok (event.Apply (place_among d.sites s))
+  event_of d (Report s) = Ok (event.Report (place_among d.sites s))
+  event_of d Settle = Ok event.Settle
+  event_of d (Begin q s limit) =
+      if is_name q then Ok (event.Begin q (place_among d.sites s) (amount_of limit)) else Err BadName
+  event_of d (Read q x) =
+      let object = place_among d.objects x in
+      if nat_lt object (length d.objects) then made_of (λ name. event.Read name object) (query_name q) else Err UnknownObject
+  event_of d (End q) = made_of (λ name. event.End name) (query_name q)
+  event_of d (Abandon q) = made_of (λ name. event.Abandon name) (query_name q)
+  event_of d (Show s) = Ok (event.Show (place_among d.sites s))
+
+-- the names in an action that its answer may tell: of a site or a query, and of an object
+abbrev pub names_of : Action → List ℕ × List ℕ
+names_of (Propose changes) = ([], [])
+names_of (Send s) = (s, [])
+names_of (Apply s) = (s, [])
+names_of (Report s) = (s, [])
+names_of Settle = ([], [])
+names_of (Begin q s limit) = (q, [])
+names_of (Read q x) = (q, x)
+names_of (End q) = (q, [])
+names_of (Abandon q) = (q, [])
+names_of (Show s) = (s, [])

@@ -1,0 +1,89 @@
+//! Declarations of a script to those of a setup.
+ghost use Rattle.ordup_answers.specs.Declarations.{with_declaration};
+ghost use Rattle.ordup_answers.specs.Refusals.{Makes};
+
+use crate::places::{find_objects, find_scope, find_site};
+use ordup_grammar::{Declaration, Number, ScopeWord, Word, Words};
+use ordup_objects::Refusal;
+use ordup_world::Setup;
+use std::alloc::Allocator;
+
+/// Declares what a declaration says, or refuses it as the setup does. It is refused `NoMemory` too.
+pub fn declare<A: Allocator + Copy>(
+    alloc: A,
+    setup: &mut Setup<A>,
+    declaration: &Declaration<'_>,
+) -> Result<(), Refusal>
+    ensures { Makes (with_declaration setup.old declaration.now) setup.old setup.new result }
+{
+    match declaration {
+        Declaration::Object { name, initial } => declare_object(setup, name, *initial),
+        Declaration::Group { name, members } => declare_group(alloc, setup, name, members),
+        Declaration::Site { name, capacity } => declare_site(setup, name, *capacity),
+        Declaration::Limit {
+            site,
+            scope,
+            amount,
+        } => declare_limit(setup, site, scope, *amount),
+    }
+}
+
+/// Declares an object.
+fn declare_object<A: Allocator + Copy>(
+    setup: &mut Setup<A>,
+    name: &Word<'_>,
+    initial: Number,
+) -> Result<(), Refusal>
+    ensures { Makes (with_declaration setup.old (Declaration.Object name.now initial)) setup.old setup.new result }
+{
+    match setup.object(name.as_bytes(), initial.value()) {
+        Ok(_) => Ok(()),
+        Err(refusal) => Err(refusal),
+    }
+}
+
+/// Declares a group, whose members are what words name.
+fn declare_group<A: Allocator + Copy>(
+    alloc: A,
+    setup: &mut Setup<A>,
+    name: &Word<'_>,
+    members: &Words<'_>,
+) -> Result<(), Refusal>
+    ensures { Makes (with_declaration setup.old (Declaration.Group name.now members.now)) setup.old setup.new result }
+{
+    let Ok(members) = find_objects(alloc, setup.objects(), members) else {
+        return Err(Refusal::NoMemory);
+    };
+    match setup.group(name.as_bytes(), &members) {
+        Ok(_) => Ok(()),
+        Err(refusal) => Err(refusal),
+    }
+}
+
+/// Declares a site.
+fn declare_site<A: Allocator + Copy>(
+    setup: &mut Setup<A>,
+    name: &Word<'_>,
+    capacity: Number,
+) -> Result<(), Refusal>
+    ensures { Makes (with_declaration setup.old (Declaration.Site name.now capacity)) setup.old setup.new result }
+{
+    match setup.site(name.as_bytes(), capacity.amount()) {
+        Ok(_) => Ok(()),
+        Err(refusal) => Err(refusal),
+    }
+}
+
+/// Declares a limit of a site.
+fn declare_limit<A: Allocator + Copy>(
+    setup: &mut Setup<A>,
+    site: &Word<'_>,
+    scope: &ScopeWord<'_>,
+    amount: Number,
+) -> Result<(), Refusal>
+    ensures { Makes (with_declaration setup.old (Declaration.Limit site.now scope.now amount)) setup.old setup.new result }
+{
+    let site = find_site(setup, site);
+    let scope = find_scope(setup, scope);
+    setup.limit(site, scope, amount.amount())
+}

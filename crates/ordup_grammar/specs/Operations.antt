@@ -1,0 +1,24 @@
+-- What a change does to its object's value, as the first and the last part of a change word spell it.
+use Rattle.std.specs.Prelude.{ℕ, List, Option, Some, None, option_map, option_and_then, codes, length, ◌==◌, if◌then◌else◌}
+use Rattle.std.specs.Str.{bytes_eq}
+use Rattle.ordup_grammar.specs.Numbers.{number_of}
+use Rattle.ordup_grammar.specs.declared.operation.NumberOp.{NumberOp}
+use Rattle.ordup_grammar.specs.declared.operation.NumberOp.TheVariants.{Add, Set, Mul, Max, Min}
+use Rattle.ordup_grammar.specs.declared.operation.Operation.{Operation}
+use Rattle.ordup_grammar.specs.declared.operation.Operation.TheVariants.{WithNumber, Take}
+
+-- the operation by a number that a word spells
+abbrev pub number_op_of : List ℕ → Option NumberOp
+number_op_of kind =
+    if bytes_eq kind (codes "add") then Some Add
+    else if bytes_eq kind (codes "set") then Some Set
+    else if bytes_eq kind (codes "mul") then Some Mul
+    else if bytes_eq kind (codes "max") then Some Max
+    else if bytes_eq kind (codes "min") then Some Min
+    else None
+
+-- the operation that a kind and an operand spell
+abbrev pub operation_of : List ℕ → List ℕ → Option Operation
+operation_of kind operand =
+    if bytes_eq kind (codes "take") then (if length operand == 0 then None else Some (Take operand))
+    else option_and_then (λ op. option_map (λ n. WithNumber op n) (number_of operand)) (number_op_of kind)

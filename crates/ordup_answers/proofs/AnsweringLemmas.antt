@@ -4,7 +4,7 @@ use Rattle.ordup_objects.specs.declared.refusal.Refusal.TheVariants.{NoMemory}
 use Rattle.ordup_primary.specs.Declarations.{Declared, start_refusal}
 use Rattle.ordup_world.specs.Events.{later, Past, IsAnswer}
 use Rattle.ordup_world.specs.Events.{reply as event_answer}
-use Rattle.ordup_world.specs.Standings.{Standing, StandsFor}
+use Rattle.ordup_world.specs.Worlds.{WorldState, StandsFor}
 use Rattle.ordup_world.specs.declared.event.Event.{Event}
 use Rattle.ordup_world.specs.declared.event.Answer.{Answer}
 use Rattle.ordup_world.specs.declared.event.Answer.TheVariants.{Refused}
@@ -28,22 +28,21 @@ module _ {A : Type 0} where
   answered setup past e answer (inr no_memory) other = absurd (other no_memory.2)
 
   -- what is left by an event
-  pub left_by_event : (w v : Standing) (past : Past A) (a : Action) (e : Event A) (answer : Answer A)
-      → IsAnswer w.primary.setup past e answer → StandsFor v (later past e answer) → v.primary.setup ≡ w.primary.setup
-      → (answer ≡ Refused NoMemory → ⊥)
-      → (setup : Declared) (subject object old new : List ℕ) → setup ≡ w.primary.setup → (subject, object) ≡ names_of a
+  pub left_by_event : (d : Declared) (v : WorldState) (past : Past A) (a : Action) (e : Event A) (answer : Answer A)
+      → IsAnswer d past e answer → StandsFor d v (later past e answer) → (answer ≡ Refused NoMemory → ⊥)
+      → (setup : Declared) (subject object old new : List ℕ) → setup ≡ d → (subject, object) ≡ names_of a
       → new ≡ old ++ answer_text setup subject object answer
-      → Leaves (IsWorldOf v) old new (event_reply w.primary.setup past a e)
-  left_by_event w v past a e answer is state kept other setup subject object old new same named text =
-      let replied = answered w.primary.setup past e answer is other in
+      → Leaves (IsWorldOf v) old new (event_reply d past a e)
+  left_by_event d v past a e answer is state other setup subject object old new same named text =
+      let replied = answered d past e answer is other in
       let text_in : Declared → List ℕ × List ℕ → Answer A → List ℕ = λ d names given. old ++ answer_text d names.0 names.1 given in (
-        (kept, subst (λ given. StandsFor v (later past e given)) replied state),
-        text ∙ ap (λ d. text_in d (subject, object) answer) same ∙ ap (λ names. text_in w.primary.setup names answer) named
-            ∙ ap (text_in w.primary.setup (names_of a)) replied,
+        subst (λ given. StandsFor d v (later past e given)) replied state,
+        text ∙ ap (λ d. text_in d (subject, object) answer) same ∙ ap (λ names. text_in d names answer) named
+            ∙ ap (text_in d (names_of a)) replied,
       )
 
   -- what is left by a start
-  pub left_by_start : (d : Declared) (w : Standing) (old new : List ℕ) → (start_refusal d ≡ None) × IsWorldOf {A = A} w (running d [])
+  pub left_by_start : (d : Declared) (w : WorldState) (old new : List ℕ) → (start_refusal d ≡ None) × IsWorldOf {A = A} w (running d [])
       → new ≡ old ++ started_text → (s : Session A) → Declares d s
       → Leaves (IsWorldOf w) old new (reply_or_refusal s (command_reply s Start))
   left_by_start d w old new (ready, started) text s is =

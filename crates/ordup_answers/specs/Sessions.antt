@@ -2,7 +2,7 @@
 use Rattle.std.specs.Prelude.{◌≡◌, []}
 use Rattle.ordup_primary.specs.Declarations.{Declared}
 use Rattle.ordup_world.specs.Events.{Past}
-use Rattle.ordup_world.specs.Standings.{Standing, StandsFor}
+use Rattle.ordup_world.specs.Worlds.{WorldState, StandsFor}
 use Rattle.ordup_answers.specs.declared.script_end.ScriptEnd.{ScriptEnd}
 use Rattle.ordup_answers.specs.declared.script_end.ScriptEnd.TheVariants as variant
 
@@ -20,10 +20,10 @@ abbrev pub Declares : {A : Type 0} → Declared → Session A → Type 0
 Declares setup (declaring d) = setup ≡ d
 Declares setup (running d past) = ⊥
 
--- the world was started with the session's setup, and stands for its accepted events
-abbrev pub IsWorldOf : {A : Type 0} → Standing → Session A → Type 0
+-- the world stands for what the session declared and for its accepted events
+abbrev pub IsWorldOf : {A : Type 0} → WorldState → Session A → Type 0
 IsWorldOf w (declaring d) = ⊥
-IsWorldOf w (running d past) = (w.primary.setup ≡ d) × StandsFor w past
+IsWorldOf w (running d past) = StandsFor d w past
 
 -- the script stands where the session does
 abbrev pub Stands : {A : Type 0} → ScriptEnd A → Session A → Type 0

@@ -1,11 +1,11 @@
 //! What a line is answered: what its command does to the setup or to the world, and the text that says so.
 ghost use Rattle.std.specs.Prelude.{◌≡◌, ◌++◌, [], None, Some, IfOk, IfErr, OnOk};
-ghost use Rattle.ordup_world.specs.Standings.{StandsFor};
+ghost use Rattle.ordup_world.specs.Worlds.{StandsFor};
 ghost use Rattle.ordup_world.specs.Events.{Past};
 ghost use Rattle.ordup_answers.specs.Sessions.{Session, Declares, IsWorldOf, Stands};
 ghost use Rattle.ordup_answers.specs.Replies.{request_reply, command_reply, reply_or_refusal, event_reply, declared_text};
 ghost use Rattle.ordup_answers.specs.Sessions.{running};
-ghost use Rattle.ordup_primary.specs.Declarations.{start_refusal};
+ghost use Rattle.ordup_primary.specs.Declarations.{Declared, start_refusal};
 ghost use Rattle.ordup_answers.specs.Answers.{Leaves};
 
 use crate::declarations::declare;
@@ -125,7 +125,7 @@ fn answer_event<A: Allocator + Copy>(
     event: Event<A>,
     out: &mut Vec<u8, A>,
 ) -> Result<(), AllocError>
-    ensures { OnOk result ((past : Past A) → StandsFor world.old past → Leaves (IsWorldOf world.new) out.old.items out.new.items (event_reply world.old.primary.setup past action.now event)) }
+    ensures { OnOk result ((d : Declared) (past : Past A) → StandsFor d world.old past → Leaves (IsWorldOf world.new) out.old.items out.new.items (event_reply d past action.now event)) }
 {
     let answer = world.step(event);
     let (subject, object) = names_of(action);

@@ -7,9 +7,9 @@ use Rattle.ordup_answers.proofs.answers.answer_event.Goals as goal
 pub returns : goal.returns
 returns g c =
     let stepped = c.step-answer.ensures in
-    let same = c.setup.ensures ∙ ap (λ (p : PrimaryState). p.setup) c.primary.ensures.primary ∙ stepped.setup in
-    on_ok_weaker c.push_answer.result (λ h past is.
-    left_by_event c.args.world.now c.step-answer.new.self past c.args.action.now c.args.event c.step-answer.result
-    (stepped.answer past is) (stepped.state past is) stepped.setup h.0
+    on_ok_weaker c.push_answer.result (λ h d past is.
+    let after = stepped.state d past is in
+    left_by_event d c.step-answer.new.self past c.args.action.now c.args.event c.step-answer.result
+    (stepped.answer d past is) after h.0
     c.setup.result.now c.names_of.result.0.now c.names_of.result.1.now c.args.out.now.items c.push_answer.new.out.items
-    same c.names_of.ensures h.1) c.push_answer.ensures
+    (c.setup.ensures ∙ ap (λ (p : PrimaryState). p.setup) c.primary.ensures.primary ∙ after.store.declared) c.names_of.ensures h.1) c.push_answer.ensures

@@ -1,6 +1,6 @@
 use Rattle.std.proofs.Common.{◌≡◌, rules, length}
 use Rattle.ordup_log.specs.Groups.{group_refusal}
-use Rattle.ordup_answers.specs.Declarations.{with_group}
+use Rattle.ordup_primary.specs.Declarations.{with_group}
 use Rattle.ordup_answers.specs.Places.{places_among}
 use Rattle.ordup_answers.proofs.RefusalLemmas.{refused_by_call}
 use Rattle.ordup_answers.proofs.declarations.declare_group.Goals as goal

@@ -1,7 +1,7 @@
 use Rattle.std.proofs.Common.{rules, w64}
 use Rattle.std.proofs.lemmas.Int.{to_z-of_z}
 use Rattle.ordup_objects.specs.Tables.{object_refusal}
-use Rattle.ordup_answers.specs.Declarations.{with_object}
+use Rattle.ordup_primary.specs.Declarations.{with_object}
 use Rattle.ordup_answers.proofs.RefusalLemmas.{refused_by_call}
 use Rattle.ordup_answers.proofs.NearestNumberLemmas.{in_range-nearest}
 use Rattle.ordup_answers.proofs.declarations.declare_object.Goals as goal

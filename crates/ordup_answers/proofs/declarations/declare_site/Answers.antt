@@ -1,6 +1,6 @@
 use Rattle.ordup_primary.specs.Declarations.{site_refusal}
 use Rattle.ordup_grammar.specs.Numbers.{amount_of}
-use Rattle.ordup_answers.specs.Declarations.{with_site}
+use Rattle.ordup_primary.specs.Declarations.{with_site}
 use Rattle.ordup_answers.proofs.RefusalLemmas.{refused_by_call}
 use Rattle.ordup_answers.proofs.declarations.declare_site.Goals as goal
 

@@ -9,9 +9,6 @@ use Rattle.ordup_script.specs.PlanInside.{plan_state}
 use Rattle.ordup_script.specs.PlanRuns.{FeedsPlan, IsPlanAt}
 use Rattle.ordup_script.proofs.Lines.{Continues-nil, Continues-trans, ends, joins, last-line, last-nothing}
 
-pub FeedsPlan-none : {A : Type 0} (e : PlanReader A) → FeedsPlan e e []
-FeedsPlan-none e = record { moves = λ p is. (p, is, Continues-nil planned p) }
-
 -- one piece after another
 pub FeedsPlan-trans : {A : Type 0} {e f g : PlanReader A} {x y : List ℕ} → FeedsPlan e f x → FeedsPlan f g y → FeedsPlan e g (x ++ y)
 FeedsPlan-trans {x = x} {y = y} first second = record {

@@ -9,3 +9,5 @@ mod limits;
 mod primary;
 #[cfg(test)]
 mod running;
+#[cfg(test)]
+mod windows;

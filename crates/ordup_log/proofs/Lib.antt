@@ -3,3 +3,4 @@ pub mod SpanLemmas
 pub mod GroupLemmas
 pub mod LogLemmas
 pub mod MostLemmas
+mod Examples

@@ -5,3 +5,4 @@ pub mod SetLemmas
 pub mod TableLemmas
 pub mod SerialLemmas
 pub mod SpanLemmas
+mod Examples

@@ -3,3 +3,4 @@ pub mod SettlingLemmas
 pub mod MarkLemmas
 pub mod PrimaryLemmas
 pub mod SetupLemmas
+mod Examples

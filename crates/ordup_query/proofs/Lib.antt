@@ -1,1 +1,2 @@
 pub mod ImportLemmas
+mod Examples

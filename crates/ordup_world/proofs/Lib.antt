@@ -9,3 +9,5 @@ pub mod QueryAnswerLemmas
 pub mod QueryStepLemmas
 pub mod ImportLemmas
 pub mod AlongLemmas
+mod Examples
+mod KeepingExamples

@@ -1,0 +1,70 @@
+-- The definitions at small numbers, worked out by hand: no definition can change its meaning unseen.
+use Rattle.std.proofs.Common.{◌≡◌, ℕ, pos, List, [], ◌∷◌, length, replicate, map, true, refl}
+use Rattle.std.specs.Prelude.{neg_ℤ, Some, None, codes}
+use Rattle.ordup_objects.specs.declared.change.Change.{Change}
+use Rattle.ordup_objects.specs.declared.change.Op.{Op}
+use Rattle.ordup_objects.specs.declared.change.Op.TheVariants.{Add, Take}
+use Rattle.ordup_objects.specs.declared.refusal.Refusal.TheVariants.{BadName, NameTaken, UnknownObject, OutOfRange, TooMany, Empty, Repeated, LogFull}
+use Rattle.ordup_objects.specs.States.{is_legal}
+use Rattle.ordup_objects.specs.Serial.{History, serial}
+use Rattle.ordup_log.specs.Groups.{GroupList, group_refusal}
+use Rattle.ordup_log.specs.Spans.{weight, span}
+use Rattle.ordup_log.specs.Appending.{append_refusal}
+use Rattle.ordup_log.specs.declared.scope.Scope.TheVariants.{Object, Group, All as Everything, Count}
+
+abbrev change : ℕ → Op → Change
+change x op = record { object = x; op = op }
+
+-- x at 0, y at 10 and z at 0: x and y swap, and then 3 is taken from x and 4 added to z
+abbrev swap_and_add : History
+swap_and_add = record {
+  start = pos 0 ∷ pos 10 ∷ pos 0 ∷ [];
+  sets = (change 0 (Take 1) ∷ change 1 (Take 0) ∷ []) ∷ (change 0 (Add (neg_ℤ (pos 3))) ∷ change 2 (Add (pos 4)) ∷ []) ∷ [];
+}
+
+-- z alone, and x and y
+abbrev two_groups : GroupList
+two_groups = (codes "g", 2 ∷ []) ∷ (codes "h", 0 ∷ 1 ∷ []) ∷ []
+
+-- x moves from 0 to 10 and on to 7, y from 10 to 0, and z from 0 to 4
+weights : (map (weight swap_and_add two_groups (Object 0)) (0 ∷ 1 ∷ []) ≡ 10 ∷ 3 ∷ [])
+    × (map (weight swap_and_add two_groups (Group 1)) (0 ∷ 1 ∷ []) ≡ 20 ∷ 3 ∷ [])
+    × (map (weight swap_and_add two_groups Everything) (0 ∷ 1 ∷ []) ≡ 20 ∷ 7 ∷ [])
+    × (map (weight swap_and_add two_groups Count) (0 ∷ 1 ∷ []) ≡ 1 ∷ 1 ∷ [])
+weights = (refl, refl, refl, refl)
+
+-- the sums over both; from 1 on those of the second alone, and from 2 on nothing
+spans : (span swap_and_add two_groups (Object 0) 0 2 ≡ 13)
+    × (span swap_and_add two_groups (Group 1) 0 2 ≡ 23)
+    × (span swap_and_add two_groups Everything 0 2 ≡ 27)
+    × (span swap_and_add two_groups Count 0 2 ≡ 2)
+    × (span swap_and_add two_groups Everything 1 2 ≡ 7)
+    × (span swap_and_add two_groups Count 2 2 ≡ 0)
+    × (span swap_and_add two_groups Count 2 0 ≡ 0)
+spans = (refl, refl, refl, refl, refl, refl, refl)
+
+-- a log at 1,000,000,000 takes no 1 more, and 1 less: what counts is the state after all updates
+abbrev at_the_edge : History
+at_the_edge = record { start = pos 0 ∷ []; sets = (change 0 (Add (pos 1000000000)) ∷ []) ∷ [] }
+
+appended : (append_refusal at_the_edge (change 0 (Add (pos 1)) ∷ []) ≡ Some OutOfRange)
+    × (append_refusal at_the_edge (change 0 (Add (neg_ℤ (pos 1))) ∷ []) ≡ None)
+appended = (refl, refl)
+
+-- a log of 1,000,000 updates takes none, whatever it is; one of 999,999 takes what is legal
+full : (h : History) (m : List Change) → length h.sets ≡ 1000000 → append_refusal h m ≡ Some LogFull
+full h m e = rw e refl
+
+not_full : (h : History) (m : List Change) → length h.sets ≡ 999999 → is_legal m (serial h 999999) ≡ true → append_refusal h m ≡ None
+not_full h m e legal = rw e (rw legal refl)
+
+-- the order of the refusals of a group over one object: each of these could be refused later too
+refusals : (group_refusal 1 two_groups (codes "G") (1 ∷ []) ≡ Some BadName)
+    × (group_refusal 1 two_groups (codes "g") (1 ∷ []) ≡ Some NameTaken)
+    × (group_refusal 1 [] (codes "g") (replicate 65 1) ≡ Some UnknownObject)
+    × (group_refusal 1 [] (codes "g") (replicate 65 0) ≡ Some TooMany)
+    × (group_refusal 1 (replicate 32 (codes "g", 0 ∷ [])) (codes "h") [] ≡ Some TooMany)
+    × (group_refusal 1 [] (codes "g") [] ≡ Some Empty)
+    × (group_refusal 2 [] (codes "g") (0 ∷ 1 ∷ 0 ∷ []) ≡ Some Repeated)
+    × (group_refusal 2 (replicate 31 (codes "g", 0 ∷ [])) (codes "h") (0 ∷ 1 ∷ []) ≡ None)
+refusals = (refl, refl, refl, refl, refl, refl, refl, refl)

@@ -143,6 +143,22 @@ fn a_refused_update_leaves_the_log(rt: HostRuntime) -> Result<(), Fail> {
 }
 
 #[test]
+fn a_log_has_at_most_1000000_updates(rt: HostRuntime) -> Result<(), Fail> {
+    let objects = x_and_y(rt.alloc())?;
+    let mut log = Log::new(rt.alloc(), &objects)?;
+    for place in 0..1_000_000u64 {
+        let number = add(rt.alloc(), &objects, &mut log, 0);
+        assert_eq!(rt; number, Ok(place + 1));
+    }
+    let refused = add(rt.alloc(), &objects, &mut log, 0);
+    assert_eq!(rt; refused, Err(Refusal::LogFull));
+    // It would be out of range too, but a log that is full comes first.
+    let refused = append_out_of_range(rt.alloc(), &objects, &mut log);
+    assert_eq!(rt; refused, Err(Refusal::LogFull));
+    Ok(())
+}
+
+#[test]
 fn a_swap_weighs_the_way_of_each_value(rt: HostRuntime) -> Result<(), Fail> {
     let objects = x_and_y(rt.alloc())?;
     let log = swap(rt.alloc(), &objects)?;

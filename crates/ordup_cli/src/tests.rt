@@ -3,9 +3,10 @@ ghost use Rattle.std.specs.Prelude.{Some};
 
 use crate::act::{act, tell};
 use crate::rows::ROWS;
+use crate::tell_lost_words;
 use ordup_script::ScriptFault;
 use ordup_words::FILE_TIP;
-use std::alloc::Global;
+use std::alloc::{AllocError, Global};
 use std::io::{self, ErrorKind, Read, Write};
 use std::test::Fail;
 
@@ -238,16 +239,27 @@ const SIZES: [(&str, &str, usize, &str, &str); 15] = [
     ),
 ];
 
+/// Adds a part to a script so many times, with its number from 0 on in the place of `#`.
+fn push_times(
+    alloc: Global,
+    script: &mut String,
+    part: &str,
+    count: usize,
+) -> Result<(), AllocError> {
+    for number in 0..count {
+        let number = number.to_string(alloc)?;
+        let part = part.replace(alloc, "#", number.as_str())?;
+        script.push_str(part.as_str())?;
+    }
+    Ok(())
+}
+
 #[test]
 fn one_more_than_a_size_is_refused_in_its_order(rt: HostRuntime) -> Result<(), Fail> {
     for (before, part, count, rest, refused) in SIZES {
         let mut script = String::new(rt.alloc());
         script.push_str(before)?;
-        for number in 0..count {
-            let number = number.to_string(rt.alloc())?;
-            let part = part.replace(rt.alloc(), "#", number.as_str())?;
-            script.push_str(part.as_str())?;
-        }
+        push_times(rt.alloc(), &mut script, part, count)?;
         script.push_str(rest)?;
         let ended = run_with(
             rt.alloc(),
@@ -261,6 +273,49 @@ fn one_more_than_a_size_is_refused_in_its_order(rt: HostRuntime) -> Result<(), F
         let answers = str::from_utf8(&ended.output)?;
         let after = answers.split_once("refused").map(|(_, after)| after);
         assert_eq!(rt; after, Some(refused), "{part}, {rest}");
+    }
+    Ok(())
+}
+
+/// How many sites are forced at once, and their names as an answer lists them.
+const FORCED: [(usize, &str); 2] = [
+    (9, "s0 s1 s2 s3 s4 s5 s6 s7 s8"),
+    (16, "s0 s1 s2 s3 s4 s5 s6 s7 s8 s9 s10 s11 s12 s13 s14 s15"),
+];
+
+#[test]
+fn many_sites_are_forced_at_once(rt: HostRuntime) -> Result<(), Fail> {
+    for (count, sites) in FORCED {
+        let mut script = String::new(rt.alloc());
+        script.push_str("object x 0\n")?;
+        push_times(
+            rt.alloc(),
+            &mut script,
+            "site s# 4\nlimit s# count 0\n",
+            count,
+        )?;
+        script.push_str("start\npropose add:x:1\nsettle\nsettle\n")?;
+        push_times(
+            rt.alloc(),
+            &mut script,
+            "send s#\napply s#\nreport s#\n",
+            count,
+        )?;
+        script.push_str("settle\n")?;
+        let ended = run_with(
+            rt.alloc(),
+            &["ordup", "run"],
+            script.as_bytes(),
+            ALL,
+            ALL,
+            ALL,
+        );
+        let answers = str::from_utf8(&ended.output)?;
+        let wanted = format!(in rt.alloc();
+            "ok proposed 1\nok round 1 {sites}\nok waiting 1 {sites}\nok sent s0 1\n"
+        )?;
+        assert!(rt; answers.contains(wanted.as_str()), "{sites}");
+        assert!(rt; answers.ends_with("ok acked 1\n"), "{sites}");
     }
     Ok(())
 }
@@ -376,6 +431,18 @@ fn each_fault_has_its_text_and_its_status(rt: HostRuntime) {
     ] {
         let mut faults: Vec<u8> = Vec::new(rt.alloc());
         assert_eq!(rt; tell(&mut faults, fault), status);
+        assert!(rt; faults.as_slice() == text);
+    }
+}
+
+#[test]
+fn words_that_cannot_be_had_are_told(rt: HostRuntime) {
+    for (why, text, status) in [
+        (ErrorKind::OutOfMemory, b"no memory\n".as_slice(), 4),
+        (ErrorKind::InvalidData, b"an argument is no text\n", 2),
+    ] {
+        let mut faults: Vec<u8> = Vec::new(rt.alloc());
+        assert_eq!(rt; tell_lost_words(&mut faults, why), status);
         assert!(rt; faults.as_slice() == text);
     }
 }

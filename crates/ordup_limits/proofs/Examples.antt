@@ -9,7 +9,8 @@ use Rattle.ordup_log.specs.Groups.{GroupList}
 use Rattle.ordup_log.specs.declared.scope.Scope.{Scope}
 use Rattle.ordup_log.specs.declared.scope.Scope.TheVariants.{Object, Group, All as Everything, Count}
 use Rattle.ordup_limits.specs.declared.limit.Limit.{Limit}
-use Rattle.ordup_limits.specs.Limits.{within, first_passed, is_same_scope, limit_refusal, repeats_scope}
+use Rattle.ordup_limits.specs.Limits.{within, first_passed, is_same_scope, are_on_one_scope, limit_refusal}
+use Rattle.ordup_objects.specs.Repeats.{repeats}
 
 abbrev limit : Scope → ℕ → Limit
 limit scope amount = record { scope = scope; amount = amount }
@@ -49,7 +50,7 @@ scopes : (map (is_same_scope (Object 1)) (Object 1 ∷ Object 0 ∷ Group 1 ∷ 
     × (map (is_same_scope (Group 1)) (Object 1 ∷ Group 1 ∷ Group 0 ∷ Everything ∷ Count ∷ []) ≡ false ∷ true ∷ false ∷ false ∷ false ∷ [])
     × (map (is_same_scope Everything) (Object 1 ∷ Group 1 ∷ Everything ∷ Count ∷ []) ≡ false ∷ false ∷ true ∷ false ∷ [])
     × (map (is_same_scope Count) (Object 1 ∷ Group 1 ∷ Everything ∷ Count ∷ []) ≡ false ∷ false ∷ false ∷ true ∷ [])
-    × (repeats_scope (limit Count 1 ∷ limit Everything 1 ∷ limit Count 2 ∷ []) ≡ true)
+    × (repeats are_on_one_scope (limit Count 1 ∷ limit Everything 1 ∷ limit Count 2 ∷ []) ≡ true)
 scopes = (refl, refl, refl, refl, refl)
 
 -- the order of the refusals of a limit over one object and one group: each of these could be refused later too

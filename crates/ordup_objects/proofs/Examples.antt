@@ -7,7 +7,8 @@ use Rattle.ordup_objects.specs.declared.change.Op.TheVariants.{Add, Set, Mul, Ma
 use Rattle.ordup_objects.specs.declared.refusal.Refusal.TheVariants.{UnknownObject, OutOfRange, TooMany, Empty, Repeated, NoMemory}
 use Rattle.ordup_objects.specs.Refusals.{IsRefusal}
 use Rattle.ordup_objects.specs.States.{in_range, result_of, is_legal, after}
-use Rattle.ordup_objects.specs.Sets.{repeats, set_refusal}
+use Rattle.ordup_objects.specs.Sets.{are_of_one_object, set_refusal}
+use Rattle.ordup_objects.specs.Repeats.{repeats}
 use Rattle.ordup_objects.specs.Serial.{History, serial}
 use Rattle.ordup_objects.specs.Weights.{object_weight, object_span}
 
@@ -45,8 +46,8 @@ swap : after (change 0 (Take 1) ∷ change 1 (Take 0) ∷ []) (pos 0 ∷ pos 10 
 swap = refl
 
 -- x, y, x repeats x, though not beside it
-repeated : (repeats (change 0 (Set (pos 1)) ∷ change 1 (Set (pos 1)) ∷ change 0 (Set (pos 2)) ∷ []) ≡ true)
-    × (repeats (change 0 (Set (pos 1)) ∷ change 1 (Set (pos 1)) ∷ []) ≡ false)
+repeated : (repeats are_of_one_object (change 0 (Set (pos 1)) ∷ change 1 (Set (pos 1)) ∷ change 0 (Set (pos 2)) ∷ []) ≡ true)
+    × (repeats are_of_one_object (change 0 (Set (pos 1)) ∷ change 1 (Set (pos 1)) ∷ []) ≡ false)
 repeated = (refl, refl)
 
 -- the order of the refusals of a set over one object: each of these lists could be refused later too

@@ -6,7 +6,9 @@ use Rattle.ordup_objects.specs.declared.change.Op.TheVariants.{Add}
 use Rattle.ordup_objects.specs.declared.refusal.Refusal.TheVariants.{BadName, NameTaken, UnknownObject, UnknownSite, OutOfRange, TooMany, Empty, NothingToSend, NothingToSettle}
 use Rattle.ordup_log.specs.declared.scope.Scope.TheVariants.{Object, Count}
 use Rattle.ordup_primary.specs.Declarations.{Declared, start_refusal, site_refusal, site_limit_refusal}
-use Rattle.ordup_primary.specs.Settling.{forced_sites, waiting_sites, rounds_upto, last_place}
+use Rattle.ordup_primary.specs.Settling.{forced_sites, waiting_sites, last_place}
+use Rattle.ordup_rounds.specs.declared.window.Window.{Window}
+use Rattle.ordup_rounds.specs.Rounds.{rounds_upto, windows_upto}
 use Rattle.ordup_primary.specs.Primaries.{SiteProgress, PrimaryState, first_progress, reported_at, settled_as, decided_at, acked_after, send_refusal, settle_refusal}
 use Rattle.ordup_primary.specs.declared.settled.Settled.TheVariants.{Acked, Round, Waiting}
 
@@ -26,9 +28,17 @@ waiting : (waiting_sites lags (λ s. 0) (slice_index (2 ∷ 3 ∷ 0 ∷ [])) 3 3
     × (waiting_sites lags (λ s. 0) (λ s. 3) 3 3 ≡ [])
 waiting = (refl, refl, refl)
 
--- a site to which 5 updates were sent, with what it has reported, what it had reported at decisions, and its rounds
+abbrev window : ℕ → ℕ → Window
+window from to = record { from = from; to = to }
+
+-- a site to which 5 updates were sent, with what it has reported, what it had reported at decisions, its rounds and their windows
+abbrev with_windows : ℕ → List ℕ → List ℕ → List Window → SiteProgress
+with_windows reported reports rounds windows =
+    record { sent = 5; reported = reported; reports = reports; rounds = rounds; windows = windows }
+
+-- one without windows
 abbrev site : ℕ → List ℕ → List ℕ → SiteProgress
-site reported reports rounds = record { sent = 5; reported = reported; reports = reports; rounds = rounds }
+site reported reports rounds = with_windows reported reports rounds []
 
 -- 0, 0, 2 and 2 were reported at the decisions of the places 1 to 4
 abbrev reports : ℕ → ℕ
@@ -38,8 +48,12 @@ reports = reported_at (site 2 (0 ∷ 0 ∷ 2 ∷ 2 ∷ []) [])
 rounds : (rounds_upto (lags 0) reports 4 ≡ 2 ∷ 4 ∷ []) × (rounds_upto (lags 0) reports 3 ≡ 2 ∷ []) × (last_place (2 ∷ 4 ∷ []) ≡ 4) × (last_place [] ≡ 0)
 rounds = (refl, refl, refl, refl)
 
--- a decision puts down what is reported, and a round where the span to it is not kept
-decided : (decided_at false 3 (site 2 (0 ∷ 1 ∷ []) (2 ∷ [])) ≡ site 2 (0 ∷ 1 ∷ 2 ∷ []) (2 ∷ 3 ∷ []))
+-- from what it had reported to the place
+windows : windows_upto (lags 0) reports 4 ≡ window 0 2 ∷ window 2 4 ∷ []
+windows = refl
+
+-- a decision puts down what is reported, and a round with its window where the span to it is not kept
+decided : (decided_at false 3 (site 2 (0 ∷ 1 ∷ []) (2 ∷ [])) ≡ with_windows 2 (0 ∷ 1 ∷ 2 ∷ []) (2 ∷ 3 ∷ []) (window 2 3 ∷ []))
     × (decided_at true 3 (site 2 (0 ∷ 1 ∷ []) (2 ∷ [])) ≡ site 2 (0 ∷ 1 ∷ 2 ∷ []) (2 ∷ []))
     × (acked_after 1 [] ≡ 2) × (acked_after 1 (0 ∷ []) ≡ 1)
 decided = (refl, refl, refl, refl)

@@ -6,9 +6,8 @@ use Rattle.ordup_objects.specs.declared.change.Op.TheVariants.{Add}
 use Rattle.ordup_objects.specs.declared.refusal.Refusal.TheVariants.{OutOfRange, TooMany, OverImport}
 use Rattle.ordup_objects.specs.Serial.{History}
 use Rattle.ordup_site.specs.Sites.{SiteState}
-use Rattle.ordup_query.specs.declared.answer.ReadAnswer.{ReadAnswer}
 use Rattle.ordup_query.specs.Imports.{import_of, charge}
-use Rattle.ordup_query.specs.Queries.{QueryState, begin_refusal, read_refusal, value_sum, import_sum}
+use Rattle.ordup_query.specs.Queries.{QueryState, begin_refusal, refusal_at, value_sum, import_sum}
 
 abbrev add : ℤ → List Change
 add n = record { object = 0; op = Add n } ∷ []
@@ -34,18 +33,15 @@ abbrev query : ℕ → ℕ → QueryState
 query total reads = record { place = 2; marks = 8 ∷ 3 ∷ []; limit = 10; sum = pos 0; total = total; reads = reads }
 
 -- 10 in all is within 10, and 11 is not; the 256th read is allowed, and the 257th is too many, also where it would import too much
-reads : (read_refusal (query 5 255) site 0 ≡ None) × (read_refusal (query 6 255) site 0 ≡ Some OverImport)
-    × (read_refusal (query 5 256) site 0 ≡ Some TooMany) × (read_refusal (query 6 256) site 0 ≡ Some TooMany)
+reads : (refusal_at (query 5 255) site 0 ≡ None) × (refusal_at (query 6 255) site 0 ≡ Some OverImport)
+    × (refusal_at (query 5 256) site 0 ≡ Some TooMany) × (refusal_at (query 6 256) site 0 ≡ Some TooMany)
 reads = (refl, refl, refl, refl)
 
 -- 10^18 is allowed, and one more is not
 limits : (begin_refusal 1000000000000000000 ≡ None) × (begin_refusal 1000000000000000001 ≡ Some OutOfRange)
 limits = (refl, refl)
 
-abbrev answer : ℤ → ℕ → ℕ → ReadAnswer
-answer value import total = record { value = value; import = import; total = total }
-
 -- the newest first: 3 and -4 come to -1; 5 and 2 were imported, which makes 7
-sums : (value_sum (answer (neg_ℤ (pos 4)) 2 7 ∷ answer (pos 3) 5 5 ∷ []) ≡ neg_ℤ (pos 1))
-    × (import_sum (answer (neg_ℤ (pos 4)) 2 7 ∷ answer (pos 3) 5 5 ∷ []) ≡ 7)
+sums : (value_sum (neg_ℤ (pos 4) ∷ pos 3 ∷ []) ≡ neg_ℤ (pos 1))
+    × (import_sum (2 ∷ 5 ∷ []) ≡ 7)
 sums = (refl, refl)

@@ -6,7 +6,7 @@ use Rattle.ordup_objects.specs.declared.refusal.Refusal.TheVariants.{UnknownObje
 use Rattle.ordup_log.specs.declared.scope.Scope.TheVariants.{Object}
 use Rattle.ordup_primary.specs.Declarations.{Declared}
 use Rattle.ordup_primary.specs.declared.settled.Settled.TheVariants.{Acked, Round, Waiting}
-use Rattle.ordup_world.specs.Queries.{ReadMade, read_refusal}
+use Rattle.ordup_world.specs.Queries.{ReadMade, refusal_now}
 use Rattle.ordup_world.specs.Events.{Past, decisions, rounds, opened, open_count, reply, later}
 use Rattle.ordup_world.specs.declared.event.Event.{Event}
 use Rattle.ordup_world.specs.declared.event.Event.TheVariants.{Propose, Send, Apply, Report, Settle, Begin, Read, End, Abandon, Show}
@@ -102,7 +102,7 @@ opens : (opened setup q reading ≡ Some (record { site = 0; place = 1; limit = 
 opens = (refl, refl, refl, refl, refl, refl, refl)
 
 -- the 256th read may import 4, and no more; the 257th is too many, whatever it imports
-reads : (read_refusal (record { site = 0; place = 1; limit = 4; reads = replicate 255 (read_x 3 0) }) (read_x 0 4) ≡ None)
-    × (read_refusal (record { site = 0; place = 1; limit = 4; reads = replicate 255 (read_x 3 0) }) (read_x 0 5) ≡ Some OverImport)
-    × (read_refusal (record { site = 0; place = 1; limit = 4; reads = replicate 256 (read_x 3 0) }) (read_x 0 5) ≡ Some TooMany)
+reads : (refusal_now (record { site = 0; place = 1; limit = 4; reads = replicate 255 (read_x 3 0) }) (read_x 0 4) ≡ None)
+    × (refusal_now (record { site = 0; place = 1; limit = 4; reads = replicate 255 (read_x 3 0) }) (read_x 0 5) ≡ Some OverImport)
+    × (refusal_now (record { site = 0; place = 1; limit = 4; reads = replicate 256 (read_x 3 0) }) (read_x 0 5) ≡ Some TooMany)
 reads = (refl, refl, refl)

@@ -8,9 +8,9 @@ use Rattle.ordup_objects.specs.States.{State, value_at}
 use Rattle.ordup_primary.specs.declared.settled.Settled.TheVariants.{Acked}
 use Rattle.ordup_world.specs.Queries.{ReadMade, Opened}
 use Rattle.ordup_world.specs.Events.{log_of, takes_memory, IsAnswer, AreAnswers}
-use Rattle.ordup_world.specs.Importing.{KeepsImport}
-use Rattle.ordup_world.specs.Keeping.{KeepsSite}
-use Rattle.ordup_world.specs.Standings.{Standing, KeepsLimits}
+use Rattle.ordup_world.specs.Imports.{KeepsImport}
+use Rattle.ordup_world.specs.Along.{KeepsSite}
+use Rattle.ordup_world.specs.Worlds.{WorldState, KeepsLimits}
 use Rattle.ordup_world.specs.declared.event.Event.TheVariants.{Send, Apply, Report, Settle, Begin, Read, End, Abandon, Show}
 use Rattle.ordup_world.specs.declared.event.Answer.TheVariants.{Proposed, Settlement, Refused}
 use Rattle.ordup_world.proofs.Examples.{setup, add_to_x, q}
@@ -58,9 +58,9 @@ fed_too_much : KeepsSite {A = ℕ} setup (Send 1 ∷ Send 1 ∷ add_to_x 1 ∷ a
 fed_too_much k = let le : 2 ≤ 1 = k.feed in omega arith
 
 -- a world of the one update that adds so much to x, which is acknowledged; the sites have reported and applied so many
-abbrev world : ℕ → ℕ → ℕ → Standing
+abbrev world : ℕ → ℕ → ℕ → WorldState
 world n reported applied = record {
-  primary = record { setup = setup; log = log_of setup (add_to_x n ∷ []); acked = 1; decided = 1; sites = replicate 2 (record { sent = 1; reported = reported; reports = 0 ∷ []; rounds = [] }) };
+  primary = record { setup = setup; log = log_of setup (add_to_x n ∷ []); acked = 1; decided = 1; sites = replicate 2 (record { sent = 1; reported = reported; reports = 0 ∷ []; rounds = []; windows = [] }) };
   sites = replicate 2 (record { applied = applied; values = []; travelled = [] });
   queries = [];
 }

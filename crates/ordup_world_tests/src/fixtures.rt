@@ -28,18 +28,6 @@ fn x_y_and_a(alloc: Global) -> Result<Setup, Refusal> {
     Ok(setup)
 }
 
-/// The setup of x, y, and a site for each of these limits, which is its only one.
-pub(crate) fn sites_with(alloc: Global, limits: &[(Scope, u64)]) -> Result<Setup, Refusal> {
-    let mut setup = Setup::new(alloc);
-    declare_objects(&mut setup)?;
-    let names: [&[u8]; 3] = [b"a", b"b", b"c"];
-    for (name, (scope, amount)) in names.iter().zip(limits) {
-        let site = setup.site(name, 4)?;
-        setup.limit(site, *scope, *amount)?;
-    }
-    Ok(setup)
-}
-
 /// The message set of one change, of the object at this place.
 pub(crate) fn set_of(
     alloc: Global,

@@ -9,5 +9,3 @@ mod limits;
 mod primary;
 #[cfg(test)]
 mod running;
-#[cfg(test)]
-mod windows;

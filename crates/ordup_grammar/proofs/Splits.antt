@@ -1,12 +1,13 @@
 -- The parts of a list, from the place of the first element at which it is cut.
-use Rattle.std.proofs.Common.{◌≡◌, ◌∙◌, ap, ℕ, suc, ◌+◌, ◌-◌, ◌<◌, ◌≤◌, refl, Bool, false, true, cond, nat_lt, List, [], ◌∷◌, length, take, drop, get_or, Option, Some, None, arith, add-one, position, not, ◌==◌}
+use Rattle.std.proofs.Common.{◌≡◌, ◌∙◌, ap, ℕ, suc, ◌+◌, ◌-◌, ◌<◌, ◌≤◌, refl, Bool, false, true, cond, nat_lt, List, [], ◌∷◌, ◌++◌, length, take, drop, get_or, Some, None, arith, add-one, position, not, ◌==◌}
 use Rattle.std.proofs.Math.Seq.{split_at}
+use Rattle.std.proofs.lemmas.Bool.{eqb-true}
 use Rattle.std.proofs.lemmas.Bool.Decides.{nat_tests}
 use Rattle.std.proofs.lemmas.List.{get_or-take, length-drop, length-take, take_all}
 use Rattle.std.proofs.lemmas.List.Elements.{All-from_get_or}
 use Rattle.std.proofs.lemmas.List.Quantifiers.{position-Some}
 use Rattle.std.proofs.lemmas.List.Splits.{length-slice_split, slice_split_at, slice_split_none}
-use Rattle.std.proofs.lemmas.List.Sums.{count_by-le-length, fails_before_first, length-filter, position_or_len_is}
+use Rattle.std.proofs.lemmas.List.Sums.{count_by-le-length, fails_before_first, length-filter}
 use Rattle.std.specs.List.{All, slice_split, position_or_len}
 use Rattle.memchr.specs.Find.{IsFirstByte}
 use Rattle.ordup_grammar.specs.Words.{words_of}
@@ -15,16 +16,6 @@ use Rattle.ordup_grammar.specs.Words.{words_of}
 is_false : (b : Bool) → ¬ (b ≡ true) → b ≡ false
 is_false true h = absurd (h refl)
 is_false false h = refl
-
--- the first byte that passes stands at the first such place
-pub position-first_byte : (p : ℕ → Bool) (xs : List ℕ) (r : Option ℕ) → IsFirstByte p xs r → r ≡ position p xs
-position-first_byte p xs None nowhere =
-    let end = position_or_len_is p xs (length xs) 0 (omega arith) (λ k below. is_false (p (get_or xs k 0)) (nowhere k (omega arith) below)) (λ below. absurd (omega (arith, below))) in
-    rw end (grind (arith, nat_tests))
-position-first_byte p xs (Some i) first =
-    let here = position_or_len_is p xs i 0 (omega (arith, first.0.high)) (λ k below. is_false (p (get_or xs k 0)) (first.0.before k (omega arith) below)) (λ _. first.1) in
-    let inside = first.0.high in
-    rw here (grind (arith, nat_tests))
 
 -- a place that is no answer is the end
 at_end : (place len : ℕ) → cond (nat_lt place len) (Some place) None ≡ None → len ≤ place
@@ -36,6 +27,18 @@ front_fails p xs i before =
     All-from_get_or (λ x. p x ≡ false) (take i xs) 0 (λ k below.
     let early : k < i = omega (arith, length-take {A = ℕ}) in
     rw (get_or-take i xs k 0 early) (before k early))
+
+-- what stands around the first of these bytes
+pub split-first_byte : (b : ℕ) (xs : List ℕ) (i : ℕ) → IsFirstByte (λ x. x == b) xs (Some i)
+    → All (λ x. (x == b) ≡ false) (take i xs) × (xs ≡ take i xs ++ b ∷ take (length xs - (i + 1)) (drop (i + 1) xs))
+split-first_byte b xs i (first, passes) =
+    let is : get_or xs i 0 ≡ b = eqb-true (get_or xs i 0) b passes in
+    let rest : take (length xs - (i + 1)) (drop (i + 1) xs) ≡ drop (i + 1) xs = take_all _ _ (rw length-drop (omega arith)) in
+    (front_fails (λ x. x == b) xs i (λ k below. is_false (get_or xs k 0 == b) (first.before k (omega arith) below)), rw (rest, add-one) (split_at xs i 0 first.high ∙ ap (λ x. take i xs ++ x ∷ drop (suc i) xs) is))
+
+-- no byte passes
+pub fails-no_byte : (p : ℕ → Bool) (xs : List ℕ) → IsFirstByte p xs None → All (λ x. p x ≡ false) xs
+fails-no_byte p xs nowhere = All-from_get_or (λ x. p x ≡ false) xs 0 (λ k below. is_false (p (get_or xs k 0)) (nowhere k (omega arith) below))
 
 -- the first place at which a list is cut ends its first part
 pub slice_split-position : (p : ℕ → Bool) (xs : List ℕ) (i : ℕ) → position p xs ≡ Some i → slice_split p xs ≡ take i xs ∷ slice_split p (take (length xs - (i + 1)) (drop (i + 1) xs))

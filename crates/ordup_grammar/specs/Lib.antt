@@ -9,4 +9,4 @@ pub mod Declarations
 pub mod Actions
 pub mod Commands
 pub mod Requests
-pub mod Holding
+pub mod LineBuffers

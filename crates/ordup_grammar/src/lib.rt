@@ -19,7 +19,7 @@ pub use action::Action;
 pub use change_words::{ChangeWord, ChangeWords};
 pub use command::Command;
 pub use declaration::{Declaration, ScopeWord};
-pub use line_buffer::{LineBuffer, find_line_feed};
+pub use line_buffer::{LineBuffer, split_line};
 pub use number::{Number, decimals_read_back, numbers_are_decimals};
 pub use operation::{NumberOp, Operation};
 pub use request::Request;

@@ -1,31 +1,33 @@
 //! Lines that come in pieces: where one ends, and what no piece has ended yet.
-ghost use Rattle.std.specs.Prelude.{◌≡◌, ℕ, List, [], ◌++◌, ◌<◌, OnOk, true, false, length, position};
-ghost use Rattle.ordup_grammar.specs.Lines.{IsPart, is_line_feed};
+ghost use Rattle.std.specs.Prelude.{◌≡◌, ℕ, List, [], ◌∷◌, ◌++◌, ◌<◌, MatchOption, true, false, length};
+ghost use Rattle.ordup_grammar.specs.Lines.{IsPart};
 ghost use Rattle.ordup_grammar.specs.Requests.{request_of};
 
 use crate::request::Request;
 use crate::sizes::MOST_LINE_BYTES;
 use memchr::memchr;
-use std::alloc::{AllocError, Allocator, Global};
 use std::marker::Model;
 
-/// The index of the first line feed.
-pub fn find_line_feed(bytes: &[u8]) -> Option<usize>
-    ensures { result ≡ position is_line_feed bytes.now }
+/// What stands before the first line feed, and what stands after it.
+pub fn split_line(bytes: &[u8]) -> Option<(&[u8], &[u8])>
+    ensures { MatchOption result (IsPart bytes.now) (λ found.
+        IsPart found.0.now × (bytes.now ≡ found.0.now ++ 10 ∷ found.1.now)) }
 {
-    memchr(b'\n', bytes)
+    let end = memchr(b'\n', bytes)?;
+    Some((&bytes[..end], &bytes[end + 1..]))
 }
 
 /// The part of a line that no line feed has ended yet: at most its first 4,096 bytes, and whether it is longer.
 #[derive(Drop)]
-pub struct LineBuffer<A: Allocator + Copy = Global> {
-    bytes: Vec<u8, A>,
+pub struct LineBuffer {
+    bytes: [u8; MOST_LINE_BYTES],
+    len: usize,
     is_long: bool,
 }
 
-impl<A: Allocator + Copy> Model for LineBuffer<A> {
+impl Model for LineBuffer {
     ghost use Rattle.ordup_grammar.specs.Lines.{Line};
-    ghost use Rattle.ordup_grammar.specs.Holding.{line_of, IsBuffer};
+    ghost use Rattle.ordup_grammar.specs.LineBuffers.{line_of, IsBuffer};
 
     ghost Value = { Line };
 
@@ -34,15 +36,16 @@ impl<A: Allocator + Copy> Model for LineBuffer<A> {
     ghost invariant = { IsBuffer };
 }
 
-impl<A: Allocator + Copy> LineBuffer<A> {
-    ghost use Rattle.ordup_grammar.specs.Holding.{Holds};
+impl LineBuffer {
+    ghost use Rattle.ordup_grammar.specs.LineBuffers.{Holds};
 
     /// A buffer that holds nothing.
-    pub fn new(alloc: A) -> Self
+    pub fn new() -> Self
         ensures { Holds result [] }
     {
         LineBuffer {
-            bytes: Vec::new(alloc),
+            bytes: [0; MOST_LINE_BYTES],
+            len: 0,
             is_long: false,
         }
     }
@@ -52,21 +55,21 @@ impl<A: Allocator + Copy> LineBuffer<A> {
         ensures empty { (part : List ℕ) → Holds self.now part → result ≡ true → part ≡ [] }
         ensures some { (part : List ℕ) → Holds self.now part → result ≡ false → 0 < length part }
     {
-        self.bytes.is_empty()
+        self.len == 0
     }
 
     /// Holds more of a line that did not end yet.
-    pub fn hold(&mut self, more: &[u8]) -> Result<(), AllocError>
+    pub fn hold(&mut self, more: &[u8])
         requires { IsPart more.now }
-        ensures { OnOk result ((part : List ℕ) → Holds self.old part → Holds self.new (part ++ more.now)) }
+        ensures { (part : List ℕ) → Holds self.old part → Holds self.new (part ++ more.now) }
     {
         if self.is_long {
-            return Ok(());
+            return;
         }
-        let kept = more.len().min(MOST_LINE_BYTES - self.bytes.len());
-        self.bytes.extend_from_slice(&more[..kept])?;
+        let kept = more.len().min(MOST_LINE_BYTES - self.len);
+        self.bytes[self.len..self.len + kept].copy_from_slice(&more[..kept]);
+        self.len += kept;
         self.is_long = kept < more.len();
-        Ok(())
     }
 
     /// What the line that is held asks for, where it ends here.
@@ -77,7 +80,7 @@ impl<A: Allocator + Copy> LineBuffer<A> {
         if self.is_long {
             Request::NoCommand
         } else {
-            Request::of(&self.bytes)
+            Request::of(&self.bytes[..self.len])
         }
     }
 
@@ -85,7 +88,7 @@ impl<A: Allocator + Copy> LineBuffer<A> {
     pub fn clear(&mut self)
         ensures { Holds self.new [] }
     {
-        self.bytes.clear();
+        self.len = 0;
         self.is_long = false;
     }
 }

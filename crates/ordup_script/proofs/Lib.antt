@@ -1,6 +1,7 @@
 pub mod Lines
-pub mod Steps
-pub mod PlanSteps
-pub mod Sending
-pub mod Running
-pub mod PlanRunning
+pub mod Readings
+pub mod Output
+pub mod Answerers
+pub mod Runs
+pub mod Plans
+pub mod Plannings

@@ -1,9 +1,8 @@
 pub mod Scripts
-pub mod Answered
-pub mod Written
-pub mod Plans
-pub mod PlanInside
-pub mod PlanRuns
-pub mod Held
-pub mod Sent
+pub mod Output
+pub mod Readings
+pub mod Answerers
 pub mod Runs
+pub mod Plans
+pub mod Plannings
+pub mod PlanReadings

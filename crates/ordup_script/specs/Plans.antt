@@ -1,8 +1,9 @@
 -- Plans: declarations, the start, and then proposals alone.
-use Rattle.std.specs.Prelude.{ℕ, ◌+◌, Bool, true, false, List, [], ◌∷◌, ◌++◌, Result, Ok, Err, if◌then◌else◌}
+use Rattle.std.specs.Prelude.{◌≡◌, ℕ, ◌+◌, Bool, true, false, List, [], ◌∷◌, ◌++◌, All, length, Result, Ok, Err, if◌then◌else◌}
 use Rattle.ordup_objects.specs.declared.change.Change.{Change}
 use Rattle.ordup_objects.specs.declared.refusal.Refusal.{Refusal}
-use Rattle.ordup_primary.specs.Declarations.{Declared, start_refusal}
+use Rattle.ordup_objects.specs.Sets.{AreKnown, IsSet}
+use Rattle.ordup_primary.specs.Declarations.{Declared, is_ready, start_refusal}
 use Rattle.ordup_grammar.specs.Lines.{Line}
 use Rattle.ordup_script.specs.Scripts.{after_lines, lines_of}
 use Rattle.ordup_grammar.specs.declared.action.Action.TheVariants.{Propose}
@@ -58,3 +59,7 @@ plan_result (planning d started sets k) = if started then Ok (d, sets) else Err 
 -- the plan that a text is, or the number of the first line that does not belong
 abbrev pub plan_of : List ℕ → Result (Declared × List (List Change)) ℕ
 plan_of script = plan_result (after_lines planned first_plan (lines_of true script))
+
+-- a store can start with what is declared, and each set is a message set over its objects
+abbrev pub IsPlan : Declared → List (List Change) → Type 0
+IsPlan d sets = (is_ready d ≡ true) × All (λ m. IsSet m × AreKnown (length d.objects) m) sets

@@ -1,5 +1,5 @@
 -- The lines of a script, and what a state becomes line by line.
-use Rattle.std.specs.Prelude.{◌≡◌, ℕ, Bool, ◌&&◌, ◌==◌, not, List, [], ◌∷◌, ◌++◌, length, if◌then◌else◌}
+use Rattle.std.specs.Prelude.{ℕ, Bool, ◌&&◌, ◌==◌, not, List, [], ◌∷◌, length, if◌then◌else◌}
 use Rattle.std.specs.List.{slice_split}
 use Rattle.ordup_grammar.specs.Lines.{Line, cut, is_line_feed}
 
@@ -17,16 +17,3 @@ lines_of counts script = lines_among counts (slice_split is_line_feed script)
 abbrev pub after_lines : {S : Type 0} → (S → Line → S) → S → List Line → S
 after_lines step s [] = s
 after_lines step s (line ∷ lines) = after_lines step (step s line) lines
-
--- how far a script has come: the state after the lines that ended, and the bytes of a line that did not
-pub record Progress (S : Type 0) : Type 0 where
-  pub known : S
-  pub held : List ℕ
-
--- however the script goes on, the state at its end
-abbrev pub last : {S : Type 0} → (S → Line → S) → Bool → Progress S → List ℕ → S
-last step counts p rest = after_lines step p.known (lines_of counts (p.held ++ rest))
-
--- new stands after old and this piece of the script
-pub record Continues {S : Type 0} (step : S → Line → S) (old new : Progress S) (piece : List ℕ) : Type 0 where
-  pub same : (counts : Bool) (rest : List ℕ) → last step counts new rest ≡ last step counts old (piece ++ rest)

@@ -1,13 +1,15 @@
-ghost use Rattle.std.specs.Prelude.{◌≡◌, ◌+◌, ◌<◌, ◌≤◌, true, false, None, [], ◌∷◌, ◌++◌, OnOk};
-ghost use Rattle.ordup_script.specs.Plans.{request_in, command_in, first_plan, malformed};
-ghost use Rattle.ordup_script.specs.PlanInside.{plan_state};
-ghost use Rattle.ordup_script.specs.PlanRuns.{TellsLine};
+ghost use Rattle.std.specs.Prelude.{◌≡◌, ◌+◌, ◌-◌, ◌<◌, ◌≤◌, true, false, [], ◌∷◌, ◌++◌, OnOk};
+ghost use Rattle.ordup_grammar.specs.declared.action.Action.{Action};
+ghost use Rattle.ordup_grammar.specs.declared.command.Command.{Command};
+ghost use Rattle.ordup_script.specs.Plans.{request_in, command_in, plan_result, planning, malformed};
+ghost use Rattle.ordup_script.specs.Plannings.{Tells, HasPlanned, HasRefused, LeadsTo, plan_state};
 
+use crate::line_taker::LineTaker;
 use ordup_answers::{declare, set_in};
 use ordup_grammar::{Action, ChangeWords, Command, Declaration, Request};
 use ordup_objects::{MessageSet, Refusal};
 use ordup_world::Setup;
-use std::alloc::{AllocError, Allocator, Global};
+use std::alloc::{Allocator, Global};
 
 /// What is declared, and the message sets that are to be proposed, in their order.
 #[derive(Drop)]
@@ -18,141 +20,165 @@ pub struct Plan<A: Allocator + Copy = Global> {
     pub sets: Vec<MessageSet<A>, A>,
 }
 
-/// Where a plan stands after some of its lines.
+/// Why a plan was not read to its end.
+#[derive(Clone, Copy, Debug, PartialEq, Eq)]
+pub enum PlanFault {
+    /// A read failed. The lines that a line feed ended belong.
+    Read,
+    /// The plan has more bytes than a script may. The lines that a line feed ended within them belong.
+    TooLong,
+    /// This line does not belong, the first to do so. All lines are counted, from 1. Where there is no `start` it is the
+    /// one after the last.
+    Malformed { line: u64 },
+    /// An allocation was refused.
+    NoMemory,
+}
+
+/// Where a plan stands after some of its lines, each of which belongs.
 #[derive(Drop)]
 pub(crate) struct Planning<A: Allocator + Copy = Global> {
-    pub(crate) setup: Setup<A>,
-    pub(crate) sets: Vec<MessageSet<A>, A>,
+    alloc: A,
+    pub(crate) plan: Plan<A>,
     pub(crate) is_started: bool,
-    // How many lines there were, up to the first that does not belong.
+    // How many lines there were.
     pub(crate) lines: u64,
-    pub(crate) is_malformed: bool,
+}
+
+impl<A: Allocator + Copy> LineTaker for Planning<A> {
+    type Fault = PlanFault;
+
+    ghost took = { λ first now lines. HasPlanned now lines };
+
+    ghost stopped = { λ first now lines fault. HasRefused lines fault };
+
+    ghost is_clear = { λ planning. Unit {0} };
+
+    ghost room = { λ planning. 18446744073709551615 - planning.lines };
+
+    fn take(&mut self, request: &Request<'_>) -> Result<(), PlanFault> {
+        self.take_line(request)
+    }
+
+    fn hand_out(&mut self) -> Result<(), PlanFault> {
+        Ok(())
+    }
 }
 
 impl<A: Allocator + Copy> Planning<A> {
     /// Before the first line.
     pub(crate) fn new(alloc: A) -> Self
-        ensures plan { plan_state result ≡ first_plan }
+        ensures plan { HasPlanned result [] }
         ensures lines { result.lines ≡ 0 }
     {
-        Planning {
+        let plan = Plan {
             setup: Setup::new(alloc),
             sets: Vec::new(alloc),
+        };
+        Planning {
+            alloc,
+            plan,
             is_started: false,
             lines: 0,
-            is_malformed: false,
         }
-    }
-
-    /// The first line that does not belong, where the plan goes on no further. Without a start it is the one after the
-    /// last.
-    pub(crate) fn first_wrong_line(&self) -> Option<u64>
-        requires { self.now.lines ≤ 9223372036854775808 }
-        ensures { TellsLine self.now result }
-    {
-        if self.is_malformed {
-            return Some(self.lines);
-        }
-        if !self.is_started {
-            return Some(self.lines + 1);
-        }
-        None
     }
 
     /// Takes what the next line asks for.
-    pub(crate) fn take(&mut self, alloc: A, request: &Request<'_>) -> Result<(), AllocError>
-        requires { self.old.lines < 9223372036854775808 }
-        ensures lines { OnOk result (self.new.lines ≤ self.old.lines + 1) }
-        ensures plan { OnOk result (plan_state self.new ≡ request_in (plan_state self.old) request.now) }
+    fn take_line(&mut self, request: &Request<'_>) -> Result<(), PlanFault>
+        requires { self.old.lines < 18446744073709551615 }
+        ensures plan { LeadsTo self.new (request_in (plan_state self.old) request.now) result }
+        ensures lines { self.new.lines ≡ self.old.lines + 1 }
     {
-        if self.is_malformed {
-            return Ok(());
-        }
         self.lines += 1;
         match request {
             Request::Nothing => Ok(()),
-            Request::NoCommand => self.reject(),
-            Request::Command(command) => self.follow(alloc, command),
+            Request::NoCommand => self.refuse(),
+            Request::Command(command) => self.follow(command),
         }
     }
 
-    /// The line does not belong.
-    fn reject(&mut self) -> Result<(), AllocError>
-        ensures plan { OnOk result (plan_state self.new ≡ malformed self.old.lines) }
-        ensures lines { self.new.lines ≡ self.old.lines }
+    /// Ends the plan. Without a start the line after the last does not belong.
+    pub(crate) fn end(&self) -> Result<(), PlanFault>
+        requires { self.now.lines < 18446744073709551615 }
+        ensures { Tells (plan_result (plan_state self.now)) self.now.plan result }
     {
-        self.is_malformed = true;
-        Ok(())
+        if self.is_started {
+            return Ok(());
+        }
+        Err(PlanFault::Malformed {
+            line: self.lines + 1,
+        })
+    }
+
+    /// The line does not belong.
+    fn refuse(&self) -> Result<(), PlanFault>
+        ensures { LeadsTo self.now (malformed self.now.lines) result }
+    {
+        Err(PlanFault::Malformed { line: self.lines })
     }
 
     /// Follows a command, where it belongs.
-    fn follow(&mut self, alloc: A, command: &Command<'_>) -> Result<(), AllocError>
-        requires { self.old.is_malformed ≡ false }
-        ensures plan { OnOk result (plan_state self.new ≡ command_in self.old.setup self.old.is_started self.old.sets.items self.old.lines command.now) }
-        ensures lines { OnOk result (self.new.lines ≡ self.old.lines) }
+    fn follow(&mut self, command: &Command<'_>) -> Result<(), PlanFault>
+        ensures plan { LeadsTo self.new (command_in self.old.plan.setup self.old.is_started self.old.plan.sets.items self.old.lines command.now) result }
+        ensures lines { self.new.lines ≡ self.old.lines }
     {
         match command {
-            Command::Declare(declaration) => self.declare(alloc, declaration),
+            Command::Declare(declaration) => self.declare(declaration),
             Command::Start => self.start(),
-            Command::Act(Action::Propose(words)) => self.propose(alloc, words),
-            _ => self.reject(),
+            Command::Act(Action::Propose(words)) => self.propose(words),
+            _ => self.refuse(),
         }
     }
 
     /// Follows a declaration, before the start.
-    fn declare(&mut self, alloc: A, declaration: &Declaration<'_>) -> Result<(), AllocError>
-        requires { self.old.is_malformed ≡ false }
-        ensures plan { OnOk result (plan_state self.new ≡ command_in self.old.setup self.old.is_started self.old.sets.items self.old.lines (Command.Declare declaration.now)) }
-        ensures lines { OnOk result (self.new.lines ≡ self.old.lines) }
+    fn declare(&mut self, declaration: &Declaration<'_>) -> Result<(), PlanFault>
+        ensures plan { LeadsTo self.new (command_in self.old.plan.setup self.old.is_started self.old.plan.sets.items self.old.lines (Command.Declare declaration.now)) result }
+        ensures lines { self.new.lines ≡ self.old.lines }
     {
         if self.is_started {
-            return self.reject();
+            return self.refuse();
         }
-        match declare(alloc, &mut self.setup, declaration) {
+        match declare(self.alloc, &mut self.plan.setup, declaration) {
             Ok(()) => Ok(()),
-            Err(Refusal::NoMemory) => Err(AllocError),
-            Err(_) => self.reject(),
+            Err(Refusal::NoMemory) => Err(PlanFault::NoMemory),
+            Err(_) => self.refuse(),
         }
     }
 
     /// Follows the start, where there is none yet.
-    fn start(&mut self) -> Result<(), AllocError>
-        requires { self.old.is_malformed ≡ false }
-        ensures plan { OnOk result (plan_state self.new ≡ command_in self.old.setup self.old.is_started self.old.sets.items self.old.lines Command.Start) }
-        ensures lines { OnOk result (self.new.lines ≡ self.old.lines) }
+    fn start(&mut self) -> Result<(), PlanFault>
+        ensures plan { LeadsTo self.new (command_in self.old.plan.setup self.old.is_started self.old.plan.sets.items self.old.lines Command.Start) result }
+        ensures lines { self.new.lines ≡ self.old.lines }
     {
-        if self.is_started || !self.setup.is_ready() {
-            return self.reject();
+        if self.is_started || !self.plan.setup.is_ready() {
+            return self.refuse();
         }
         self.is_started = true;
         Ok(())
     }
 
     /// Follows a proposal, after the start.
-    fn propose(&mut self, alloc: A, words: &ChangeWords<'_>) -> Result<(), AllocError>
-        requires { self.old.is_malformed ≡ false }
-        ensures plan { OnOk result (plan_state self.new ≡ command_in self.old.setup self.old.is_started self.old.sets.items self.old.lines (Command.Act (Action.Propose words.now))) }
-        ensures lines { OnOk result (self.new.lines ≡ self.old.lines) }
+    fn propose(&mut self, words: &ChangeWords<'_>) -> Result<(), PlanFault>
+        ensures plan { LeadsTo self.new (command_in self.old.plan.setup self.old.is_started self.old.plan.sets.items self.old.lines (Command.Act (Action.Propose words.now))) result }
+        ensures lines { self.new.lines ≡ self.old.lines }
     {
         if !self.is_started {
-            return self.reject();
+            return self.refuse();
         }
-        match set_in(alloc, self.setup.objects(), words) {
+        match set_in(self.alloc, self.plan.setup.objects(), words) {
             Ok(set) => self.add(set),
-            Err(Refusal::NoMemory) => Err(AllocError),
-            Err(_) => self.reject(),
+            Err(Refusal::NoMemory) => Err(PlanFault::NoMemory),
+            Err(_) => self.refuse(),
         }
     }
 
     /// Adds a set.
-    fn add(&mut self, set: MessageSet<A>) -> Result<(), AllocError>
-        requires { self.old.is_malformed ≡ false }
-        ensures rest { OnOk result (self.new ≡ record self.old { sets = self.new.sets }) }
-        ensures sets { OnOk result (self.new.sets.items ≡ self.old.sets.items ++ set ∷ []) }
+    fn add(&mut self, set: MessageSet<A>) -> Result<(), PlanFault>
+        ensures plan { LeadsTo self.new (planning self.old.plan.setup self.old.is_started (self.old.plan.sets.items ++ set ∷ []) self.old.lines) result }
+        ensures lines { self.new.lines ≡ self.old.lines }
     {
-        match self.sets.push(set) {
+        match self.plan.sets.push(set) {
             Ok(()) => Ok(()),
-            Err(_) => Err(AllocError),
+            Err(_) => Err(PlanFault::NoMemory),
         }
     }
 }

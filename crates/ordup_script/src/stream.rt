@@ -1,14 +1,16 @@
 //! A script from a reader to a writer.
 ghost use Rattle.std.specs.Prelude.{◌≡◌, [], IfErr, OnOk};
 ghost use Rattle.std.specs.Io.KnownBytes.{Appends};
-ghost use Rattle.ordup_script.specs.Sent.{AppendsFront};
-ghost use Rattle.ordup_script.specs.Written.{start};
-ghost use Rattle.ordup_script.specs.Held.{IsAt};
-ghost use Rattle.ordup_script.specs.Runs.{Closes, Passes, PassesAll, Runs, RunsIn};
+ghost use Rattle.ordup_answers.specs.Sessions.{Stands, first_session};
+ghost use Rattle.ordup_script.specs.Answerers.{HasAnswered, HasStopped};
+ghost use Rattle.ordup_script.specs.Readings.{Takes};
+ghost use Rattle.ordup_script.specs.Runs.{AppendsFront, Runs, RunsIn};
 
-use crate::engine::Engine;
+use crate::line_reader::{Extent, read_lines};
+use crate::line_taker::LineTaker;
 use crate::sizes::{MOST_SCRIPT_BYTES, PIECE};
-use ordup_answers::ScriptEnd;
+use ordup_answers::{ScriptEnd, answer};
+use ordup_grammar::Request;
 use std::alloc::{Allocator, Global};
 use std::io::{Read, Write};
 
@@ -25,109 +27,96 @@ pub enum ScriptFault {
     NoMemory,
 }
 
+/// Answers the lines of a script. It keeps the answers that were not written yet.
+// It owns nothing, since no proof knows what a value that owns memory leaves behind a reference in it.
+#[derive(Drop)]
+struct Answerer<'a, W, A: Allocator + Copy = Global> {
+    store: &'a mut ScriptEnd<A>,
+    answers: &'a mut Vec<u8, A>,
+    output: &'a mut W,
+}
+
+impl<W: Write, A: Allocator + Copy> LineTaker for Answerer<'_, W, A> {
+    type Fault = ScriptFault;
+
+    ghost took = { HasAnswered W.contents };
+
+    ghost stopped = { HasStopped W.contents };
+
+    ghost is_clear = { λ answerer. answerer.answers.now.items ≡ [] };
+
+    // More than a script has bytes.
+    ghost room = { λ _. 18446744073709551616 };
+
+    fn take(&mut self, request: &Request<'_>) -> Result<(), ScriptFault> {
+        let alloc = *self.answers.allocator();
+        match answer(alloc, self.store, request, self.answers) {
+            Ok(()) => self.hand_out_many(),
+            Err(_) => Err(ScriptFault::NoMemory),
+        }
+    }
+
+    fn hand_out(&mut self) -> Result<(), ScriptFault> {
+        send(self.output, self.answers)?;
+        self.answers.clear();
+        Ok(())
+    }
+}
+
+impl<W: Write, A: Allocator + Copy> Answerer<'_, W, A> {
+    /// Hands the answers out where they have as many bytes as a piece.
+    fn hand_out_many(&mut self) -> Result<(), ScriptFault>
+        ensures { Takes (HasAnswered W.contents) (HasStopped W.contents) self.old self.new [] result }
+    {
+        if self.answers.len() < PIECE {
+            return Ok(());
+        }
+        self.hand_out()
+    }
+}
+
 /// Writes all bytes, or a front of them where the writer fails.
 fn send<W: Write>(output: &mut W, bytes: &[u8]) -> Result<(), ScriptFault>
     ensures sent { OnOk result (Appends (W.contents output.old) (W.contents output.new) bytes.now) }
     ensures cause { IfErr result (λ e. e ≡ ScriptFault.Write) }
     ensures front { AppendsFront (W.contents output.old) (W.contents output.new) bytes.now }
 {
-    let mut at = 0;
-    while at < bytes.len() {
-        match output.write(&bytes[at..]) {
-            Ok(count) if count > 0 => at += count,
+    let mut rest = bytes;
+    while !rest.is_empty() {
+        match output.write(rest) {
+            Ok(count) if count > 0 => rest = &rest[count..],
             _ => return Err(ScriptFault::Write),
         }
     }
     Ok(())
 }
 
-/// Feeds a piece of the script and writes its answers, or a front of them.
-fn pass<A: Allocator + Copy, W: Write>(
-    alloc: A,
-    engine: &mut Engine<A>,
-    piece: &[u8],
-    answers: &mut Vec<u8, A>,
-    output: &mut W,
-) -> Result<(), ScriptFault>
-    ensures { Passes (W.contents output.old) (W.contents output.new)
-        engine.old engine.new piece.now result }
-{
-    answers.clear();
-    if engine.feed(alloc, piece, answers).is_err() {
-        return Err(ScriptFault::NoMemory);
-    }
-    send(output, answers)?;
-    Ok(())
-}
-
-/// Writes the answer to what is left at the end, or a front of it.
-fn close<A: Allocator + Copy, W: Write>(
-    alloc: A,
-    engine: &mut Engine<A>,
-    answer: &mut Vec<u8, A>,
-    output: &mut W,
-) -> Result<(), ScriptFault>
-    ensures { Closes (W.contents output.old) (W.contents output.new)
-        engine.old engine.new.store result }
-{
-    answer.clear();
-    if engine.finish(alloc, answer).is_err() {
-        return Err(ScriptFault::NoMemory);
-    }
-    send(output, answer)?;
-    if output.flush().is_err() {
-        return Err(ScriptFault::Write);
-    }
-    Ok(())
-}
-
-/// Reads a script of at most so many bytes to its end, feeds it piece by piece, and writes its answers.
-fn pass_all<A: Allocator + Copy, R: Read, W: Write>(
-    alloc: A,
-    engine: &mut Engine<A>,
-    answers: &mut Vec<u8, A>,
-    input: &mut R,
-    output: &mut W,
-    limit: u64,
-) -> Result<(), ScriptFault>
-    requires { IsAt engine.old [] start }
-    ensures { PassesAll (R.remaining input.old) (R.remaining input.new)
-        (W.contents output.old) (W.contents output.new) limit engine.new result }
-{
-    let mut piece = [0u8; PIECE];
-    let mut taken = 0u64;
-    'pieces: loop {
-        let Ok(count) = input.read(&mut piece) else {
-            return Err(ScriptFault::Read);
-        };
-        if count == 0 {
-            return Ok(());
-        }
-        if count as u64 > limit - taken {
-            let room = (limit - taken) as usize;
-            pass(alloc, engine, &piece[..room], answers, output)?;
-            return Err(ScriptFault::TooLong);
-        }
-        pass(alloc, engine, &piece[..count], answers, output)?;
-        taken += count as u64;
-    }
-}
-
-/// Runs a script of at most so many bytes in an engine that nothing was fed to.
+/// Runs a script of at most so many bytes, where none of its lines was answered yet.
 fn run_in<A: Allocator + Copy, R: Read, W: Write>(
-    alloc: A,
-    engine: &mut Engine<A>,
+    store: &mut ScriptEnd<A>,
     answers: &mut Vec<u8, A>,
     input: &mut R,
     output: &mut W,
     limit: u64,
 ) -> Result<(), ScriptFault>
-    requires { IsAt engine.old [] start }
+    requires store { Stands store.old first_session }
+    requires answers { answers.old.items ≡ [] }
     ensures { RunsIn (R.remaining input.old) (R.remaining input.new)
-        (W.contents output.old) (W.contents output.new) limit engine.new.store result }
+        (W.contents output.old) (W.contents output.new) limit store.new result }
 {
-    pass_all(alloc, engine, answers, input, output, limit)?;
-    close(alloc, engine, answers, output)
+    let mut answerer = Answerer {
+        store,
+        answers,
+        output,
+    };
+    match read_lines(&mut answerer, input, limit)? {
+        Extent::Whole => match answerer.output.flush() {
+            Ok(()) => Ok(()),
+            Err(_) => Err(ScriptFault::Write),
+        },
+        Extent::BeforeFailure => Err(ScriptFault::Read),
+        Extent::UpToLimit => Err(ScriptFault::TooLong),
+    }
 }
 
 /// Runs a script of at most so many bytes.
@@ -140,10 +129,10 @@ pub fn run_script_within<A: Allocator + Copy, R: Read, W: Write>(
     ensures { Runs (R.remaining input.old) (R.remaining input.new)
         (W.contents output.old) (W.contents output.new) limit result }
 {
-    let mut engine = Engine::new(alloc);
+    let mut store = ScriptEnd::new(alloc);
     let mut answers = Vec::new(alloc);
-    run_in(alloc, &mut engine, &mut answers, input, output, limit)?;
-    Ok(engine.store)
+    run_in(&mut store, &mut answers, input, output, limit)?;
+    Ok(store)
 }
 
 /// Runs a script: reads it to its end, answers each line, and writes the answers.

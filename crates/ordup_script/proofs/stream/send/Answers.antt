@@ -1,26 +1,16 @@
-use Rattle.std.proofs.Common.{rules, ◌+◌, take, drop, sym, take-append-drop}
-use Rattle.std.proofs.KnownBytes.{Appends-kept}
-use Rattle.ordup_script.proofs.Sending.{sent_more}
+use Rattle.std.proofs.Common.{◌≡◌, ◌∙◌, ◌++◌, ◌-◌, List, ℕ, ap, append_assoc, arith, drop, length, sym, take, take-append-drop}
+use Rattle.std.proofs.KnownBytes.{Appends-trans}
+use Rattle.std.proofs.lemmas.Grind.{common_steps}
 use Rattle.ordup_script.proofs.stream.send.Goals as goal
 
-pub loop-at-preserved : goal.loop-at-preserved
-loop-at-preserved g c = (search rules, sent_more _ _ _ c.args.bytes.now c.loop-at.at c.in-Ok.count c.loop-at.invariant.1 c.in-Ok.ensures.bytes)
+-- a front of what is left goes
+goes_on : (bytes front rest : List ℕ) (count : ℕ) → bytes ≡ front ++ rest → bytes ≡ (front ++ take count rest) ++ take (length rest - count) (drop count rest)
+goes_on bytes front rest count is =
+    let left : take (length rest - count) (drop count rest) ≡ drop count rest = grind (arith, common_steps) in
+    rw left (is ∙ ap (λ t. front ++ t) (sym (take-append-drop count rest)) ∙ sym (append_assoc front (take count rest) (drop count rest)))
 
-pub returns-in_default-clause-front : goal.returns-in_default-clause-front
-returns-in_default-clause-front g c =
-    let bytes = c.args.bytes.now in
-    let upto = c.loop-at.at + c.in-Ok.count in (
-      take upto bytes,
-      drop upto bytes,
-      sym (take-append-drop upto bytes),
-      sent_more _ _ _ bytes c.loop-at.at c.in-Ok.count c.loop-at.invariant.1 c.in-Ok.ensures.bytes,
-    )
-
-pub returns-in_default-2-clause-front : goal.returns-in_default-2-clause-front
-returns-in_default-2-clause-front g c =
-    let bytes = c.args.bytes.now in (
-      take c.loop-at.at bytes,
-      drop c.loop-at.at bytes,
-      sym (take-append-drop c.loop-at.at bytes),
-      Appends-kept _ _ _ (take c.loop-at.at bytes) c.loop-at.invariant.1 c.in_default.ensures.bytes,
-    )
+pub loop-rest-preserved : goal.loop-rest-preserved
+loop-rest-preserved g c =
+    let (front, is, grew) = c.loop-rest.invariant in
+    let count = c.in-Ok.count in
+    (front ++ take count c.loop-rest.rest.now, goes_on c.args.bytes.now front c.loop-rest.rest.now count is, Appends-trans _ _ _ front _ grew c.in-Ok.ensures.bytes)

@@ -1,4 +1,4 @@
-//! Tests of scripts over writers that fail, of plans, and of both where memory is refused.
+//! Tests of scripts over writers that fail, of plans, of both where memory is refused, and of the windows of a script's sites.
 #![tactic(auto)]
 
 #[cfg(test)]
@@ -9,3 +9,5 @@ mod plans;
 mod readers;
 #[cfg(test)]
 mod script;
+#[cfg(test)]
+mod windows;

@@ -43,21 +43,15 @@ fn carry_out<A: Allocator + Copy>(
 ) -> Result<(), AllocError>
     ensures { OnOk result ((s : Session A) → Stands store.old s → Leaves (Stands store.new) out.old.items out.new.items (reply_or_refusal s (command_reply s command.now))) }
 {
-    match store {
-        ScriptEnd::Declared(setup) => match command {
-            Command::Declare(declaration) => answer_declaration(alloc, setup, declaration, out),
-            Command::Start => match start(alloc, setup) {
-                Ok(world) => {
-                    store.run(world);
-                    push_started(out)
-                }
-                Err(refusal) => push_refused(out, refusal),
-            },
-            _ => push_refused(out, Refusal::NotStarted),
+    match command {
+        Command::Declare(declaration) => match store {
+            ScriptEnd::Declared(setup) => answer_declaration(alloc, setup, declaration, out),
+            ScriptEnd::Running(_) => push_refused(out, Refusal::AlreadyStarted),
         },
-        ScriptEnd::Running(world) => match command {
-            Command::Act(action) => answer_action(alloc, world, action, out),
-            Command::Declare(_) | Command::Start => push_refused(out, Refusal::AlreadyStarted),
+        Command::Start => answer_start(alloc, store, out),
+        Command::Act(action) => match store {
+            ScriptEnd::Declared(_) => push_refused(out, Refusal::NotStarted),
+            ScriptEnd::Running(world) => answer_action(alloc, world, action, out),
         },
     }
 }
@@ -89,6 +83,26 @@ fn push_declared<A: Allocator + Copy>(
         Declaration::Group { name, .. } => push_named(out, b"ok group ", name.as_bytes()),
         Declaration::Site { name, .. } => push_named(out, b"ok site ", name.as_bytes()),
         Declaration::Limit { site, .. } => push_named(out, b"ok limit ", site.as_bytes()),
+    }
+}
+
+/// Starts the store with what is declared, where it is not started yet.
+fn answer_start<A: Allocator + Copy>(
+    alloc: A,
+    store: &mut ScriptEnd<A>,
+    out: &mut Vec<u8, A>,
+) -> Result<(), AllocError>
+    ensures { OnOk result ((s : Session A) → Stands store.old s → Leaves (Stands store.new) out.old.items out.new.items (reply_or_refusal s (command_reply s Command.Start))) }
+{
+    let ScriptEnd::Declared(setup) = store else {
+        return push_refused(out, Refusal::AlreadyStarted);
+    };
+    match start(alloc, setup) {
+        Ok(world) => {
+            store.run(world);
+            push_started(out)
+        }
+        Err(refusal) => push_refused(out, refusal),
     }
 }
 

@@ -7,7 +7,9 @@ use std::marker::Model;
 /// A whole number as a script writes it: at most 19 digits, so between -(10^19 - 1) and 10^19 - 1. Zero has no sign.
 #[derive(Clone, Copy, Debug, PartialEq, Eq)]
 pub struct Number {
-    is_negative: bool,
+    // -1 below zero, else 1. It is as wide as the magnitude so that no bytes lie between the fields: those would be written
+    // with each request that holds a number or could, which takes a tenth of the time of a short line.
+    sign: i64,
     magnitude: u64,
 }
 
@@ -31,18 +33,15 @@ impl Number {
     pub fn parse(word: &[u8]) -> Option<Number>
         ensures { result ≡ number_of word.now }
     {
-        let (is_negative, digits) = match word {
-            [b'-', digits @ ..] => (true, digits),
-            _ => (false, word),
+        let (sign, digits) = match word {
+            [b'-', digits @ ..] => (-1, digits),
+            _ => (1, word),
         };
         let magnitude = parse_magnitude(digits)?;
-        if is_negative && magnitude == 0 {
+        if sign < 0 && magnitude == 0 {
             return None;
         }
-        Some(Number {
-            is_negative,
-            magnitude,
-        })
+        Some(Number { sign, magnitude })
     }
 
     /// The number where it fits, else the `i64` nearest to it.
@@ -51,7 +50,7 @@ impl Number {
         ensures exact { unsigned_abs self ≤ 1000000000 → result ≡ self }
         ensures far { 1000000000 < unsigned_abs self → 1000000000 < unsigned_abs result }
     {
-        if self.is_negative {
+        if self.sign < 0 {
             0i64.saturating_sub_unsigned(self.magnitude)
         } else {
             0i64.saturating_add_unsigned(self.magnitude)
@@ -62,7 +61,7 @@ impl Number {
     pub fn amount(self) -> u64
         ensures { result ≡ amount_of self }
     {
-        if self.is_negative {
+        if self.sign < 0 {
             u64::MAX
         } else {
             self.magnitude

@@ -57,5 +57,10 @@ fn is_comment(line: &[u8]) -> bool
 fn are_printed(line: &[u8]) -> bool
     ensures { result ≡ list_all is_printed line.now }
 {
-    line.iter().all(|byte| *byte >= 32 && *byte <= 126)
+    // It does not stop at the first that does not, so that many bytes are looked at at once.
+    let mut are_printed = true;
+    for byte in line {
+        are_printed &= *byte >= 32 && *byte <= 126;
+    }
+    are_printed
 }

@@ -6,7 +6,7 @@ ghost use Rattle.ordup_objects.specs.Weights.{distance_beside, distances_of};
 use crate::groups::Groups;
 use crate::scope::Scope;
 use ordup_objects::sizes::MOST_UPDATES;
-use ordup_objects::{Change, MessageSet, ObjectId, ObjectTable, Refusal, Values};
+use ordup_objects::{Change, MessageSet, ObjectId, ObjectTable, Refusal, Results, Values};
 use std::alloc::{Allocator, Global};
 use std::marker::Model;
 
@@ -90,7 +90,8 @@ impl<A: Allocator + Copy> Log<A> {
         if self.sets.len() == MOST_UPDATES {
             return Err(Refusal::LogFull);
         }
-        let Ok(results) = self.end.results(&set) else {
+        let mut results = Results::new();
+        let Ok(()) = self.end.results(&set, &mut results) else {
             return Err(Refusal::OutOfRange);
         };
         let alloc = *self.sets.allocator();

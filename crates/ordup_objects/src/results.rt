@@ -3,7 +3,7 @@ use std::marker::Model;
 
 /// What each change of a message set makes of its object's value, in the order of the changes.
 ///
-/// `Values::results` computes them once; `Values::distances` and `Values::put` go by them.
+/// `Values::results` computes them in place, once; `Values::distances` and `Values::put` go by them.
 #[derive(Debug, Drop)]
 pub struct Results {
     pub(crate) results: [i64; MOST_CHANGES],
@@ -18,4 +18,13 @@ impl Model for Results {
     ghost view = { λ r. r.results };
 
     ghost invariant = { λ r. length r.results ≡ most_changes };
+}
+
+impl Results {
+    /// Room for the results of a message set.
+    pub fn new() -> Self {
+        Results {
+            results: [0; MOST_CHANGES],
+        }
+    }
 }

@@ -89,7 +89,8 @@ impl<A: Allocator + Copy> Values<A> {
         ensures len { length self.new ≡ length self.old }
         ensures err { IfErr result (λ e. (e ≡ Refusal.OutOfRange) × (self.new ≡ self.old)) }
     {
-        let results = self.results(set)?;
+        let mut results = Results::new();
+        self.results(set, &mut results)?;
         self.put(set, &results);
         Ok(())
     }
@@ -99,19 +100,18 @@ impl<A: Allocator + Copy> Values<A> {
         requires { AreKnown (length self.now) set.now }
         ensures { result ≡ is_legal set.now self.now }
     {
-        self.results(set).is_ok()
+        self.results(set, &mut Results::new()).is_ok()
     }
 
-    /// What each change of a set makes of its object's value. It is refused `OutOfRange` alone, where a result is out of range.
-    pub fn results(&self, set: &MessageSet<A>) -> Result<Results, Refusal>
+    /// Computes what each change of a set makes of its object's value. It is refused `OutOfRange` alone, where a result is out of
+    /// range.
+    pub fn results(&self, set: &MessageSet<A>, results: &mut Results) -> Result<(), Refusal>
         requires { AreKnown (length self.now) set.now }
-        ensures results { IfOk result (λ results. AreResults self.now set.now results) }
+        ensures results { OnOk result (AreResults self.now set.now results.new) }
         ensures legal { is_ok result ≡ is_legal set.now self.now }
         ensures err { IfErr result (λ e. e ≡ Refusal.OutOfRange) }
     {
-        let mut results = [0; MOST_CHANGES];
-        results_of(self.values.as_slice(), set.changes(), &mut results)?;
-        Ok(Results { results })
+        results_of(self.values.as_slice(), set.changes(), &mut results.results)
     }
 
     /// How far each change of a set would move its object's value, by its results on these values. It is refused memory alone.

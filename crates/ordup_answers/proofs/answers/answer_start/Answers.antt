@@ -1,10 +1,10 @@
 use Rattle.std.proofs.lemmas.Result.{on_ok_weaker}
 use Rattle.ordup_answers.proofs.AnsweringLemmas.{left_by_start}
-use Rattle.ordup_answers.proofs.answers.carry_out.Goals as goal
+use Rattle.ordup_answers.proofs.answers.answer_start.Goals as goal
 
 pub returns-in-Ok : goal.returns-in-Ok
 returns-in-Ok g c =
     on_ok_weaker c.push_started.result (λ h s stands.
-    rw (c.run.ensures, c.in-Start.is)
+    rw c.run.ensures
     (left_by_start c.in-Declared.setup c.in-Ok.world c.args.out.now.items c.push_started.new.out.items c.in-Ok.ensures.started h s
     (rw c.in-Declared.is at stands))) c.push_started.ensures

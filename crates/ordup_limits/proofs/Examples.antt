@@ -46,8 +46,10 @@ passed : (first_passed log groups kept 0 3 ≡ None)
 passed = (refl, refl, refl, refl, refl)
 
 -- each scope is the same as itself alone
-scopes : (map (is_same_scope (Object 1)) (Object 1 ∷ Object 0 ∷ Group 1 ∷ Everything ∷ Count ∷ []) ≡ true ∷ false ∷ false ∷ false ∷ false ∷ [])
-    × (map (is_same_scope (Group 1)) (Object 1 ∷ Group 1 ∷ Group 0 ∷ Everything ∷ Count ∷ []) ≡ false ∷ true ∷ false ∷ false ∷ false ∷ [])
+scopes : (map (is_same_scope (Object 1)) (Object 1 ∷ Object 0 ∷ Group 1 ∷ Everything ∷ Count ∷ [])
+    ≡ true ∷ false ∷ false ∷ false ∷ false ∷ [])
+    × (map (is_same_scope (Group 1)) (Object 1 ∷ Group 1 ∷ Group 0 ∷ Everything ∷ Count ∷ [])
+    ≡ false ∷ true ∷ false ∷ false ∷ false ∷ [])
     × (map (is_same_scope Everything) (Object 1 ∷ Group 1 ∷ Everything ∷ Count ∷ []) ≡ false ∷ false ∷ true ∷ false ∷ [])
     × (map (is_same_scope Count) (Object 1 ∷ Group 1 ∷ Everything ∷ Count ∷ []) ≡ false ∷ false ∷ false ∷ true ∷ [])
     × (repeats are_on_one_scope (limit Count 1 ∷ limit Everything 1 ∷ limit Count 2 ∷ []) ≡ true)

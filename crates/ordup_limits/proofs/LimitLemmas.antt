@@ -1,12 +1,11 @@
 -- Limits and spans.
-use Rattle.std.proofs.Common.{◌≡◌, ℕ, zero, suc, take, get_or, ◌-◌, ◌+◌, ◌<◌, ◌≤◌, true, false, not, [], ◌∷◌, ◌++◌, length}
+use Rattle.std.proofs.Common.{◌≡◌, ℕ, zero, suc, take, get_or, ◌-◌, ◌+◌, ◌<◌}
+use Rattle.std.proofs.Common.{◌≤◌, true, false, not, [], ◌∷◌, ◌++◌, length}
 use Rattle.std.proofs.Common.{Some, None, arith, refl, sym, ◌∙◌}
 use Rattle.std.specs.Prelude.{nat_lt, nat_le, IsTrue, All}
 use Rattle.std.specs.List.{position_or_len, list_any}
-use Rattle.std.proofs.lemmas.Bool.{or_parts}
 use Rattle.std.proofs.lemmas.List.{length_push}
 use Rattle.std.proofs.lemmas.List.Elements.{All-push}
-use Rattle.std.proofs.lemmas.List.Folds.{list_any-append}
 use Rattle.std.proofs.lemmas.Bool.{lt-ltb, le-leb, leb-true, and_parts, le-ltb, false≢true}
 use Rattle.std.proofs.lemmas.List.Folds.{list_all_at, list_all_more}
 use Rattle.ordup_objects.specs.Serial.{History}
@@ -42,7 +41,8 @@ none_passed h groups (limit ∷ limits) a b is =
 pub first_passed-within : (h : History) (groups : GroupList) (limits : Limits) (a b : ℕ) → within h groups limits a b ≡ true
     → None ≡ first_passed h groups limits a b
 first_passed-within h groups limits a b is =
-    rw (le-ltb (position_or_len (λ limit. not (keeps h groups a b limit)) limits) (length limits) (none_passed h groups limits a b is)) refl
+    rw (le-ltb (position_or_len (λ limit. not (keeps h groups a b limit)) limits) (length limits) (none_passed h groups limits a b is))
+    refl
 
 -- the first limit that is not kept, after such that are
 passed_at : (h : History) (groups : GroupList) (limits : Limits) (a b i : ℕ) (d : Limit) → i < length limits
@@ -126,7 +126,8 @@ keeps-all h groups a b limit are known forward last all other =
 
 -- limits stay limits with one more, on a scope that none of them has
 pub AreLimits-push : (limits : Limits) (l : Limit) → AreLimits limits → length limits < most_limits → l.amount ≤ greatest_amount
-    → list_any (λ m. is_same_scope m.scope l.scope) limits ≡ false → (more : Limits) → more ≡ limits ++ l ∷ [] → AreLimits more
+    → list_any (λ m. is_same_scope m.scope l.scope) limits ≡ false → (more : Limits) → more ≡ limits ++ l ∷ []
+    → AreLimits more
 AreLimits-push limits l are room few none more e = rw e (record {
   few = omega (arith, length_push limits l);
   amounts = All-push (λ (m : Limit). m.amount ≤ greatest_amount) limits l are.amounts few;

@@ -1,5 +1,5 @@
 -- Limits, and which of them a span passes.
-use Rattle.std.specs.Prelude.{◌≡◌, ◌≤◌, ◌||◌, [], ◌∷◌, ℕ, ◌==◌, not, if◌then◌else◌, Option, Some, None, Bool, true, false, List}
+use Rattle.std.specs.Prelude.{◌≡◌, ◌≤◌, ℕ, ◌==◌, not, if◌then◌else◌, Option, Some, None, Bool, true, false, List}
 use Rattle.std.specs.Prelude.{length, nat_lt, nat_le, All}
 use Rattle.std.specs.List.{list_all, list_any, position}
 use Rattle.std.specs.Option.{option_or}

@@ -42,6 +42,17 @@ impl<A: Allocator + Copy> LimitTable<A> {
         }
     }
 
+    /// The same limits once more. It is refused `NoMemory` alone.
+    pub fn copy(&self, alloc: A) -> Result<Self, Refusal>
+        ensures copied { IfOk result (λ limits. limits ≡ self.now) }
+        ensures refused { IfErr result (λ e. e ≡ Refusal.NoMemory) }
+    {
+        match Vec::from_slice(alloc, self.limits.as_slice()) {
+            Ok(limits) => Ok(LimitTable { limits }),
+            Err(_) => Err(Refusal::NoMemory),
+        }
+    }
+
     /// Adds a limit, whose amount lies from 0 to 10^18.
     ///
     /// It is refused `UnknownObject` or `UnknownGroup` where the scope's is not there, `OutOfRange` for the amount, `TooMany`

@@ -4,10 +4,11 @@ use Rattle.std.specs.Prelude.{neg_ℤ, Some, None, codes}
 use Rattle.ordup_objects.specs.declared.change.Change.{Change}
 use Rattle.ordup_objects.specs.declared.change.Op.{Op}
 use Rattle.ordup_objects.specs.declared.change.Op.TheVariants.{Add, Take}
-use Rattle.ordup_objects.specs.declared.refusal.Refusal.TheVariants.{BadName, NameTaken, UnknownObject, OutOfRange, TooMany, Empty, Repeated, LogFull}
+use Rattle.ordup_objects.specs.declared.refusal.Refusal.TheVariants.{BadName, NameTaken, UnknownObject, OutOfRange}
+use Rattle.ordup_objects.specs.declared.refusal.Refusal.TheVariants.{TooMany, Empty, Repeated, LogFull}
 use Rattle.ordup_objects.specs.States.{is_legal}
 use Rattle.ordup_objects.specs.Serial.{History, serial}
-use Rattle.ordup_log.specs.Groups.{GroupList, group_refusal}
+use Rattle.ordup_log.specs.Groups.{GroupList, group_refusal, member_refusal, last_members, with_member}
 use Rattle.ordup_log.specs.Spans.{weight, span}
 use Rattle.ordup_log.specs.Appending.{append_refusal}
 use Rattle.ordup_log.specs.declared.scope.Scope.TheVariants.{Object, Group, All as Everything, Count}
@@ -55,7 +56,8 @@ appended = (refl, refl)
 full : (h : History) (m : List Change) → length h.sets ≡ 1000000 → append_refusal h m ≡ Some LogFull
 full h m e = rw e refl
 
-not_full : (h : History) (m : List Change) → length h.sets ≡ 999999 → is_legal m (serial h 999999) ≡ true → append_refusal h m ≡ None
+not_full : (h : History) (m : List Change) → length h.sets ≡ 999999 → is_legal m (serial h 999999) ≡ true
+    → append_refusal h m ≡ None
 not_full h m e legal = rw e (rw legal refl)
 
 -- the order of the refusals of a group over one object: each of these could be refused later too
@@ -68,3 +70,15 @@ refusals : (group_refusal 1 two_groups (codes "G") (1 ∷ []) ≡ Some BadName)
     × (group_refusal 2 [] (codes "g") (0 ∷ 1 ∷ 0 ∷ []) ≡ Some Repeated)
     × (group_refusal 2 (replicate 31 (codes "g", 0 ∷ [])) (codes "h") (0 ∷ 1 ∷ []) ≡ None)
 refusals = (refl, refl, refl, refl, refl, refl, refl, refl)
+
+-- z as a member of the last group, and the first stays as it is
+members : (last_members two_groups ≡ 0 ∷ 1 ∷ [])
+    × (with_member two_groups 2 ≡ (codes "g", 2 ∷ []) ∷ (codes "h", 0 ∷ 1 ∷ 2 ∷ []) ∷ [])
+members = (refl, refl)
+
+-- the order of the refusals of a member: each of these could be refused later too
+member_refusals : (member_refusal 1 (replicate 64 1) 1 ≡ Some UnknownObject)
+    × (member_refusal 2 (replicate 64 1) 1 ≡ Some TooMany)
+    × (member_refusal 2 (0 ∷ 1 ∷ []) 1 ≡ Some Repeated)
+    × (member_refusal 2 (replicate 63 0) 1 ≡ None)
+member_refusals = (refl, refl, refl, refl)

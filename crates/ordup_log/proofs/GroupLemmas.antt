@@ -1,15 +1,21 @@
 -- Groups and their names.
-use Rattle.std.proofs.Common.{◌≡◌, ℕ, ◌+◌, ◌<◌, ◌≤◌, false, List, [], ◌∷◌, ◌++◌, length, map, get_or, drop, drop-cons, add-one}
+use Rattle.std.proofs.Common.{◌≡◌, ℕ, zero, suc, ◌+◌, ◌-◌, ◌<◌, ◌≤◌}
+use Rattle.std.proofs.Common.{false, List, [], ◌∷◌, ◌++◌, length, map, get_or}
 use Rattle.std.proofs.Common.{arith, refl, sym, ap, ◌∙◌, nat_eq, Vec}
-use Rattle.std.specs.Prelude.{true, ◌||◌, ◌==◌, Option, Some, None, is_some, option_map, All}
+use Rattle.std.specs.Prelude.{true, Option, Some, None, is_some, option_map, slice_get, take, All}
 use Rattle.std.specs.List.{list_any, position}
 use Rattle.std.specs.Cmp.Lexicographic.{pointwise}
-use Rattle.ordup_objects.specs.Sizes.{most_groups}
+use Rattle.ordup_objects.specs.Sizes.{most_groups, most_members}
 use Rattle.ordup_objects.specs.Names.{is_name}
-use Rattle.std.proofs.lemmas.List.{length_push}
-use Rattle.std.proofs.lemmas.List.Elements.{All-map, All-same, All-push}
-use Rattle.ordup_objects.specs.Tables.{names_of, place_of, AreNames, AreDistinct}
-use Rattle.ordup_log.specs.Groups.{IsGroup}
+use Rattle.std.proofs.Math.ListN.{length-set}
+use Rattle.std.proofs.lemmas.Bool.{lt-ltb, ne_eqb}
+use Rattle.std.proofs.lemmas.Cmp.{nat_eq_equiv}
+use Rattle.std.proofs.lemmas.List.{length_push, length-map, get_or-map, map-append}
+use Rattle.std.proofs.lemmas.List.Elements.{All-map, All-same, All-push, All-set}
+use Rattle.ordup_objects.specs.Tables.{names_of, place_of, with_entry, AreNames, AreDistinct}
+use Rattle.ordup_objects.proofs.TableLemmas.{take-next}
+use Rattle.ordup_objects.proofs.RepeatLemmas.{repeats-push, list_any-alike}
+use Rattle.ordup_log.specs.Groups.{IsGroup, members_at, last_members, with_member, member_refusal}
 
 -- what is beside the names does not change them
 names_of-map : {V W : Type 0} (f : V → W) (table : List (List ℕ × V)) → names_of (map (λ e. (e.0, f e.1)) table) ≡ names_of table
@@ -27,7 +33,8 @@ pub place_of-view : {V W : Type 0} (f : V → W) (name : List ℕ) (table : List
 place_of-view f name table view e = rw (← e) (place_of-map f name table)
 
 -- what is not found is not there
-pub place_of-none : (found : Option ℕ) (place : Option ℕ) → option_map (λ x. x) found ≡ place → is_some found ≡ false → place ≡ None
+pub place_of-none : (found : Option ℕ) (place : Option ℕ) → option_map (λ x. x) found ≡ place → is_some found ≡ false
+    → place ≡ None
 place_of-none None place e none = sym e
 place_of-none (Some x) place e none = cc
 
@@ -56,3 +63,166 @@ AreNames-view {Z} groups view e are = rw (← e)
 pub AreDistinct-view : {Z : Type 0} (groups : List (List ℕ × Vec ℕ Z)) (view : List (List ℕ × List ℕ))
     → map (λ g. (g.0, g.1.items)) groups ≡ view → AreDistinct groups → AreDistinct view
 AreDistinct-view {Z} groups view e are = rw (← e, names_of-map (λ (v : Vec ℕ Z). v.items) groups) are
+
+-- what callers see of groups
+abbrev pub groups_of : {Z : Type 0} → List (List ℕ × Vec ℕ Z) → List (List ℕ × List ℕ)
+groups_of groups = map (λ g. (g.0, g.1.items)) groups
+
+-- names stand at the same places where callers see the same groups
+pub place_of-same : {Z : Type 0} (name : List ℕ) (groups others : List (List ℕ × Vec ℕ Z)) → groups_of groups ≡ groups_of others
+    → place_of name groups ≡ place_of name others
+place_of-same {Z} name groups others e =
+    sym (place_of-map (λ (v : Vec ℕ Z). v.items) name groups)
+    ∙ ap (place_of name) e
+    ∙ place_of-map (λ (v : Vec ℕ Z). v.items) name others
+
+-- callers see the same groups with one more, if they saw the same before
+pub groups_of-next : {Z : Type 0} (groups others : List (List ℕ × Vec ℕ Z)) (k : ℕ) (name : List ℕ)
+    (members others_members : Vec ℕ Z) → groups_of groups ≡ groups_of (take k others)
+    → slice_get others k ≡ Some (name, others_members) → members.items ≡ others_members.items
+    → groups_of (groups ++ (name, members) ∷ []) ≡ groups_of (take (k + 1) others)
+groups_of-next {Z} groups others k name members others_members e at same =
+    let seen : List ℕ × Vec ℕ Z → List ℕ × List ℕ = λ g. (g.0, g.1.items) in
+    rw (
+      map-append seen groups ((name, members) ∷ []),
+      take-next others k (name, others_members) at,
+      map-append seen (take k others) ((name, others_members) ∷ []),
+      e,
+      same,
+    ) refl
+
+-- groups are kept where callers see the same
+pub are_groups-same : {Z : Type 0} (groups others : List (List ℕ × Vec ℕ Z)) → groups_of groups ≡ groups_of others
+    → (length others ≤ most_groups) × All (λ g. IsGroup g.1.items) others
+    → (length groups ≤ most_groups) × All (λ g. IsGroup g.1.items) groups
+are_groups-same {Z} groups others e are =
+    let seen : List ℕ × Vec ℕ Z → List ℕ × List ℕ = λ g. (g.0, g.1.items) in
+    let count : length groups ≡ length others = sym (length-map groups seen) ∙ ap length e ∙ length-map others seen in (
+      omega arith,
+      λ k d lt.
+          let same : (get_or groups k d).1.items ≡ (get_or others k d).1.items =
+          ap (λ (g : List ℕ × List ℕ). g.1) (
+          sym (get_or-map seen groups k d (seen d) lt)
+          ∙ ap (λ gs. get_or gs k (seen d)) e
+          ∙ get_or-map seen others k d (seen d) (omega arith)) in
+          rw same (are.1 k d (omega arith)),
+    )
+
+-- of two entries at a place the later stays
+with_entry-twice : {V : Type 0} (table : List (List ℕ × V)) (i : ℕ) (first second : V)
+    → with_entry (with_entry table i first) i second ≡ with_entry table i second
+with_entry-twice [] zero first second = refl
+with_entry-twice [] (suc i) first second = refl
+with_entry-twice (e ∷ table) zero first second = refl
+with_entry-twice (e ∷ table) (suc i) first second = ap (λ es. e ∷ es) (with_entry-twice table i first second)
+
+-- callers see another entry where there is one
+groups_of-with_entry : {Z : Type 0} (groups : List (List ℕ × Vec ℕ Z)) (i : ℕ) (members : Vec ℕ Z)
+    → groups_of (with_entry groups i members) ≡ with_entry (groups_of groups) i members.items
+groups_of-with_entry [] zero members = refl
+groups_of-with_entry [] (suc i) members = refl
+groups_of-with_entry (g ∷ groups) zero members = refl
+groups_of-with_entry (g ∷ groups) (suc i) members = ap (λ gs. (g.0, g.1.items) ∷ gs) (groups_of-with_entry groups i members)
+
+-- callers see no change where the members that were there are put back
+groups_of-restored : {Z : Type 0} (groups : List (List ℕ × Vec ℕ Z)) (i : ℕ) (members same : Vec ℕ Z)
+    → option_map (λ g. g.1) (slice_get groups i) ≡ Some members → same.items ≡ members.items
+    → groups_of (with_entry groups i same) ≡ groups_of groups
+groups_of-restored [] zero members same at e = refl
+groups_of-restored [] (suc i) members same at e = refl
+groups_of-restored {Z} (g ∷ groups) zero members same at e =
+    let is : g.1 ≡ members = cc in
+    let with_first : List ℕ → List (List ℕ × List ℕ) = λ xs. (g.0, xs) ∷ groups_of groups in
+    ap with_first (e ∙ ap (λ (v : Vec ℕ Z). v.items) (sym is))
+groups_of-restored (g ∷ groups) (suc i) members same at e =
+    ap (λ gs. (g.0, g.1.items) ∷ gs) (groups_of-restored groups i members same at e)
+
+-- the members that callers see of a group
+pub members_at-is : {Z : Type 0} (groups : List (List ℕ × Vec ℕ Z)) (i : ℕ) (members : Vec ℕ Z)
+    → option_map (λ g. g.1) (slice_get groups i) ≡ Some members → members_at (groups_of groups) i ≡ members.items
+members_at-is [] i members at = absurd (cc)
+members_at-is {Z} (g ∷ groups) zero members at =
+    let is : g.1 ≡ members = cc in
+    ap (λ (v : Vec ℕ Z). v.items) is
+members_at-is (g ∷ groups) (suc i) members at = members_at-is groups i members at
+
+-- what is taken out are the members that were there
+pub taken-is : {Z : Type 0} (groups : List (List ℕ × Vec ℕ Z)) (i : ℕ) (name : List ℕ) (members taken : Vec ℕ Z)
+    → slice_get groups i ≡ Some (name, members) → option_map (λ g. g.1) (slice_get groups i) ≡ Some taken
+    → taken.items ≡ members.items
+taken-is {Z} groups i name members taken at out =
+    sym (members_at-is groups i taken out) ∙ members_at-is groups i members (ap (option_map (λ (g : List ℕ × Vec ℕ Z). g.1)) at)
+
+-- the members that callers see of the last group
+pub last_members-is : {Z : Type 0} (groups : List (List ℕ × Vec ℕ Z)) (view : List (List ℕ × List ℕ)) (last : ℕ)
+    (name : List ℕ)
+    (members : Vec ℕ Z) → groups_of groups ≡ view → last ≡ length groups - 1 → slice_get groups last ≡ Some (name, members)
+    → last_members view ≡ members.items
+last_members-is {Z} groups view last name members e is at =
+    let count : length (groups_of groups) ≡ length groups = length-map groups (λ (g : List ℕ × Vec ℕ Z). (g.0, g.1.items)) in
+    rw (← e, count, ← is) (members_at-is groups last members (ap (option_map (λ (g : List ℕ × Vec ℕ Z). g.1)) at))
+
+-- each of them is a group
+pub group-at : {Z : Type 0} (groups : List (List ℕ × Vec ℕ Z)) (i : ℕ) (members : Vec ℕ Z) → All (λ g. IsGroup g.1.items) groups
+    → option_map (λ g. g.1) (slice_get groups i) ≡ Some members → IsGroup members.items
+group-at [] i members are at = absurd (cc)
+group-at {Z} (g ∷ groups) zero members are at =
+    let is : g.1.items ≡ members.items = let same : g.1 ≡ members = cc in ap (λ (v : Vec ℕ Z). v.items) same in
+    rw is at (are 0 g (omega arith))
+group-at (g ∷ groups) (suc i) members are at = group-at groups i members (λ k d h. are (suc k) d (omega arith)) at
+
+-- the groups after a member was added: the members of the last one were taken out, and put back longer
+pub member-added : {Z : Type 0} (groups taken put : List (List ℕ × Vec ℕ Z)) (last : ℕ) (members none longer : Vec ℕ Z)
+    (member : ℕ) → last ≡ length groups - 1 → option_map (λ g. g.1) (slice_get groups last) ≡ Some members
+    → taken ≡ with_entry groups last none → put ≡ with_entry taken last longer → longer.items ≡ members.items ++ member ∷ []
+    → groups_of put ≡ with_member (groups_of groups) member
+member-added {Z} groups taken put last members none longer member is at out back more =
+    let count : length (groups_of groups) ≡ length groups = length-map groups (λ (g : List ℕ × Vec ℕ Z). (g.0, g.1.items)) in
+    rw (count, ← is, members_at-is groups last members at, ← more, back, out, with_entry-twice groups last none longer)
+    (groups_of-with_entry groups last longer)
+
+-- and where there was no memory for it: they were put back as they were
+pub member-refused : {Z : Type 0} (groups taken put : List (List ℕ × Vec ℕ Z)) (last : ℕ) (members none same : Vec ℕ Z)
+    → option_map (λ g. g.1) (slice_get groups last) ≡ Some members → taken ≡ with_entry groups last none
+    → put ≡ with_entry taken last same → same.items ≡ members.items → groups_of put ≡ groups_of groups
+member-refused groups taken put last members none same at out back e =
+    rw (back, out, with_entry-twice groups last none same) (groups_of-restored groups last members same at e)
+
+-- groups are kept by another group in the place of one
+pub are_groups-put : {Z : Type 0} (groups taken put : List (List ℕ × Vec ℕ Z)) (last : ℕ) (none members : Vec ℕ Z)
+    → (length groups ≤ most_groups) × All (λ g. IsGroup g.1.items) groups → taken ≡ with_entry groups last none
+    → put ≡ with_entry taken last members → IsGroup members.items
+    → (length put ≤ most_groups) × All (λ g. IsGroup g.1.items) put
+are_groups-put {Z} groups taken put last none members are out back is =
+    rw (back, out, with_entry-twice groups last none members) (
+      rw (length-set groups last) are.0,
+      All-set (λ (g : List ℕ × Vec ℕ Z). IsGroup g.1.items) groups last ((get_or groups last ([], members)).0, members) is are.1,
+    )
+
+-- a group with a member more that is not refused is a group
+pub IsGroup-push : (members : List ℕ) (member : ℕ) → IsGroup members → (length members ≡ most_members → ⊥)
+    → list_any (nat_eq member) members ≡ false → IsGroup (members ++ member ∷ [])
+IsGroup-push members member is room none =
+    let count : length (members ++ member ∷ []) ≡ length members + 1 = length_push members member in
+    let few : length members ≤ most_members = is.few in
+    record {
+      some = omega arith;
+      few = omega arith;
+      distinct = repeats-push nat_eq members member is.distinct
+          (list_any-alike (λ x. nat_eq x member) (nat_eq member) (λ x. nat_eq_equiv.symm x member) members ∙ none);
+    }
+
+-- a member that is known, has room and is not there is not refused
+pub member_refusal-none : {Z : Type 0} (groups : List (List ℕ × Vec ℕ Z)) (view : List (List ℕ × List ℕ)) (last : ℕ)
+    (name : List ℕ)
+    (members : Vec ℕ Z) (seen : List ℕ) (n member : ℕ) → groups_of groups ≡ view → last ≡ length groups - 1
+    → slice_get groups last ≡ Some (name, members) → seen ≡ members.items → member < n → (length seen ≡ most_members → ⊥)
+    → list_any (nat_eq member) seen ≡ false → member_refusal n (last_members view) member ≡ None
+member_refusal-none groups view last name members seen n member e is at same known room none =
+    rw (
+      last_members-is groups view last name members e is at,
+      ← same,
+      lt-ltb member n known,
+      ne_eqb (length seen) most_members room,
+      none,
+    ) refl

@@ -1,15 +1,19 @@
 -- The fields of a log that grows.
-use Rattle.std.proofs.Common.{◌≡◌, ℕ, ◌+◌, ◌<◌, true, List, [], ◌∷◌, ◌++◌, length, get_or, arith, sym, ap, ◌∙◌, inl, inr, Vec, vec_len}
+use Rattle.std.proofs.Common.{◌≡◌, ℕ, ◌+◌, ◌-◌, ◌<◌, ◌≤◌, true}
+use Rattle.std.proofs.Common.{List, [], ◌∷◌, ◌++◌, length, take, get_or}
+use Rattle.std.proofs.Common.{arith, refl, sym, ap, ◌∙◌, inl, inr, Vec, vec_len}
+use Rattle.std.specs.Prelude.{◌==◌, false, None}
 use Rattle.std.proofs.Math.ListN.{get_or-append}
-use Rattle.std.proofs.lemmas.Bool.{cases_lt}
-use Rattle.std.proofs.lemmas.List.{length_push, get_or_push}
+use Rattle.std.proofs.lemmas.Bool.{cases_lt, ne_eqb}
+use Rattle.std.proofs.lemmas.List.{length_push, get_or_push, length-take-le, take-take, take_more}
 use Rattle.ordup_objects.specs.declared.change.Change.{Change}
 use Rattle.ordup_objects.specs.Sizes.{most_updates}
 use Rattle.ordup_objects.specs.States.{State, after, is_legal}
 use Rattle.ordup_objects.specs.Sets.{IsSet, AreKnown}
-use Rattle.ordup_objects.specs.Serial.{History, serial, with_update}
+use Rattle.ordup_objects.specs.Serial.{History, serial, set_at, with_update, prefix_of, IsLegalHistory}
 use Rattle.ordup_objects.specs.Weights.{distances_of}
 use Rattle.ordup_log.specs.declared.log.Log.TheInside.{Inside}
+use Rattle.ordup_log.specs.Appending.{append_refusal}
 use Rattle.ordup_log.specs.LogInside.{IsLog, history_of}
 use Rattle.ordup_objects.proofs.SerialLemmas.{length-after, serial-longer, serial-last, IsLegalHistory-longer}
 
@@ -68,3 +72,19 @@ IsLog-longer l m ds sets distances end is set known legal few e f d g =
           (omega (arith, ap length e)));
       end = rw (sets.ok.0, e, length_push h.sets m, serial-last h m, ← now) g;
     }
+
+-- a prefix of a legal log takes the update after it
+pub append_refusal-prefix : (h log : History) (m : List Change) (k : ℕ) → IsLegalHistory h → length h.sets ≤ most_updates
+    → k < length h.sets → log ≡ prefix_of h k → m ≡ set_at h (k + 1) → append_refusal log m ≡ None
+append_refusal-prefix h log m k legal few lt prefix set =
+    let count : length (take k h.sets) ≡ k = length-take-le k h.sets (omega arith) in
+    let room : (k == most_updates) ≡ false = ne_eqb k most_updates (λ e. omega arith) in
+    let place : k + 1 - 1 ≡ k = omega arith in
+    rw (prefix, set, place, count, room, take-take k k h.sets (omega arith), legal.legal k lt) refl
+
+-- and is the longer prefix then
+pub prefix-longer : (h log : History) (m : List Change) (k : ℕ) → k < length h.sets → log ≡ prefix_of h k → m ≡ set_at h (k + 1)
+    → with_update log m ≡ prefix_of h (k + 1)
+prefix-longer h log m k lt prefix set =
+    let place : k + 1 - 1 ≡ k = omega arith in
+    rw (prefix, set, place, take_more h.sets k [] lt) refl

@@ -1,7 +1,7 @@
 -- No object and no group weighs more than all objects do.
-use Rattle.std.proofs.Common.{◌≡◌, ℕ, zero, suc, ◌+◌, ◌-◌, ◌<◌, ◌≤◌, pos, nat_eq, Bool, true, false, List, [], ◌∷◌, length}
-use Rattle.std.proofs.Common.{sum_by, inl, inr, arith, refl, ap}
-use Rattle.std.specs.Prelude.{◌==◌, ◌||◌, if◌then◌else◌}
+use Rattle.std.proofs.Common.{◌≡◌, ℕ, suc, ◌-◌, ◌<◌, ◌≤◌, pos, nat_eq, false, List, [], ◌∷◌, length}
+use Rattle.std.proofs.Common.{sum_by, inl, inr, arith, refl}
+use Rattle.std.specs.Prelude.{◌==◌}
 use Rattle.std.specs.List.{list_any}
 use Rattle.std.proofs.lemmas.Bool.{cases_Bool, cases_lt, or_parts}
 use Rattle.std.proofs.lemmas.List.{get_or_past}
@@ -34,7 +34,8 @@ sum_by-without x f (y ∷ members) none = elim (cases_Bool (x == y)) [
 ]
 
 -- distinct members weigh no more than all numbers below n, where those from n on weigh nothing
-sum_by-most : (f : ℕ → ℕ) (members : List ℕ) (n : ℕ) → repeats nat_eq members ≡ false → ((x : ℕ) → n ≤ x → f x ≡ 0)
+sum_by-most : (f : ℕ → ℕ) (members : List ℕ) (n : ℕ) → repeats nat_eq members ≡ false
+    → ((x : ℕ) → n ≤ x → f x ≡ 0)
     → sum_by f members ≤ sum_from f 0 n
 sum_by-most f [] n distinct none = omega arith
 sum_by-most f (x ∷ members) n distinct none =

@@ -1,5 +1,5 @@
 -- Spans on every scope.
-use Rattle.std.proofs.Common.{◌≡◌, ℕ, zero, suc, ◌+◌, ◌-◌, ◌<◌, ◌≤◌, List, length, sum_by, inl, inr, arith, refl, ap}
+use Rattle.std.proofs.Common.{◌≡◌, ℕ, suc, ◌+◌, ◌-◌, ◌<◌, ◌≤◌, List, length, sum_by, inl, inr, arith, refl, ap}
 use Rattle.std.proofs.lemmas.Bool.{cases_lt}
 use Rattle.ordup_objects.specs.declared.change.Change.{Change}
 use Rattle.ordup_objects.specs.Serial.{History, with_more}

@@ -1,5 +1,6 @@
 -- What updates weigh.
-use Rattle.std.proofs.Common.{◌≡◌, ℕ, drop, drop-cons, add-one, ◌+◌, ◌<◌, ◌≤◌, List, [], ◌∷◌, length, get_or, arith, refl, sym}
+use Rattle.std.proofs.Common.{◌≡◌, ℕ, drop, drop-cons, add-one, ◌+◌, ◌<◌, ◌≤◌}
+use Rattle.std.proofs.Common.{List, [], ◌∷◌, length, get_or, arith, refl, sym}
 use Rattle.std.proofs.Common.{ap, ◌∙◌, sum, sum_by, false}
 use Rattle.std.specs.Prelude.{◌==◌, All}
 use Rattle.std.proofs.lemmas.List.{length-map}
@@ -66,7 +67,8 @@ pub distance_beside-few-in : (h : History) (m : List Change) (ds : List ℕ) (x 
 distance_beside-few-in h m ds x j legal lt f e = rw (f, e) (distance_beside-few-at h legal x j lt)
 
 -- the weight of an update on an object is small
-pub object_weight-few : (h : History) → IsLegalHistory h → (x j : ℕ) → j < length h.sets → object_weight h x j ≤ greatest_distance
+pub object_weight-few : (h : History) → IsLegalHistory h → (x j : ℕ) → j < length h.sets
+    → object_weight h x j ≤ greatest_distance
 object_weight-few h legal x j lt = omega (arith, distance_beside-at h legal x j lt, distance_beside-few-at h legal x j lt)
 
 -- one change further on
@@ -89,8 +91,8 @@ object_answer h x j r m ds legal lt f e g =
 -- what it answers on a group
 pub group_answer : (h : History) (members : List ℕ) (j r : ℕ) (m : List Change) (ds : List ℕ) → IsLegalHistory h
     → length members ≤ most_members → j < length h.sets → ds ≡ distances_of (serial h j) (get_or h.sets j [])
-    → m ≡ get_or h.sets j []
-    → r ≡ sum_by (λ x. distance_beside m ds x) members → (r ≡ sum_by (λ x. object_weight h x j) members) × (r ≤ greatest_weight)
+    → m ≡ get_or h.sets j [] → r ≡ sum_by (λ x. distance_beside m ds x) members
+    → (r ≡ sum_by (λ x. object_weight h x j) members) × (r ≤ greatest_weight)
 group_answer h members j r m ds legal few lt f e g =
     let each : (x : ℕ) → distance_beside m ds x ≡ object_weight h x j = λ x. rw (f, e) (distance_beside-at h legal x j lt) in
     let is : r ≡ sum_by (λ x. object_weight h x j) members = g ∙ ap (λ w. sum_by w members) (λ i x. each x i) in (

@@ -1,13 +1,14 @@
 -- Groups of objects.
-use Rattle.std.specs.Prelude.{◌≡◌, ℕ, ◌<◌, ◌≤◌, ◌==◌, ◌||◌, not, if◌then◌else◌, Option, Some, None, Bool, false, List, []}
+use Rattle.std.specs.Prelude.{◌≡◌, ℕ, ◌-◌, ◌<◌, ◌≤◌, ◌==◌, ◌||◌, not, if◌then◌else◌}
+use Rattle.std.specs.Prelude.{Option, Some, None, Bool, false, List, [], ◌∷◌, ◌++◌}
 use Rattle.std.specs.Prelude.{length, nat_eq, nat_lt, is_some, slice_index_or, All}
-use Rattle.std.specs.List.{list_all}
+use Rattle.std.specs.List.{list_all, list_any}
 use Rattle.ordup_objects.specs.declared.refusal.Refusal.{Refusal}
 use Rattle.ordup_objects.specs.declared.refusal.Refusal.TheVariants.{BadName, NameTaken, UnknownObject, TooMany, Empty, Repeated}
 use Rattle.ordup_objects.specs.Sizes.{most_groups, most_members}
 use Rattle.ordup_objects.specs.Names.{is_name}
 use Rattle.ordup_objects.specs.Repeats.{repeats}
-use Rattle.ordup_objects.specs.Tables.{place_of}
+use Rattle.ordup_objects.specs.Tables.{place_of, with_entry}
 
 -- the groups in order of declaration, each with its name and its members
 abbrev pub GroupList : Type 0
@@ -16,6 +17,14 @@ GroupList = List (List ℕ × List ℕ)
 -- the members of a group, by its place
 abbrev pub members_at : GroupList → ℕ → List ℕ
 members_at groups g = (slice_index_or groups g ([], [])).1
+
+-- the members of the last group
+abbrev pub last_members : GroupList → List ℕ
+last_members groups = members_at groups (length groups - 1)
+
+-- the groups with a member more in the last of them
+abbrev pub with_member : GroupList → ℕ → GroupList
+with_member groups member = with_entry groups (length groups - 1) (last_members groups ++ member ∷ [])
 
 -- each member is one of the first n objects
 abbrev pub are_members_known : ℕ → List ℕ → Bool
@@ -34,6 +43,13 @@ group_refusal n groups name members =
     if length groups == most_groups || nat_lt most_members (length members) then Some TooMany else
     if length members == 0 then Some Empty else
     if repeats nat_eq members then Some Repeated else None
+
+-- why one of n objects is refused as a member after these, if it is
+abbrev pub member_refusal : ℕ → List ℕ → ℕ → Option Refusal
+member_refusal n members member =
+    if not (nat_lt member n) then Some UnknownObject else
+    if length members == most_members then Some TooMany else
+    if list_any (nat_eq member) members then Some Repeated else None
 
 -- 1 to 64 distinct members
 pub record IsGroup (members : List ℕ) : Type 0 where

@@ -4,7 +4,7 @@ ghost use Rattle.ordup_objects.specs.Sizes.{most_groups};
 ghost use Rattle.ordup_objects.specs.Tables.{place_of, AreNames, AreDistinct};
 ghost use Rattle.ordup_objects.specs.Repeats.{repeats};
 ghost use Rattle.ordup_objects.specs.Refusals.{IsRefusal};
-ghost use Rattle.ordup_log.specs.Groups.{group_refusal, members_at, are_members_known, AreMembersKnown, IsGroup};
+ghost use Rattle.ordup_log.specs.Groups.{group_refusal, member_refusal, members_at, last_members, with_member, are_members_known, AreMembersKnown, IsGroup};
 
 use ordup_objects::sizes::{MOST_GROUPS, MOST_MEMBERS};
 use ordup_objects::{Name, NameTable, ObjectId, ObjectTable, Refusal};
@@ -71,6 +71,24 @@ impl<A: Allocator + Copy> Groups<A> {
         }
     }
 
+    /// The same groups once more. It is refused `NoMemory` alone.
+    pub fn copy(&self, alloc: A) -> Result<Self, Refusal>
+        ensures copied { IfOk result (λ groups. groups ≡ self.now) }
+        ensures refused { IfErr result (λ e. e ≡ Refusal.NoMemory) }
+    {
+        let mut groups = NameTable::new(alloc);
+        for place in 0..self.groups.len() {
+            let (name, members) = self.groups.at(place);
+            let Ok(members) = Vec::from_slice(alloc, members.as_slice()) else {
+                return Err(Refusal::NoMemory);
+            };
+            if groups.push(*name, members).is_err() {
+                return Err(Refusal::NoMemory);
+            }
+        }
+        Ok(Groups { groups })
+    }
+
     /// Declares a group of objects.
     ///
     /// It is refused `BadName`, `NameTaken`, `UnknownObject` where a member is not in the table, `TooMany` for a 33rd group
@@ -110,6 +128,40 @@ impl<A: Allocator + Copy> Groups<A> {
         };
         match self.groups.push(name, members) {
             Ok(()) => Ok(GroupId::new(place as u8)),
+            Err(_) => Err(Refusal::NoMemory),
+        }
+    }
+
+    /// Adds a member to the last group.
+    ///
+    /// It is refused `UnknownObject` where the member is not in the table, `TooMany` for a 65th member, `Repeated` where the
+    /// group has the member, and `NoMemory`.
+    pub fn add_member(&mut self, objects: &ObjectTable<A>, member: ObjectId) -> Result<(), Refusal>
+        requires { 0 < length self.old }
+        ensures known { IfOk result (λ _. member < length objects.now) }
+        ensures added { IfOk result (λ _. self.new ≡ with_member self.old member) }
+        ensures allowed { IfOk result (λ _. member_refusal (length objects.now) (last_members self.old) member ≡ None) }
+        ensures refused { IfErr result (λ e. IsRefusal (member_refusal (length objects.now) (last_members self.old) member) e) }
+        ensures err { IfErr result (λ _. self.new ≡ self.old) }
+    {
+        let last = self.groups.len() - 1;
+        let members = self.groups.at(last).1.as_slice();
+        if member.index() >= objects.len() {
+            return Err(Refusal::UnknownObject);
+        }
+        if members.len() == MOST_MEMBERS {
+            return Err(Refusal::TooMany);
+        }
+        if is_member(member, members) {
+            return Err(Refusal::Repeated);
+        }
+        // An empty list takes no memory: it holds the place while the members grow.
+        let alloc = *self.groups.allocator();
+        let mut members = self.groups.replace(last, Vec::new(alloc));
+        let added = members.push(member);
+        self.groups.replace(last, members);
+        match added {
+            Ok(()) => Ok(()),
             Err(_) => Err(Refusal::NoMemory),
         }
     }

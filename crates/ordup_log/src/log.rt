@@ -35,7 +35,7 @@ impl<A: Allocator + Copy> Model for Log<A> {
 }
 
 impl<A: Allocator + Copy> Log<A> {
-    ghost use Rattle.ordup_objects.specs.Serial.{History, serial, set_at, with_update, IsLegalHistory};
+    ghost use Rattle.ordup_objects.specs.Serial.{History, serial, set_at, with_update, prefix_of, IsLegalHistory};
     ghost use Rattle.ordup_objects.specs.States.{value_at};
     ghost use Rattle.ordup_objects.specs.Sets.{AreKnown, IsSet};
     ghost use Rattle.ordup_objects.specs.Refusals.{IsRefusal};
@@ -47,10 +47,34 @@ impl<A: Allocator + Copy> Log<A> {
         ensures empty { IfOk result (λ log. log ≡ record { start = initial_state objects.now; sets = [] }) }
         ensures refused { IfErr result (λ e. e ≡ Refusal.NoMemory) }
     {
-        // For the proof: the initial values are in range.
-        let _count = objects.len();
         let start = Values::initial(alloc, objects)?;
-        let end = Values::initial(alloc, objects)?;
+        Log::over(alloc, start)
+    }
+
+    /// The log with just the first so many updates, over the same initial values. It is refused `NoMemory` alone.
+    pub fn copy_prefix(&self, alloc: A, count: u64) -> Result<Self, Refusal>
+        requires { count ≤ length self.now.sets }
+        ensures copied { IfOk result (λ log. log ≡ prefix_of self.now count) }
+        ensures refused { IfErr result (λ e. e ≡ Refusal.NoMemory) }
+    {
+        // For the proof: there are few enough updates, and each is legal.
+        let _all = self.len();
+        let mut log = Log::over(alloc, self.start.copy(alloc)?)?;
+        for place in 0..count {
+            let set = self.set(place + 1).copy(alloc)?;
+            log.append(set)?;
+        }
+        Ok(log)
+    }
+
+    /// A log without updates, over these values. It is refused `NoMemory` alone.
+    fn over(alloc: A, start: Values<A>) -> Result<Self, Refusal>
+        ensures empty { IfOk result (λ log. log ≡ record { start = start; sets = [] }) }
+        ensures refused { IfErr result (λ e. e ≡ Refusal.NoMemory) }
+    {
+        // For the proof: the values are in range.
+        let _count = start.len();
+        let end = start.copy(alloc)?;
         Ok(Log {
             start,
             sets: Vec::new(alloc),

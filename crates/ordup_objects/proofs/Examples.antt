@@ -1,6 +1,6 @@
 -- The definitions at small numbers, worked out by hand: no definition can change its meaning unseen.
 use Rattle.std.proofs.Common.{◌≡◌, ℕ, pos, true, false, [], ◌∷◌, replicate, map, refl}
-use Rattle.std.specs.Prelude.{neg_ℤ, Some, None}
+use Rattle.std.specs.Prelude.{neg_ℤ, Some, None, codes}
 use Rattle.ordup_objects.specs.declared.change.Change.{Change}
 use Rattle.ordup_objects.specs.declared.change.Op.{Op}
 use Rattle.ordup_objects.specs.declared.change.Op.TheVariants.{Add, Set, Mul, Max, Min, Take}
@@ -9,7 +9,8 @@ use Rattle.ordup_objects.specs.Refusals.{IsRefusal}
 use Rattle.ordup_objects.specs.States.{in_range, result_of, is_legal, after}
 use Rattle.ordup_objects.specs.Sets.{are_of_one_object, set_refusal}
 use Rattle.ordup_objects.specs.Repeats.{repeats}
-use Rattle.ordup_objects.specs.Serial.{History, serial}
+use Rattle.ordup_objects.specs.Tables.{with_entry}
+use Rattle.ordup_objects.specs.Serial.{History, serial, prefix_of}
 use Rattle.ordup_objects.specs.Weights.{object_weight, object_span}
 
 -- a call that is refused answers that refusal, and NoMemory where none applies; nothing else
@@ -28,7 +29,8 @@ range : (in_range (pos 1000000000) ≡ true) × (in_range (neg_ℤ (pos 10000000
 range = (refl, refl, refl, refl)
 
 -- what becomes of 7 by 3, beside an object with 10
-results : map (result_of (pos 7 ∷ pos 10 ∷ []) (pos 7)) (Add (pos 3) ∷ Set (pos 3) ∷ Mul (pos 3) ∷ Max (pos 3) ∷ Min (pos 3) ∷ Take 1 ∷ [])
+results : map (result_of (pos 7 ∷ pos 10 ∷ []) (pos 7))
+    (Add (pos 3) ∷ Set (pos 3) ∷ Mul (pos 3) ∷ Max (pos 3) ∷ Min (pos 3) ∷ Take 1 ∷ [])
     ≡ pos 10 ∷ pos 3 ∷ pos 21 ∷ pos 7 ∷ pos 3 ∷ pos 10 ∷ []
 results = refl
 
@@ -70,8 +72,18 @@ serials : map (serial take_and_add) (0 ∷ 1 ∷ 2 ∷ 3 ∷ [])
     ≡ (pos 0 ∷ pos 10 ∷ []) ∷ (pos 10 ∷ pos 13 ∷ []) ∷ (pos 11 ∷ pos 13 ∷ []) ∷ (pos 11 ∷ pos 13 ∷ []) ∷ []
 serials = refl
 
+-- the first update alone
+prefix : prefix_of take_and_add 1
+    ≡ record { start = pos 0 ∷ pos 10 ∷ []; sets = (change 0 (Take 1) ∷ change 1 (Add (pos 3)) ∷ []) ∷ [] }
+prefix = refl
+
+-- a table of y at 5 and z at 6, whose z comes to 7
+entries : with_entry {V = ℕ} ((codes "y", 5) ∷ (codes "z", 6) ∷ []) 1 7 ≡ (codes "y", 5) ∷ (codes "z", 7) ∷ []
+entries = refl
+
 -- x weighs 10 and 1, and y weighs 3 and nothing
-weights : (map (object_weight take_and_add 0) (0 ∷ 1 ∷ []) ≡ 10 ∷ 1 ∷ []) × (map (object_weight take_and_add 1) (0 ∷ 1 ∷ []) ≡ 3 ∷ 0 ∷ [])
+weights : (map (object_weight take_and_add 0) (0 ∷ 1 ∷ []) ≡ 10 ∷ 1 ∷ [])
+    × (map (object_weight take_and_add 1) (0 ∷ 1 ∷ []) ≡ 3 ∷ 0 ∷ [])
 weights = (refl, refl)
 
 -- 3 up and 3 down weigh 6; an empty span weighs nothing

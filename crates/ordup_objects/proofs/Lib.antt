@@ -2,6 +2,7 @@ pub mod NameLemmas
 pub mod RepeatLemmas
 pub mod SumLemmas
 pub mod SetLemmas
+pub mod RefusalLemmas
 pub mod TableLemmas
 pub mod SerialLemmas
 pub mod SpanLemmas

@@ -1,6 +1,8 @@
 -- Lists in which nothing comes twice.
-use Rattle.std.proofs.Common.{◌≡◌, ℕ, zero, suc, ◌+◌, ◌<◌, Bool, false, List, [], ◌∷◌, ◌++◌, length, get_or, drop, drop-cons}
-use Rattle.std.proofs.Common.{add-one, arith, refl, ap, ◌∙◌}
+use Rattle.std.proofs.Common.{◌≡◌, ℕ, zero, suc, ◌+◌, ◌<◌, Bool, false, List}
+use Rattle.std.proofs.Common.{[], ◌∷◌, ◌++◌, length, get_or, drop, drop-cons}
+use Rattle.std.proofs.Common.{add-one, refl, ap, ◌∙◌}
+use Rattle.std.proofs.Math.Bool.{or-false}
 use Rattle.std.specs.Prelude.{◌||◌}
 use Rattle.std.specs.List.{list_any}
 use Rattle.std.proofs.lemmas.Bool.{or_parts}
@@ -15,16 +17,27 @@ repeats-more same xs i d lt none =
     ap (repeats same) e ∙ ap (λ b. b || repeats same (drop (i + 1) xs)) none
 
 -- without repeats the rest of a list has none
-pub repeats-drop : {X : Type 0} (same : X → X → Bool) (xs : List X) (i : ℕ) → repeats same xs ≡ false → repeats same (drop i xs) ≡ false
+pub repeats-drop : {X : Type 0} (same : X → X → Bool) (xs : List X) (i : ℕ) → repeats same xs ≡ false
+    → repeats same (drop i xs) ≡ false
 repeats-drop same xs zero distinct = distinct
 repeats-drop same [] (suc i) distinct = distinct
 repeats-drop same (x ∷ xs) (suc i) distinct = repeats-drop same xs i (or_parts _ _ distinct).1
 
--- nor has the list with an element more, if none before is the same
-pub repeats-push : {X : Type 0} (same : X → X → Bool) (xs : List X) (x : X) → repeats same xs ≡ false → list_any (λ y. same y x) xs ≡ false
-    → repeats same (xs ++ x ∷ []) ≡ false
-repeats-push same [] x distinct none = refl
-repeats-push same (y ∷ xs) x distinct none =
+-- an element more makes a repeat where one before is the same
+pub repeats-last : {X : Type 0} (same : X → X → Bool) (xs : List X) (x : X) → repeats same xs ≡ false
+    → repeats same (xs ++ x ∷ []) ≡ list_any (λ y. same y x) xs
+repeats-last same [] x distinct = refl
+repeats-last same (y ∷ xs) x distinct =
     let apart = or_parts (list_any (same y) xs) (repeats same xs) distinct in
-    let other = or_parts (same y x) (list_any (λ z. same z x) xs) none in
-    rw (list_any-append (same y) xs (x ∷ []), apart.0, other.0, repeats-push same xs x apart.1 other.1) refl
+    rw (list_any-append (same y) xs (x ∷ []), apart.0, repeats-last same xs x apart.1, or-false (same y x)) refl
+
+-- so where none is the same it makes none
+pub repeats-push : {X : Type 0} (same : X → X → Bool) (xs : List X) (x : X) → repeats same xs ≡ false
+    → list_any (λ y. same y x) xs ≡ false
+    → repeats same (xs ++ x ∷ []) ≡ false
+repeats-push same xs x distinct none = repeats-last same xs x distinct ∙ none
+
+-- tests that answer alike find alike
+pub list_any-alike : {X : Type 0} (p q : X → Bool) → ((x : X) → p x ≡ q x) → (xs : List X) → list_any p xs ≡ list_any q xs
+list_any-alike p q alike [] = refl
+list_any-alike p q alike (x ∷ xs) = rw (alike x, list_any-alike p q alike xs) refl

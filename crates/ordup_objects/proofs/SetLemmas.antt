@@ -1,12 +1,13 @@
-use Rattle.std.proofs.Common.{◌≡◌, ℕ, ◌+◌, ◌<◌, ◌≤◌, true, false, cond, List, [], ◌∷◌, length, get_or, drop, arith, refl, sym}
+use Rattle.std.proofs.Common.{◌≡◌, ℕ, ◌+◌, ◌<◌, ◌≤◌, true, false, cond}
+use Rattle.std.proofs.Common.{List, [], ◌∷◌, length, get_or, arith, refl, sym}
 use Rattle.std.proofs.Common.{ap, ◌∙◌, ◌++◌, take}
-use Rattle.std.specs.Prelude.{All, ◌||◌, ◌==◌}
+use Rattle.std.specs.Prelude.{All, ◌==◌}
 use Rattle.std.specs.List.{list_any, fold, slice_set}
 use Rattle.std.proofs.lemmas.List.Elements.{All-set, All-nil, All-cons}
-use Rattle.std.proofs.Common.{ℤ, pos, sum, zero, suc, inl, inr}
+use Rattle.std.proofs.Common.{ℤ, pos, sum, suc, inl, inr}
 use Rattle.std.proofs.lemmas.Int.{ints}
 use Rattle.std.proofs.Math.ListN.{length-set}
-use Rattle.std.proofs.lemmas.Bool.{and_parts, or_parts, leb-true, ne_eqb, eq-eqb, cases_lt, eqb-false, eqb-true, cases_Bool}
+use Rattle.std.proofs.lemmas.Bool.{and_parts, or_parts, leb-true, eq-eqb, cases_lt, eqb-false, eqb-true, cases_Bool}
 use Rattle.std.proofs.lemmas.List.{get_or-set_other, get_or_past, get_or-take, get_or-map, map_more}
 use Rattle.std.proofs.lemmas.Grind.{get_or-set_at}
 use Rattle.std.proofs.lemmas.List.Sums.{sum_by-cons}
@@ -65,8 +66,8 @@ changed_one v (c ∷ m) w x distinct known same =
     ]
 
 -- one distance more, by the result of its change
-pub distances_of-more : (v : State) (m : List Change) (results : List ℤ) (i d : ℕ) (c : Change) → i < length m → AreResults v m results
-    → c ≡ get_or m i c → d ≡ distance (get_or results i (pos 0)) (value_at v c.object)
+pub distances_of-more : (v : State) (m : List Change) (results : List ℤ) (i d : ℕ) (c : Change) → i < length m
+    → AreResults v m results → c ≡ get_or m i c → d ≡ distance (get_or results i (pos 0)) (value_at v c.object)
     → distances_of v (take i m) ++ d ∷ [] ≡ distances_of v (take (i + 1) m)
 distances_of-more v m results i d c lt are same is =
     let result : get_or results i (pos 0) ≡ result_at v c =
@@ -132,21 +133,24 @@ sum_from-moved_by v (c ∷ m) n distinct known =
     )
 
 -- a set moves its objects' values by its distances, and others by none
-pub distances-after : (v : State) (m : List Change) (n : ℕ) → repeats are_of_one_object m ≡ false → AreKnown (length v) m → n ≡ length v
+pub distances-after : (v : State) (m : List Change) (n : ℕ) → repeats are_of_one_object m ≡ false → AreKnown (length v) m
+    → n ≡ length v
     → sum_from (λ x. distance (value_at (after m v) x) (value_at v x)) 0 n ≡ sum (distances_of v m)
 distances-after v m n distinct known e =
     sum_from-same _ (moved_by v m) 0 n (λ x below. distance-after v m x distinct known)
     ∙ sum_from-moved_by v m n distinct (λ k d h. let lt : (get_or m k d).object < length v = (known k d h).0 in omega arith)
 
 -- two values in range are no further apart than the range is wide
-pub distance-in_range : (a b : ℤ) → unsigned_abs a ≤ greatest_value → unsigned_abs b ≤ greatest_value → distance a b ≤ greatest_distance
+pub distance-in_range : (a b : ℤ) → unsigned_abs a ≤ greatest_value → unsigned_abs b ≤ greatest_value
+    → distance a b ≤ greatest_distance
 distance-in_range a b h k = grind (arith, ints)
 
 get_or-state : (v : State) (x : ℕ) → IsState v → unsigned_abs (value_at v x) ≤ greatest_value
 get_or-state v x is = elim (cases_lt x (length v)) [ inl lt ↦ is x (pos 0) lt | inr le ↦ rw (get_or_past v x (pos 0) le) (omega arith) ]
 
 -- a legal set moves each value by no more than the range is wide
-pub distances_of-few : (v : State) (m : List Change) → IsState v → is_legal m v ≡ true → All (λ d. d ≤ greatest_distance) (distances_of v m)
+pub distances_of-few : (v : State) (m : List Change) → IsState v → is_legal m v ≡ true
+    → All (λ d. d ≤ greatest_distance) (distances_of v m)
 distances_of-few v [] is legal = All-nil (λ d. d ≤ greatest_distance)
 distances_of-few v (c ∷ m) is legal =
     let both : (in_range (result_at v c) ≡ true) × (is_legal m v ≡ true) = and_parts _ _ legal in

@@ -55,7 +55,8 @@ sum_from-without_past x f a (suc n) past =
     omega (arith, sum_from-without_past x f a n (omega arith), without-other x f (a + n) other)
 
 -- it is one of them
-pub sum_from-without : (x : ℕ) (f : ℕ → ℕ) (a n : ℕ) → a ≤ x → x < a + n → sum_from f a n ≡ f x + sum_from (without x f) a n
+pub sum_from-without : (x : ℕ) (f : ℕ → ℕ) (a n : ℕ) → a ≤ x → x < a + n
+    → sum_from f a n ≡ f x + sum_from (without x f) a n
 sum_from-without x f a zero first last = absurd (omega arith)
 sum_from-without x f a (suc n) first last = elim (cases_lt x (a + n)) [
   | inl lt ↦ (let other : (x == (a + n)) ≡ false = grind (arith, nat_tests) in

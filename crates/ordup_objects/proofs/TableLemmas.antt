@@ -1,11 +1,20 @@
 -- Names in tables.
-use Rattle.std.proofs.Common.{◌≡◌, ℕ, zero, suc, ◌+◌, ◌≤◌, Bool, List, [], ◌∷◌, ◌++◌, length, Some, None, refl, ap, inl, inr, arith, nat_eq}
-use Rattle.std.proofs.lemmas.Bool.{cases_Bool, cases_lt, lt-ltb}
+use Rattle.std.proofs.Common.{◌≡◌, ℕ, zero, suc, ◌+◌, ◌<◌, ◌≤◌, Bool, false, true}
+use Rattle.std.proofs.Common.{List, [], ◌∷◌, ◌++◌, length, take, get_or, Some, None, refl}
+use Rattle.std.proofs.Common.{ap, ◌∙◌, sym, inl, inr, arith, nat_eq, length-take}
+use Rattle.std.proofs.lemmas.Bool.{cases_Bool, cases_lt, lt-ltb, le-ltb}
+use Rattle.std.proofs.lemmas.Cmp.{nat_list_eq_equiv}
+use Rattle.std.proofs.lemmas.List.{get_or-map, get_or-take, length-map, take-map, take_more}
+use Rattle.std.proofs.lemmas.List.Elements.{All-set}
+use Rattle.std.proofs.lemmas.List.Sums.{passes_at_first}
+use Rattle.std.proofs.lemmas.Map.Keys.{apart_from_distinct}
+use Rattle.std.proofs.lemmas.Option.{get_or_from_slice_get, slice_get_cases}
 use Rattle.std.specs.List.{position, position_or_len}
 use Rattle.std.specs.Prelude.{ℤ, slice_get}
 use Rattle.std.specs.Cmp.Lexicographic.{pointwise}
-use Rattle.indexmap.specs.IndexMap.{insert_entry}
-use Rattle.ordup_objects.specs.Tables.{names_of, place_of, initial_state}
+use Rattle.indexmap.specs.IndexMap.{insert_entry, set_value_at}
+use Rattle.ordup_objects.specs.Names.{is_name}
+use Rattle.ordup_objects.specs.Tables.{names_of, place_of, with_entry, initial_state, AreNames, AreDistinct}
 use Rattle.ordup_objects.specs.States.{value_at}
 
 -- what is at no place is not before the end
@@ -40,3 +49,50 @@ pub initial-at : (objects : List (List ℕ × ℤ)) (i : ℕ) (name : List ℕ) 
 initial-at [] i name value h = absurd (cc)
 initial-at (e ∷ objects) zero name value h = cc
 initial-at (e ∷ objects) (suc i) name value h = initial-at objects i name value h
+
+-- what fails the test everywhere is at no place
+position-none : {X : Type 0} (p : X → Bool) (xs : List X) (d : X) → ((k : ℕ) → k < length xs → p (get_or xs k d) ≡ false)
+    → position p xs ≡ None
+position-none p xs d fails = elim (cases_lt (position_or_len p xs) (length xs)) [
+  | inl lt ↦ (let found = passes_at_first p xs d lt in
+      let not_found = fails (position_or_len p xs) lt in
+      absurd (cc))
+  | inr le ↦ rw (le-ltb (position_or_len p xs) (length xs) le) refl
+]
+
+-- where no name comes twice, no entry before one has its name
+pub place_of-before : {V : Type 0} (table : List (List ℕ × V)) (i : ℕ) (name : List ℕ) (entry : V) → AreDistinct table
+    → slice_get table i ≡ Some (name, entry) → place_of name (take i table) ≡ None
+place_of-before {V} table i name entry distinct at =
+    let names : List (List ℕ) = names_of table in
+    let lt : i < length table = elim (slice_get_cases table i).1 [ inl in_list ↦ in_list.1 | inr past ↦ absurd (cc) ] in
+    let count : length names ≡ length table = length-map table (λ e. e.0) in
+    let entry_at : get_or table i (name, entry) ≡ (name, entry) = get_or_from_slice_get table i (name, entry) (name, entry) at in
+    let is : get_or names i [] ≡ name =
+    get_or-map (λ (e : List ℕ × V). e.0) table i (name, entry) [] lt ∙ ap (λ (e : List ℕ × V). e.0) entry_at in
+    let before : names_of (take i table) ≡ take i names = sym (take-map (λ (e : List ℕ × V). e.0) i table) in
+    rw before (position-none (pointwise nat_eq name) (take i names) [] (λ k h.
+    let below : k < i = omega (arith, length-take i names) in
+    rw (get_or-take i names k [] below, ← is)
+    (nat_list_eq_equiv.symm (get_or names i []) (get_or names k [])
+    ∙ apart_from_distinct (pointwise nat_eq) names k i [] distinct below (omega arith))))
+
+-- a prefix with the entry after it is the longer prefix
+pub take-next : {X : Type 0} (xs : List X) (i : ℕ) (x : X) → slice_get xs i ≡ Some x → take (i + 1) xs ≡ take i xs ++ x ∷ []
+take-next xs i x at =
+    let lt : i < length xs = elim (slice_get_cases xs i).1 [ inl in_list ↦ in_list.1 | inr past ↦ absurd (cc) ] in
+    take_more xs i x lt ∙ ap (λ y. take i xs ++ y ∷ []) (get_or_from_slice_get xs i x x at)
+
+-- a table with another entry at a place, as an `IndexMap` has it
+pub set_value_at-is : {V : Type 0} (table : List (List ℕ × V)) (i : ℕ) (entry : V)
+    → set_value_at table i entry ≡ with_entry table i entry
+set_value_at-is [] zero entry = refl
+set_value_at-is [] (suc i) entry = refl
+set_value_at-is (e ∷ table) zero entry = refl
+set_value_at-is (e ∷ table) (suc i) entry = ap (λ es. e ∷ es) (set_value_at-is table i entry)
+
+-- another entry leaves the names names
+pub AreNames-with_entry : {V : Type 0} (table : List (List ℕ × V)) (i : ℕ) (entry : V) → i < length table → AreNames table
+    → AreNames (with_entry table i entry)
+AreNames-with_entry {V} table i entry lt are =
+    All-set (λ (e : List ℕ × V). is_name e.0 ≡ true) table i ((get_or table i ([], entry)).0, entry) (are i ([], entry) lt) are

@@ -19,7 +19,8 @@ pub record IsPadded (a : Inside) : Type 0 where
 abbrev pub inside_of : List ℕ → Inside
 inside_of xs = record { bytes = xs ++ replicate (most_name_bytes - length xs) 0; len = length xs }
 
-same_inside : (a : Inside) (xs : List ℕ) (n : ℕ) → xs ≡ a.bytes → n ≡ a.len → (let b : Inside = record { bytes = xs; len = n } in b ≡ a)
+same_inside : (a : Inside) (xs : List ℕ) (n : ℕ) → xs ≡ a.bytes → n ≡ a.len
+    → (let b : Inside = record { bytes = xs; len = n } in b ≡ a)
 same_inside a xs n e f =
     let inside : List ℕ → ℕ → Inside = λ ys k. record { bytes = ys; len = k } in
     ap (λ ys. inside ys n) e ∙ ap (inside a.bytes) f

@@ -1,5 +1,6 @@
 -- Serial results.
-use Rattle.std.specs.Prelude.{◌≡◌, ℕ, ◌-◌, ◌<◌, ◌≤◌, true, List, [], ◌∷◌, ◌++◌, length, take, slice_index_or, All, fold, ℤ}
+use Rattle.std.specs.Prelude.{◌≡◌, ℕ, ◌-◌, ◌<◌, ◌≤◌, true, List, [], ◌∷◌}
+use Rattle.std.specs.Prelude.{◌++◌, length, take, slice_index_or, All, fold, ℤ}
 use Rattle.ordup_objects.specs.declared.change.Change.{Change}
 use Rattle.ordup_objects.specs.States.{State, is_legal, after, IsState}
 use Rattle.ordup_objects.specs.Sets.{IsSet, AreKnown}
@@ -36,3 +37,11 @@ pub record IsLegalHistory (h : History) : Type 0 where
   pub sets : All IsSet h.sets
   pub known : All (AreKnown (length h.start)) h.sets
   pub legal : (k : ℕ) → k < length h.sets → is_legal (slice_index_or h.sets k []) (serial h k) ≡ true
+
+-- the history of the first j updates
+abbrev pub prefix_of : History → ℕ → History
+prefix_of h j = record { start = h.start; sets = take j h.sets }
+
+-- a prefix of a legal history is legal
+abbrev pub PrefixesOfLegalHistoriesAreLegal : Type 0
+PrefixesOfLegalHistoriesAreLegal = (h : History) (j : ℕ) → IsLegalHistory h → IsLegalHistory (prefix_of h j)

@@ -1,5 +1,6 @@
 -- Which lists of changes are message sets.
-use Rattle.std.specs.Prelude.{◌≡◌, ℕ, ◌<◌, ◌≤◌, ◌&&◌, ◌==◌, not, if◌then◌else◌, Option, Some, None, IfSome, Bool, false, List}
+use Rattle.std.specs.Prelude.{◌≡◌, ℕ, ◌<◌, ◌≤◌, ◌&&◌, ◌==◌, not, if◌then◌else◌}
+use Rattle.std.specs.Prelude.{Option, Some, None, IfSome, Bool, false, List}
 use Rattle.std.specs.Prelude.{length, nat_lt, All}
 use Rattle.std.specs.List.{list_all}
 use Rattle.ordup_objects.specs.declared.refusal.Refusal.{Refusal}

@@ -1,5 +1,6 @@
 -- States, and what a message set makes of one.
-use Rattle.std.specs.Prelude.{◌≡◌, ℕ, ◌≤◌, Bool, List, length, map, take, slice_index_or, slice_set, fold, nat_le, All, pos, ℤ, ◌+ℤ◌, ◌*ℤ◌}
+use Rattle.std.specs.Prelude.{◌≡◌, ℕ, ◌≤◌, Bool, List, length, map, take, slice_index_or}
+use Rattle.std.specs.Prelude.{slice_set, fold, nat_le, All, pos, ℤ, ◌+ℤ◌, ◌*ℤ◌}
 use Rattle.std.specs.List.{list_all}
 use Rattle.std.specs.Int.{int_max, int_min}
 use Rattle.std.specs.Int.RustNames.{unsigned_abs}

@@ -1,6 +1,7 @@
 -- Tables of names, in order of declaration.
-use Rattle.std.specs.Prelude.{◌≡◌, ℕ, ℤ, ◌==◌, not, true, if◌then◌else◌, Option, Some, None, List, length, map, position}
-use Rattle.std.specs.Prelude.{is_some, nat_eq, All}
+use Rattle.std.specs.Prelude.{◌≡◌, ℕ, ℤ, ◌==◌, not, true, if◌then◌else◌}
+use Rattle.std.specs.Prelude.{Option, Some, None, List, [], length, map, position}
+use Rattle.std.specs.Prelude.{is_some, nat_eq, slice_index_or, slice_set, All}
 use Rattle.std.specs.Cmp.Lexicographic.{pointwise}
 use Rattle.std.specs.List.{IsDistinct}
 use Rattle.ordup_objects.specs.declared.refusal.Refusal.{Refusal}
@@ -24,6 +25,10 @@ AreNames table = All (λ e. is_name e.0 ≡ true) table
 -- no name of a table comes twice
 abbrev pub AreDistinct : {V : Type 0} → List (List ℕ × V) → Type 0
 AreDistinct table = IsDistinct (pointwise nat_eq) (names_of table)
+
+-- a table with another entry beside the name at a place
+abbrev pub with_entry : {V : Type 0} → List (List ℕ × V) → ℕ → V → List (List ℕ × V)
+with_entry table i entry = slice_set table i ((slice_index_or table i ([], entry)).0, entry)
 
 -- the objects, with their initial values
 abbrev pub Objects : Type 0

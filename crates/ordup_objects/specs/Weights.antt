@@ -1,5 +1,6 @@
 -- Weights on one object: the distance that its value travels.
-use Rattle.std.specs.Prelude.{◌≡◌, ℕ, suc, ◌-◌, ◌≤◌, ℤ, ◌-ℤ◌, List, [], ◌∷◌, length, ◌==◌, map, if◌then◌else◌}
+use Rattle.std.specs.Prelude.{◌≡◌, ℕ, suc, ◌-◌, ◌≤◌, ℤ, ◌-ℤ◌, List}
+use Rattle.std.specs.Prelude.{[], ◌∷◌, length, ◌==◌, map, if◌then◌else◌}
 use Rattle.std.specs.Int.RustNames.{unsigned_abs}
 use Rattle.ordup_objects.specs.declared.change.Change.{Change}
 use Rattle.ordup_objects.specs.Sums.{sum_from}
@@ -26,7 +27,8 @@ ValuesMoveByTheirWeights =
 -- updates that are added later leave the weights of spans as they were
 abbrev pub LongerHistoriesKeepObjectSpans : Type 0
 LongerHistoriesKeepObjectSpans =
-    (h : History) (more : List (List Change)) (x a b : ℕ) → b ≤ length h.sets → object_span (with_more h more) x a b ≡ object_span h x a b
+    (h : History) (more : List (List Change)) (x a b : ℕ) → b ≤ length h.sets
+    → object_span (with_more h more) x a b ≡ object_span h x a b
 
 -- how far a change moves its object's value
 abbrev pub distance_by : State → Change → ℕ

@@ -1,5 +1,5 @@
 ghost use Rattle.ordup_objects.specs.Marks.{LongerHistoriesKeepMarks};
-ghost use Rattle.ordup_objects.specs.Serial.{LongerHistoriesKeepSerialResults};
+ghost use Rattle.ordup_objects.specs.Serial.{LongerHistoriesKeepSerialResults, PrefixesOfLegalHistoriesAreLegal};
 ghost use Rattle.ordup_objects.specs.Weights.{ValuesMoveByTheirWeights, LongerHistoriesKeepObjectSpans};
 
 /// A law: a value moves by no more than the span between weighs.
@@ -14,6 +14,13 @@ pub fn values_move_by_their_weights()
 /// So what a site holds of a log stays the serial result of a prefix, however the log grows.
 pub fn longer_histories_keep_serial_results()
     ensures { LongerHistoriesKeepSerialResults }
+{}
+
+/// A law: a prefix of a legal history is legal.
+///
+/// So what a site has applied of a log is a log by itself.
+pub fn prefixes_of_legal_histories_are_legal()
+    ensures { PrefixesOfLegalHistoriesAreLegal }
 {}
 
 /// A law: updates that are added later leave what a span weighs on an object as it was.

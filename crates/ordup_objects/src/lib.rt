@@ -17,7 +17,8 @@ mod values;
 pub use change::{Change, ObjectId, Op};
 pub use laws::{
     longer_histories_keep_marks, longer_histories_keep_object_spans,
-    longer_histories_keep_serial_results, values_move_by_their_weights,
+    longer_histories_keep_serial_results, prefixes_of_legal_histories_are_legal,
+    values_move_by_their_weights,
 };
 pub use message_set::MessageSet;
 pub use name::Name;

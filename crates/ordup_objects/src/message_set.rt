@@ -1,6 +1,7 @@
-ghost use Rattle.std.specs.Prelude.{◌≡◌, ◌≤◌, ℕ, ◌<◌, None, Some, IsTrue, IfOk, IfErr, List, length, nat_lt, ◌&&◌, ◌==◌};
+ghost use Rattle.std.specs.Prelude.{◌≡◌, ◌≤◌, ℕ, ◌<◌, None, Some, IsTrue, IfOk, IfErr, List, [], ◌∷◌, ◌++◌, length, nat_lt, ◌&&◌, ◌==◌};
 ghost use Rattle.std.specs.List.{list_all, list_any};
 ghost use Rattle.ordup_objects.specs.Ops.{number_of, source_of, is_none_or};
+ghost use Rattle.ordup_objects.specs.Refusals.{IsRefusal};
 ghost use Rattle.ordup_objects.specs.Repeats.{repeats};
 ghost use Rattle.ordup_objects.specs.States.{in_range};
 ghost use Rattle.ordup_objects.specs.Sets.{is_known, are_known, are_in_range, are_of_one_object, set_refusal, IsSet, AreKnown};
@@ -73,6 +74,37 @@ impl<A: Allocator + Copy> MessageSet<A> {
         }
     }
 
+    /// Adds a change as the last of the set.
+    ///
+    /// It is refused `UnknownObject` where an object is not in the table, `OutOfRange` where its number is out of range,
+    /// `TooMany` for a 65th change, `Repeated` where another one changes the object, and `NoMemory`.
+    pub fn add(&mut self, objects: &ObjectTable<A>, change: Change) -> Result<(), Refusal>
+        requires { AreKnown (length objects.now) self.old }
+        ensures added { IfOk result (λ _. self.new ≡ self.old ++ change ∷ []) }
+        ensures known { IfOk result (λ _. AreKnown (length objects.now) self.new) }
+        ensures allowed { IfOk result (λ _. set_refusal (length objects.now) (self.old ++ change ∷ []) ≡ None) }
+        ensures refused { IfErr result (λ e. IsRefusal (set_refusal (length objects.now) (self.old ++ change ∷ [])) e) }
+        ensures err { IfErr result (λ _. self.new ≡ self.old) }
+    {
+        let changes = self.changes.as_slice();
+        if !is_known(objects.len(), &change) {
+            return Err(Refusal::UnknownObject);
+        }
+        if !has_number_in_range(&change) {
+            return Err(Refusal::OutOfRange);
+        }
+        if changes.len() == MOST_CHANGES {
+            return Err(Refusal::TooMany);
+        }
+        if is_changed(change.object, changes) {
+            return Err(Refusal::Repeated);
+        }
+        match self.changes.push(change) {
+            Ok(()) => Ok(()),
+            Err(_) => Err(Refusal::NoMemory),
+        }
+    }
+
     /// The changes, in the order given.
     pub fn changes(&self) -> &[Change]
         ensures changes { result.now ≡ self.now }
@@ -97,8 +129,8 @@ fn has_known_source(objects: usize, op: Op) -> bool
     op.source().is_none_or(|object| object.index() < objects)
 }
 
-fn is_known(objects: usize, change: Change) -> bool
-    ensures { result ≡ is_known objects change }
+fn is_known(objects: usize, change: &Change) -> bool
+    ensures { result ≡ is_known objects change.now }
 {
     change.object.index() < objects && has_known_source(objects, change.op)
 }
@@ -106,19 +138,19 @@ fn is_known(objects: usize, change: Change) -> bool
 fn are_known(objects: usize, changes: &[Change]) -> bool
     ensures { result ≡ are_known objects changes.now }
 {
-    changes.iter().all(|c| is_known(objects, *c))
+    changes.iter().all(|c| is_known(objects, c))
 }
 
-fn has_number_in_range(op: Op) -> bool
-    ensures { result ≡ is_none_or (number_of op) in_range }
+fn has_number_in_range(change: &Change) -> bool
+    ensures { result ≡ is_none_or (number_of change.now.op) in_range }
 {
-    op.number().is_none_or(is_in_range)
+    change.op.number().is_none_or(is_in_range)
 }
 
 fn are_in_range(changes: &[Change]) -> bool
     ensures { result ≡ are_in_range changes.now }
 {
-    changes.iter().all(|c| has_number_in_range(c.op))
+    changes.iter().all(has_number_in_range)
 }
 
 fn is_changed(object: ObjectId, changes: &[Change]) -> bool

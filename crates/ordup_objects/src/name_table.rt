@@ -1,12 +1,13 @@
-ghost use Rattle.std.specs.Prelude.{◌≡◌, ℕ, ◌<◌, None, Some, IfSome, IfOk, OnErr, List, [], ◌∷◌, ◌++◌, length, true, slice_get, option_map};
+ghost use Rattle.std.specs.Prelude.{◌≡◌, ℕ, ◌<◌, None, Some, IfSome, IfOk, OnErr, List, [], ◌∷◌, ◌++◌, length, true, take, slice_get, option_map};
 ghost use Rattle.ordup_objects.specs.Names.{is_name};
-ghost use Rattle.ordup_objects.specs.Tables.{names_of, place_of, AreNames, AreDistinct};
+ghost use Rattle.ordup_objects.specs.Tables.{names_of, place_of, with_entry, AreNames, AreDistinct};
 
 use crate::name::{Name, NameBytes};
 use indexmap::IndexMap;
 use std::alloc::{AllocError, Allocator, Global};
 use std::hash::{BuildHasherDefault, FoldHasher};
 use std::marker::Model;
+use std::mem;
 
 /// Names in order of declaration, each with an entry of its own.
 #[derive(Drop)]
@@ -61,9 +62,22 @@ impl<V, A: Allocator + Copy> NameTable<V, A> {
     /// The name and the entry at a place.
     pub fn at(&self, place: usize) -> (&Name, &V)
         requires { place < length self.now }
-        ensures { slice_get self.now place ≡ Some (result.0.now, result.1.now) }
+        ensures entry { slice_get self.now place ≡ Some (result.0.now, result.1.now) }
+        // No earlier entry has the name.
+        ensures first { place_of result.0.now (take place self.now) ≡ None }
     {
+        // For the proof: no name comes twice.
+        let _count = self.entries.len();
         self.entries.get_index(place).unwrap()
+    }
+
+    /// Puts another entry beside the name at a place, and gives back the one that was there.
+    pub fn replace(&mut self, place: usize, entry: V) -> V
+        requires { place < length self.old }
+        ensures replaced { self.new ≡ with_entry self.old place entry }
+        ensures before { option_map (λ e. e.1) (slice_get self.old place) ≡ Some result }
+    {
+        mem::replace(self.entries.get_index_mut(place).unwrap(), entry)
     }
 
     /// Adds a name that is not there.

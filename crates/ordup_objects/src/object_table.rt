@@ -42,6 +42,21 @@ impl<A: Allocator + Copy> ObjectTable<A> {
         }
     }
 
+    /// The same objects once more. It is refused `NoMemory` alone.
+    pub fn copy(&self, alloc: A) -> Result<Self, Refusal>
+        ensures copied { IfOk result (λ table. table ≡ self.now) }
+        ensures refused { IfErr result (λ e. e ≡ Refusal.NoMemory) }
+    {
+        let mut objects = NameTable::new(alloc);
+        for place in 0..self.objects.len() {
+            let (name, initial) = self.objects.at(place);
+            if objects.push(*name, *initial).is_err() {
+                return Err(Refusal::NoMemory);
+            }
+        }
+        Ok(ObjectTable { objects })
+    }
+
     /// Declares an object with its initial value, which lies from -1,000,000,000 to 1,000,000,000.
     ///
     /// It is refused `BadName`, `NameTaken`, `OutOfRange` for the value, `TooMany` for a 257th object, and `NoMemory`.

@@ -19,7 +19,8 @@ push-requires g c =
 
 pub invariant_of-self : goal.invariant_of-self
 invariant_of-self g c =
-    let count : length c.args.self.now ≡ length c.self.inside.groups = ap length (sym c.self.view_is) ∙ length-map c.self.inside.groups _ in
+    let count : length c.args.self.now ≡ length c.self.inside.groups =
+    ap length (sym c.self.view_is) ∙ length-map c.self.inside.groups _ in
     let room : length c.self.inside.groups < most_groups = omega arith in
     let is : IsGroup c.in-Ok.members.items = rw c.in-Ok.ensures.items (record {
       some = grind (arith, nat_tests);

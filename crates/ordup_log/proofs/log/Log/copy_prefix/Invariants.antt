@@ -1,0 +1,7 @@
+use Rattle.std.proofs.Common.{◌≡◌}
+use Rattle.ordup_objects.specs.Serial.{prefix_of}
+use Rattle.ordup_log.proofs.log.Log.copy_prefix.Given as goal
+
+-- the updates so far
+abbrev pub invariant-loop-place : goal.invariant-loop-place
+invariant-loop-place g l = l.log ≡ prefix_of l.self l.place

@@ -1,0 +1,5 @@
+pub mod CursorLemmas
+pub mod LegalityLemmas
+pub mod PassingLemmas
+pub mod VerdictLemmas
+mod Examples

@@ -1,0 +1,5 @@
+pub mod Reasons
+pub mod Rows
+pub mod Cursors
+pub mod Passing
+pub mod Verdicts

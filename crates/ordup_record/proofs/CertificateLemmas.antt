@@ -1,0 +1,36 @@
+-- Certificates over tests and reports that are the same at the decided places.
+use Rattle.std.proofs.Common.{◌≡◌, ℕ, ◌<◌, ◌≤◌, Bool, List, arith, ap, ◌∙◌}
+use Rattle.std.specs.Prelude.{max}
+use Rattle.std.proofs.lemmas.List.Elements.{All-weaker}
+use Rattle.ordup_rounds.specs.Schedules.{Schedule, StaysWithin, base, awaited_place}
+use Rattle.ordup_rounds.specs.Windows.{IsWindow}
+use Rattle.ordup_rounds.specs.Rounds.{full_rounds}
+use Rattle.ordup_rounds.specs.Fewest.{IsCertificate}
+use Rattle.ordup_rounds.specs.declared.window.Window.{Window}
+
+module _ (v w : ℕ → ℕ → Bool) (f g : ℕ → ℕ) (d : ℕ) (tests : (a b : ℕ) → b ≤ d → w a b ≡ v a b)
+    (reports : (k : ℕ) → 0 < k → k ≤ d → g k ≡ f k) where
+  keeps-same : (p : Schedule) → StaysWithin v f d p → StaysWithin w g d p
+  keeps-same p keeps k some le =
+      let same : base g p k ≡ base f p k = ap (λ x. max x (awaited_place p k)) (reports k some le) in
+      tests (base g p k) k le ∙ ap (λ a. v a k) same ∙ keeps k some le
+
+  window-same : (x : Window) → IsWindow v f d x → IsWindow w g d x
+  window-same x is = record {
+    forward = is.forward;
+    last = is.last;
+    over = tests x.from x.to is.last ∙ is.over;
+    unreported = (let some : 0 < x.to = omega (arith, is.forward) in rw (reports x.to some is.last) is.unreported);
+  }
+
+  pub certificate-same : (rounds : List ℕ) (windows : List Window) → IsCertificate v f d rounds windows
+      → IsCertificate w g d rounds windows
+  certificate-same rounds windows is = record {
+    places = is.places;
+    keeps = keeps-same (full_rounds rounds) is.keeps;
+    disjoint = record {
+      each = All-weaker (IsWindow v f d) (IsWindow w g d) window-same windows is.disjoint.each;
+      apart = is.disjoint.apart;
+    };
+    count = is.count;
+  }

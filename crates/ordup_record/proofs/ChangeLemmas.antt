@@ -1,0 +1,134 @@
+-- The changes of what a site had reported, and what they tell.
+use Rattle.std.proofs.Common.{◌≡◌, ℕ, zero, suc, ◌+◌, ◌<◌, ◌≤◌, List}
+use Rattle.std.proofs.Common.{[], ◌∷◌, ◌++◌, length, map, get_or, inl, inr}
+use Rattle.std.proofs.Common.{arith, refl, sym, ◌∙◌}
+use Rattle.std.specs.Prelude.{◌==◌, All, AllPairs}
+use Rattle.std.specs.List.Sorted.{IsStrictlyIncreasing}
+use Rattle.std.proofs.lemmas.Bool.{cases_Bool, cases_lt, le-leb, lt-leb, eqb-true, eqb-false}
+use Rattle.std.proofs.lemmas.List.{get_or-map, length-map}
+use Rattle.std.proofs.lemmas.List.Elements.{All-nil, All-push, All-weaker}
+use Rattle.std.proofs.lemmas.List.Quantifiers.{all_pairs_push}
+use Rattle.std.proofs.lemmas.List.Sums.{fold-append}
+use Rattle.ordup_objects.specs.Sizes.{most_updates}
+use Rattle.ordup_record.specs.Records.{report_at, AreReportChanges}
+use Rattle.ordup_record.specs.RecordsOf.{reported_before_or_at, report_changes}
+use Rattle.ordup_record.specs.declared.report_change.ReportChange.{ReportChange}
+
+-- a later change at the end does not count
+report_at-before : (changes : List ReportChange) (c : ReportChange) (k : ℕ) → k < c.place
+    → report_at (changes ++ c ∷ []) k ≡ report_at changes k
+report_at-before changes c k lt = rw (fold-append, lt-leb c.place k lt) refl
+
+-- and an earlier one at the end does
+report_at-here : (changes : List ReportChange) (c : ReportChange) (k : ℕ) → c.place ≤ k
+    → report_at (changes ++ c ∷ []) k ≡ c.reported
+report_at-here changes c k le = rw (fold-append, le-leb c.place k le) refl
+
+module _ (reported_at : ℕ → ℕ) where
+  -- from the last place on they tell what was reported there
+  report_at-from : (d k : ℕ) → d ≤ k → report_at (report_changes reported_at d) k ≡ reported_before_or_at reported_at d
+  report_at-from zero k le = refl
+  report_at-from (suc d) k le =
+      elim (cases_Bool (reported_at (suc d) == reported_before_or_at reported_at d)) [
+        | inl same ↦ rw same (report_at-from d k (omega arith)
+            ∙ sym (eqb-true (reported_at (suc d)) (reported_before_or_at reported_at d) same))
+        | inr other ↦ rw other (report_at-here (report_changes reported_at d) (record { place = suc d; reported = reported_at (suc d) })
+            k le)
+      ]
+
+  -- and before, what was reported at each place
+  report_at-each : (d k : ℕ) → k ≤ d → report_at (report_changes reported_at d) k ≡ reported_before_or_at reported_at k
+  report_at-each zero k le = (let none : k ≡ 0 = omega arith in rw none refl)
+  report_at-each (suc d) k le = elim (cases_lt k (suc d)) [
+    | inl before ↦ elim (cases_Bool (reported_at (suc d) == reported_before_or_at reported_at d)) [
+      | inl same ↦ rw same (report_at-each d k (omega arith))
+      | inr other ↦ rw other
+          (report_at-before (report_changes reported_at d) (record { place = suc d; reported = reported_at (suc d) }) k before
+          ∙ report_at-each d k (omega arith))
+    ]
+    | inr at ↦ (let here : k ≡ suc d = omega arith in rw here (report_at-from (suc d) (suc d) (omega arith)))
+  ]
+
+  pub report_at-changes : (d k : ℕ) → 0 < k → k ≤ d → report_at (report_changes reported_at d) k ≡ reported_at k
+  report_at-changes d zero some le = absurd (omega arith)
+  report_at-changes d (suc k) some le = report_at-each d (suc k) le
+
+-- what is reported rises from place to place, up to d
+abbrev pub AreReportsRising : (ℕ → ℕ) → ℕ → Type 0
+AreReportsRising reported_at d = (j k : ℕ) → 0 < j → j ≤ k → k ≤ d → reported_at j ≤ reported_at k
+
+-- a change comes before another
+abbrev ComesBefore : ReportChange → ReportChange → Type 0
+ComesBefore c e = (c.place < e.place) × (c.reported < e.reported)
+
+-- a change up to this place, with no more than this reported
+abbrev IsUpto : ℕ → ℕ → ReportChange → Type 0
+IsUpto d reported c = (0 < c.place) × (c.place ≤ d) × (0 < c.reported) × (c.reported ≤ reported)
+
+module _ (reported_at : ℕ → ℕ) where
+  before-le : (d : ℕ) → AreReportsRising reported_at (suc d) → reported_before_or_at reported_at d ≤ reported_at (suc d)
+  before-le zero rising = omega arith
+  before-le (suc d) rising = rising (suc d) (suc (suc d)) (omega arith) (omega arith) (omega arith)
+
+  rising-shorter : (d : ℕ) → AreReportsRising reported_at (suc d) → AreReportsRising reported_at d
+  rising-shorter d rising j k some le last = rising j k some le (omega arith)
+
+  changes-upto : (d : ℕ) → AreReportsRising reported_at d
+      → All (IsUpto d (reported_before_or_at reported_at d)) (report_changes reported_at d)
+  changes-upto zero rising = All-nil (IsUpto 0 0)
+  changes-upto (suc d) rising =
+      let more : reported_before_or_at reported_at d ≤ reported_at (suc d) = before-le d rising in
+      let changes = report_changes reported_at d in
+      let before : All (IsUpto (suc d) (reported_at (suc d))) changes =
+      All-weaker (IsUpto d (reported_before_or_at reported_at d)) (IsUpto (suc d) (reported_at (suc d)))
+      (λ c is. (is.0, omega (arith, is.1), is.2, omega (arith, is.3))) changes (changes-upto d (rising-shorter d rising)) in
+      elim (cases_Bool (reported_at (suc d) == reported_before_or_at reported_at d)) [
+        | inl same ↦ rw same before
+        | inr other ↦ (
+            let apart = eqb-false (reported_at (suc d)) (reported_before_or_at reported_at d) other in
+            rw other (All-push (IsUpto (suc d) (reported_at (suc d))) changes (record { place = suc d; reported = reported_at (suc d) })
+            before
+            (omega arith, omega arith, omega arith, omega arith)))
+      ]
+
+  changes-pairs : (d : ℕ) → AreReportsRising reported_at d → AllPairs ComesBefore (report_changes reported_at d)
+  changes-pairs zero rising = λ i j x lt there. absurd (omega arith)
+  changes-pairs (suc d) rising =
+      let more : reported_before_or_at reported_at d ≤ reported_at (suc d) = before-le d rising in
+      let changes = report_changes reported_at d in
+      let pairs : AllPairs ComesBefore changes = changes-pairs d (rising-shorter d rising) in
+      let upto : All (IsUpto d (reported_before_or_at reported_at d)) changes = changes-upto d (rising-shorter d rising) in
+      elim (cases_Bool (reported_at (suc d) == reported_before_or_at reported_at d)) [
+        | inl same ↦ rw same pairs
+        | inr other ↦ (
+            let apart = eqb-false (reported_at (suc d)) (reported_before_or_at reported_at d) other in
+            let last : ReportChange = record { place = suc d; reported = reported_at (suc d) } in
+            rw other (all_pairs_push ComesBefore changes last pairs
+            (λ i x there. (omega (arith, (upto i x there).1), omega (arith, (upto i x there).3)))))
+      ]
+
+-- numbers of elements that rise from each to all later ones
+rising-by : (f : ReportChange → ℕ) (changes : List ReportChange)
+    → ((i j : ℕ) (d : ReportChange) → i < j → j < length changes → f (get_or changes i d) < f (get_or changes j d))
+    → IsStrictlyIncreasing (map f changes)
+rising-by f changes rise k there =
+    let d : ReportChange = record { place = 0; reported = 0 } in
+    let second : k + 1 < length changes = rw (length-map changes f) at there in
+    let first : k < length changes = omega arith in
+    let lt : f (get_or changes k d) < f (get_or changes (k + 1) d) = rise k (k + 1) d (omega arith) second in
+    rw (get_or-map f changes k d 0 first, get_or-map f changes (k + 1) d 0 second) lt
+
+-- so they are report changes
+pub changes-are : (reported_at : ℕ → ℕ) (d : ℕ) → AreReportsRising reported_at d
+    → reported_before_or_at reported_at d ≤ most_updates
+    → AreReportChanges d (report_changes reported_at d)
+changes-are reported_at d rising few =
+    let changes = report_changes reported_at d in
+    let pairs : AllPairs ComesBefore changes = changes-pairs reported_at d rising in
+    let upto : All (IsUpto d (reported_before_or_at reported_at d)) changes = changes-upto reported_at d rising in
+    record {
+      places = rising-by (λ c. c.place) changes (λ i j x lt there. (pairs i j x lt there).0);
+      each = λ i x there. ((upto i x there).0, (upto i x there).1);
+      rising = rising-by (λ c. c.reported) changes (λ i j x lt there. (pairs i j x lt there).1);
+      reported = λ i x there. ((upto i x there).2, omega (arith, (upto i x there).3));
+    }

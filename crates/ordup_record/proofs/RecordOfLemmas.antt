@@ -1,0 +1,117 @@
+-- The record of a site of a primary.
+use Rattle.std.proofs.Common.{◌≡◌, ℕ, ℤ, zero, suc, ◌-◌, ◌<◌, ◌≤◌, true, List, [], length, take, drop}
+use Rattle.std.proofs.Common.{arith, refl, sym, ap, ◌∙◌, length-take}
+use Rattle.std.specs.Prelude.{All, nat_lt}
+use Rattle.std.proofs.lemmas.Bool.{and_parts, ltb-true}
+use Rattle.std.proofs.lemmas.List.{take-append-drop, length-map, append-nil}
+use Rattle.ordup_objects.specs.Names.{is_name}
+use Rattle.ordup_objects.specs.Sizes.{most_objects, most_groups, most_updates}
+use Rattle.ordup_objects.specs.Serial.{History, with_more, IsLegalHistory}
+use Rattle.ordup_objects.specs.Tables.{AreDistinct, AreNames, initial_state}
+use Rattle.ordup_log.specs.Groups.{IsGroup}
+use Rattle.ordup_rounds.specs.Fewest.{IsCertificate}
+use Rattle.ordup_limits.specs.Limits.{AreLimits, AreScopesKnown, within}
+use Rattle.ordup_limits.proofs.LimitLemmas.{within-longer}
+use Rattle.ordup_primary.specs.Declarations.{AreGroupsKnown, limits_of}
+use Rattle.ordup_primary.specs.Primaries.{PrimaryState, IsPrimary, IsSiteSound, HasFewestRounds, first_progress, progress_at, reported_at}
+use Rattle.ordup_primary.specs.Primaries.{is_within as is_within_at}
+use Rattle.ordup_record.specs.Records.{RecordState, IsRecord, AreReportChanges, history_of, is_within, report_at}
+use Rattle.ordup_record.specs.RecordInside.{state_of, AreParts}
+use Rattle.ordup_record.specs.declared.record.RecordParts.{RecordParts}
+use Rattle.ordup_record.specs.RecordsOf.{record_of, reported_before_or_at, report_changes}
+use Rattle.ordup_record.specs.Validity.{IsValid}
+use Rattle.ordup_record.proofs.AscendingLemmas.{rounds-few}
+use Rattle.ordup_record.proofs.ChangeLemmas.{AreReportsRising, changes-are, report_at-changes}
+use Rattle.ordup_record.proofs.CertificateLemmas.{certificate-same}
+
+before-few : (reported_at : ℕ → ℕ) (d n : ℕ) → ((k : ℕ) → reported_at k ≤ n) → reported_before_or_at reported_at d ≤ n
+before-few reported_at zero n few = omega arith
+before-few reported_at (suc d) n few = few (suc d)
+
+module _ (p : PrimaryState) (s : ℕ) (is : IsPrimary p) (there : s < length p.sites) (fewest : HasFewestRounds p) where
+  site-sound : IsSiteSound (is_within_at p s) (length p.log.sets) p.acked p.decided (progress_at p s)
+  site-sound = is.sites s first_progress there
+
+  updates-decided : length (record_of p s).sets ≡ p.decided
+  updates-decided = omega (arith, length-take p.decided p.log.sets, is.decided)
+
+  log-longer : p.log ≡ with_more (history_of (record_of p s)) (drop p.decided p.log.sets)
+  log-longer =
+      ap (λ start. let h : History = record { start = start; sets = p.log.sets } in h) is.start
+      ∙ sym (ap (λ sets. let h : History = record { start = initial_state p.setup.objects; sets = sets } in h)
+      (take-append-drop p.decided p.log.sets))
+
+  tests-same : (a b : ℕ) → b ≤ p.decided → is_within (record_of p s) a b ≡ is_within_at p s a b
+  tests-same a b le =
+      sym (within-longer (history_of (record_of p s)) (drop p.decided p.log.sets) p.setup.groups (limits_of p.setup s) a b
+      (omega (arith, updates-decided)))
+      ∙ ap (λ h. within h p.setup.groups (limits_of p.setup s) a b) (sym log-longer)
+
+  reports-rising : AreReportsRising (reported_at (progress_at p s)) p.decided
+  reports-rising j k some le last = site-sound.rising (j - 1) (k - 1) (omega arith) (omega arith)
+
+  reports-are : AreReportChanges p.decided (report_changes (reported_at (progress_at p s)) p.decided)
+  reports-are =
+      changes-are (reported_at (progress_at p s)) p.decided reports-rising
+      (before-few (reported_at (progress_at p s)) p.decided most_updates
+      (λ k. omega (arith, site-sound.risen (k - 1), site-sound.reported, site-sound.sent, is.few)))
+
+  certificate : IsCertificate (is_within_at p s) (reported_at (progress_at p s)) p.decided (progress_at p s).rounds
+      (progress_at p s).windows
+  certificate = (fewest s there).certificate
+
+  pub record-valid : IsLegalHistory (history_of (record_of p s)) → IsValid (record_of p s)
+  record-valid legal = record {
+    legal = legal;
+    certificate = rw updates-decided
+        (certificate-same (is_within_at p s) (is_within (record_of p s)) (reported_at (progress_at p s))
+        (report_at (report_changes (reported_at (progress_at p s)) p.decided)) p.decided tests-same
+        (λ k some le. report_at-changes (reported_at (progress_at p s)) p.decided k some le)
+        (progress_at p s).rounds (progress_at p s).windows certificate);
+  }
+
+  pub record-sound : is_name (record_of p s).site ≡ true → length p.setup.objects ≤ most_objects → AreNames p.setup.objects
+      → AreDistinct p.setup.objects → length p.setup.groups ≤ most_groups → All (λ g. IsGroup g.1) p.setup.groups
+      → AreNames p.setup.groups → AreDistinct p.setup.groups → AreGroupsKnown (length p.setup.objects) p.setup.groups
+      → AreLimits (limits_of p.setup s) → AreScopesKnown (length p.setup.objects) p.setup.groups (limits_of p.setup s)
+      → IsLegalHistory (history_of (record_of p s)) → IsRecord (record_of p s)
+  record-sound name objects names distinct groups each group_names groups_distinct members limits scopes legal = record {
+    site = name;
+    objects = record {
+      some = ltb-true 0 (length p.setup.objects) (and_parts (nat_lt 0 (length p.setup.objects)) (nat_lt 0 (length p.setup.sites))
+          is.ready).0;
+      few = objects;
+      values = legal.start;
+      names = names;
+      distinct = distinct;
+    };
+    groups = record { few = groups; each = each; known = members; names = group_names; distinct = groups_distinct };
+    limits = limits;
+    scopes = scopes;
+    few = omega (arith, updates-decided, is.decided, is.few);
+    sets = legal.sets;
+    known = rw (length-map p.setup.objects (λ (e : List ℕ × ℤ). e.1)) at legal.known;
+    reports = rw updates-decided reports-are;
+    rounds = rw updates-decided certificate.places;
+    few_windows =
+        omega (arith, certificate.count, rounds-few p.decided (progress_at p s).rounds certificate.places, is.decided, is.few);
+    windows = rw updates-decided (λ j d lt. (let w = certificate.disjoint.each j d lt in (omega (arith, w.forward, w.last), w.last)));
+  }
+
+-- parts with what the primary has are those of the record
+pub parts-content : {A : Type 0} (p : PrimaryState) (s : ℕ) (q : RecordParts A) → q.site ≡ (record_of p s).site
+    → q.objects ≡ p.setup.objects → q.groups ≡ p.setup.groups → q.limits ≡ limits_of p.setup s
+    → q.log.sets ≡ take p.decided p.log.sets → q.rest.items ≡ [] → q.reports.items ≡ (record_of p s).reports
+    → q.rounds.items ≡ (record_of p s).rounds → q.windows.items ≡ (record_of p s).windows
+    → state_of q ≡ record_of p s
+parts-content p s q site objects groups limits log rest reports rounds windows =
+    rw (site, objects, groups, limits, log, rest, reports, rounds, windows, append-nil (take p.decided p.log.sets)) refl
+
+pub parts-are : {A : Type 0} (r : RecordState) (q : RecordParts A) → IsRecord r → state_of q ≡ r
+    → q.log.start ≡ initial_state q.objects → q.rest.items ≡ []
+    → AreParts q
+parts-are r q is same start none = record {
+  whole = rw same is;
+  start = start;
+  rest = λ some. absurd (omega (arith, ap length none));
+}

@@ -1,0 +1,67 @@
+use Rattle.std.proofs.Common.{◌≡◌, ◌<◌, [], length, sym, ap, ◌∙◌}
+use Rattle.ordup_objects.specs.Serial.{History, prefix_of, IsLegalHistory}
+use Rattle.ordup_objects.specs.Tables.{initial_state}
+use Rattle.ordup_primary.specs.Declarations.{Declared, limits_of}
+use Rattle.ordup_record.specs.Records.{IsRecord, history_of}
+use Rattle.ordup_record.specs.RecordInside.{state_of}
+use Rattle.ordup_record.specs.RecordsOf.{record_of}
+use Rattle.ordup_record.specs.declared.record.RecordParts.{RecordParts}
+use Rattle.ordup_record.proofs.SameLemmas.{first-at}
+use Rattle.ordup_record.proofs.RecordOfLemmas.{record-valid, record-sound, parts-content, parts-are}
+use Rattle.ordup_record.proofs.recording.parts_of.Goals as goal
+
+pub returns : goal.returns
+returns g c =
+    let p = c.args.primary.now in
+    let s = c.args.site in
+    let sound = c.acked-acked.ensures.sound in
+    let fewest = c.windows.ensures.fewest in
+    let setup : c.setup-setup.result.now ≡ p.setup = c.setup-setup.ensures in
+    let known : s < length p.setup.sites = rw (← sound.count) c.requires in
+    let name : c.site_name.result.now ≡ (record_of p s).site =
+    first-at p.setup.sites s ([], 0) c.site_name.result.now known (rw setup at c.site_name.ensures) in
+    let objects : c.in_ok-objects.objects ≡ p.setup.objects =
+    c.in_ok-objects.ensures.copied ∙ c.objects.ensures ∙ ap (λ (d : Declared). d.objects) setup in
+    let groups : c.in_ok-groups.groups ≡ p.setup.groups =
+    c.in_ok-groups.ensures.copied ∙ c.groups.ensures.groups ∙ ap (λ (d : Declared). d.groups) setup in
+    let limits : c.in_ok-limits.limits ≡ limits_of p.setup s =
+    c.in_ok-limits.ensures.copied ∙ c.limits.ensures.limits ∙ ap (λ (d : Declared). limits_of d s) setup in
+    let log : c.in_ok-log.log ≡ prefix_of p.log p.decided = rw (c.log.ensures, c.decided.ensures) at c.in_ok-log.ensures.copied in
+    let prefix : IsLegalHistory (prefix_of p.log p.decided) = rw log at c.len-updates.ensures.legal in
+    let legal : IsLegalHistory (history_of (record_of p s)) = rw sound.start at prefix in
+    let is : IsRecord (record_of p s) =
+    record-sound p s sound c.requires fewest
+    (rw name at c.as_bytes-bytes.ensures.name)
+    (rw objects at c.len-objects.ensures.few)
+    (rw objects at c.len-objects.ensures.names)
+    (rw objects at c.len-objects.ensures.distinct)
+    (rw groups at c.len-groups.ensures.few)
+    (rw groups at c.len-groups.ensures.groups)
+    (rw groups at c.len-groups.ensures.names)
+    (rw groups at c.len-groups.ensures.distinct)
+    (rw setup at c.groups.ensures.members)
+    (rw limits at c.len-limits.ensures.limits)
+    (rw (c.limits.ensures.limits, setup) at c.limits.ensures.known)
+    legal in
+    let q : RecordParts g.row.A.Denot = record {
+      site = c.site_name.result.now;
+      objects = c.in_ok-objects.objects;
+      groups = c.in_ok-groups.groups;
+      limits = c.in_ok-limits.limits;
+      log = c.in_ok-log.log;
+      rest = c.new.result;
+      reports = c.in_ok-reports.reports;
+      rounds = c.in-Ok.rounds;
+      windows = c.in-Ok-from_slice.windows;
+    } in
+    let content : state_of q ≡ record_of p s =
+    parts-content p s q name objects groups limits (ap (λ (h : History). h.sets) log) c.new.ensures.items
+    c.in_ok-reports.ensures.changes (c.in-Ok.ensures.items ∙ c.rounds.ensures)
+    (c.in-Ok-from_slice.ensures.items ∙ c.windows.ensures.windows) in
+    record {
+      parts = parts-are (record_of p s) q is content (ap (λ (h : History). h.start) log ∙ sound.start ∙ ap initial_state (sym objects))
+          c.new.ensures.items;
+      content = content;
+      valid = rw content (record-valid p s sound c.requires fewest legal);
+      refused = tt;
+    }

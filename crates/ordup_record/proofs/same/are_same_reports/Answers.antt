@@ -1,0 +1,7 @@
+use Rattle.std.proofs.Common.{rules}
+use Rattle.std.proofs.lemmas.Slice.Eq.{slice_eq-Decides}
+use Rattle.ordup_record.specs.declared.report_change.ReportChange.{ReportChange}
+use Rattle.ordup_record.proofs.same.are_same_reports.Goals as goal
+
+pub returns : goal.returns
+returns c = slice_eq-Decides {A = ReportChange} (λ a b. search rules) c.args.these.now c.args.those.now c.eq.result c.eq.ensures

@@ -1,0 +1,9 @@
+use Rattle.std.proofs.Common.{rules}
+use Rattle.std.proofs.lemmas.Slice.Eq.{slice_eq-Decides}
+use Rattle.ordup_objects.specs.declared.change.Change.{Change}
+use Rattle.ordup_record.proofs.same.is_same_set.Goals as goal
+
+pub returns : goal.returns
+returns g c =
+    rw (← c.changes.ensures.changes, ← c.changes-2.ensures.changes) (slice_eq-Decides {A = Change} (λ a b. search rules)
+    c.changes.result.now c.changes-2.result.now c.eq.result c.eq.ensures)

@@ -1,0 +1,4 @@
+pub mod Records
+pub mod RecordInside
+pub mod Validity
+pub mod RecordsOf

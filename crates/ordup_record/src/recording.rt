@@ -1,0 +1,119 @@
+ghost use Rattle.std.specs.Prelude.{◌≡◌, ◌<◌, ◌==◌, if◌then◌else◌, None, IfOk, IfErr, [], ◌∷◌, ◌++◌, length};
+ghost use Rattle.ordup_objects.specs.Refusals.{IsRefusal};
+ghost use Rattle.ordup_primary.specs.Primaries.{progress_at, reported_at};
+ghost use Rattle.ordup_record.specs.RecordInside.{state_of, AreParts};
+ghost use Rattle.ordup_record.specs.RecordsOf.{record_of, record_refusal, report_changes};
+ghost use Rattle.ordup_record.specs.Validity.{IsValid};
+
+use crate::record::{Record, RecordParts};
+use crate::report_change::ReportChange;
+use ordup_objects::{Refusal, SiteId};
+use ordup_primary::Primary;
+use std::alloc::Allocator;
+
+/// The record of a site: what the primary has of it. It is valid.
+///
+/// It is refused `UnknownSite` where there is no such site, and `NoMemory`.
+pub fn record_of<A: Allocator + Copy>(
+    alloc: A,
+    primary: &Primary<A>,
+    site: SiteId,
+) -> Result<Record<A>, Refusal>
+    ensures content { IfOk result (λ r. r ≡ record_of primary.now site) }
+    ensures valid { IfOk result (λ r. IsValid r) }
+    ensures allowed { IfOk result (λ _. record_refusal primary.now site ≡ None) }
+    ensures refused { IfErr result (λ e. IsRefusal (record_refusal primary.now site) e) }
+{
+    // For the proof: what each primary keeps.
+    let _acked = primary.acked();
+    if site.index() >= primary.setup().sites() {
+        return Err(Refusal::UnknownSite);
+    }
+    let parts = parts_of(alloc, primary, site)?;
+    Ok(Record::from_parts(parts))
+}
+
+/// The parts of the record of a site. It is refused `NoMemory` alone.
+fn parts_of<A: Allocator + Copy>(
+    alloc: A,
+    primary: &Primary<A>,
+    site: SiteId,
+) -> Result<RecordParts<A>, Refusal>
+    requires { site < length primary.now.sites }
+    ensures parts { IfOk result (λ parts. AreParts parts) }
+    ensures content { IfOk result (λ parts. state_of parts ≡ record_of primary.now site) }
+    ensures valid { IfOk result (λ parts. IsValid (state_of parts)) }
+    ensures refused { IfErr result (λ e. e ≡ Refusal.NoMemory) }
+{
+    // For the proof: what each primary keeps.
+    let _acked = primary.acked();
+    let setup = primary.setup();
+    let name = *setup.site_name(site);
+    let objects = setup.objects().copy(alloc)?;
+    let groups = setup.groups().copy(alloc)?;
+    let limits = setup.limits(site).copy(alloc)?;
+    let log = primary.log().copy_prefix(alloc, primary.decided())?;
+    let reports = report_changes(alloc, primary, site)?;
+    let Ok(rounds) = Vec::from_slice(alloc, primary.rounds(site)) else {
+        return Err(Refusal::NoMemory);
+    };
+    let Ok(windows) = Vec::from_slice(alloc, primary.windows(site)) else {
+        return Err(Refusal::NoMemory);
+    };
+    // For the proof: what each name, table and log keeps.
+    let _bytes = name.as_bytes();
+    let _objects = objects.len();
+    let _groups = groups.len();
+    let _limits = limits.len();
+    let _updates = log.len();
+    Ok(RecordParts {
+        site: name,
+        objects,
+        groups,
+        limits,
+        log,
+        rest: Vec::new(alloc),
+        reports,
+        rounds,
+        windows,
+    })
+}
+
+/// The decisions at which a site had reported more than at the one before. It is refused `NoMemory` alone.
+fn report_changes<A: Allocator + Copy>(
+    alloc: A,
+    primary: &Primary<A>,
+    site: SiteId,
+) -> Result<Vec<ReportChange, A>, Refusal>
+    requires { site < length primary.now.sites }
+    ensures changes { IfOk result (λ changes. changes.items ≡ report_changes (reported_at (progress_at primary.now site)) primary.now.decided) }
+    ensures refused { IfErr result (λ e. e ≡ Refusal.NoMemory) }
+{
+    let mut changes = Vec::new(alloc);
+    let mut before = 0;
+    for updates in 0..primary.decided() {
+        let place = updates + 1;
+        let reported = primary.reported_at(site, place);
+        push_change(&mut changes, before, ReportChange { place, reported })?;
+        before = reported;
+    }
+    Ok(changes)
+}
+
+/// Adds a change, where another number was reported before it. It is refused `NoMemory` alone.
+fn push_change<A: Allocator + Copy>(
+    changes: &mut Vec<ReportChange, A>,
+    before: u64,
+    change: ReportChange,
+) -> Result<(), Refusal>
+    ensures pushed { IfOk result (λ _. changes.new.items ≡ (if change.reported == before then changes.old.items else changes.old.items ++ change ∷ [])) }
+    ensures refused { IfErr result (λ e. e ≡ Refusal.NoMemory) }
+{
+    if change.reported == before {
+        return Ok(());
+    }
+    match changes.push(change) {
+        Ok(()) => Ok(()),
+        Err(_) => Err(Refusal::NoMemory),
+    }
+}

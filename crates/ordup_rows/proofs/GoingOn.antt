@@ -1,0 +1,174 @@
+-- Rows that were taken can go on; so the first row that is not taken is the first bad one.
+use Rattle.std.proofs.Common.{◌≡◌, ◌∙◌, ap, sym, refl, subst, ℕ, zero, suc, pos, ◌+◌, ◌-◌, ◌<◌, ◌≤◌, List, [], ◌∷◌, ◌++◌, length, take}
+use Rattle.std.proofs.Common.{arith, append_assoc, inl, inr, Some, None, codes}
+use Rattle.std.specs.Prelude.{option_and_then}
+use Rattle.std.specs.Fmt.{decimal, signed_decimal}
+use Rattle.std.proofs.Math.Seq.{take-append_seam}
+use Rattle.std.proofs.lemmas.Bool.{cases_lt, lt-ltb}
+use Rattle.std.proofs.lemmas.List.{append-nil, length-append, length_push}
+use Rattle.std.proofs.lemmas.List.Elements.{All-cons, All-nil}
+use Rattle.std.proofs.lemmas.Option.{same_Some}
+use Rattle.ordup_grammar.proofs.Decimals.{number_of-signed_decimal}
+use Rattle.ordup_objects.specs.Sets.{AreKnown, IsKnown, IsSet}
+use Rattle.ordup_objects.specs.declared.change.Change.{Change}
+use Rattle.ordup_objects.specs.declared.change.Op.TheVariants.{Add}
+use Rattle.ordup_record.specs.Records.{IsRecord, RecordState}
+use Rattle.ordup_rows.specs.Columns.{Columns}
+use Rattle.ordup_rows.specs.Laws.{WhatIsNotClosedIsMissing, WhatIsNotTakenIsBad, WhatIsTakenCanGoOn}
+use Rattle.ordup_rows.specs.Rows.{Row, change_text, rows_of, rows_so_far}
+use Rattle.ordup_rows.specs.Stages.{Stage, closed, record_at, run, step, told, unread, with_change_row, with_object}
+use Rattle.ordup_rows.specs.Telling.{CanGoOn, Tells}
+use Rattle.ordup_rows.specs.declared.row_kind.RowKind.TheVariants as kind
+use Rattle.ordup_rows.proofs.Columns.{bound, writes-decimal}
+use Rattle.ordup_rows.proofs.Growth.{IsBeforeMembers, IsBeforeReports}
+use Rattle.ordup_rows.proofs.ReadingBack.{HasNumber, what_is_told_is_read}
+use Rattle.ordup_rows.proofs.Refusals.{set_allowed}
+use Rattle.ordup_rows.proofs.Running.{IsRecord-told, IsStage, no_record, run_whole, stage_rows}
+use Rattle.ordup_rows.proofs.Taking.{take_row}
+use Rattle.ordup_rows.proofs.Told.{IsTold}
+use Rattle.ordup_rows.proofs.Words.{change_by-text}
+
+-- a record whose rows begin with these
+abbrev Begins : List Row → Type 0
+Begins rows = (r : RecordState) × (more : List Row) × IsRecord r × (rows_of r ≡ rows ++ more)
+
+one_before : (rows : List Row) (row : Row) (next : List Row) → next ≡ rows ++ row ∷ [] → Begins next → Begins rows
+one_before rows row next e (r, more, is, same) =
+    (r, row ∷ more, is, same ∙ ap (λ front. front ++ more) e ∙ append_assoc rows (row ∷ []) more)
+
+-- ---- updates that lack are filled by one that adds nothing to the first object
+
+abbrev nothing : Change
+nothing = record { object = 0; op = Add (pos 0) }
+
+nothing_set : IsSet (nothing ∷ [])
+nothing_set = record {
+  some = omega arith;
+  few = omega arith;
+  numbers = All-cons HasNumber nothing [] (omega arith) (All-nil HasNumber);
+  distinct = refl;
+}
+
+module _ (decided : ℕ) (q : RecordState) (is : IsTold decided q) (some : 0 < length q.objects) where
+  abbrev fill_columns : Columns
+  fill_columns = record {
+    kind = codes "change";
+    first = decimal (length q.sets + 1);
+    second = decimal 1;
+    third = change_text q.objects nothing;
+  }
+
+  abbrev filled : RecordState
+  filled = record q { sets = q.sets ++ (nothing ∷ []) ∷ [] }
+
+  filled_by : IsBeforeReports q → length q.sets < decided → with_change_row decided q fill_columns ≡ Some filled
+  filled_by (e1, (e2, e3)) lt =
+      let known : AreKnown (length q.objects) (nothing ∷ []) =
+      All-cons (IsKnown (length q.objects)) nothing [] (some, tt) (All-nil (IsKnown (length q.objects))) in
+      let updates = is.updates in
+      rw (
+        e1,
+        e2,
+        e3,
+        change_by-text q.objects is.objects.distinct is.objects.names nothing (some, tt) (omega arith),
+        writes-decimal 1 (omega arith),
+        lt-ltb (length q.sets) decided lt,
+        writes-decimal (length q.sets + 1) (omega arith),
+        set_allowed (length q.objects) (nothing ∷ []) nothing_set known,
+      ) refl
+
+fill : (k decided : ℕ) (q : RecordState) → IsTold decided q → 0 < length q.objects → length q.sets + k ≡ decided
+    → Begins (rows_so_far decided q)
+fill zero decided q is some count =
+    let all : length q.sets ≡ decided = omega arith in
+    (q, [], IsRecord-told decided q is some all, ap (λ d. rows_so_far d q) all ∙ sym (append-nil (rows_so_far decided q)))
+fill (suc k) decided q is some count = elim is.full [
+  | inl all ↦ absurd (omega (arith, all))
+  | inr before ↦ (let more = take_row decided q is (fill_columns decided q is some) kind.Change (filled decided q is some) refl
+      (filled_by decided q is some before (omega arith)) in
+      one_before (rows_so_far decided q) _ _ more.rows
+      (fill k decided (filled decided q is some) more.told some (omega (arith, length_push q.sets (nothing ∷ [])))))
+]
+
+-- ---- an object is added, where there is none
+
+abbrev first_columns : Columns
+first_columns = record { kind = codes "object"; first = decimal 1; second = codes "x"; third = signed_decimal (pos 0) }
+
+abbrev with_x : RecordState → RecordState
+with_x q = record q { objects = q.objects ++ (codes "x", pos 0) ∷ [] }
+
+first_by : (q : RecordState) → q.objects ≡ [] → IsBeforeMembers q → with_object q first_columns ≡ Some (with_x q)
+first_by q e0 (e1, (e2, (e3, (e4, (e5, e6))))) =
+    rw (e0, e1, e2, e3, e4, e5, e6, number_of-signed_decimal (pos 0) (omega arith), writes-decimal 1 (omega arith)) refl
+
+no_length : {X : Type 0} (xs : List X) → length xs ≤ 0 → xs ≡ []
+no_length [] none = refl
+no_length (x ∷ xs) none = absurd (omega (arith, none))
+
+begin_told : (decided : ℕ) (q : RecordState) → IsTold decided q → Begins (rows_so_far decided q)
+begin_told decided q is = elim is.begun [
+  | inl some ↦ (let count = is.sets.count in fill (decided - length q.sets) decided q is some (omega arith))
+  | inr before ↦ elim (cases_lt 0 (length q.objects)) [
+    | inl some ↦ (let count = is.sets.count in fill (decided - length q.sets) decided q is some (omega arith))
+    | inr none ↦ (let e : q.objects ≡ [] = no_length q.objects none in
+        let more = take_row decided q is first_columns kind.Object (with_x q) refl (first_by q e before) in
+        let count = is.sets.count in
+        one_before (rows_so_far decided q) _ _ more.rows
+        (fill (decided - length q.sets) decided (with_x q) more.told (omega (arith, length_push q.objects (codes "x", pos 0)))
+        (omega arith)))
+  ]
+]
+
+begin_stage : (stage : Stage) → IsStage stage → Begins (stage_rows stage)
+begin_stage unread is =
+    let (r, more, valid, same) = begin_told 0 (record_at (codes "x")) (no_record (codes "x") 0 refl (omega arith)) in
+    (r, rows_of r, valid, refl)
+begin_stage (told decided q) is = begin_told decided q is
+
+pub what_is_taken_can_go_on : WhatIsTakenCanGoOn
+what_is_taken_can_go_on rows stage ran =
+    let (is, same) = run_whole rows stage ran in
+    let (r, more, valid, all) = begin_stage stage is in
+    (r, more, record { valid = valid; same = ap (λ front. front ++ more) (sym same) ∙ sym all })
+
+-- ---- rows that are not taken
+
+stuck : (rows : List Row) (row : Row) (more : List Row) (s t : Stage) → run s rows ≡ Some t → step t row ≡ None
+    → run s (rows ++ row ∷ more) ≡ None
+stuck [] row more s t ran none = ap (option_and_then (λ next. run next more)) (ap (λ stage. step stage row) (same_Some s t ran) ∙ none)
+stuck (first ∷ rows) row more s t ran none =
+    let (mid, stepped, rest) = bound (λ next. run next rows) (step s first) t ran in
+    rw stepped (stuck rows row more mid t rest none)
+
+not_told : (rows : List Row) → run unread rows ≡ None → (r : RecordState) → Tells rows r → ⊥
+not_told rows none r tells =
+    let (stage, ran, end) = bound closed (run unread rows) r (what_is_told_is_read rows r tells) in
+    absurd (cc)
+
+pub what_is_not_taken_is_bad : WhatIsNotTakenIsBad
+what_is_not_taken_is_bad rows row more stage ran none =
+    let before : length rows + 1 - 1 ≡ length rows = omega arith in
+    let whole : rows ++ row ∷ more ≡ (rows ++ row ∷ []) ++ more = sym (append_assoc rows (row ∷ []) more) in
+    let count : length rows + 1 ≡ length (rows ++ row ∷ []) = omega (arith, length_push rows row) in
+    let front : take (length rows + 1 - 1) (rows ++ row ∷ more) ≡ rows = rw before (take-append_seam rows (row ∷ more)) in
+    let upto : take (length rows + 1) (rows ++ row ∷ more) ≡ rows ++ row ∷ [] =
+    rw (whole, count) (take-append_seam (rows ++ row ∷ []) more) in
+    let bad : CanGoOn (rows ++ row ∷ []) → ⊥ = λ (r, rest, tells).
+    not_told ((rows ++ row ∷ []) ++ rest) (rw (append_assoc rows (row ∷ []) rest) (stuck rows row rest unread stage ran none)) r tells in
+    inl (
+      omega arith,
+      omega (arith, length-append rows (row ∷ more)),
+      subst CanGoOn (sym front) (what_is_taken_can_go_on rows stage ran),
+      subst (λ l. CanGoOn l → ⊥) (sym upto) bad,
+    )
+
+pub what_is_not_closed_is_missing : WhatIsNotClosedIsMissing
+what_is_not_closed_is_missing rows stage ran none =
+    inr (
+      refl,
+      what_is_taken_can_go_on rows stage ran,
+      λ r tells.
+          let (other, ran2, end) = bound closed (run unread rows) r (what_is_told_is_read rows r tells) in
+          absurd (cc),
+    )

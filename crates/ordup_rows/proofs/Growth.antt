@@ -1,0 +1,247 @@
+-- The rows of a record that is told one row more.
+use Rattle.std.proofs.Common.{◌≡◌, ◌∙◌, ap, sym, refl, ℕ, suc, ℤ, ◌+◌, ◌-◌, ◌<◌, true, List, [], ◌∷◌, ◌++◌, length, map, arith}
+use Rattle.std.proofs.Common.{append_assoc, ◌==◌}
+use Rattle.std.specs.Prelude.{slice_index_or, slice_set}
+use Rattle.std.proofs.Math.Seq.{get_or-append_seam, set-append_seam}
+use Rattle.std.proofs.lemmas.Bool.{and_parts, eqb-true}
+use Rattle.std.proofs.lemmas.List.{append-nil, length_push, map-append}
+use Rattle.ordup_objects.specs.Tables.{Objects}
+use Rattle.ordup_objects.specs.declared.change.Change.{Change}
+use Rattle.ordup_log.specs.Groups.{GroupList}
+use Rattle.ordup_limits.specs.declared.limit.Limit.{Limit}
+use Rattle.ordup_rounds.specs.declared.window.Window.{Window}
+use Rattle.ordup_record.specs.Records.{RecordState}
+use Rattle.ordup_record.specs.declared.report_change.ReportChange.{ReportChange}
+use Rattle.ordup_rows.specs.Rows.{Row, change_row, change_rows, counted, head_row, limit_row, member_row, member_rows, object_row}
+use Rattle.ordup_rows.specs.Rows.{report_row, round_row, rows_so_far, window_row}
+use Rattle.ordup_rows.specs.Stages.{is_before_changes, is_before_limits, is_before_members, is_before_reports, is_before_rounds}
+use Rattle.ordup_rows.specs.Stages.{is_before_windows, last_group, last_set, member_count, with_change, with_member}
+
+-- ---- what was not told yet
+
+abbrev pub IsBeforeWindows : RecordState → Type 0
+IsBeforeWindows r = r.windows ≡ []
+
+abbrev pub IsBeforeRounds : RecordState → Type 0
+IsBeforeRounds r = (r.rounds ≡ []) × IsBeforeWindows r
+
+abbrev pub IsBeforeReports : RecordState → Type 0
+IsBeforeReports r = (r.reports ≡ []) × IsBeforeRounds r
+
+abbrev pub IsBeforeChanges : RecordState → Type 0
+IsBeforeChanges r = (r.sets ≡ []) × IsBeforeReports r
+
+abbrev pub IsBeforeLimits : RecordState → Type 0
+IsBeforeLimits r = (r.limits ≡ []) × IsBeforeChanges r
+
+abbrev pub IsBeforeMembers : RecordState → Type 0
+IsBeforeMembers r = (r.groups ≡ []) × IsBeforeLimits r
+
+empty : {X : Type 0} (xs : List X) → (length xs == 0) ≡ true → xs ≡ []
+empty [] h = refl
+empty (x ∷ xs) h = absurd (omega (arith, eqb-true (suc (length xs)) 0 h))
+
+pub before_windows : (r : RecordState) → is_before_windows r ≡ true → IsBeforeWindows r
+before_windows r h = empty r.windows h
+
+pub before_rounds : (r : RecordState) → is_before_rounds r ≡ true → IsBeforeRounds r
+before_rounds r h = let both = and_parts (length r.rounds == 0) (is_before_windows r) h in (empty r.rounds both.0, before_windows r both.1)
+
+pub before_reports : (r : RecordState) → is_before_reports r ≡ true → IsBeforeReports r
+before_reports r h = let both = and_parts (length r.reports == 0) (is_before_rounds r) h in (empty r.reports both.0, before_rounds r both.1)
+
+pub before_changes : (r : RecordState) → is_before_changes r ≡ true → IsBeforeChanges r
+before_changes r h = let both = and_parts (length r.sets == 0) (is_before_reports r) h in (empty r.sets both.0, before_reports r both.1)
+
+pub before_limits : (r : RecordState) → is_before_limits r ≡ true → IsBeforeLimits r
+before_limits r h = let both = and_parts (length r.limits == 0) (is_before_changes r) h in (empty r.limits both.0, before_changes r both.1)
+
+pub before_members : (r : RecordState) → is_before_members r ≡ true → IsBeforeMembers r
+before_members r h = let both = and_parts (length r.groups == 0) (is_before_limits r) h in (empty r.groups both.0, before_limits r both.1)
+
+-- ---- the last of a list
+
+pub ends : {X : Type 0} (xs : List X) → 0 < length xs → (front : List X) × (x : X) × (xs ≡ front ++ x ∷ [])
+ends [] some = absurd (omega (arith, some))
+ends (x ∷ []) some = ([], x, refl)
+ends (x ∷ y ∷ xs) some =
+    let (front, z, is) = ends (y ∷ xs) (omega arith) in
+    (x ∷ front, z, ap (λ rest. x ∷ rest) is)
+
+last_place : {X : Type 0} (xs : List X) (x : X) → length (xs ++ x ∷ []) - 1 ≡ length xs
+last_place xs x = omega (arith, length_push xs x)
+
+pub last_of : {X : Type 0} (xs : List X) (x d : X) → slice_index_or (xs ++ x ∷ []) (length (xs ++ x ∷ []) - 1) d ≡ x
+last_of xs x d = rw (last_place xs x) (get_or-append_seam xs x [] d)
+
+pub set_last : {X : Type 0} (xs : List X) (x y : X) → slice_set (xs ++ x ∷ []) (length (xs ++ x ∷ []) - 1) y ≡ xs ++ y ∷ []
+set_last xs x y = rw (last_place xs x) (set-append_seam xs x [] y)
+
+pub last_group-of : (front : GroupList) (g : List ℕ × List ℕ) → last_group (front ++ g ∷ []) ≡ g
+last_group-of front g = last_of front g ([], [])
+
+pub with_member-last : (front : GroupList) (g : List ℕ × List ℕ) (x : ℕ) → with_member (front ++ g ∷ []) x ≡ front
+    ++ (g.0, g.1 ++ x ∷ []) ∷ []
+with_member-last front g x =
+    ap (λ (h : List ℕ × List ℕ). slice_set (front ++ g ∷ []) (length (front ++ g ∷ []) - 1) (h.0, h.1 ++ x ∷ [])) (last_group-of front g)
+    ∙ set_last front g (g.0, g.1 ++ x ∷ [])
+
+pub last_set-of : (front : List (List Change)) (m : List Change) → last_set (front ++ m ∷ []) ≡ m
+last_set-of front m = last_of front m []
+
+pub with_change-last : (front : List (List Change)) (m : List Change) (c : Change) → with_change (front ++ m ∷ []) c ≡ front
+    ++ (m ++ c ∷ []) ∷ []
+with_change-last front m c =
+    ap (λ (s : List Change). slice_set (front ++ m ∷ []) (length (front ++ m ∷ []) - 1) (s ++ c ∷ [])) (last_set-of front m)
+    ∙ set_last front m (m ++ c ∷ [])
+
+-- ---- rows of lists that grow
+
+pub counted-push : {X : Type 0} (row : ℕ → X → Row) (i n : ℕ) (xs : List X) (x : X) → n ≡ i + length xs
+    → counted row i (xs ++ x ∷ []) ≡ counted row i xs ++ row n x ∷ []
+counted-push row i n [] x is = let e : i ≡ n = omega arith in ap (λ k. row k x ∷ []) e
+counted-push row i n (y ∷ xs) x is = ap (λ rows. row i y ∷ rows) (counted-push row (i + 1) n xs x (omega arith))
+
+pub member_rows-append : (objects : Objects) (i n : ℕ) (groups more : GroupList) → n ≡ i + member_count groups
+    → member_rows objects i (groups ++ more) ≡ member_rows objects i groups ++ member_rows objects n more
+member_rows-append objects i n [] more is = let e : i ≡ n = omega arith in ap (λ k. member_rows objects k more) e
+member_rows-append objects i n (g ∷ groups) more is =
+    ap (λ rows. counted (member_row objects g.0) i g.1 ++ rows) (member_rows-append objects (i + length g.1) n groups more (omega arith))
+    ∙ sym (append_assoc (counted (member_row objects g.0) i g.1) _ _)
+
+pub member_count-append : (groups more : GroupList) → member_count (groups ++ more) ≡ member_count groups + member_count more
+member_count-append [] more = omega arith
+member_count-append (g ∷ groups) more = omega (arith, member_count-append groups more)
+
+pub change_rows-append : (objects : Objects) (k n : ℕ) (sets more : List (List Change)) → n ≡ k + length sets
+    → change_rows objects k (sets ++ more) ≡ change_rows objects k sets ++ change_rows objects n more
+change_rows-append objects k n [] more is = let e : k ≡ n = omega arith in ap (λ i. change_rows objects i more) e
+change_rows-append objects k n (m ∷ sets) more is =
+    ap (λ rows. counted (change_row objects k) 1 m ++ rows) (change_rows-append objects (k + 1) n sets more (omega arith))
+    ∙ sym (append_assoc (counted (change_row objects k) 1 m) _ _)
+
+-- a member more of the last group
+pub member_rows-grow : (objects : Objects) (front : GroupList) (g : List ℕ × List ℕ) (x n : ℕ) → n ≡ member_count (front ++ g ∷ []) + 1
+    → member_rows objects 1 (front ++ (g.0, g.1 ++ x ∷ []) ∷ []) ≡ member_rows objects 1 (front ++ g ∷ [])
+    ++ member_row objects g.0 n x ∷ []
+member_rows-grow objects front g x n is =
+    let count = member_count-append front (g ∷ []) in
+    let i = 1 + member_count front in
+    member_rows-append objects 1 i front ((g.0, g.1 ++ x ∷ []) ∷ []) refl
+    ∙ ap (λ rows. member_rows objects 1 front ++ (rows ++ [])) (counted-push (member_row objects g.0) i n g.1 x (omega arith))
+    ∙ rw (member_rows-append objects 1 i front (g ∷ []) refl) (simp (append-nil, append_assoc))
+
+-- the first member of a new group
+pub member_rows-new : (objects : Objects) (groups : GroupList) (name : List ℕ) (x n : ℕ) → n ≡ member_count groups + 1
+    → member_rows objects 1 (groups ++ (name, x ∷ []) ∷ []) ≡ member_rows objects 1 groups ++ member_row objects name n x ∷ []
+member_rows-new objects groups name x n is = member_rows-append objects 1 n groups ((name, x ∷ []) ∷ []) (omega arith)
+
+-- a change more of the last update
+pub change_rows-grow : (objects : Objects) (front : List (List Change)) (m : List Change) (c : Change) (k position : ℕ)
+    → k ≡ length (front ++ m ∷ []) → position ≡ length m + 1
+    → change_rows objects 1 (front ++ (m ++ c ∷ []) ∷ []) ≡ change_rows objects 1 (front ++ m ∷ []) ++ change_row objects k position c ∷ []
+change_rows-grow objects front m c k position is at =
+    let number : k ≡ 1 + length front = omega (arith, length_push front m) in
+    change_rows-append objects 1 k front ((m ++ c ∷ []) ∷ []) number
+    ∙ ap (λ rows. change_rows objects 1 front ++ (rows ++ [])) (counted-push (change_row objects k) 1 position m c (omega arith))
+    ∙ rw (change_rows-append objects 1 k front (m ∷ []) number) (simp (append-nil, append_assoc))
+
+-- the first change of a new update
+pub change_rows-new : (objects : Objects) (sets : List (List Change)) (c : Change) (k : ℕ) → k ≡ length sets + 1
+    → change_rows objects 1 (sets ++ (c ∷ []) ∷ []) ≡ change_rows objects 1 sets ++ change_row objects k 1 c ∷ []
+change_rows-new objects sets c k is = change_rows-append objects 1 k sets ((c ∷ []) ∷ []) (omega arith)
+
+-- ---- the rows so far, and one more
+
+-- a row more in the last of seven lists that is not empty
+more_1 : (a : List Row) (x : Row) → (a ++ x ∷ []) ++ [] ++ [] ++ [] ++ [] ++ [] ++ [] ≡ (a ++ [] ++ [] ++ [] ++ [] ++ [] ++ []) ++ x ∷ []
+more_1 a x = simp append-nil
+
+more_2 : (a b : List Row) (x : Row) → a ++ (b ++ x ∷ []) ++ [] ++ [] ++ [] ++ [] ++ [] ≡ (a ++ b ++ [] ++ [] ++ [] ++ [] ++ []) ++ x ∷ []
+more_2 a b x = simp (append-nil, append_assoc)
+
+more_3 : (a b c : List Row) (x : Row) → a ++ b ++ (c ++ x ∷ []) ++ [] ++ [] ++ [] ++ [] ≡ (a ++ b ++ c ++ [] ++ [] ++ [] ++ []) ++ x ∷ []
+more_3 a b c x = simp (append-nil, append_assoc)
+
+more_4 : (a b c d : List Row) (x : Row) → a ++ b ++ c ++ (d ++ x ∷ []) ++ [] ++ [] ++ [] ≡ (a ++ b ++ c ++ d ++ [] ++ [] ++ []) ++ x ∷ []
+more_4 a b c d x = simp (append-nil, append_assoc)
+
+more_5 : (a b c d e : List Row) (x : Row) → a ++ b ++ c ++ d ++ (e ++ x ∷ []) ++ [] ++ [] ≡ (a ++ b ++ c ++ d ++ e ++ [] ++ []) ++ x ∷ []
+more_5 a b c d e x = simp (append-nil, append_assoc)
+
+more_6 : (a b c d e f : List Row) (x : Row) → a ++ b ++ c ++ d ++ e ++ (f ++ x ∷ []) ++ [] ≡ (a ++ b ++ c ++ d ++ e ++ f ++ []) ++ x ∷ []
+more_6 a b c d e f x = simp (append-nil, append_assoc)
+
+more_7 : (a b c d e f g : List Row) (x : Row) → a ++ b ++ c ++ d ++ e ++ f ++ (g ++ x ∷ []) ≡ (a ++ b ++ c ++ d ++ e ++ f ++ g) ++ x ∷ []
+more_7 a b c d e f g x = simp append_assoc
+
+module _ (decided : ℕ) (r : RecordState) where
+  abbrev headed : List Row → List Row
+  headed rows = head_row r.site decided ∷ rows
+
+  abbrev told_objects : List Row
+  told_objects = counted object_row 1 r.objects
+
+  abbrev told_members : List Row
+  told_members = member_rows r.objects 1 r.groups
+
+  abbrev told_limits : List Row
+  told_limits = counted (limit_row r.objects r.groups) 1 r.limits
+
+  abbrev told_changes : List Row
+  told_changes = change_rows r.objects 1 r.sets
+
+  abbrev told_reports : List Row
+  told_reports = map report_row r.reports
+
+  abbrev told_rounds : List Row
+  told_rounds = counted round_row 1 r.rounds
+
+  abbrev told_windows : List Row
+  told_windows = counted window_row 1 r.windows
+
+  pub grow_object : (o : List ℕ × ℤ) → IsBeforeMembers r
+      → rows_so_far decided (record r { objects = r.objects ++ o ∷ [] }) ≡ rows_so_far decided r ++ object_row (length r.objects + 1) o ∷ []
+  grow_object o (e1, (e2, (e3, (e4, (e5, e6))))) =
+      rw (e1, e2, e3, e4, e5, e6, counted-push object_row 1 (length r.objects + 1) r.objects o (omega arith))
+      (ap headed (more_1 told_objects (object_row (length r.objects + 1) o)))
+
+  -- other groups, whose rows are one more
+  pub grow_groups : (groups : GroupList) (x : Row) → IsBeforeLimits r → member_rows r.objects 1 groups ≡ told_members ++ x ∷ []
+      → rows_so_far decided (record r { groups = groups }) ≡ rows_so_far decided r ++ x ∷ []
+  grow_groups groups x (e2, (e3, (e4, (e5, e6)))) more =
+      rw (e2, e3, e4, e5, e6, more) (ap headed (more_2 told_objects told_members x))
+
+  pub grow_limit : (l : Limit) → IsBeforeChanges r
+      → rows_so_far decided (record r { limits = r.limits ++ l ∷ [] })
+      ≡ rows_so_far decided r ++ limit_row r.objects r.groups (length r.limits + 1) l ∷ []
+  grow_limit l (e3, (e4, (e5, e6))) =
+      rw (e3, e4, e5, e6, counted-push (limit_row r.objects r.groups) 1 (length r.limits + 1) r.limits l (omega arith))
+      (ap headed (more_3 told_objects told_members told_limits (limit_row r.objects r.groups (length r.limits + 1) l)))
+
+  -- other updates, whose rows are one more
+  pub grow_sets : (sets : List (List Change)) (x : Row) → IsBeforeReports r → change_rows r.objects 1 sets ≡ told_changes ++ x ∷ []
+      → rows_so_far decided (record r { sets = sets }) ≡ rows_so_far decided r ++ x ∷ []
+  grow_sets sets x (e4, (e5, e6)) more =
+      rw (e4, e5, e6, more) (ap headed (more_4 told_objects told_members told_limits told_changes x))
+
+  pub grow_report : (c : ReportChange) → IsBeforeRounds r
+      → rows_so_far decided (record r { reports = r.reports ++ c ∷ [] }) ≡ rows_so_far decided r ++ report_row c ∷ []
+  grow_report c (e5, e6) =
+      rw (e5, e6, map-append report_row r.reports (c ∷ []))
+      (ap headed (more_5 told_objects told_members told_limits told_changes told_reports (report_row c)))
+
+  pub grow_round : (place : ℕ) → IsBeforeWindows r
+      → rows_so_far decided (record r { rounds = r.rounds ++ place ∷ [] }) ≡ rows_so_far decided r
+      ++ round_row (length r.rounds + 1) place ∷ []
+  grow_round place e6 =
+      rw (e6, counted-push round_row 1 (length r.rounds + 1) r.rounds place (omega arith))
+      (ap headed (more_6 told_objects told_members told_limits told_changes told_reports told_rounds
+      (round_row (length r.rounds + 1) place)))
+
+  pub grow_window : (w : Window) → rows_so_far decided (record r { windows = r.windows ++ w ∷ [] }) ≡ rows_so_far decided r
+      ++ window_row (length r.windows + 1) w ∷ []
+  grow_window w =
+      rw (counted-push window_row 1 (length r.windows + 1) r.windows w (omega arith))
+      (ap headed (more_7 told_objects told_members told_limits told_changes told_reports told_rounds told_windows
+      (window_row (length r.windows + 1) w)))

@@ -1,0 +1,14 @@
+pub mod Columns
+pub mod Names
+pub mod Words
+pub mod Refusals
+pub mod Growth
+pub mod Told
+pub mod Taking
+pub mod Running
+pub mod ReadingBack
+pub mod GoingOn
+pub mod BadRows
+pub mod FormLemmas
+pub mod PlainLemmas
+mod Examples

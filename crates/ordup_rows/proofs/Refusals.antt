@@ -1,0 +1,252 @@
+-- What is not refused, by what is so of it.
+use Rattle.std.proofs.Common.{◌≡◌, refl, ℕ, suc, ◌<◌, ◌≤◌, ◌==◌, true, false, not, Bool, List, [], ◌∷◌, length, Option, Some, None}
+use Rattle.std.proofs.Common.{if◌then◌else◌, ℤ, arith, nat_eq}
+use Rattle.std.specs.Prelude.{IfSome, nat_lt, is_some, ◌||◌}
+use Rattle.std.specs.List.{All, list_all, list_any}
+use Rattle.std.specs.Option.{is_none, option_or}
+use Rattle.std.proofs.lemmas.Bool.{and_from, and_parts, or_parts, leb-true, le-leb, lt-ltb, ltb-true}
+use Rattle.std.proofs.lemmas.Bool.Decides.{nat_tests}
+use Rattle.std.proofs.lemmas.List.Elements.{All-cons, All-nil}
+use Rattle.ordup_objects.specs.Names.{is_name}
+use Rattle.ordup_objects.specs.Ops.{is_none_or, number_of, source_of}
+use Rattle.ordup_objects.specs.Repeats.{repeats}
+use Rattle.ordup_objects.specs.Sets.{AreKnown, IsKnown, IsSet, are_in_range, are_known, are_of_one_object, is_known, set_refusal}
+use Rattle.ordup_objects.specs.Sizes.{most_changes, most_groups, most_members, most_objects}
+use Rattle.ordup_objects.specs.States.{IsInRange, in_range}
+use Rattle.ordup_objects.specs.Tables.{Objects, object_refusal, place_of}
+use Rattle.ordup_objects.specs.declared.change.Change.{Change}
+use Rattle.ordup_log.specs.Groups.{AreMembersKnown, GroupList, IsGroup, are_members_known, group_refusal}
+use Rattle.ordup_log.specs.Spans.{IsScopeKnown}
+use Rattle.ordup_log.specs.declared.scope.Scope.{Scope}
+use Rattle.ordup_log.specs.declared.scope.Scope.TheVariants.{Object, Group, All as Everything, Count}
+use Rattle.ordup_limits.specs.Limits.{Limits, amount_refusal, is_same_scope, limit_refusal, scope_refusal}
+use Rattle.ordup_limits.specs.Sizes.{greatest_amount, most_limits}
+use Rattle.ordup_rows.specs.Stages.{member_refusal}
+
+passes : {A : Type 0} (b : Bool) (x : A) (rest : Option A) → (if not b then Some x else rest) ≡ None → (b ≡ true) × (rest ≡ None)
+passes true x rest h = (refl, h)
+passes false x rest h = absurd cc
+
+avoids : {A : Type 0} (b : Bool) (x : A) (rest : Option A) → (if b then Some x else rest) ≡ None → (b ≡ false) × (rest ≡ None)
+avoids true x rest h = absurd cc
+avoids false x rest h = (refl, h)
+
+not_some : {A : Type 0} (o : Option A) → is_some o ≡ false → o ≡ None
+not_some None h = refl
+not_some (Some x) h = absurd cc
+
+pub none_is : {A : Type 0} (o : Option A) → is_none o ≡ true → o ≡ None
+none_is None h = refl
+none_is (Some x) h = absurd cc
+
+pub all_from : {X : Type 0} (p : X → Bool) (P : X → Type 0) → ((x : X) → p x ≡ true → P x) → (xs : List X) → list_all p xs ≡ true → All P xs
+all_from p P f [] h = All-nil P
+all_from p P f (x ∷ xs) h =
+    let both = and_parts (p x) (list_all p xs) h in
+    All-cons P x xs (f x both.0) (all_from p P f xs both.1)
+
+pub all_back : {X : Type 0} (p : X → Bool) (P : X → Type 0) → ((x : X) → P x → p x ≡ true) → (xs : List X) → All P xs → list_all p xs ≡ true
+all_back p P f [] h = refl
+all_back p P f (x ∷ xs) h =
+    and_from (p x) (list_all p xs) (f x (h 0 x (omega arith))) (all_back p P f xs (λ k d lt. h (suc k) d (omega arith)))
+
+-- ---- objects
+
+pub record IsNewObject (objects : Objects) (name : List ℕ) (value : ℤ) : Type 0 where
+  pub is_a_name : is_name name ≡ true
+  pub new : place_of name objects ≡ None
+  pub range : IsInRange value
+  pub room : length objects < most_objects
+
+pub object_taken : (objects : Objects) (name : List ℕ) (value : ℤ) → length objects ≤ most_objects
+    → object_refusal objects name value ≡ None
+    → IsNewObject objects name value
+object_taken objects name value few h =
+    let (name_is, h1) = passes (is_name name) _ _ h in
+    let (free, h2) = avoids (is_some (place_of name objects)) _ _ h1 in
+    let (range, h3) = passes (in_range value) _ _ h2 in
+    let (room, _) = avoids (length objects == most_objects) _ _ h3 in
+    record {
+      is_a_name = name_is;
+      new = not_some (place_of name objects) free;
+      range = leb-true _ _ range;
+      room = grind (arith, nat_tests);
+    }
+
+pub object_allowed : (objects : Objects) (name : List ℕ) (value : ℤ) → IsNewObject objects name value
+    → object_refusal objects name value ≡ None
+object_allowed objects name value is =
+    let room : (length objects == most_objects) ≡ false = let lt = is.room in grind (arith, nat_tests) in
+    rw (is.is_a_name, is.new, le-leb _ _ is.range, room) refl
+
+-- ---- groups
+
+pub record IsNewGroup (n : ℕ) (groups : GroupList) (name : List ℕ) (members : List ℕ) : Type 0 where
+  pub is_a_name : is_name name ≡ true
+  pub new : place_of name groups ≡ None
+  pub known : AreMembersKnown n members
+  pub room : length groups < most_groups
+  pub group : IsGroup members
+
+pub group_taken : (n : ℕ) (groups : GroupList) (name members : List ℕ) → length groups ≤ most_groups
+    → group_refusal n groups name members ≡ None
+    → IsNewGroup n groups name members
+group_taken n groups name members few h =
+    let (name_is, h1) = passes (is_name name) _ _ h in
+    let (free, h2) = avoids (is_some (place_of name groups)) _ _ h1 in
+    let (known, h3) = passes (are_members_known n members) _ _ h2 in
+    let (room, h4) = avoids (length groups == most_groups || nat_lt most_members (length members)) _ _ h3 in
+    let (some, h5) = avoids (length members == 0) _ _ h4 in
+    let (distinct, _) = avoids (repeats nat_eq members) _ _ h5 in
+    let (place, size) = or_parts (length groups == most_groups) _ room in
+    record {
+      is_a_name = name_is;
+      new = not_some (place_of name groups) free;
+      known = all_from (λ x. nat_lt x n) (λ x. x < n) (λ x. ltb-true x n) members known;
+      room = grind (arith, nat_tests);
+      group = record {
+        some = grind (arith, nat_tests);
+        few = grind (arith, nat_tests);
+        distinct = distinct;
+      };
+    }
+
+pub group_allowed : (n : ℕ) (groups : GroupList) (name members : List ℕ) → IsNewGroup n groups name members
+    → group_refusal n groups name members ≡ None
+group_allowed n groups name members is =
+    let lt = is.room in
+    let some = is.group.some in
+    let few = is.group.few in
+    let room : (length groups == most_groups) ≡ false = grind (arith, nat_tests) in
+    let size : nat_lt most_members (length members) ≡ false = grind (arith, nat_tests) in
+    let full : (length members == 0) ≡ false = grind (arith, nat_tests) in
+    rw (
+      is.is_a_name,
+      is.new,
+      all_back (λ x. nat_lt x n) (λ x. x < n) (λ x. lt-ltb x n) members is.known,
+      room,
+      size,
+      full,
+      is.group.distinct,
+    ) refl
+
+pub record IsNewMember (n : ℕ) (members : List ℕ) (x : ℕ) : Type 0 where
+  pub known : x < n
+  pub room : length members < most_members
+  pub new : list_any (λ y. y == x) members ≡ false
+
+pub member_taken : (n : ℕ) (members : List ℕ) (x : ℕ) → length members ≤ most_members → member_refusal n members x ≡ None
+    → IsNewMember n members x
+member_taken n members x few h =
+    let (known, h1) = passes (nat_lt x n) _ _ h in
+    let (room, h2) = avoids (length members == most_members) _ _ h1 in
+    let (new, _) = avoids (list_any (λ y. y == x) members) _ _ h2 in
+    record {
+      known = ltb-true x n known;
+      room = grind (arith, nat_tests);
+      new = new;
+    }
+
+pub member_allowed : (n : ℕ) (members : List ℕ) (x : ℕ) → IsNewMember n members x → member_refusal n members x ≡ None
+member_allowed n members x is =
+    let room : (length members == most_members) ≡ false = let lt = is.room in grind (arith, nat_tests) in
+    rw (lt-ltb x n is.known, room, is.new) refl
+
+-- ---- limits
+
+scope_taken : (n : ℕ) (groups : GroupList) (s : Scope) → scope_refusal n groups s ≡ None → IsScopeKnown n groups s
+scope_taken n groups (Object x) h = grind (arith, nat_tests)
+scope_taken n groups (Group g) h = grind (arith, nat_tests)
+scope_taken n groups Everything h = tt
+scope_taken n groups Count h = tt
+
+scope_allowed : (n : ℕ) (groups : GroupList) (s : Scope) → IsScopeKnown n groups s → scope_refusal n groups s ≡ None
+scope_allowed n groups (Object x) is = rw (lt-ltb x n is) refl
+scope_allowed n groups (Group g) is = rw (lt-ltb g (length groups) is) refl
+scope_allowed n groups Everything is = refl
+scope_allowed n groups Count is = refl
+
+neither : {A : Type 0} (a b : Option A) → option_or a b ≡ None → (a ≡ None) × (b ≡ None)
+neither None b h = (refl, h)
+neither (Some x) b h = absurd cc
+
+pub record IsNewLimit (n : ℕ) (groups : GroupList) (limits : Limits) (s : Scope) (amount : ℕ) : Type 0 where
+  pub known : IsScopeKnown n groups s
+  pub few : amount ≤ greatest_amount
+  pub room : length limits < most_limits
+  pub new : list_any (λ limit. is_same_scope limit.scope s) limits ≡ false
+
+pub limit_taken : (n : ℕ) (groups : GroupList) (limits : Limits) (s : Scope) (amount : ℕ) → length limits ≤ most_limits
+    → limit_refusal n groups limits s amount ≡ None → IsNewLimit n groups limits s amount
+limit_taken n groups limits s amount most h =
+    let (known, h1) = neither (scope_refusal n groups s) (amount_refusal limits s amount) h in
+    let (small, h2) = avoids (nat_lt greatest_amount amount) _ _ h1 in
+    let (room, h3) = avoids (length limits == most_limits) _ _ h2 in
+    let (new, _) = avoids (list_any (λ limit. is_same_scope limit.scope s) limits) _ _ h3 in
+    record {
+      known = scope_taken n groups s known;
+      few = grind (arith, nat_tests);
+      room = grind (arith, nat_tests);
+      new = new;
+    }
+
+pub limit_allowed : (n : ℕ) (groups : GroupList) (limits : Limits) (s : Scope) (amount : ℕ) → IsNewLimit n groups limits s amount
+    → limit_refusal n groups limits s amount ≡ None
+limit_allowed n groups limits s amount is =
+    let small : nat_lt greatest_amount amount ≡ false = let le = is.few in grind (arith, nat_tests) in
+    let room : (length limits == most_limits) ≡ false = let lt = is.room in grind (arith, nat_tests) in
+    rw (scope_allowed n groups s is.known, small, room, is.new) refl
+
+-- ---- sets
+
+source_known : (n : ℕ) (o : Option ℕ) → is_none_or o (λ y. nat_lt y n) ≡ true → IfSome o (λ y. y < n)
+source_known n None h = tt
+source_known n (Some y) h = ltb-true y n h
+
+source_test : (n : ℕ) (o : Option ℕ) → IfSome o (λ y. y < n) → is_none_or o (λ y. nat_lt y n) ≡ true
+source_test n None h = refl
+source_test n (Some y) h = lt-ltb y n h
+
+number_range : (o : Option ℤ) → is_none_or o in_range ≡ true → IfSome o IsInRange
+number_range None h = tt
+number_range (Some z) h = leb-true _ _ h
+
+number_test : (o : Option ℤ) → IfSome o IsInRange → is_none_or o in_range ≡ true
+number_test None h = refl
+number_test (Some z) h = le-leb _ _ h
+
+change_known : (n : ℕ) (c : Change) → is_known n c ≡ true → IsKnown n c
+change_known n c h =
+    let both = and_parts (nat_lt c.object n) (is_none_or (source_of c.op) (λ y. nat_lt y n)) h in
+    (ltb-true c.object n both.0, source_known n (source_of c.op) both.1)
+
+change_test : (n : ℕ) (c : Change) → IsKnown n c → is_known n c ≡ true
+change_test n c is = and_from _ _ (lt-ltb c.object n is.0) (source_test n (source_of c.op) is.1)
+
+-- a list of changes is not refused just where it is a set over these objects
+pub set_taken : (n : ℕ) (m : List Change) → set_refusal n m ≡ None → IsSet m × AreKnown n m
+set_taken n m h =
+    let (known, h1) = passes (are_known n m) _ _ h in
+    let (range, h2) = passes (are_in_range m) _ _ h1 in
+    let (few, h3) = avoids (nat_lt most_changes (length m)) _ _ h2 in
+    let (some, h4) = avoids (length m == 0) _ _ h3 in
+    let (distinct, _) = avoids (repeats are_of_one_object m) _ _ h4 in (
+      record {
+        some = grind (arith, nat_tests);
+        few = grind (arith, nat_tests);
+        numbers = all_from (λ (c : Change). is_none_or (number_of c.op) in_range) (λ (c : Change). IfSome (number_of c.op) IsInRange)
+            (λ c. number_range (number_of c.op)) m range;
+        distinct = distinct;
+      },
+      all_from (is_known n) (IsKnown n) (change_known n) m known,
+    )
+
+pub set_allowed : (n : ℕ) (m : List Change) → IsSet m → AreKnown n m → set_refusal n m ≡ None
+set_allowed n m is known =
+    let some = is.some in
+    let few = is.few in
+    let size : nat_lt most_changes (length m) ≡ false = grind (arith, nat_tests) in
+    let full : (length m == 0) ≡ false = grind (arith, nat_tests) in
+    let range = all_back (λ (c : Change). is_none_or (number_of c.op) in_range) (λ (c : Change). IfSome (number_of c.op) IsInRange)
+    (λ c. number_test (number_of c.op)) m is.numbers in
+    rw (all_back (is_known n) (IsKnown n) (change_test n) m known, range, size, full, is.distinct) refl

@@ -1,0 +1,166 @@
+-- Rows that are read one after another: what was taken is what was told.
+use Rattle.std.proofs.Common.{◌≡◌, ◌∙◌, ap, sym, refl, subst, ℕ, ℤ, ◌<◌, ◌≤◌, ◌==◌, true, List, [], ◌∷◌, ◌++◌, length, arith, append_assoc}
+use Rattle.std.proofs.Common.{inr, Some, codes}
+use Rattle.std.specs.Prelude.{nat_le}
+use Rattle.std.specs.Str.{bytes_eq}
+use Rattle.std.proofs.lemmas.Bool.{and_parts, eqb-true, leb-true, ltb-true}
+use Rattle.std.proofs.lemmas.List.Elements.{All-nil}
+use Rattle.std.proofs.lemmas.Option.{same_Some}
+use Rattle.ordup_objects.specs.Names.{is_name}
+use Rattle.ordup_objects.specs.Sets.{AreKnown, IsSet}
+use Rattle.ordup_objects.specs.Sizes.{most_updates}
+use Rattle.ordup_objects.specs.States.{IsInRange}
+use Rattle.std.proofs.lemmas.List.{append-nil}
+use Rattle.ordup_limits.specs.Sizes.{greatest_amount}
+use Rattle.ordup_limits.specs.declared.limit.Limit.{Limit}
+use Rattle.ordup_log.specs.Spans.{IsScopeKnown}
+use Rattle.ordup_rounds.specs.declared.window.Window.{Window}
+use Rattle.ordup_record.specs.Records.{IsRecord, RecordState}
+use Rattle.ordup_record.specs.declared.report_change.ReportChange.{ReportChange}
+use Rattle.ordup_rows.specs.Columns.{Columns, columns_of, natural_of}
+use Rattle.ordup_rows.specs.Laws.{WhatIsReadIsTold}
+use Rattle.ordup_rows.specs.RowKinds.{kind_of}
+use Rattle.ordup_rows.specs.Rows.{Row, rows_of, rows_so_far}
+use Rattle.ordup_rows.specs.Stages.{Stage, closed, has_objects, has_updates, head_of, record_at, run, step, told, unread, with_row}
+use Rattle.ordup_rows.proofs.Columns.{bound, four_columns, kept, kind_spelled, mapped, natural_spelled, same_bytes}
+use Rattle.ordup_rows.proofs.Names.{AreDistinct-none}
+use Rattle.ordup_rows.proofs.Taking.{row_by, take_row}
+use Rattle.ordup_rows.proofs.Told.{AreGroups-none, IsTold}
+
+-- the rows that a stage was told
+abbrev pub stage_rows : Stage → List Row
+stage_rows unread = []
+stage_rows (told decided r) = rows_so_far decided r
+
+-- what a stage keeps
+abbrev pub IsStage : Stage → Type 0
+IsStage unread = Unit {0}
+IsStage (told decided r) = IsTold decided r
+
+-- a stage that was told some rows more
+pub record Follows (stage : Stage) (more : List Row) (next : Stage) : Type 0 where
+  pub is : IsStage next
+  pub rows : stage_rows next ≡ stage_rows stage ++ more
+
+pub no_record : (site : List ℕ) (decided : ℕ) → is_name site ≡ true → decided ≤ most_updates → IsTold decided (record_at site)
+no_record site decided name few = record {
+  site = name;
+  updates = few;
+  objects = record {
+    few = omega arith;
+    values = All-nil IsInRange;
+    names = All-nil (λ (e : List ℕ × ℤ). is_name e.0 ≡ true);
+    distinct = AreDistinct-none ℤ;
+  };
+  groups = AreGroups-none 0 [] refl;
+  limits = record {
+    few = omega arith;
+    amounts = All-nil (λ (l : Limit). l.amount ≤ greatest_amount);
+    distinct = refl;
+  };
+  scopes = All-nil (λ (l : Limit). IsScopeKnown 0 [] l.scope);
+  sets = record {
+    count = omega arith;
+    each = All-nil IsSet;
+    known = All-nil (AreKnown 0);
+  };
+  reports = record {
+    places = λ k lt. absurd (omega arith);
+    each = All-nil (λ (c : ReportChange). (0 < c.place) × (c.place ≤ decided));
+    rising = λ k lt. absurd (omega arith);
+    reported = All-nil (λ (c : ReportChange). (0 < c.reported) × (c.reported ≤ most_updates));
+  };
+  rounds = record {
+    ascending = λ k lt. absurd (omega arith);
+    each = All-nil (λ k. (0 < k) × (k ≤ decided));
+  };
+  windows = record {
+    few = omega arith;
+    each = All-nil (λ (w : Window). (w.from ≤ decided) × (w.to ≤ decided));
+  };
+  begun = inr (refl, (refl, (refl, (refl, (refl, refl)))));
+  full = inr (refl, (refl, refl));
+}
+
+step_head : (c : Columns) (next : Stage) → head_of c ≡ Some next → Follows unread (row_by c ∷ []) next
+step_head c next h =
+    let (decided, read, rest) = bound _ (natural_of c.third) next h in
+    let (tests, same) = kept _ _ next rest in
+    let (t1, few) = and_parts _ (nat_le decided most_updates) tests in
+    let (t2, name) = and_parts _ (is_name c.second) t1 in
+    let (kind, version) = and_parts (bytes_eq c.kind (codes "ordup")) (bytes_eq c.first (codes "1")) t2 in
+    let e1 = same_bytes c.kind _ kind in
+    let e2 = same_bytes c.first _ version in
+    let e3 = (natural_spelled c.third decided read).1 in
+    subst (Follows unread (row_by c ∷ [])) same (record {
+      is = no_record c.second decided name (leb-true decided most_updates few);
+      rows = cc;
+    })
+
+pub step_follows : (stage : Stage) (row : Row) (next : Stage) → IsStage stage → step stage row ≡ Some next → Follows stage (row ∷ []) next
+step_follows unread row next is h =
+    let (c, columns, rest) = bound head_of (columns_of row) next h in
+    subst (λ (r : Row). Follows unread (r ∷ []) next) (sym (four_columns row c columns)) (step_head c next rest)
+step_follows (told decided r) row next is h =
+    let (c, columns, rest) = bound _ (columns_of row) next h in
+    let (kind, read, rest2) = bound _ (kind_of c.kind) next rest in
+    let (q, taken, same) = mapped (λ (q : RecordState). told decided q) (with_row decided r kind c) next rest2 in
+    let more = take_row decided r is c kind q (kind_spelled c.kind kind read) taken in
+    subst (λ (r2 : Row). Follows (told decided r) (r2 ∷ []) next) (sym (four_columns row c columns))
+    (subst (Follows (told decided r) (row_by c ∷ [])) same (record { is = more.told; rows = more.rows }))
+
+pub run_follows : (rows : List Row) (stage next : Stage) → IsStage stage → run stage rows ≡ Some next → Follows stage rows next
+run_follows [] stage next is h =
+    subst (Follows stage []) (same_Some stage next h) (record { is = is; rows = sym (append-nil (stage_rows stage)) })
+run_follows (row ∷ rows) stage next is h =
+    let (mid, stepped, rest) = bound _ (step stage row) next h in
+    let first = step_follows stage row mid is stepped in
+    let then = run_follows rows mid next first.is rest in
+    record {
+      is = then.is;
+      rows = then.rows ∙ ap (λ before. before ++ rows) first.rows ∙ append_assoc (stage_rows stage) (row ∷ []) rows;
+    }
+
+-- what was taken from the start
+pub run_whole : (rows : List Row) (stage : Stage) → run unread rows ≡ Some stage → IsStage stage × (stage_rows stage ≡ rows)
+run_whole rows stage h = let all = run_follows rows unread stage tt h in (all.is, all.rows)
+
+-- a record of which nothing is missing
+pub IsRecord-told : (decided : ℕ) (r : RecordState) → IsTold decided r → 0 < length r.objects → length r.sets ≡ decided → IsRecord r
+IsRecord-told decided r is some all = record {
+  site = is.site;
+  objects = record {
+    some = some;
+    few = is.objects.few;
+    values = is.objects.values;
+    names = is.objects.names;
+    distinct = is.objects.distinct;
+  };
+  groups = is.groups;
+  limits = is.limits;
+  scopes = is.scopes;
+  few = omega (arith, is.updates);
+  sets = is.sets.each;
+  known = is.sets.known;
+  reports = rw all is.reports;
+  rounds = rw all is.rounds;
+  few_windows = is.windows.few;
+  windows = rw all is.windows.each;
+}
+
+closed_told : (stage : Stage) (r : RecordState) → IsStage stage → closed stage ≡ Some r → IsRecord r × (stage_rows stage ≡ rows_of r)
+closed_told unread r is h = absurd cc
+closed_told (told decided q) r is h =
+    let (tests, same) = kept (has_updates decided q) q r h in
+    let (some, all) = and_parts (has_objects q) (length q.sets == decided) tests in
+    let count : length q.sets ≡ decided = eqb-true (length q.sets) decided all in (
+      subst IsRecord same (IsRecord-told decided q is (ltb-true 0 (length q.objects) some) count),
+      ap (λ d. rows_so_far d q) (sym count) ∙ ap rows_of same,
+    )
+
+pub what_is_read_is_told : WhatIsReadIsTold
+what_is_read_is_told rows r h =
+    let (stage, ran, end) = bound closed (run unread rows) r h in
+    let (is, same) = run_whole rows stage ran in
+    let (valid, whole) = closed_told stage r is end in
+    record { valid = valid; same = sym same ∙ whole }

@@ -1,0 +1,26 @@
+-- Rows as the crate `csv` writes them.
+use Rattle.std.specs.Prelude.{◌≡◌, ℕ, false, List, [], ◌∷◌, ◌++◌, Option, Some, Vec, All}
+use Rattle.std.specs.Global.{Global}
+use Rattle.csv.specs.Writing.{default_writer, fields_written, has_written, row_text, text_written, writer_setup}
+use Rattle.csv.specs.declared.writer.Writer.{Writer}
+use Rattle.ordup_log.specs.Groups.{AreMembersKnown, GroupList}
+use Rattle.ordup_rows.specs.Rows.{Row}
+
+-- the text of rows, each as `csv` writes it
+abbrev pub csv_text : List Row → List ℕ
+csv_text [] = []
+csv_text (row ∷ rows) = row_text default_writer row ++ csv_text rows
+
+-- a writer that stands between two rows
+pub record IsClean (w : Writer (Vec ℕ Global)) : Type 0 where
+  pub fields : fields_written w ≡ 0
+  pub wrote : has_written w ≡ false
+  pub setup : writer_setup w ≡ default_writer
+
+-- what was written so far
+abbrev pub text_so_far : Writer (Vec ℕ Global) → Option (List ℕ)
+text_so_far w = text_written (λ v. Some v.items) w
+
+-- the members of each group are among the first n objects
+abbrev pub AreGroupsKnown : ℕ → GroupList → Type 0
+AreGroupsKnown n groups = All (λ g. AreMembersKnown n g.1) groups

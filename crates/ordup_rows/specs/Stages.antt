@@ -1,0 +1,239 @@
+-- Rows that are read one after another.
+use Rattle.std.specs.Prelude.{ℕ, ◌+◌, ◌-◌, ◌==◌, ◌&&◌, not, Bool, List, [], ◌∷◌, ◌++◌, length, map, nat_lt, nat_le, slice_index}
+use Rattle.std.specs.Prelude.{slice_index_or, slice_set}
+use Rattle.std.specs.List.{list_any}
+use Rattle.std.specs.Prelude.{Option, Some, None, option_map, option_and_then, codes, if◌then◌else◌}
+use Rattle.std.specs.Bool.{then_some}
+use Rattle.std.specs.Option.{is_none}
+use Rattle.std.specs.Str.{bytes_eq}
+use Rattle.ordup_grammar.specs.Numbers.{number_of}
+use Rattle.ordup_objects.specs.Names.{is_name}
+use Rattle.ordup_objects.specs.Sets.{set_refusal}
+use Rattle.ordup_objects.specs.Sizes.{most_members, most_updates}
+use Rattle.ordup_objects.specs.Tables.{object_refusal, place_of}
+use Rattle.ordup_objects.specs.declared.change.Change.{Change}
+use Rattle.ordup_objects.specs.declared.refusal.Refusal.{Refusal}
+use Rattle.ordup_objects.specs.declared.refusal.Refusal.TheVariants.{UnknownObject, TooMany, Repeated}
+use Rattle.ordup_log.specs.Groups.{GroupList, group_refusal}
+use Rattle.ordup_limits.specs.Limits.{limit_refusal}
+use Rattle.ordup_record.specs.Records.{RecordState, most_windows}
+use Rattle.ordup_record.specs.declared.report_change.ReportChange.{ReportChange}
+use Rattle.ordup_rows.specs.Columns.{◌>>=◌, Columns, columns_of, natural_of, writes, scope_of, change_by}
+use Rattle.ordup_rows.specs.RowKinds.{kind_of}
+use Rattle.ordup_rows.specs.Rows.{Row}
+use Rattle.ordup_rows.specs.declared.row_kind.RowKind.{RowKind}
+use Rattle.ordup_rows.specs.declared.row_kind.RowKind.TheVariants as kind
+
+-- what is known of a record after its first row: how many updates are decided, and what the rows so far told of it
+abbrev pub is_before_windows : RecordState → Bool
+is_before_windows r = length r.windows == 0
+
+-- nothing was told of a kind that comes after reports
+abbrev pub is_before_rounds : RecordState → Bool
+is_before_rounds r = length r.rounds == 0 && is_before_windows r
+
+-- nothing was told of a kind that comes after changes
+abbrev pub is_before_reports : RecordState → Bool
+is_before_reports r = length r.reports == 0 && is_before_rounds r
+
+-- nothing was told of a kind that comes after limits
+abbrev pub is_before_changes : RecordState → Bool
+is_before_changes r = length r.sets == 0 && is_before_reports r
+
+-- nothing was told of a kind that comes after members
+abbrev pub is_before_limits : RecordState → Bool
+is_before_limits r = length r.limits == 0 && is_before_changes r
+
+-- nothing was told of a kind that comes after objects
+abbrev pub is_before_members : RecordState → Bool
+is_before_members r = length r.groups == 0 && is_before_limits r
+
+-- an object is there
+abbrev pub has_objects : RecordState → Bool
+has_objects r = nat_lt 0 (length r.objects)
+
+-- an object is there, and each decided update
+abbrev pub has_updates : ℕ → RecordState → Bool
+has_updates decided r = has_objects r && (length r.sets == decided)
+
+-- the record with the object of a row
+abbrev pub with_object : RecordState → Columns → Option RecordState
+with_object r c = do
+  value ← number_of c.third
+  then_some
+      (is_before_members r && writes c.first (length r.objects + 1) && is_none (object_refusal r.objects c.second value))
+      (record r { objects = r.objects ++ (c.second, value) ∷ [] })
+
+-- the last group
+abbrev pub last_group : GroupList → List ℕ × List ℕ
+last_group groups = slice_index_or groups (length groups - 1) ([], [])
+
+-- the last group has this name
+abbrev pub is_last_group : GroupList → List ℕ → Bool
+is_last_group groups name = nat_lt 0 (length groups) && bytes_eq name (last_group groups).0
+
+-- the groups with a member more in the last one
+abbrev pub with_member : GroupList → ℕ → GroupList
+with_member groups x = slice_set groups (length groups - 1) ((last_group groups).0, (last_group groups).1 ++ x ∷ [])
+
+-- why a member more of a group is refused, if it is
+abbrev pub member_refusal : ℕ → List ℕ → ℕ → Option Refusal
+member_refusal n members x =
+    if not (nat_lt x n) then Some UnknownObject else
+    if length members == most_members then Some TooMany else
+    if list_any (λ y. y == x) members then Some Repeated else None
+
+-- why a member of a group of this name is refused, if it is: it is of the last group, or the first of one that is new
+abbrev pub membership_refusal : ℕ → GroupList → List ℕ → ℕ → Option Refusal
+membership_refusal n groups name x =
+    if is_last_group groups name then member_refusal n (last_group groups).1 x else group_refusal n groups name (x ∷ [])
+
+-- the groups with this member
+abbrev pub with_membership : GroupList → List ℕ → ℕ → GroupList
+with_membership groups name x = if is_last_group groups name then with_member groups x else groups ++ (name, x ∷ []) ∷ []
+
+-- how many members the groups have
+abbrev pub member_count : GroupList → ℕ
+member_count [] = 0
+member_count (g ∷ groups) = length g.1 + member_count groups
+
+-- the record with the member of a row
+abbrev pub with_member_row : RecordState → Columns → Option RecordState
+with_member_row r c = do
+  x ← place_of c.third r.objects
+  then_some
+      (is_before_limits r && writes c.first (member_count r.groups + 1) && is_none
+      (membership_refusal (length r.objects) r.groups c.second x))
+      (record r { groups = with_membership r.groups c.second x })
+
+-- the record with the limit of a row
+abbrev pub with_limit : RecordState → Columns → Option RecordState
+with_limit r c = do
+  scope ← scope_of r.objects r.groups c.second
+  amount ← natural_of c.third
+  then_some
+      (has_objects r && is_before_changes r && writes c.first (length r.limits + 1)
+      && is_none (limit_refusal (length r.objects) r.groups r.limits scope amount))
+      (record r { limits = r.limits ++ (record { scope = scope; amount = amount }) ∷ [] })
+
+-- the changes of the last update
+abbrev pub last_set : List (List Change) → List Change
+last_set sets = slice_index_or sets (length sets - 1) []
+
+-- the updates with a change more in the last one
+abbrev pub with_change : List (List Change) → Change → List (List Change)
+with_change sets c = slice_set sets (length sets - 1) (last_set sets ++ c ∷ [])
+
+-- the record with the first change of the next update
+abbrev pub with_first_change : ℕ → RecordState → Columns → Change → Option RecordState
+with_first_change decided r c change =
+    then_some
+    (is_before_reports r && nat_lt (length r.sets) decided && writes c.first (length r.sets + 1)
+    && is_none (set_refusal (length r.objects) (change ∷ [])))
+    (record r { sets = r.sets ++ (change ∷ []) ∷ [] })
+
+-- the record with one change more of the last update
+abbrev pub with_next_change : RecordState → Columns → Change → Option RecordState
+with_next_change r c change =
+    then_some
+    (is_before_reports r && writes c.first (length r.sets) && writes c.second (length (last_set r.sets) + 1)
+    && is_none (set_refusal (length r.objects) (last_set r.sets ++ change ∷ [])))
+    (record r { sets = with_change r.sets change })
+
+-- the record with the change of a row
+abbrev pub with_change_row : ℕ → RecordState → Columns → Option RecordState
+with_change_row decided r c = do
+  change ← change_by r.objects c.third
+  if writes c.second 1 then with_first_change decided r c change else with_next_change r c change
+
+-- the last of ascending numbers, 0 where there is none
+abbrev pub last_number : List ℕ → ℕ
+last_number numbers = slice_index numbers (length numbers - 1)
+
+-- the record with the report change of a row
+abbrev pub with_report : ℕ → RecordState → Columns → Option RecordState
+with_report decided r c = do
+  place ← natural_of c.first
+  reported ← natural_of c.second
+  then_some
+      (has_updates decided r && is_before_rounds r && bytes_eq c.third (codes "-")
+      && nat_lt (last_number (map (λ (c : ReportChange). c.place) r.reports)) place && nat_le place decided
+      && nat_lt (last_number (map (λ (c : ReportChange). c.reported) r.reports)) reported && nat_le reported most_updates)
+      (record r { reports = r.reports ++ (record { place = place; reported = reported }) ∷ [] })
+
+-- the record with the round of a row
+abbrev pub with_round : ℕ → RecordState → Columns → Option RecordState
+with_round decided r c = do
+  place ← natural_of c.second
+  then_some
+      (has_updates decided r && is_before_windows r && bytes_eq c.third (codes "-") && writes c.first (length r.rounds + 1)
+      && nat_lt (last_number r.rounds) place && nat_le place decided)
+      (record r { rounds = r.rounds ++ place ∷ [] })
+
+-- the record with the window of a row
+abbrev pub with_window : ℕ → RecordState → Columns → Option RecordState
+with_window decided r c = do
+  from ← natural_of c.second
+  to ← natural_of c.third
+  then_some
+      (has_updates decided r && writes c.first (length r.windows + 1) && nat_lt (length r.windows) most_windows
+      && nat_le from decided && nat_le to decided)
+      (record r { windows = r.windows ++ (record { from = from; to = to }) ∷ [] })
+
+-- the record with what a row of a kind tells, where the row may stand there
+abbrev pub with_row : ℕ → RecordState → RowKind → Columns → Option RecordState
+with_row decided r kind.Object c = with_object r c
+with_row decided r kind.Member c = with_member_row r c
+with_row decided r kind.Limit c = with_limit r c
+with_row decided r kind.Change c = with_change_row decided r c
+with_row decided r kind.Report c = with_report decided r c
+with_row decided r kind.Round c = with_round decided r c
+with_row decided r kind.Window c = with_window decided r c
+
+-- how far a reading has come: no row yet, or so many decided updates, and what the rows told of the record
+pub data Stage : Type 0 where
+  unread : Stage
+  told : ℕ → RecordState → Stage
+
+-- a record of which no more is told than the name of the site
+abbrev pub record_at : List ℕ → RecordState
+record_at site = record {
+  site = site;
+  objects = [];
+  groups = [];
+  limits = [];
+  sets = [];
+  reports = [];
+  rounds = [];
+  windows = [];
+}
+
+-- what the first row tells
+abbrev pub head_of : Columns → Option Stage
+head_of c = do
+  decided ← natural_of c.third
+  then_some
+      (bytes_eq c.kind (codes "ordup") && bytes_eq c.first (codes "1") && is_name c.second && nat_le decided most_updates)
+      (told decided (record_at c.second))
+
+-- the stage after one row more, where the row may stand there
+abbrev pub step : Stage → Row → Option Stage
+step unread row = option_and_then head_of (columns_of row)
+step (told decided r) row = do
+  c ← columns_of row
+  kind ← kind_of c.kind
+  option_map (λ next. told decided next) (with_row decided r kind c)
+
+-- the stage after rows, where each may stand there
+abbrev pub run : Stage → List Row → Option Stage
+run stage [] = Some stage
+run stage (row ∷ rows) = option_and_then (λ next. run next rows) (step stage row)
+
+-- the record, where no row is missing
+abbrev pub closed : Stage → Option RecordState
+closed unread = None
+closed (told decided r) = then_some (has_updates decided r) r
+
+-- the record that rows tell, as they are read one after another
+abbrev pub told_by : List Row → Option RecordState
+told_by rows = option_and_then closed (run unread rows)

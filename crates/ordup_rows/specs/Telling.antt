@@ -1,0 +1,25 @@
+-- Which rows tell a record, and which row is the first that keeps rows from doing so.
+use Rattle.std.specs.Prelude.{◌≡◌, ◌⊎◌, ℕ, ◌+◌, ◌-◌, ◌<◌, ◌≤◌, List, length, take, ◌++◌}
+use Rattle.ordup_record.specs.Records.{RecordState, IsRecord}
+use Rattle.ordup_rows.specs.Rows.{Row, rows_of}
+
+-- The rows tell this record. Each value has one spelling as a column, so rows obey the format just where they tell a record.
+pub record Tells (rows : List Row) (r : RecordState) : Type 0 where
+  pub valid : IsRecord r
+  pub same : rows ≡ rows_of r
+
+-- the rows break no rule: with some more rows they tell a record
+abbrev pub CanGoOn : List Row → Type 0
+CanGoOn rows = (r : RecordState) × (more : List Row) × Tells (rows ++ more) r
+
+-- row n, counted from 1, is the first that breaks a rule: all before it can go on, and with it they cannot
+abbrev pub IsBadRow : List Row → ℕ → Type 0
+IsBadRow rows n = (0 < n) × (n ≤ length rows) × CanGoOn (take (n - 1) rows) × (CanGoOn (take n rows) → ⊥)
+
+-- n is the number after the last row, and rows are missing: all can go on, and by themselves they tell no record
+abbrev pub IsMissingRow : List Row → ℕ → Type 0
+IsMissingRow rows n = (n ≡ length rows + 1) × CanGoOn rows × ((r : RecordState) → Tells rows r → ⊥)
+
+-- the row at which rows are found to tell no record
+abbrev pub IsFirstBadRow : List Row → ℕ → Type 0
+IsFirstBadRow rows n = IsBadRow rows n ⊎ IsMissingRow rows n

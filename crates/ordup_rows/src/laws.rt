@@ -1,0 +1,56 @@
+ghost use Rattle.ordup_rows.specs.Laws.{
+  BadRowsAreOne,
+  RowsTellOneRecord,
+  RowsTellOrAreBad,
+  ToldRowsAreNotBad,
+  WhatIsNotClosedIsMissing,
+  WhatIsNotTakenIsBad,
+  WhatIsReadIsTold,
+  WhatIsTakenCanGoOn,
+  WhatIsToldIsRead,
+};
+
+/// A law: rows that are read to the end tell the record that was read.
+pub fn what_is_read_is_told()
+    ensures { WhatIsReadIsTold }
+{}
+
+/// A law: rows that tell a record are read to the end as it. So the rows of a record are read back as that record.
+pub fn what_is_told_is_read()
+    ensures { WhatIsToldIsRead }
+{}
+
+/// A law: rows tell no two records.
+pub fn rows_tell_one_record()
+    ensures { RowsTellOneRecord }
+{}
+
+/// A law: rows that were taken can go on.
+pub fn what_is_taken_can_go_on()
+    ensures { WhatIsTakenCanGoOn }
+{}
+
+/// A law: a row that is not taken is the first bad one, whatever comes after it.
+pub fn what_is_not_taken_is_bad()
+    ensures { WhatIsNotTakenIsBad }
+{}
+
+/// A law: where all rows were taken and they are no record, a row is missing after the last.
+pub fn what_is_not_closed_is_missing()
+    ensures { WhatIsNotClosedIsMissing }
+{}
+
+/// A law: rows tell a record, or have a first bad row.
+pub fn rows_tell_or_are_bad()
+    ensures { RowsTellOrAreBad }
+{}
+
+/// A law: rows that tell a record have no bad row.
+pub fn told_rows_are_not_bad()
+    ensures { ToldRowsAreNotBad }
+{}
+
+/// A law: rows have no two first bad rows.
+pub fn bad_rows_are_one()
+    ensures { BadRowsAreOne }
+{}

@@ -1,0 +1,46 @@
+ghost use Rattle.std.specs.Prelude.{◌≡◌};
+ghost use Rattle.ordup_rows.specs.RowKinds.{kind_of};
+
+/// What a row after the first tells of, by its first column.
+#[derive(Clone, Copy, Debug, PartialEq, Eq)]
+pub enum RowKind {
+    /// `object`: an object and its initial value.
+    Object,
+    /// `member`: a member of a group.
+    Member,
+    /// `limit`: a limit of the site.
+    Limit,
+    /// `change`: a change of a decided update.
+    Change,
+    /// `report`: a place from which on the site had reported more.
+    Report,
+    /// `round`: a place at which the site was forced.
+    Round,
+    /// `window`: a stretch of places that is over a limit alone.
+    Window,
+}
+
+impl RowKind {
+    /// The kind that a first column spells.
+    pub fn parse(column: &[u8]) -> Option<RowKind>
+        ensures { result ≡ kind_of column.now }
+    {
+        if column == b"object".as_slice() {
+            Some(RowKind::Object)
+        } else if column == b"member".as_slice() {
+            Some(RowKind::Member)
+        } else if column == b"limit".as_slice() {
+            Some(RowKind::Limit)
+        } else if column == b"change".as_slice() {
+            Some(RowKind::Change)
+        } else if column == b"report".as_slice() {
+            Some(RowKind::Report)
+        } else if column == b"round".as_slice() {
+            Some(RowKind::Round)
+        } else if column == b"window".as_slice() {
+            Some(RowKind::Window)
+        } else {
+            None
+        }
+    }
+}

@@ -3,12 +3,13 @@ use Rattle.std.proofs.Common.{◌≡◌, ◌∙◌, refl, ap, sym, ℕ, List, []
 use Rattle.std.proofs.lemmas.List.{append-nil}
 use Rattle.ordup_grammar.specs.Lines.{Line}
 use Rattle.ordup_answers.specs.Replies.{reply}
-use Rattle.ordup_script.specs.Runs.{AppendsFront}
+use Rattle.ordup_output.specs.Fronts.{AppendsFront}
 use Rattle.ordup_script.specs.Output.{Written, answered, written}
 use Rattle.ordup_script.specs.Scripts.{after_lines}
 
 -- lines after others
-pub after_lines-append : {S : Type 0} (step : S → Line → S) (s : S) (lines more : List Line) → after_lines step s (lines ++ more) ≡ after_lines step (after_lines step s lines) more
+pub after_lines-append : {S : Type 0} (step : S → Line → S) (s : S) (lines more : List Line)
+    → after_lines step s (lines ++ more) ≡ after_lines step (after_lines step s lines) more
 after_lines-append step s [] more = refl
 after_lines-append step s (line ∷ lines) more = after_lines-append step (step s line) lines more
 
@@ -21,8 +22,10 @@ text_grows w (line ∷ lines) =
     (added ++ more, is ∙ append_assoc w.1 added more)
 
 -- a front of the answers to some lines is one of the answers to more
-pub front_of_more : (A : Type 0) (old new : Option (List ℕ)) (lines more : List Line) → AppendsFront old new (written A lines).1 → AppendsFront old new (written A (lines ++ more)).1
+pub front_of_more : (A : Type 0) (old new : Option (List ℕ)) (lines more : List Line) → AppendsFront old new (written A lines).1
+    → AppendsFront old new (written A (lines ++ more)).1
 front_of_more A old new lines more (front, back, is, grew) =
     let (added, grows) = text_grows (written A lines) more in
-    let all : (written A (lines ++ more)).1 ≡ (written A lines).1 ++ added = ap (λ (w : Written A). w.1) (after_lines-append answered _ lines more) ∙ grows in
+    let all : (written A (lines ++ more)).1 ≡ (written A lines).1 ++ added =
+    ap (λ (w : Written A). w.1) (after_lines-append answered _ lines more) ∙ grows in
     (front, back ++ added, all ∙ ap (λ t. t ++ added) is ∙ append_assoc front back added, grew)

@@ -1,5 +1,6 @@
 -- What each line adds to a plan.
-use Rattle.std.proofs.Common.{◌≡◌, ◌∙◌, refl, sym, ap, ℕ, List, [], ◌∷◌, true, ◌++◌, Option, Result, Ok, Err, inl, inr}
+use Rattle.std.proofs.Common.{◌≡◌, ◌∙◌, refl, sym, ap, ℕ, List, [], ◌∷◌}
+use Rattle.std.proofs.Common.{true, ◌++◌, Option, Result, Ok, Err, inl, inr}
 use Rattle.ordup_grammar.specs.Requests.{request_of}
 use Rattle.ordup_grammar.specs.declared.request.Request.{Request}
 use Rattle.ordup_grammar.specs.Lines.{Line}
@@ -21,40 +22,65 @@ malformed-stays n [] = refl
 malformed-stays n (line ∷ lines) = malformed-stays n lines
 
 -- one line more
-planned_more : {A : Type 0} (before : Planning A) (request : Request) (line : Line) (earlier : List Line) → request ≡ request_of line → HasPlanned before earlier → request_in (plan_state before) request ≡ after_lines planned first_plan (earlier ++ line ∷ [])
-planned_more before request line earlier is h = ap (λ s. request_in s request) h ∙ ap (request_in (after_lines planned first_plan earlier)) is ∙ sym (after_lines-append planned first_plan earlier (line ∷ []))
+planned_more : {A : Type 0} (before : Planning A) (request : Request) (line : Line) (earlier : List Line) → request ≡ request_of line
+    → HasPlanned before earlier
+    → request_in (plan_state before) request ≡ after_lines planned first_plan (earlier ++ line ∷ [])
+planned_more before request line earlier is h =
+    ap (λ s. request_in s request) h
+    ∙ ap (request_in (after_lines planned first_plan earlier)) is
+    ∙ sym (after_lines-append planned first_plan earlier (line ∷ []))
 
-line_planned : {A : Type 0} (before after : Planning A) (request : Request) (line : Line) (earlier : List Line) (r : Result (Unit {0}) PlanFault) → request ≡ request_of line → LeadsTo after (request_in (plan_state before) request) r → HasPlanned before earlier
-    → TookOr (λ (first now : Planning A) lines. HasPlanned now lines) (λ first now lines e. HasRefused lines e) before after (earlier ++ line ∷ []) r
+line_planned : {A : Type 0} (before after : Planning A) (request : Request) (line : Line) (earlier : List Line)
+    (r : Result (Unit {0}) PlanFault) → request ≡ request_of line → LeadsTo after (request_in (plan_state before) request) r
+    → HasPlanned before earlier
+    → TookOr (λ (first now : Planning A) lines. HasPlanned now lines) (λ first now lines e. HasRefused lines e) before after
+    (earlier ++ line ∷ []) r
 line_planned before after request line earlier (Ok done) is leads h = leads ∙ planned_more before request line earlier is h
 line_planned before after request line earlier (Err fault.Read) is leads h = absurd leads
 line_planned before after request line earlier (Err fault.TooLong) is leads h = absurd leads
 line_planned before after request line earlier (Err (fault.Malformed n)) is leads h = λ later.
-    after_lines-append planned first_plan (earlier ++ line ∷ []) later ∙ ap (λ s. after_lines planned s later) (sym (planned_more before request line earlier is h) ∙ leads) ∙ malformed-stays n later
+    after_lines-append planned first_plan (earlier ++ line ∷ []) later
+    ∙ ap (λ s. after_lines planned s later) (sym (planned_more before request line earlier is h) ∙ leads)
+    ∙ malformed-stays n later
 line_planned before after request line earlier (Err fault.NoMemory) is leads h = λ later. tt
 
-pub takes_line : {A : Type 0} (before after : Planning A) (request : Request) (line : Line) (r : Result (Unit {0}) PlanFault) → request ≡ request_of line → LeadsTo after (request_in (plan_state before) request) r
-    → Takes (λ (first now : Planning A) lines. HasPlanned now lines) (λ first now lines e. HasRefused lines e) before after (line ∷ []) r
-takes_line before after request line r is leads = record { goes_on = λ first earlier h. line_planned before after request line earlier r is leads h }
+pub takes_line : {A : Type 0} (before after : Planning A) (request : Request) (line : Line) (r : Result (Unit {0}) PlanFault)
+    → request ≡ request_of line → LeadsTo after (request_in (plan_state before) request) r
+    → Takes (λ (first now : Planning A) lines. HasPlanned now lines) (λ first now lines e. HasRefused lines e) before after
+    (line ∷ []) r
+takes_line before after request line r is leads = record {
+  goes_on = λ first earlier h. line_planned before after request line earlier r is leads h;
+}
 
 -- where the lines that were read end in a fault, the reading does
-pub ends_in_fault : {A : Type 0} (now : Planning A) (had has : Option (List ℕ)) (limit : ℕ) (e : PlanFault) → Reads had has limit (HasPlanned now) HasRefused (Err e) → ReadsPlan {A = A} had has limit (Err e)
+pub ends_in_fault : {A : Type 0} (now : Planning A) (had has : Option (List ℕ)) (limit : ℕ) (e : PlanFault)
+    → Reads had has limit (HasPlanned now) HasRefused (Err e)
+    → ReadsPlan {A = A} had has limit (Err e)
 ends_in_fault now had has limit fault.Read (script, consumed, inl each) = absurd (each [])
 ends_in_fault now had has limit fault.Read (script, consumed, inr end) = absurd end.2
 ends_in_fault now had has limit fault.TooLong (script, consumed, inl each) = absurd (each [])
 ends_in_fault now had has limit fault.TooLong (script, consumed, inr end) = absurd end.2
 ends_in_fault now had has limit (fault.Malformed n) (script, consumed, inl each) =
     (script, consumed, inl (λ rest. ap plan_result (each rest)))
-ends_in_fault now had has limit (fault.Malformed n) (script, consumed, inr (end, within, is)) = (script, consumed, inr (end, within, ap plan_result is))
+ends_in_fault now had has limit (fault.Malformed n) (script, consumed, inr (end, within, is)) = (
+  script,
+  consumed,
+  inr (end, within, ap plan_result is),
+)
 ends_in_fault now had has limit fault.NoMemory reads = tt
 
 -- where all lines were taken, the reading ends as the plan does
-pub ends_as_plan : {A : Type 0} (now : Planning A) (had has : Option (List ℕ)) (limit : ℕ) (r : Result (Unit {0}) PlanFault) → Reads had has limit (HasPlanned now) HasRefused (Ok extent.Whole)
-    → Tells (plan_result (plan_state now)) now.plan r → ReadsInto had has limit now.plan r
+pub ends_as_plan : {A : Type 0} (now : Planning A) (had has : Option (List ℕ)) (limit : ℕ) (r : Result (Unit {0}) PlanFault)
+    → Reads had has limit (HasPlanned now) HasRefused (Ok extent.Whole) → Tells (plan_result (plan_state now)) now.plan r
+    → ReadsInto had has limit now.plan r
 ends_as_plan now had has limit (Ok done) (script, consumed, within, end, took) tells =
     let is : plan_of script ≡ Ok (now.plan.setup, now.plan.sets.items) = ap plan_result (sym took) ∙ tells in
     (script, consumed, within, end, is, completes (lines_of true script) _ _ is)
 ends_as_plan now had has limit (Err fault.Read) reads tells = absurd tells
 ends_as_plan now had has limit (Err fault.TooLong) reads tells = absurd tells
-ends_as_plan now had has limit (Err (fault.Malformed n)) (script, consumed, within, end, took) tells = (script, consumed, inr (end, within, ap plan_result (sym took) ∙ tells))
+ends_as_plan now had has limit (Err (fault.Malformed n)) (script, consumed, within, end, took) tells = (
+  script,
+  consumed,
+  inr (end, within, ap plan_result (sym took) ∙ tells),
+)
 ends_as_plan now had has limit (Err fault.NoMemory) reads tells = tt

@@ -17,16 +17,31 @@ Belongs (malformed n) = ⊥
 -- line feed ended belong, within the limit
 abbrev pub ReadsPlan : {A : Type 0} → Option (List ℕ) → Option (List ℕ) → ℕ → Result (Plan A) PlanFault → Type 0
 ReadsPlan had has limit (Ok plan) =
-    (script : List ℕ) × Consumes had has script × (length script ≤ limit) × IsAtEnd has × (plan_of script ≡ Ok (plan.setup, plan.sets.items)) × IsPlan plan.setup plan.sets.items
+    (script : List ℕ)
+    × Consumes had has script
+    × (length script ≤ limit)
+    × IsAtEnd has
+    × (plan_of script ≡ Ok (plan.setup, plan.sets.items))
+    × IsPlan plan.setup plan.sets.items
 ReadsPlan had has limit (Err (fault.Malformed n)) =
-    (script : List ℕ) × Consumes had has script × (((rest : List ℕ) → plan_of (take limit script ++ rest) ≡ Err n) ⊎ (IsAtEnd has × (length script ≤ limit) × (plan_of script ≡ Err n)))
+    (script : List ℕ)
+    × Consumes had has script
+    × (((rest : List ℕ) → plan_of (take limit script ++ rest) ≡ Err n)
+    ⊎ (IsAtEnd has × (length script ≤ limit) × (plan_of script ≡ Err n)))
 ReadsPlan had has limit (Err fault.Read) =
-    (script : List ℕ) × Consumes had has script × (length script ≤ limit) × Belongs (after_lines planned first_plan (lines_of false script))
+    (script : List ℕ)
+    × Consumes had has script
+    × (length script ≤ limit)
+    × Belongs (after_lines planned first_plan (lines_of false script))
 ReadsPlan had has limit (Err fault.TooLong) =
-    (script : List ℕ) × Consumes had has script × (limit < length script) × Belongs (after_lines planned first_plan (lines_of false (take limit script)))
+    (script : List ℕ)
+    × Consumes had has script
+    × (limit < length script)
+    × Belongs (after_lines planned first_plan (lines_of false (take limit script)))
 ReadsPlan had has limit (Err fault.NoMemory) = Unit {0}
 
 -- a text was read to this plan, or the reading ends with a fault
-abbrev pub ReadsInto : {A : Type 0} → Option (List ℕ) → Option (List ℕ) → ℕ → Plan A → Result (Unit {0}) PlanFault → Type 0
+abbrev pub ReadsInto : {A : Type 0} → Option (List ℕ) → Option (List ℕ) → ℕ → Plan A → Result (Unit {0}) PlanFault
+    → Type 0
 ReadsInto had has limit plan (Ok done) = ReadsPlan had has limit (Ok plan)
 ReadsInto {A} had has limit plan (Err e) = ReadsPlan {A = A} had has limit (Err e)

@@ -1,5 +1,6 @@
 -- What reading the lines of a script leaves.
-use Rattle.std.specs.Prelude.{◌≡◌, ◌⊎◌, ℕ, Bool, true, false, List, ◌++◌, ◌<◌, ◌≤◌, length, take, Option, Result, Ok, Err}
+use Rattle.std.specs.Prelude.{◌≡◌, ◌⊎◌, ℕ, Bool, true, false, List, ◌++◌}
+use Rattle.std.specs.Prelude.{◌<◌, ◌≤◌, length, take, Option, Result, Ok, Err}
 use Rattle.std.specs.Io.KnownBytes.{Consumes, IsAtEnd}
 use Rattle.ordup_grammar.specs.Lines.{Line}
 use Rattle.ordup_grammar.specs.LineBuffers.{Holds}
@@ -37,7 +38,8 @@ module _ {T F : Type 0} (took : T → T → List Line → Type 0) (stopped : T �
 
   -- after whatever was read before, this piece of a script was read
   pub record ReadsOn (before : T) (held : Line) (after : T) (holds : Line) (piece : List ℕ) (r : Result (Unit {0}) F) : Type 0 where
-    pub goes_on : (first : T) (script : List ℕ) → IsRead (took first before) held script → IsReadOr first after holds (script ++ piece) r
+    pub goes_on : (first : T) (script : List ℕ) → IsRead (took first before) held script
+        → IsReadOr first after holds (script ++ piece) r
 
   -- all lines of a script were taken; or it stopped at one of them
   abbrev pub TookAllOr : T → T → List ℕ → Result (Unit {0}) F → Type 0
@@ -49,8 +51,11 @@ module _ {T F : Type 0} (took : T → T → List Line → Type 0) (stopped : T �
     pub ends : (first : T) (script : List ℕ) → IsRead (took first before) held script → TookAllOr first after script r
 
 -- what was read of a script, and which of its lines were taken: all of them where all was read; before a failed read, and of
--- too long a script, those that a line feed ended, within the limit; or it stopped at a line within the limit, whatever comes after, or at the end
-abbrev pub Reads : {F : Type 0} → Option (List ℕ) → Option (List ℕ) → ℕ → (List Line → Type 0) → (List Line → F → Type 0) → Result Extent F → Type 0
+-- too long a script, those that a line feed ended, within the limit;
+-- or it stopped at a line within the limit, whatever comes after, or at the end
+abbrev pub Reads : {F : Type 0} → Option (List ℕ) → Option (List ℕ) → ℕ → (List Line → Type 0)
+    → (List Line → F → Type 0) → Result Extent F
+    → Type 0
 Reads had has limit took stopped (Ok extent.Whole) =
     (script : List ℕ) × Consumes had has script × (length script ≤ limit) × IsAtEnd has × took (lines_of true script)
 Reads had has limit took stopped (Ok extent.BeforeFailure) =
@@ -58,4 +63,7 @@ Reads had has limit took stopped (Ok extent.BeforeFailure) =
 Reads had has limit took stopped (Ok extent.UpToLimit) =
     (script : List ℕ) × Consumes had has script × (limit < length script) × took (lines_of false (take limit script))
 Reads had has limit took stopped (Err e) =
-    (script : List ℕ) × Consumes had has script × (((rest : List ℕ) → stopped (lines_of true (take limit script ++ rest)) e) ⊎ (IsAtEnd has × (length script ≤ limit) × stopped (lines_of true script) e))
+    (script : List ℕ)
+    × Consumes had has script
+    × (((rest : List ℕ) → stopped (lines_of true (take limit script ++ rest)) e)
+    ⊎ (IsAtEnd has × (length script ≤ limit) × stopped (lines_of true script) e))

@@ -1,16 +1,16 @@
 //! A script from a reader to a writer.
-ghost use Rattle.std.specs.Prelude.{◌≡◌, [], IfErr, OnOk};
-ghost use Rattle.std.specs.Io.KnownBytes.{Appends};
+ghost use Rattle.std.specs.Prelude.{◌≡◌, []};
 ghost use Rattle.ordup_answers.specs.Sessions.{Stands, first_session};
 ghost use Rattle.ordup_script.specs.Answerers.{HasAnswered, HasStopped};
 ghost use Rattle.ordup_script.specs.Readings.{Takes};
-ghost use Rattle.ordup_script.specs.Runs.{AppendsFront, Runs, RunsIn};
+ghost use Rattle.ordup_script.specs.Runs.{Runs, RunsIn};
 
 use crate::line_reader::{Extent, read_lines};
 use crate::line_taker::LineTaker;
 use crate::sizes::{MOST_SCRIPT_BYTES, PIECE};
 use ordup_answers::{ScriptEnd, answer};
 use ordup_grammar::Request;
+use ordup_output::send;
 use std::alloc::{Allocator, Global};
 use std::io::{Read, Write};
 
@@ -57,9 +57,13 @@ impl<W: Write, A: Allocator + Copy> LineTaker for Answerer<'_, W, A> {
     }
 
     fn hand_out(&mut self) -> Result<(), ScriptFault> {
-        send(self.output, self.answers)?;
-        self.answers.clear();
-        Ok(())
+        match send(self.output, self.answers) {
+            Ok(()) => {
+                self.answers.clear();
+                Ok(())
+            }
+            Err(_) => Err(ScriptFault::Write),
+        }
     }
 }
 
@@ -73,22 +77,6 @@ impl<W: Write, A: Allocator + Copy> Answerer<'_, W, A> {
         }
         self.hand_out()
     }
-}
-
-/// Writes all bytes, or a front of them where the writer fails.
-fn send<W: Write>(output: &mut W, bytes: &[u8]) -> Result<(), ScriptFault>
-    ensures sent { OnOk result (Appends (W.contents output.old) (W.contents output.new) bytes.now) }
-    ensures cause { IfErr result (λ e. e ≡ ScriptFault.Write) }
-    ensures front { AppendsFront (W.contents output.old) (W.contents output.new) bytes.now }
-{
-    let mut rest = bytes;
-    while !rest.is_empty() {
-        match output.write(rest) {
-            Ok(count) if count > 0 => rest = &rest[count..],
-            _ => return Err(ScriptFault::Write),
-        }
-    }
-    Ok(())
 }
 
 /// Runs a script of at most so many bytes, where none of its lines was answered yet.

@@ -4,12 +4,14 @@ use Rattle.ordup_script.proofs.Readings.{ends_none, ends_some, hands_out, reads_
 use Rattle.ordup_script.proofs.line_reader.read_last_line.Goals as goal
 
 pub returns-then-is_empty-clause-lines : goal.returns-then-is_empty-clause-lines
-returns-then-is_empty-clause-lines g c = ends_none c.args.taker.now c.args.held.now (λ held is. c.is_empty.ensures.empty held is c.if-is_empty.true)
+returns-then-is_empty-clause-lines g c =
+    ends_none c.args.taker.now c.args.held.now (λ held is. c.is_empty.ensures.empty held is c.if-is_empty.true)
 
 pub returns-in_err-take_held-clause-lines : goal.returns-in_err-take_held-clause-lines
 returns-in_err-take_held-clause-lines g c =
     let failed = err_from_is_err_and c.from_residual.result c.from_residual.ensures.1 in
-    rw (failed.1, failed.2) (ends_some (Err c.in_err-take_held.field-0.0) (λ held is. c.is_empty.ensures.some held is c.if-is_empty.false) c.in_err-take_held.ensures.lines)
+    rw (failed.1, failed.2) (ends_some (Err c.in_err-take_held.field-0.0) (λ held is. c.is_empty.ensures.some held is c.if-is_empty.false)
+    c.in_err-take_held.ensures.lines)
 
 pub returns-clause-lines : goal.returns-clause-lines
 returns-clause-lines g c =

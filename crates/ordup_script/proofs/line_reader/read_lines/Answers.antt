@@ -1,4 +1,5 @@
-use Rattle.std.proofs.Common.{arith, ◌≡◌, ◌∙◌, ◌++◌, ◌-◌, ◌<◌, ℕ, List, ap, length, length-append, sym, take, take-take}
+use Rattle.std.proofs.Common.{arith, ◌≡◌, ◌∙◌, ◌++◌, ◌-◌, ◌<◌, ℕ}
+use Rattle.std.proofs.Common.{List, ap, length, length-append, sym, take, take-take}
 use Rattle.std.proofs.lemmas.Result.{err_from_is_err_and}
 use Rattle.std.proofs.KnownBytes.{Consumes-trans, Consumes-kept}
 use Rattle.std.proofs.lemmas.List.{take_all}
@@ -11,8 +12,10 @@ returns-in_default-clause-lines g c =
     (script, Consumes-kept _ _ _ script took c.in_default.ensures.bytes, omega arith, takes_ended _ read)
 
 -- what lies within the limit of what was read
-within_limit : (buf script : List ℕ) (taken limit count : ℕ) → length script ≡ taken → limit - taken < count → take (limit - taken) buf ≡ take (limit - length script) (take count buf)
-within_limit buf script taken limit count is over = ap (λ n. take (limit - n) buf) (sym is) ∙ sym (take-take (limit - length script) count buf (omega arith))
+within_limit : (buf script : List ℕ) (taken limit count : ℕ) → length script ≡ taken → limit - taken < count
+    → take (limit - taken) buf ≡ take (limit - length script) (take count buf)
+within_limit buf script taken limit count is over =
+    ap (λ n. take (limit - n) buf) (sym is) ∙ sym (take-take (limit - length script) count buf (omega arith))
 
 pub returns-in_err-read_piece-clause-lines : goal.returns-in_err-read_piece-clause-lines
 returns-in_err-read_piece-clause-lines g c =
@@ -20,14 +23,16 @@ returns-in_err-read_piece-clause-lines g c =
     let failed = err_from_is_err_and c.from_residual-in_err-read_piece.result c.from_residual-in_err-read_piece.ensures.1 in
     let buf = c.read.new.buf in
     let front = within_limit buf script c.pieces.taken c.args.limit c.in-Ok.count count (omega arith) in
-    rw (failed.1, failed.2) (stops_in _ _ _ c.args.limit (take c.in-Ok.count buf) took c.in-Ok.ensures.bytes.0 (omega arith) front read c.in_err-read_piece.ensures.lines)
+    rw (failed.1, failed.2) (stops_in _ _ _ c.args.limit (take c.in-Ok.count buf) took c.in-Ok.ensures.bytes.0 (omega arith)
+    front read c.in_err-read_piece.ensures.lines)
 
 pub returns-then-count-limit-clause-lines : goal.returns-then-count-limit-clause-lines
 returns-then-count-limit-clause-lines g c =
     let (within, len, room, clear, script, count, took, read) = c.pieces.invariant in
     let buf = c.read.new.buf in
     let front = within_limit buf script c.pieces.taken c.args.limit c.in-Ok.count count (omega arith) in
-    reads_to_limit _ _ _ c.args.limit (take c.in-Ok.count buf) took c.in-Ok.ensures.bytes.0 (omega arith) (omega (arith, c.in-Ok.ensures.bound.1)) front read c.in_ok-read_piece.ensures.lines
+    reads_to_limit _ _ _ c.args.limit (take c.in-Ok.count buf) took c.in-Ok.ensures.bytes.0 (omega arith)
+    (omega (arith, c.in-Ok.ensures.bound.1)) front read c.in_ok-read_piece.ensures.lines
 
 pub returns-in_err-read_piece-2-clause-lines : goal.returns-in_err-read_piece-2-clause-lines
 returns-in_err-read_piece-2-clause-lines g c =
@@ -35,7 +40,8 @@ returns-in_err-read_piece-2-clause-lines g c =
     let failed = err_from_is_err_and c.from_residual-in_err-read_piece-2.result c.from_residual-in_err-read_piece-2.ensures.1 in
     let piece : List ℕ = take c.in-Ok.count c.read.new.buf in
     let all : piece ≡ take (c.args.limit - length script) piece = sym (take_all _ piece (omega (arith, c.in-Ok.ensures.bound.1))) in
-    rw (failed.1, failed.2) (stops_in _ _ _ c.args.limit piece took c.in-Ok.ensures.bytes.0 (omega arith) all read c.in_err-read_piece-2.ensures.lines)
+    rw (failed.1, failed.2)
+    (stops_in _ _ _ c.args.limit piece took c.in-Ok.ensures.bytes.0 (omega arith) all read c.in_err-read_piece-2.ensures.lines)
 
 pub pieces-preserved : goal.pieces-preserved
 pieces-preserved g c =

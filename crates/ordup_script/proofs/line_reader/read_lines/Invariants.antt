@@ -6,8 +6,14 @@ use Rattle.ordup_script.proofs.line_reader.read_lines.Given as goal
 
 abbrev pub invariant-pieces : goal.invariant-pieces
 invariant-pieces g l =
-    (l.taken ≤ l.limit) × (length l.piece ≡ PIECE) × (g.T.LineTaker.room l.fn.taker ≤ g.T.LineTaker.room l.taker + l.taken) × g.T.LineTaker.is_clear l.taker
-    × (script : List ℕ) × (length script ≡ l.taken) × Consumes (g.R.Read.remaining l.fn.input) (g.R.Read.remaining l.input) script × IsRead (g.T.LineTaker.took l.fn.taker l.taker) l.held script
+    (l.taken ≤ l.limit)
+    × (length l.piece ≡ PIECE)
+    × (g.T.LineTaker.room l.fn.taker ≤ g.T.LineTaker.room l.taker + l.taken)
+    × g.T.LineTaker.is_clear l.taker
+    × (script : List ℕ)
+    × (length script ≡ l.taken)
+    × Consumes (g.R.Read.remaining l.fn.input) (g.R.Read.remaining l.input) script
+    × IsRead (g.T.LineTaker.took l.fn.taker l.taker) l.held script
 
 abbrev pub decreases-pieces : goal.decreases-pieces
 decreases-pieces g l = l.limit + 1 - l.taken

@@ -7,7 +7,8 @@ use Rattle.ordup_script.proofs.stream.run_in.Goals as goal
 pub returns-in_err-read_lines : goal.returns-in_err-read_lines
 returns-in_err-read_lines g c =
     let failed = err_from_is_err_and c.from_residual.result c.from_residual.ensures.1 in
-    rw (failed.1, failed.2) (stopped g.W.Write.contents _ c.read_lines.new.taker _ _ _ c.args.limit c.in_err-read_lines.field-0.0 (λ later. search rules) c.in_err-read_lines.ensures.lines)
+    rw (failed.1, failed.2) (stopped g.W.Write.contents _ c.read_lines.new.taker _ _ _ c.args.limit c.in_err-read_lines.field-0.0
+    (λ later. search rules) c.in_err-read_lines.ensures.lines)
 
 pub returns-in-Ok : goal.returns-in-Ok
 returns-in-Ok g c =

@@ -7,12 +7,14 @@ use Rattle.ordup_script.proofs.stream.AnswererLineTaker.take.Goals as goal
 pub returns-in-Ok-clause-lines : goal.returns-in-Ok-clause-lines
 returns-in-Ok-clause-lines g c line is = record {
   goes_on = λ first earlier h.
-      let answered = answers_line g.W.Write.contents first c.args.self.now _ earlier _ line h is c.in-Ok.ensures (record { store = refl; output = refl }) refl in
+      let answered = answers_line g.W.Write.contents first c.args.self.now _ earlier _ line h is c.in-Ok.ensures
+      (record { store = refl; output = refl }) refl in
       rw (append-nil (earlier ++ line ∷ [])) at (c.hand_out_many.ensures.goes_on first (earlier ++ line ∷ []) answered);
 }
 
 pub returns-in-Err-clause-lines : goal.returns-in-Err-clause-lines
 returns-in-Err-clause-lines g c line is = record {
   goes_on = λ first earlier h later.
-      rw append_assoc (sends_front g.W.Write.contents first c.args.self.now _ earlier h (record { store = refl; output = refl }) ([], c.args.self.now.answers.now.items, refl, Appends-nil _) _ (inr refl) (line ∷ later));
+      rw append_assoc (sends_front g.W.Write.contents first c.args.self.now _ earlier h (record { store = refl; output = refl })
+      ([], c.args.self.now.answers.now.items, refl, Appends-nil _) _ (inr refl) (line ∷ later));
 }

@@ -110,7 +110,8 @@ module _ (objects : List (List ℕ × ℤ)) where
   is_changed-nearest x [] = refl
   is_changed-nearest x (c ∷ m) = rw (is_changed-nearest x m) refl
 
-  repeats-nearest : (m : List ChangeWord) → repeats are_of_one_object (changes_in objects (nearest_changes m)) ≡ repeats are_of_one_object (changes_in objects m)
+  repeats-nearest : (m : List ChangeWord)
+      → repeats are_of_one_object (changes_in objects (nearest_changes m)) ≡ repeats are_of_one_object (changes_in objects m)
   repeats-nearest [] = refl
   repeats-nearest (c ∷ m) = rw (is_changed-nearest (change_in objects c).object m, repeats-nearest m) refl
 
@@ -153,12 +154,14 @@ module _ (objects : List (List ℕ × ℤ)) where
 
   -- ---- the set that is made of the nearest numbers
 
-  pub set_made : (r : Result (List Change) Refusal) (m : List ChangeWord) (items : List Change) → items ≡ changes_in objects (nearest_changes m)
-      → IfOk r (λ set. set ≡ items) → IfOk r (λ _. set_refusal (length objects) items ≡ None)
-      → IfErr r (λ e. set_refusal (length objects) items ≡ Some e) → Gives (set_in objects m) r
+  pub set_made : (r : Result (List Change) Refusal) (m : List ChangeWord) (items : List Change)
+      → items ≡ changes_in objects (nearest_changes m) → IfOk r (λ set. set ≡ items)
+      → IfOk r (λ _. set_refusal (length objects) items ≡ None) → IfErr r (λ e. set_refusal (length objects) items ≡ Some e)
+      → Gives (set_in objects m) r
   set_made (Ok set) m items is made allowed refused =
       let fine : refusal_of m ≡ None = sym (set_refusal-nearest m) ∙ ap (set_refusal (length objects)) (sym is) ∙ allowed in
-      let same : changes_in objects m ≡ set = ap (changes_in objects) (sym (nearest_changes-in_range m (are_within-allowed m fine))) ∙ sym is ∙ sym made in
+      let same : changes_in objects m ≡ set =
+      ap (changes_in objects) (sym (nearest_changes-in_range m (are_within-allowed m fine))) ∙ sym is ∙ sym made in
       rw (fine, same) refl
   set_made (Err e) m items is made allowed refused =
       let same : refusal_of m ≡ Some e = sym (set_refusal-nearest m) ∙ ap (set_refusal (length objects)) (sym is) ∙ refused in

@@ -1,25 +1,26 @@
 -- What a line is answered.
-use Rattle.std.specs.Prelude.{ℕ, List, [], Result, Ok, Err, codes}
+use Rattle.std.specs.Prelude.{ℕ, List, [], length, nat_lt, if◌then◌else◌, Result, Ok, Err, codes}
 use Rattle.ordup_objects.specs.declared.refusal.Refusal.{Refusal}
-use Rattle.ordup_objects.specs.declared.refusal.Refusal.TheVariants.{Syntax, NotStarted, AlreadyStarted}
+use Rattle.ordup_objects.specs.declared.refusal.Refusal.TheVariants.{Syntax, NotStarted, AlreadyStarted, UnknownSite}
 use Rattle.ordup_primary.specs.Declarations.{Declared, start_refusal}
-use Rattle.ordup_world.specs.Events.{Past, later}
+use Rattle.ordup_world.specs.Events.{Past, later, rounds, windows}
 use Rattle.ordup_world.specs.Events.{reply as event_answer}
 use Rattle.ordup_world.specs.declared.event.Event.{Event}
 use Rattle.ordup_grammar.specs.Lines.{Line}
 use Rattle.ordup_grammar.specs.Requests.{request_of}
 use Rattle.ordup_grammar.specs.declared.action.Action.{Action}
 use Rattle.ordup_grammar.specs.declared.command.Command.{Command}
-use Rattle.ordup_grammar.specs.declared.command.Command.TheVariants.{Declare, Start, Act}
+use Rattle.ordup_grammar.specs.declared.command.Command.TheVariants.{Declare, Start, Certify, Act}
 use Rattle.ordup_grammar.specs.declared.declaration.Declaration.{Declaration}
 use Rattle.ordup_grammar.specs.declared.declaration.Declaration.TheVariants.{Object, Group, Site, Limit}
 use Rattle.ordup_grammar.specs.declared.request.Request.{Request}
 use Rattle.ordup_grammar.specs.declared.request.Request.TheVariants as request
 use Rattle.ordup_answers.specs.Declarations.{with_declaration}
 use Rattle.ordup_answers.specs.Events.{event_of, names_of}
+use Rattle.ordup_answers.specs.Places.{place_among}
 use Rattle.ordup_answers.specs.Refusals.{made_of, unless}
 use Rattle.ordup_answers.specs.Sessions.{Session, declaring, running}
-use Rattle.ordup_text.specs.Texts.{refused_text, started_text, named_text, answer_text}
+use Rattle.ordup_text.specs.Texts.{refused_text, started_text, named_text, answer_text, certified_text}
 
 -- the session after a line, and the answer's text
 abbrev pub Reply : Type 0 → Type 0
@@ -39,6 +40,12 @@ module _ {A : Type 0} where
       let answer = event_answer d past e in
       (running d (later past e answer), answer_text d (names_of a).0 (names_of a).1 answer)
 
+  -- what comes of asking for the certificate of a site, by its name and its place
+  abbrev pub certificate_reply : Declared → Past A → List ℕ → ℕ → Result (Reply A) Refusal
+  certificate_reply d past name s =
+      if nat_lt s (length d.sites) then Ok (running d past, certified_text name (length (rounds d s past)) (windows d s past))
+      else Err UnknownSite
+
   -- what comes of a command, or why it is refused: declarations and the start come first, all else is for a started store
   abbrev pub command_reply : Session A → Command → Result (Reply A) Refusal
   command_reply (declaring d) (Declare x) = made_of (λ e. (declaring e, declared_text x)) (with_declaration d x)
@@ -46,6 +53,7 @@ module _ {A : Type 0} where
   command_reply (declaring d) _ = Err NotStarted
   command_reply (running d past) (Declare x) = Err AlreadyStarted
   command_reply (running d past) Start = Err AlreadyStarted
+  command_reply (running d past) (Certify site) = certificate_reply d past site (place_among d.sites site)
   command_reply (running d past) (Act a) = made_of (event_reply d past a) (event_of d a)
 
   -- what is refused leaves the session as it is, and is told

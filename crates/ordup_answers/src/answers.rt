@@ -10,10 +10,13 @@ ghost use Rattle.ordup_answers.specs.Answers.{Leaves};
 
 use crate::declarations::declare;
 use crate::events::{event_of, names_of};
+use crate::places::find_site;
 use crate::script_end::ScriptEnd;
-use ordup_grammar::{Action, Command, Declaration, Request};
+use ordup_check::{Verdict, check};
+use ordup_grammar::{Action, Command, Declaration, Request, Word};
 use ordup_objects::Refusal;
-use ordup_text::{push_answer, push_named, push_refused, push_started};
+use ordup_record::record_of;
+use ordup_text::{push_answer, push_certified, push_named, push_refused, push_started};
 use ordup_world::{Event, Setup, World};
 use std::alloc::{AllocError, Allocator};
 use std::mem;
@@ -49,6 +52,10 @@ fn carry_out<A: Allocator + Copy>(
             ScriptEnd::Running(_) => push_refused(out, Refusal::AlreadyStarted),
         },
         Command::Start => answer_start(alloc, store, out),
+        Command::Certify(site) => match store {
+            ScriptEnd::Declared(_) => push_refused(out, Refusal::NotStarted),
+            ScriptEnd::Running(world) => certify(alloc, world, site, out),
+        },
         Command::Act(action) => match store {
             ScriptEnd::Declared(_) => push_refused(out, Refusal::NotStarted),
             ScriptEnd::Running(world) => answer_action(alloc, world, action, out),
@@ -115,6 +122,27 @@ fn start<A: Allocator + Copy>(alloc: A, setup: &mut Setup<A>) -> Result<World<A>
         return Err(Refusal::Empty);
     }
     World::start(alloc, mem::replace(setup, Setup::new(alloc)))
+}
+
+/// Shows that the rounds of a site are the fewest, by the check of its record.
+fn certify<A: Allocator + Copy>(
+    alloc: A,
+    world: &World<A>,
+    site: &Word<'_>,
+    out: &mut Vec<u8, A>,
+) -> Result<(), AllocError>
+    ensures { OnOk result ((s : Session A) → IsWorldOf world.now s → Leaves (IsWorldOf world.now) out.old.items out.new.items (reply_or_refusal s (command_reply s (Command.Certify site.now)))) }
+{
+    let primary = world.primary();
+    let shown = match record_of(alloc, primary, find_site(primary.setup(), site)) {
+        Ok(shown) => shown,
+        Err(refusal) => return push_refused(out, refusal),
+    };
+    match check(&shown) {
+        Verdict::Fewest(rounds) => push_certified(out, site.as_bytes(), rounds, shown.windows()),
+        // For the proof: no record of a primary is refused.
+        Verdict::No { .. } => push_named(out, b"ok uncertified ", site.as_bytes()),
+    }
 }
 
 /// Lets an action happen.

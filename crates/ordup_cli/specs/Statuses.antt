@@ -32,4 +32,5 @@ status_of (Some fault) = fault_status fault
 
 -- a script was run over these bytes, and ended with this status
 abbrev pub EndsWith : Option (List ℕ) → Option (List ℕ) → Option (List ℕ) → Option (List ℕ) → ℕ → Type 0
-EndsWith had has old new status = (end : Result (ScriptEnd Global) ScriptFault) × Runs had has old new 1073741824 end × (status ≡ status_of (fault_of end))
+EndsWith had has old new status =
+    (end : Result (ScriptEnd Global) ScriptFault) × Runs had has old new 1073741824 end × (status ≡ status_of (fault_of end))

@@ -28,6 +28,8 @@ ok proposed 2
 ok round 2 a
 > show a
 ok show a sent 0 applied 0 reported 0 rounds 1 x=0 y=10
+> certify a
+ok certified a 1 0-2
 > settle
 ok waiting 2 a
 > send a
@@ -48,6 +50,8 @@ ok reported a 2
 ok acked 2
 > show a
 ok show a sent 2 applied 2 reported 2 rounds 1 x=6 y=10
+> certify a
+ok certified a 1 0-2
 ",
     ),
     (
@@ -79,6 +83,8 @@ ok proposed 2
 ok acked 2
 > show a
 ok show a sent 1 applied 1 reported 1 rounds 0 x=5 y=10
+> certify a
+ok certified a 0
 ",
     ),
     (
@@ -110,6 +116,8 @@ ok proposed 2
 ok round 2 a
 > show a
 ok show a sent 1 applied 1 reported 1 rounds 1 x=0 y=10
+> certify a
+ok certified a 1 1-2
 ",
     ),
     (
@@ -135,6 +143,8 @@ ok proposed 2
 ok round 2 a
 > show a
 ok show a sent 0 applied 0 reported 0 rounds 1 x=0 y=10
+> certify a
+ok certified a 1 0-2
 ",
     ),
     (
@@ -191,6 +201,8 @@ ok proposed 3
 ok round 3 a
 > show a
 ok show a sent 0 applied 0 reported 0 rounds 1 x=0 y=10
+> certify a
+ok certified a 1 0-3
 ",
     ),
     (
@@ -445,6 +457,8 @@ ok proposed 2
 ok round 2 a
 > show a
 ok show a sent 1 applied 1 reported 1 rounds 1 x=9 y=10
+> certify a
+ok certified a 1 1-2
 ",
     ),
     (
@@ -1033,6 +1047,8 @@ refused 2 NotStarted
 refused 2 NotStarted
 > begin Q b -1
 refused 2 NotStarted
+> certify b
+refused 2 NotStarted
 > object x 0
 ok object x
 > site a 4
@@ -1043,8 +1059,14 @@ ok start
 refused 1 Syntax
 > group
 refused 1 Syntax
-> certify a
+> certify
 refused 1 Syntax
+> certify a b
+refused 1 Syntax
+> certify z
+refused 8 UnknownSite
+> certify a
+ok certified a 0
 ",
     ),
     (

@@ -1,5 +1,7 @@
 -- The parts of a list, from the place of the first element at which it is cut.
-use Rattle.std.proofs.Common.{◌≡◌, ◌∙◌, ap, ℕ, suc, ◌+◌, ◌-◌, ◌<◌, ◌≤◌, refl, Bool, false, true, cond, nat_lt, List, [], ◌∷◌, ◌++◌, length, take, drop, get_or, Some, None, arith, add-one, position, not, ◌==◌}
+use Rattle.std.proofs.Common.{◌≡◌, ◌∙◌, ap, ℕ, suc, ◌+◌, ◌-◌, ◌<◌, ◌≤◌, refl}
+use Rattle.std.proofs.Common.{Bool, false, true, cond, nat_lt, List, [], ◌∷◌, ◌++◌, length}
+use Rattle.std.proofs.Common.{take, drop, get_or, Some, None, arith, add-one, position, not, ◌==◌}
 use Rattle.std.proofs.Math.Seq.{split_at}
 use Rattle.std.proofs.lemmas.Bool.{eqb-true}
 use Rattle.std.proofs.lemmas.Bool.Decides.{nat_tests}
@@ -22,7 +24,8 @@ at_end : (place len : ℕ) → cond (nat_lt place len) (Some place) None ≡ Non
 at_end place len h = grind (arith, nat_tests)
 
 -- before the first place that passes none does
-front_fails : (p : ℕ → Bool) (xs : List ℕ) (i : ℕ) → ((k : ℕ) → k < i → p (get_or xs k 0) ≡ false) → All (λ x. p x ≡ false) (take i xs)
+front_fails : (p : ℕ → Bool) (xs : List ℕ) (i : ℕ) → ((k : ℕ) → k < i → p (get_or xs k 0) ≡ false)
+    → All (λ x. p x ≡ false) (take i xs)
 front_fails p xs i before =
     All-from_get_or (λ x. p x ≡ false) (take i xs) 0 (λ k below.
     let early : k < i = omega (arith, length-take {A = ℕ}) in
@@ -33,19 +36,24 @@ pub split-first_byte : (b : ℕ) (xs : List ℕ) (i : ℕ) → IsFirstByte (λ x
     → All (λ x. (x == b) ≡ false) (take i xs) × (xs ≡ take i xs ++ b ∷ take (length xs - (i + 1)) (drop (i + 1) xs))
 split-first_byte b xs i (first, passes) =
     let is : get_or xs i 0 ≡ b = eqb-true (get_or xs i 0) b passes in
-    let rest : take (length xs - (i + 1)) (drop (i + 1) xs) ≡ drop (i + 1) xs = take_all _ _ (rw length-drop (omega arith)) in
-    (front_fails (λ x. x == b) xs i (λ k below. is_false (get_or xs k 0 == b) (first.before k (omega arith) below)), rw (rest, add-one) (split_at xs i 0 first.high ∙ ap (λ x. take i xs ++ x ∷ drop (suc i) xs) is))
+    let rest : take (length xs - (i + 1)) (drop (i + 1) xs) ≡ drop (i + 1) xs = take_all _ _ (rw length-drop (omega arith)) in (
+      front_fails (λ x. x == b) xs i (λ k below. is_false (get_or xs k 0 == b) (first.before k (omega arith) below)),
+      rw (rest, add-one) (split_at xs i 0 first.high ∙ ap (λ x. take i xs ++ x ∷ drop (suc i) xs) is),
+    )
 
 -- no byte passes
 pub fails-no_byte : (p : ℕ → Bool) (xs : List ℕ) → IsFirstByte p xs None → All (λ x. p x ≡ false) xs
-fails-no_byte p xs nowhere = All-from_get_or (λ x. p x ≡ false) xs 0 (λ k below. is_false (p (get_or xs k 0)) (nowhere k (omega arith) below))
+fails-no_byte p xs nowhere =
+    All-from_get_or (λ x. p x ≡ false) xs 0 (λ k below. is_false (p (get_or xs k 0)) (nowhere k (omega arith) below))
 
 -- the first place at which a list is cut ends its first part
-pub slice_split-position : (p : ℕ → Bool) (xs : List ℕ) (i : ℕ) → position p xs ≡ Some i → slice_split p xs ≡ take i xs ∷ slice_split p (take (length xs - (i + 1)) (drop (i + 1) xs))
+pub slice_split-position : (p : ℕ → Bool) (xs : List ℕ) (i : ℕ) → position p xs ≡ Some i
+    → slice_split p xs ≡ take i xs ∷ slice_split p (take (length xs - (i + 1)) (drop (i + 1) xs))
 slice_split-position p xs i h =
     let found = position-Some p xs i 0 h in
     let rest : take (length xs - (i + 1)) (drop (i + 1) xs) ≡ drop (i + 1) xs = take_all _ _ (rw length-drop (omega arith)) in
-    rw (rest, add-one) (ap (slice_split p) (split_at xs i 0 found.0) ∙ slice_split_at p (take i xs) (get_or xs i 0) (drop (suc i) xs) (front_fails p xs i found.2) found.1)
+    rw (rest, add-one) (ap (slice_split p) (split_at xs i 0 found.0)
+    ∙ slice_split_at p (take i xs) (get_or xs i 0) (drop (suc i) xs) (front_fails p xs i found.2) found.1)
 
 -- with no such place a list is its one part
 pub slice_split-no_position : (p : ℕ → Bool) (xs : List ℕ) → position p xs ≡ None → slice_split p xs ≡ xs ∷ []
@@ -63,4 +71,10 @@ is_word word = not (length word == 0)
 pub few_words : (line : List ℕ) → length (words_of line) ≤ length line + 1
 few_words line =
     let parts = slice_split is_space line in
-    omega (arith, length-filter is_word parts, count_by-le-length is_word parts, length-slice_split is_space line, count_by-le-length is_space line)
+    omega (
+      arith,
+      length-filter is_word parts,
+      count_by-le-length is_word parts,
+      length-slice_split is_space line,
+      count_by-le-length is_space line,
+    )

@@ -1,5 +1,6 @@
 -- What the fields of a number stand for.
-use Rattle.std.specs.Prelude.{◌≡◌, ◌⊎◌, ◌<◌, Bool, true, false, ℤ, pos, negsuc, neg_ℤ, if◌then◌else◌, unsigned_abs}
+use Rattle.std.specs.Prelude.{◌≡◌, ◌⊎◌, ◌<◌, Bool, true, false, ℤ, pos}
+use Rattle.std.specs.Prelude.{negsuc, neg_ℤ, if◌then◌else◌, unsigned_abs}
 use Rattle.ordup_grammar.specs.declared.number.Number.TheInside.{Inside}
 
 -- whether a number is below zero

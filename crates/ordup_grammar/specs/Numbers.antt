@@ -1,5 +1,7 @@
 -- Decimal numbers: an optional minus and 1 to 19 digits, with no zero in front of other digits and no minus before 0.
-use Rattle.std.specs.Prelude.{ℕ, Bool, ◌&&◌, ◌||◌, not, List, [], ◌∷◌, length, Option, Some, None, ℤ, pos, negsuc, neg_ℤ, nat_lt, nat_le, ◌==◌, if◌then◌else◌, option_map, slice_index, unsigned_abs, ◌<◌, ◌^◌, ◌≡◌}
+use Rattle.std.specs.Prelude.{ℕ, Bool, ◌&&◌, ◌||◌, not, List, [], ◌∷◌, length, Option, Some}
+use Rattle.std.specs.Prelude.{None, ℤ, pos, negsuc, neg_ℤ, nat_lt, nat_le, ◌==◌, if◌then◌else◌}
+use Rattle.std.specs.Prelude.{option_map, slice_index, unsigned_abs, ◌<◌, ◌^◌, ◌≡◌}
 use Rattle.std.specs.Fmt.{signed_decimal}
 use Rattle.std.specs.Str.{all_ascii_digits}
 use Rattle.std.specs.Str.Parse.{digits_value}

@@ -13,6 +13,8 @@ pub enum Command<'a> {
     Declare(Declaration<'a>),
     /// `start`: the declarations are complete.
     Start,
+    /// `certify S`: the rounds of the site S are shown to be the fewest.
+    Certify(Word<'a>),
     /// What happens after the start.
     Act(Action<'a>),
 }
@@ -28,6 +30,9 @@ impl<'a> Command<'a> {
             } else {
                 None
             };
+        }
+        if first.as_bytes() == b"certify".as_slice() {
+            return Some(Command::Certify(rest.only_word()?));
         }
         if let Some(action) = Action::parse(first, rest) {
             return Some(Command::Act(action));

@@ -1,5 +1,6 @@
 -- Texts that are added part by part.
-use Rattle.std.proofs.Common.{◌≡◌, ℕ, zero, suc, ◌+◌, ◌<◌, ◌≤◌, ℤ, List, [], ◌∷◌, ◌++◌, length, get_or, drop, add-one, Some, refl, ap, inl, inr, arith, append_assoc, codes}
+use Rattle.std.proofs.Common.{◌≡◌, ℕ, zero, suc, ◌+◌, ◌<◌, ◌≤◌, ℤ, List, [], ◌∷◌, ◌++◌}
+use Rattle.std.proofs.Common.{length, get_or, drop, add-one, Some, refl, ap, inl, inr, arith, append_assoc, codes}
 use Rattle.std.specs.Prelude.{◌⊎◌, slice_get, option_map}
 use Rattle.std.specs.Fmt.{decimal, signed_decimal}
 use Rattle.ordup_query.specs.declared.answer.ReadAnswer.{ReadAnswer}
@@ -7,30 +8,35 @@ use Rattle.ordup_query.specs.declared.answer.QueryAnswer.{QueryAnswer}
 use Rattle.ordup_text.specs.Texts.{read_text, ended_text, value_text, values_text}
 
 pub read_parts : (old query object : List ℕ) (a : ReadAnswer)
-    → (((((((old ++ codes "ok read ") ++ query) ++ 32 ∷ []) ++ object) ++ (codes " value " ++ signed_decimal a.value)) ++ (codes " import " ++ decimal a.import)) ++ (codes " total " ++ decimal a.total)) ++ 10 ∷ []
+    → (((((((old ++ codes "ok read ") ++ query) ++ 32 ∷ []) ++ object) ++ (codes " value " ++ signed_decimal a.value))
+    ++ (codes " import " ++ decimal a.import)) ++ (codes " total " ++ decimal a.total)) ++ 10 ∷ []
     ≡ old ++ read_text query object a
 read_parts old query object a = simp append_assoc
 
 pub ended_parts : (old query : List ℕ) (a : QueryAnswer)
-    → ((((((old ++ codes "ok end ") ++ query) ++ (codes " place " ++ decimal a.place)) ++ (codes " sum " ++ signed_decimal a.sum)) ++ (codes " total " ++ decimal a.total)) ++ (codes " reads " ++ decimal a.reads)) ++ 10 ∷ []
+    → ((((((old ++ codes "ok end ") ++ query) ++ (codes " place " ++ decimal a.place)) ++ (codes " sum " ++ signed_decimal a.sum))
+    ++ (codes " total " ++ decimal a.total)) ++ (codes " reads " ++ decimal a.reads)) ++ 10 ∷ []
     ≡ old ++ ended_text query a
 ended_parts old query a = simp append_assoc
 
 -- ---- the values that are shown
 
-values_text-next : (objects : List (List ℕ × ℤ)) (values : List ℤ) (i : ℕ) (name : List ℕ) (d : ℤ) → i < length objects → i < length values
-    → option_map (λ (e : List ℕ × ℤ). e.0) (slice_get objects i) ≡ Some name
-    → values_text (drop i objects) (drop i values) ≡ value_text name (get_or values i d) ++ values_text (drop (suc i) objects) (drop (suc i) values)
+values_text-next : (objects : List (List ℕ × ℤ)) (values : List ℤ) (i : ℕ) (name : List ℕ) (d : ℤ) → i < length objects
+    → i < length values → option_map (λ (e : List ℕ × ℤ). e.0) (slice_get objects i) ≡ Some name
+    → values_text (drop i objects) (drop i values)
+    ≡ value_text name (get_or values i d) ++ values_text (drop (suc i) objects) (drop (suc i) values)
 values_text-next [] values i name d lt less named = absurd (omega arith)
 values_text-next (object ∷ objects) [] i name d lt less named = absurd (omega arith)
 values_text-next (object ∷ objects) (value ∷ values) zero name d lt less named =
     ap (λ (n : List ℕ). value_text n value ++ values_text objects values) (let e : object.0 ≡ name = cc in e)
-values_text-next (object ∷ objects) (value ∷ values) (suc i) name d lt less named = values_text-next objects values i name d (omega arith) (omega arith) named
+values_text-next (object ∷ objects) (value ∷ values) (suc i) name d lt less named =
+    values_text-next objects values i name d (omega arith) (omega arith) named
 
 -- the values from one place on
-pub values_text-more : (objects : List (List ℕ × ℤ)) (values : List ℤ) (i : ℕ) (name : List ℕ) (d : ℤ) → i < length objects → i < length values
-    → option_map (λ (e : List ℕ × ℤ). e.0) (slice_get objects i) ≡ Some name
-    → values_text (drop i objects) (drop i values) ≡ value_text name (get_or values i d) ++ values_text (drop (i + 1) objects) (drop (i + 1) values)
+pub values_text-more : (objects : List (List ℕ × ℤ)) (values : List ℤ) (i : ℕ) (name : List ℕ) (d : ℤ) → i < length objects
+    → i < length values → option_map (λ (e : List ℕ × ℤ). e.0) (slice_get objects i) ≡ Some name
+    → values_text (drop i objects) (drop i values)
+    ≡ value_text name (get_or values i d) ++ values_text (drop (i + 1) objects) (drop (i + 1) values)
 values_text-more objects values i name d lt less named = rw (add-one i) (values_text-next objects values i name d lt less named)
 
 values_text-none : (objects : List (List ℕ × ℤ)) → values_text objects [] ≡ []
@@ -38,7 +44,8 @@ values_text-none [] = refl
 values_text-none (object ∷ objects) = refl
 
 -- no values are left where the objects or the values end
-pub values_text-end : (objects : List (List ℕ × ℤ)) (values : List ℤ) (i : ℕ) → (length objects ≤ i) ⊎ (length values ≤ i) → values_text (drop i objects) (drop i values) ≡ []
+pub values_text-end : (objects : List (List ℕ × ℤ)) (values : List ℤ) (i : ℕ) → (length objects ≤ i) ⊎ (length values ≤ i)
+    → values_text (drop i objects) (drop i values) ≡ []
 values_text-end [] values zero past = refl
 values_text-end [] values (suc i) past = refl
 values_text-end (object ∷ objects) [] zero past = refl

@@ -5,4 +5,4 @@
 
 mod text;
 
-pub use text::{push_answer, push_named, push_refused, push_started};
+pub use text::{push_answer, push_certified, push_named, push_refused, push_started};

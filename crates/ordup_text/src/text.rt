@@ -1,10 +1,11 @@
 //! The text of answers.
 ghost use Rattle.std.specs.Prelude.{◌≡◌, ◌++◌, ◌∷◌, [], OnOk, length, slice_index_or};
 ghost use Rattle.std.specs.Fmt.{decimal, signed_decimal};
-ghost use Rattle.ordup_text.specs.Texts.{refused_text, started_text, named_text, done_text, numbered_text, value_text, values_text, shown_text, sites_text, listed_text, settled_text, read_text, ended_text, answer_text};
+ghost use Rattle.ordup_text.specs.Texts.{refused_text, started_text, named_text, done_text, numbered_text, value_text, values_text, shown_text, sites_text, listed_text, settled_text, read_text, ended_text, window_text, windows_text, certified_text, answer_text};
 
 use itoa::Buffer;
 use ordup_objects::{Name, ObjectId, ObjectTable, Refusal, SiteId};
+use ordup_primary::Window;
 use ordup_world::{Answer, QueryAnswer, ReadAnswer, Settled, Setup};
 use std::alloc::{AllocError, Allocator};
 
@@ -319,4 +320,43 @@ fn push_done<A: Allocator + Copy>(
     push_number(out, number)?;
     out.push(b'\n')?;
     Ok(())
+}
+
+/// Adds the answer that shows how many rounds a site has at least, and its windows.
+pub fn push_certified<A: Allocator + Copy>(
+    out: &mut Vec<u8, A>,
+    site: &[u8],
+    rounds: u64,
+    windows: &[Window],
+) -> Result<(), AllocError>
+    ensures { OnOk result (out.new.items ≡ out.old.items ++ certified_text site.now rounds windows.now) }
+{
+    out.extend_from_slice(b"ok certified ")?;
+    out.extend_from_slice(site)?;
+    out.push(b' ')?;
+    push_number(out, rounds)?;
+    push_windows(out, windows)?;
+    out.push(b'\n')?;
+    Ok(())
+}
+
+/// Adds ` A-B` for each of these windows.
+fn push_windows<A: Allocator + Copy>(
+    out: &mut Vec<u8, A>,
+    windows: &[Window],
+) -> Result<(), AllocError>
+    ensures { OnOk result (out.new.items ≡ out.old.items ++ windows_text windows.now) }
+{
+    for window in windows {
+        push_window(out, *window)?;
+    }
+    Ok(())
+}
+
+/// Adds ` A-B`.
+fn push_window<A: Allocator + Copy>(out: &mut Vec<u8, A>, window: Window) -> Result<(), AllocError>
+    ensures { OnOk result (out.new.items ≡ out.old.items ++ window_text window) }
+{
+    push_with_number(out, b" ", window.from)?;
+    push_with_number(out, b"-", window.to)
 }

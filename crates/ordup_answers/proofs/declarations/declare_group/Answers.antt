@@ -10,5 +10,8 @@ returns g c =
     let d = c.args.setup.now in
     let members = places_among d.objects c.args.members.now in
     let found : c.deref.result.now ≡ members = search rules in
-    let o = group_refusal (length d.objects) d.groups c.args.name.now members in
-    (refused_by_call o (with_group d c.args.name.now members) c.in-Err.refusal (rw (c.as_bytes.ensures, found) at c.in-Err.ensures.refused), c.in-Err.ensures.err)
+    let o = group_refusal (length d.objects) d.groups c.args.name.now members in (
+      refused_by_call o (with_group d c.args.name.now members) c.in-Err.refusal
+          (rw (c.as_bytes.ensures, found) at c.in-Err.ensures.refused),
+      c.in-Err.ensures.err,
+    )

@@ -3,4 +3,5 @@ use Rattle.ordup_text.proofs.text.push_answer.Goals as goal
 
 pub returns-in-Abandoned : goal.returns-in-Abandoned
 returns-in-Abandoned g c =
-    on_ok_weaker c.push_named.result (λ h. rw c.in-Abandoned.is ((λ e. absurd cc), rw c.as_bytes-in-Abandoned.ensures.bytes at h)) c.push_named.ensures
+    on_ok_weaker c.push_named.result (λ h. rw c.in-Abandoned.is ((λ e. absurd cc), rw c.as_bytes-in-Abandoned.ensures.bytes at h))
+    c.push_named.ensures

@@ -1,4 +1,5 @@
-use Rattle.std.proofs.Common.{rules, arith, ◌≡◌, ◌++◌, [], ◌∙◌, sym, ap, append_assoc, inl, inr, length, get_or, pos, drop, w64}
+use Rattle.std.proofs.Common.{rules, arith, ◌≡◌, ◌++◌, [], ◌∙◌, sym, ap}
+use Rattle.std.proofs.Common.{append_assoc, inl, inr, length, get_or, pos, drop, w64}
 use Rattle.std.proofs.lemmas.Int.{to_z-of_z}
 use Rattle.std.proofs.lemmas.Bool.{cases_lt}
 use Rattle.std.proofs.lemmas.List.{append-nil}
@@ -11,9 +12,12 @@ loop-place-preserved g c =
     let objects = c.args.objects.now in
     let values = c.args.values.now in
     let place = c.loop-place.place in
-    let next = values_text-more objects values place c.name-name.result.now (pos 0) (omega arith) (omega arith) (rw c.new.ensures at c.name-name.ensures) in
+    let next = values_text-more objects values place c.name-name.result.now (pos 0) (omega arith) (omega arith)
+    (rw c.new.ensures at c.name-name.ensures) in
     rw (c.in_ok-push_named_value.ensures, to_z-of_z w64 (get_or values place (pos 0)) (search rules))
-    (append_assoc c.loop-place.out.items (value_text c.name-name.result.now (get_or values place (pos 0))) _ ∙ ap (λ t. c.loop-place.out.items ++ t) (sym next) ∙ c.loop-place.invariant)
+    (append_assoc c.loop-place.out.items (value_text c.name-name.result.now (get_or values place (pos 0))) _
+    ∙ ap (λ t. c.loop-place.out.items ++ t) (sym next)
+    ∙ c.loop-place.invariant)
 
 pub returns : goal.returns
 returns g c =

@@ -3,13 +3,15 @@ use Rattle.std.proofs.Common.{◌≡◌, ℕ, ◌+◌, ◌-◌, Bool, pos, List,
 use Rattle.std.specs.Prelude.{Some, None, codes, nat_le, slice_index}
 use Rattle.ordup_objects.specs.declared.change.Change.{Change}
 use Rattle.ordup_objects.specs.declared.change.Op.TheVariants.{Add}
-use Rattle.ordup_objects.specs.declared.refusal.Refusal.TheVariants.{BadName, NameTaken, UnknownObject, UnknownSite, OutOfRange, TooMany, Empty, NothingToSend, NothingToSettle}
+use Rattle.ordup_objects.specs.declared.refusal.Refusal.TheVariants.{BadName, NameTaken, UnknownObject, UnknownSite, OutOfRange}
+use Rattle.ordup_objects.specs.declared.refusal.Refusal.TheVariants.{TooMany, Empty, NothingToSend, NothingToSettle}
 use Rattle.ordup_log.specs.declared.scope.Scope.TheVariants.{Object, Count}
 use Rattle.ordup_primary.specs.Declarations.{Declared, start_refusal, site_refusal, site_limit_refusal}
 use Rattle.ordup_primary.specs.Settling.{forced_sites, waiting_sites, last_place}
 use Rattle.ordup_rounds.specs.declared.window.Window.{Window}
 use Rattle.ordup_rounds.specs.Rounds.{rounds_upto, windows_upto}
-use Rattle.ordup_primary.specs.Primaries.{SiteProgress, PrimaryState, first_progress, reported_at, settled_as, decided_at, acked_after, send_refusal, settle_refusal}
+use Rattle.ordup_primary.specs.Primaries.{SiteProgress, PrimaryState, first_progress, reported_at, settled_as}
+use Rattle.ordup_primary.specs.Primaries.{decided_at, acked_after, send_refusal, settle_refusal}
 use Rattle.ordup_primary.specs.declared.settled.Settled.TheVariants.{Acked, Round, Waiting}
 
 -- a site may lag by one update more than its place says
@@ -45,7 +47,10 @@ abbrev reports : ℕ → ℕ
 reports = reported_at (site 2 (0 ∷ 0 ∷ 2 ∷ 2 ∷ []) [])
 
 -- so a site that may lag by 1 was forced at 2 and at 4
-rounds : (rounds_upto (lags 0) reports 4 ≡ 2 ∷ 4 ∷ []) × (rounds_upto (lags 0) reports 3 ≡ 2 ∷ []) × (last_place (2 ∷ 4 ∷ []) ≡ 4) × (last_place [] ≡ 0)
+rounds : (rounds_upto (lags 0) reports 4 ≡ 2 ∷ 4 ∷ [])
+    × (rounds_upto (lags 0) reports 3 ≡ 2 ∷ [])
+    × (last_place (2 ∷ 4 ∷ []) ≡ 4)
+    × (last_place [] ≡ 0)
 rounds = (refl, refl, refl, refl)
 
 -- from what it had reported to the place
@@ -53,21 +58,33 @@ windows : windows_upto (lags 0) reports 4 ≡ window 0 2 ∷ window 2 4 ∷ []
 windows = refl
 
 -- a decision puts down what is reported, and a round with its window where the span to it is not kept
-decided : (decided_at false 3 (site 2 (0 ∷ 1 ∷ []) (2 ∷ [])) ≡ with_windows 2 (0 ∷ 1 ∷ 2 ∷ []) (2 ∷ 3 ∷ []) (window 2 3 ∷ []))
+decided :
+    (decided_at false 3 (site 2 (0 ∷ 1 ∷ []) (2 ∷ [])) ≡ with_windows 2 (0 ∷ 1 ∷ 2 ∷ []) (2 ∷ 3 ∷ []) (window 2 3 ∷ []))
     × (decided_at true 3 (site 2 (0 ∷ 1 ∷ []) (2 ∷ [])) ≡ site 2 (0 ∷ 1 ∷ 2 ∷ []) (2 ∷ []))
     × (acked_after 1 [] ≡ 2) × (acked_after 1 (0 ∷ []) ≡ 1)
 decided = (refl, refl, refl, refl)
 
 -- x at 0, and a site a of capacity 4 with a limit of 5 on x
 abbrev setup : Declared
-setup = record { objects = (codes "x", pos 0) ∷ []; groups = []; sites = (codes "a", 4) ∷ []; limits = (record { scope = Object 0; amount = 5 } ∷ []) ∷ [] }
+setup = record {
+  objects = (codes "x", pos 0) ∷ [];
+  groups = [];
+  sites = (codes "a", 4) ∷ [];
+  limits = (record { scope = Object 0; amount = 5 } ∷ []) ∷ [];
+}
 
 abbrev add : ℕ → List Change
 add n = record { object = 0; op = Add (pos n) } ∷ []
 
 -- 5 is added to x, and then 1
 abbrev primary : ℕ → ℕ → SiteProgress → PrimaryState
-primary acked decided s = record { setup = setup; log = record { start = pos 0 ∷ []; sets = add 5 ∷ add 1 ∷ [] }; acked = acked; decided = decided; sites = s ∷ [] }
+primary acked decided s = record {
+  setup = setup;
+  log = record { start = pos 0 ∷ []; sets = add 5 ∷ add 1 ∷ [] };
+  acked = acked;
+  decided = decided;
+  sites = s ∷ [];
+}
 
 -- equal is not over; 6 is, unless 1 was reported in time; and a report that comes late is waited for up to the head
 settled : (settled_as {A = ℕ} (primary 0 0 (site 0 [] [])) ≡ Acked 1)
@@ -78,7 +95,8 @@ settled : (settled_as {A = ℕ} (primary 0 0 (site 0 [] [])) ≡ Acked 1)
 settled = (refl, refl, refl, refl, refl)
 
 -- of two updates both, or one, are acknowledged; and both, or one, were sent
-nothing_left : (settle_refusal (primary 2 2 first_progress) ≡ Some NothingToSettle) × (settle_refusal (primary 1 2 first_progress) ≡ None)
+nothing_left : (settle_refusal (primary 2 2 first_progress) ≡ Some NothingToSettle)
+    × (settle_refusal (primary 1 2 first_progress) ≡ None)
     × (send_refusal (primary 0 0 (record first_progress { sent = 2 })) 0 ≡ Some NothingToSend)
     × (send_refusal (primary 0 0 (record first_progress { sent = 1 })) 0 ≡ None)
 nothing_left = (refl, refl, refl, refl)

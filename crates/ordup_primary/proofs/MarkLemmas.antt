@@ -1,5 +1,6 @@
 -- Marks that are raised, one change after the other.
-use Rattle.std.proofs.Common.{◌≡◌, ℕ, zero, suc, ◌+◌, ◌-◌, ◌*◌, ◌<◌, ◌≤◌, false, List, [], ◌∷◌, length, get_or, drop, drop-cons}
+use Rattle.std.proofs.Common.{◌≡◌, ℕ, zero, suc, ◌+◌, ◌-◌, ◌*◌, ◌<◌, ◌≤◌}
+use Rattle.std.proofs.Common.{false, List, [], ◌∷◌, length, get_or, drop, drop-cons}
 use Rattle.std.proofs.Common.{add-one, arith, refl, sym, ap, ◌∙◌, inl, inr}
 use Rattle.std.specs.Prelude.{◌==◌, if◌then◌else◌}
 use Rattle.std.specs.List.{list_any}
@@ -76,9 +77,8 @@ object-there h legal j i m c lt same below at = rw at (rw same (legal.known j []
 
 -- one change less is left, and the mark of its object is raised by what the update weighs
 pub raised-at : (h : History) (m : List Change) (marks : List ℕ) (x j i y mark weight total : ℕ) (c : Change) → i < length m
-    → repeats are_of_one_object m ≡ false → c ≡ get_or m i c → y ≡ c.object → y < length marks → mark ≡ get_or marks y mark
-    → weight ≡ object_weight h c.object j
-    → get_or marks x 0 + left_by h x j (drop i m) ≡ total
+    → repeats are_of_one_object m ≡ false → c ≡ get_or m i c → y ≡ c.object → y < length marks
+    → mark ≡ get_or marks y mark → weight ≡ object_weight h c.object j → get_or marks x 0 + left_by h x j (drop i m) ≡ total
     → get_or (set marks y (mark + weight)) x 0 + left_by h x j (drop (i + 1) m) ≡ total
 raised-at h m marks x j i y mark weight total c lt distinct at same there read is before =
     let e : drop i m ≡ c ∷ drop (i + 1) m = rw add-one (drop-cons m i c lt) ∙ ap (λ d. d ∷ drop (i + 1) m) (sym at) in
@@ -91,5 +91,6 @@ raised-at h m marks x j i y mark weight total c lt distinct at same there read i
           let new : get_or (set marks y (mark + weight)) x 0 ≡ mark + weight = get_or-set_at marks y x (mark + weight) 0 here there in
           let old : get_or marks x 0 ≡ mark = ap (λ k. get_or marks k 0) here ∙ get_or_default marks y 0 mark there ∙ sym read in
           rw (new, changed, apart.0) (omega (arith, is, rw (old, changed, eq-eqb c.object c.object refl) at left)))
-      | inr other ↦ rw (get_or-set_other marks y x (mark + weight) 0 other) (rw (ne_eqb c.object x (λ f. other (sym f ∙ sym same))) at left)
+      | inr other ↦
+          rw (get_or-set_other marks y x (mark + weight) 0 other) (rw (ne_eqb c.object x (λ f. other (sym f ∙ sym same))) at left)
     ]

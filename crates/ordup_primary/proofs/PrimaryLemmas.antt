@@ -1,11 +1,14 @@
 -- What a call does to a primary.
-use Rattle.std.proofs.Common.{◌≡◌, ℕ, zero, suc, ◌+◌, ◌-◌, ◌<◌, ◌≤◌, ◌==◌, Bool, true, false, not, List, [], ◌∷◌, ◌++◌, length, map, get_or, replicate, arith, refl, sym, ap, ◌∙◌, inl, inr, ◌⊎◌, vec_len}
+use Rattle.std.proofs.Common.{◌≡◌, ℕ, zero, suc, ◌+◌, ◌-◌, ◌<◌, ◌≤◌, ◌==◌}
+use Rattle.std.proofs.Common.{Bool, true, false, not, List, [], ◌∷◌, ◌++◌, length, map, get_or}
+use Rattle.std.proofs.Common.{replicate, arith, refl, sym, ap, ◌∙◌, inl, inr, ◌⊎◌, vec_len}
 use Rattle.std.specs.Prelude.{Some, None, nat_lt, ◌&&◌}
 use Rattle.std.specs.List.{list_any}
 use Rattle.std.proofs.Math.Bool.{and-true}
 use Rattle.std.proofs.Math.ListN.{set, length-set, get_or-append}
 use Rattle.std.proofs.lemmas.Bool.{cases_Bool, cases_eq, cases_lt, eq-eqb, lt-ltb, ne_eqb, false≢true}
-use Rattle.std.proofs.lemmas.List.{get_or-set_other, get_or_default, length_push, get_or_push, get_or-map, length-map, get_or-replicate, length-replicate, map-set}
+use Rattle.std.proofs.lemmas.List.{get_or-set_other, get_or_default, length_push, get_or_push, get_or-map}
+use Rattle.std.proofs.lemmas.List.{length-map, get_or-replicate, length-replicate, map-set}
 use Rattle.std.proofs.lemmas.Grind.{get_or-set_at}
 use Rattle.ordup_objects.specs.declared.change.Change.{Change}
 use Rattle.ordup_objects.specs.States.{is_legal}
@@ -22,7 +25,8 @@ use Rattle.ordup_rounds.proofs.RoundLemmas.{rounds_upto-same, windows_upto-same,
 use Rattle.ordup_limits.proofs.LimitLemmas.{within-empty, within-later, within-longer, within-test}
 use Rattle.ordup_primary.specs.Declarations.{Declared, AreDeclared, limits_of, is_ready, start_refusal}
 use Rattle.ordup_primary.specs.Settling.{last_place}
-use Rattle.ordup_primary.specs.Primaries.{SiteProgress, PrimaryState, first_progress, progress_at, reported_at, is_within, forced_now, waiting_now, acked_after, decided_at, send_refusal, Decides, IsSiteSound, IsPrimary}
+use Rattle.ordup_primary.specs.Primaries.{SiteProgress, PrimaryState, first_progress, progress_at, reported_at, is_within, forced_now}
+use Rattle.ordup_primary.specs.Primaries.{waiting_now, acked_after, decided_at, send_refusal, Decides, IsSiteSound, IsPrimary}
 use Rattle.ordup_primary.specs.Primaries.{HasFewestRounds}
 use Rattle.ordup_primary.specs.PrimaryInside.{progress_of, state_of}
 use Rattle.ordup_primary.specs.declared.primary.Primary.TheInside.{Inside}
@@ -31,7 +35,9 @@ use Rattle.ordup_primary.proofs.SettlingLemmas.{where_below-none, where_below-li
 
 -- ---- one site in the place of another
 
-pub IsPrimary-with_site : (p : PrimaryState) (s : ℕ) (site : SiteProgress) → IsPrimary p → s < length p.sites → IsSiteSound (is_within p s) (length p.log.sets) p.acked p.decided site → IsPrimary (record p { sites = set p.sites s site })
+pub IsPrimary-with_site : (p : PrimaryState) (s : ℕ) (site : SiteProgress) → IsPrimary p → s < length p.sites
+    → IsSiteSound (is_within p s) (length p.log.sets) p.acked p.decided site
+    → IsPrimary (record p { sites = set p.sites s site })
 IsPrimary-with_site p s site is lt sound = record {
   ready = is.ready;
   start = is.start;
@@ -48,7 +54,9 @@ IsPrimary-with_site p s site is lt sound = record {
 }
 
 -- one update more was sent to a site
-pub IsSiteSound-sent : (keeps : ℕ → ℕ → Bool) (updates acked decided : ℕ) (site : SiteProgress) → IsSiteSound keeps updates acked decided site → site.sent < updates → IsSiteSound keeps updates acked decided (record site { sent = site.sent + 1 })
+pub IsSiteSound-sent : (keeps : ℕ → ℕ → Bool) (updates acked decided : ℕ) (site : SiteProgress)
+    → IsSiteSound keeps updates acked decided site → site.sent < updates
+    → IsSiteSound keeps updates acked decided (record site { sent = site.sent + 1 })
 IsSiteSound-sent keeps updates acked decided site is lt = record {
   reported = omega (arith, is.reported);
   sent = omega arith;
@@ -63,7 +71,8 @@ IsSiteSound-sent keeps updates acked decided site is lt = record {
 }
 
 -- a site reported a later place
-pub IsSiteSound-reported : (p : PrimaryState) (s place : ℕ) (site : SiteProgress) → IsSiteSound (is_within p s) (length p.log.sets) p.acked p.decided site → site.reported ≤ place → place ≤ site.sent
+pub IsSiteSound-reported : (p : PrimaryState) (s place : ℕ) (site : SiteProgress)
+    → IsSiteSound (is_within p s) (length p.log.sets) p.acked p.decided site → site.reported ≤ place → place ≤ site.sent
     → IsSiteSound (is_within p s) (length p.log.sets) p.acked p.decided (record site { reported = place })
 IsSiteSound-reported p s place site is risen sent = record {
   reported = sent;
@@ -81,7 +90,8 @@ IsSiteSound-reported p s place site is risen sent = record {
 -- ---- a log that grows
 
 -- an update that is not refused is legal
-pub legal-from_allowed : (log : History) (m : List Change) → append_refusal log m ≡ None → is_legal m (serial log (length log.sets)) ≡ true
+pub legal-from_allowed : (log : History) (m : List Change) → append_refusal log m ≡ None
+    → is_legal m (serial log (length log.sets)) ≡ true
 legal-from_allowed log m allowed = elim (cases_Bool (length log.sets == 1000000)) [
   | inl full ↦ absurd (let refused : append_refusal log m ≡ Some LogFull = rw full refl in cc)
   | inr room ↦ elim (cases_Bool (is_legal m (serial log (length log.sets)))) [
@@ -91,18 +101,21 @@ legal-from_allowed log m allowed = elim (cases_Bool (length log.sets == 1000000)
 ]
 
 -- and there is room for it
-room-from_allowed : (log : History) (m : List Change) → length log.sets ≤ 1000000 → append_refusal log m ≡ None → length log.sets < 1000000
+room-from_allowed : (log : History) (m : List Change) → length log.sets ≤ 1000000 → append_refusal log m ≡ None
+    → length log.sets < 1000000
 room-from_allowed log m few allowed = elim (cases_eq (length log.sets) 1000000) [
   | inl full ↦ absurd (let refused : append_refusal log m ≡ Some LogFull = rw (eq-eqb (length log.sets) 1000000 full) refl in cc)
   | inr room ↦ omega (arith, room)
 ]
 
 -- with one update more the same spans pass the same limits
-is_within-proposed : (p : PrimaryState) (m : List Change) (s a b : ℕ) → b ≤ length p.log.sets → is_within (record p { log = with_update p.log m }) s a b ≡ is_within p s a b
+is_within-proposed : (p : PrimaryState) (m : List Change) (s a b : ℕ) → b ≤ length p.log.sets
+    → is_within (record p { log = with_update p.log m }) s a b ≡ is_within p s a b
 is_within-proposed p m s a b le = within-longer p.log (m ∷ []) p.setup.groups (limits_of p.setup s) a b le
 
 -- a primary with one update more
-pub IsPrimary-proposed : (p : PrimaryState) (m : List Change) → IsPrimary p → IsSet m → AreKnown (length p.log.start) m → append_refusal p.log m ≡ None
+pub IsPrimary-proposed : (p : PrimaryState) (m : List Change) → IsPrimary p → IsSet m → AreKnown (length p.log.start) m
+    → append_refusal p.log m ≡ None
     → IsPrimary (record p { log = with_update p.log m })
 IsPrimary-proposed p m is set known allowed = record {
   ready = is.ready;
@@ -127,17 +140,22 @@ IsPrimary-proposed p m is set known allowed = record {
         (reported_at (get_or p.sites s d)) p.decided
         (λ k some le. sym (is_within-proposed p m s (reported_at (get_or p.sites s d) k) k (omega (arith, is.decided))))
         (λ k some le. refl);
-    answered = λ k some le forced. site.answered k some le (sym (is_within-proposed p m s (reported_at (get_or p.sites s d) k) k (omega (arith, is.acked, is.decided))) ∙ forced);
+    answered = λ k some le forced.
+        site.answered k some le
+        (sym (is_within-proposed p m s (reported_at (get_or p.sites s d) k) k (omega (arith, is.acked, is.decided))) ∙ forced);
     within = is_within-proposed p m s (get_or p.sites s d).reported p.acked (omega (arith, is.acked, is.decided)) ∙ site.within;
     rising = site.rising;
-    before = λ j k some lt le forced. site.before j k some lt le (sym (is_within-proposed p m s (reported_at (get_or p.sites s d) j) j (omega (arith, is.decided))) ∙ forced);
+    before = λ j k some lt le forced.
+        site.before j k some lt le
+        (sym (is_within-proposed p m s (reported_at (get_or p.sites s d) j) j (omega (arith, is.decided))) ∙ forced);
   });
 }
 
 -- ---- settlements
 
 -- what is acknowledged
-acked_after-some : (acked : ℕ) (sites : List ℕ) → (acked_after acked sites ≡ acked + 1) × (sites ≡ []) ⊎ (acked_after acked sites ≡ acked)
+acked_after-some : (acked : ℕ) (sites : List ℕ)
+    → (acked_after acked sites ≡ acked + 1) × (sites ≡ []) ⊎ (acked_after acked sites ≡ acked)
 acked_after-some acked [] = inl (refl, refl)
 acked_after-some acked (s ∷ sites) = inr refl
 
@@ -154,7 +172,9 @@ not_not true = refl
 not_not false = refl
 
 -- a site that is not waited for keeps its limits up to the head
-done-at : (p : PrimaryState) (s : ℕ) (site : SiteProgress) (k : ℕ) → reported_at site k ≤ site.reported → (not (is_within p s (reported_at site k) k) && nat_lt site.reported k) ≡ false → is_within p s site.reported k ≡ true
+done-at : (p : PrimaryState) (s : ℕ) (site : SiteProgress) (k : ℕ) → reported_at site k ≤ site.reported
+    → (not (is_within p s (reported_at site k) k) && nat_lt site.reported k) ≡ false
+    → is_within p s site.reported k ≡ true
 done-at p s site k risen none = elim (cases_Bool (is_within p s (reported_at site k) k)) [
   | inl kept ↦ within-later p.log p.setup.groups (limits_of p.setup s) (reported_at site k) site.reported k risen kept
   | inr forced ↦ (let behind : nat_lt site.reported k ≡ false = rw forced at none in
@@ -165,7 +185,9 @@ done-at p s site k risen none = elim (cases_Bool (is_within p s (reported_at sit
 ]
 
 -- a site that is not waited for, and was forced, has reported the place
-reported-at : (p : PrimaryState) (s : ℕ) (site : SiteProgress) (k : ℕ) → is_within p s (reported_at site k) k ≡ false → (not (is_within p s (reported_at site k) k) && nat_lt site.reported k) ≡ false → k ≤ site.reported
+reported-at : (p : PrimaryState) (s : ℕ) (site : SiteProgress) (k : ℕ) → is_within p s (reported_at site k) k ≡ false
+    → (not (is_within p s (reported_at site k) k) && nat_lt site.reported k) ≡ false
+    → k ≤ site.reported
 reported-at p s site k forced none =
     let behind : nat_lt site.reported k ≡ false = rw forced at none in
     elim (cases_lt site.reported k) [
@@ -174,15 +196,19 @@ reported-at p s site k forced none =
     ]
 
 -- one place more is acknowledged
-answered-more : (keeps : ℕ → ℕ → Bool) (acked : ℕ) (site : SiteProgress) → ((k : ℕ) → 0 < k → k ≤ acked → keeps (reported_at site k) k ≡ false → k ≤ site.reported)
-    → (keeps (reported_at site (acked + 1)) (acked + 1) ≡ false → acked + 1 ≤ site.reported) → (k : ℕ) → 0 < k → k ≤ acked + 1 → keeps (reported_at site k) k ≡ false → k ≤ site.reported
+answered-more : (keeps : ℕ → ℕ → Bool) (acked : ℕ) (site : SiteProgress)
+    → ((k : ℕ) → 0 < k → k ≤ acked → keeps (reported_at site k) k ≡ false → k ≤ site.reported)
+    → (keeps (reported_at site (acked + 1)) (acked + 1) ≡ false → acked + 1 ≤ site.reported)
+    → (k : ℕ) → 0 < k → k ≤ acked + 1 → keeps (reported_at site k) k ≡ false
+    → k ≤ site.reported
 answered-more keeps acked site before here k some le forced = elim (cases_lt acked k) [
   | inl past ↦ (let e : k ≡ acked + 1 = omega arith in rw e (here (rw e at forced)))
   | inr within ↦ before k some within forced
 ]
 
 -- a primary after a later settlement of the head
-pub IsPrimary-waited : (p : PrimaryState) → IsPrimary p → p.acked < p.decided → IsPrimary (record p { acked = acked_after p.acked (waiting_now p) })
+pub IsPrimary-waited : (p : PrimaryState) → IsPrimary p → p.acked < p.decided
+    → IsPrimary (record p { acked = acked_after p.acked (waiting_now p) })
 IsPrimary-waited p is later = elim (acked_after-some p.acked (waiting_now p)) [
   | inr same ↦ rw same is
   | inl done ↦ rw (done.0) (record {
@@ -202,8 +228,11 @@ IsPrimary-waited p is later = elim (acked_after-some p.acked (waiting_now p)) [
       rounds = site.rounds;
       windows = site.windows;
       answered = answered-more (is_within p s) p.acked (get_or p.sites s d) site.answered
-          (λ forced. reported-at p s (get_or p.sites s d) (p.acked + 1) forced (rw (get_or_default p.sites s d first_progress lt) (where_below-none _ (length p.sites) s lt done.1)));
-      within = done-at p s (get_or p.sites s d) (p.acked + 1) (site.risen (p.acked + 1 - 1)) (rw (get_or_default p.sites s d first_progress lt) (where_below-none _ (length p.sites) s lt done.1));
+          (λ forced. reported-at p s (get_or p.sites s d) (p.acked + 1) forced
+          (rw (get_or_default p.sites s d first_progress lt) (where_below-none _ (length p.sites) s lt done.1)));
+      within =
+          done-at p s (get_or p.sites s d) (p.acked + 1) (site.risen (p.acked + 1 - 1))
+          (rw (get_or_default p.sites s d first_progress lt) (where_below-none _ (length p.sites) s lt done.1));
       rising = site.rising;
       before = site.before;
     });
@@ -213,26 +242,34 @@ IsPrimary-waited p is later = elim (acked_after-some p.acked (waiting_now p)) [
 -- ---- the first settlement of the head
 
 -- a report that is put down is the greatest
-risen-push : (reports : List ℕ) (reported : ℕ) → ((k : ℕ) → get_or reports k 0 ≤ reported) → (k : ℕ) → get_or (reports ++ reported ∷ []) k 0 ≤ reported
+risen-push : (reports : List ℕ) (reported : ℕ) → ((k : ℕ) → get_or reports k 0 ≤ reported) → (k : ℕ)
+    → get_or (reports ++ reported ∷ []) k 0 ≤ reported
 risen-push [] reported risen zero = omega arith
 risen-push [] reported risen (suc k) = omega arith
 risen-push (r ∷ reports) reported risen zero = risen 0
 risen-push (r ∷ reports) reported risen (suc k) = risen-push reports reported (λ j. risen (suc j)) k
 
 -- a report that is put down keeps the reports in their order
-rising-push : (reports : List ℕ) (reported : ℕ) → ((k : ℕ) → get_or reports k 0 ≤ reported) → ((j k : ℕ) → j ≤ k → k < length reports → get_or reports j 0 ≤ get_or reports k 0)
-    → (j k : ℕ) → j ≤ k → k < length reports + 1 → get_or (reports ++ reported ∷ []) j 0 ≤ get_or (reports ++ reported ∷ []) k 0
+rising-push : (reports : List ℕ) (reported : ℕ) → ((k : ℕ) → get_or reports k 0 ≤ reported)
+    → ((j k : ℕ) → j ≤ k → k < length reports → get_or reports j 0 ≤ get_or reports k 0)
+    → (j k : ℕ) → j ≤ k → k < length reports + 1
+    → get_or (reports ++ reported ∷ []) j 0 ≤ get_or (reports ++ reported ∷ []) k 0
 rising-push reports reported risen rising j k le lt = elim (cases_lt k (length reports)) [
-  | inl old ↦ rw (get_or-append reports (reported ∷ []) 0 j (omega arith), get_or-append reports (reported ∷ []) 0 k old) (rising j k le old)
-  | inr new ↦ (let last : length reports ≡ k = omega arith in rw (get_or_push reports reported 0 k last) (risen-push reports reported risen j))
+  | inl old ↦
+      rw (get_or-append reports (reported ∷ []) 0 j (omega arith), get_or-append reports (reported ∷ []) 0 k old) (rising j k le old)
+  | inr new ↦
+      (let last : length reports ≡ k = omega arith in rw (get_or_push reports reported 0 k last) (risen-push reports reported risen j))
 ]
 
 -- a forced place was reported before a later place is decided
-before-push : (keeps : ℕ → ℕ → Bool) (acked : ℕ) (site : SiteProgress) → length site.reports ≡ acked → ((k : ℕ) → 0 < k → k ≤ acked → keeps (reported_at site k) k ≡ false → k ≤ site.reported)
+before-push : (keeps : ℕ → ℕ → Bool) (acked : ℕ) (site : SiteProgress) → length site.reports ≡ acked
+    → ((k : ℕ) → 0 < k → k ≤ acked → keeps (reported_at site k) k ≡ false → k ≤ site.reported)
     → ((j k : ℕ) → 0 < j → j < k → k ≤ acked → keeps (reported_at site j) j ≡ false → j ≤ reported_at site k)
-    → (j k : ℕ) → 0 < j → j < k → k ≤ acked + 1 → keeps (get_or (site.reports ++ site.reported ∷ []) (j - 1) 0) j ≡ false → j ≤ get_or (site.reports ++ site.reported ∷ []) (k - 1) 0
+    → (j k : ℕ) → 0 < j → j < k → k ≤ acked + 1 → keeps (get_or (site.reports ++ site.reported ∷ []) (j - 1) 0) j ≡ false
+    → j ≤ get_or (site.reports ++ site.reported ∷ []) (k - 1) 0
 before-push keeps acked site count answered before j k some lt le forced =
-    let there : get_or (site.reports ++ site.reported ∷ []) (j - 1) 0 ≡ get_or site.reports (j - 1) 0 = get_or-append site.reports (site.reported ∷ []) 0 (j - 1) (omega arith) in
+    let there : get_or (site.reports ++ site.reported ∷ []) (j - 1) 0 ≡ get_or site.reports (j - 1) 0 =
+    get_or-append site.reports (site.reported ∷ []) 0 (j - 1) (omega arith) in
     let was : keeps (reported_at site j) j ≡ false = rw there at forced in
     elim (cases_lt acked k) [
       | inl past ↦ rw (get_or_push site.reports site.reported 0 (k - 1) (omega arith)) (answered j some (omega arith) was)
@@ -240,13 +277,18 @@ before-push keeps acked site count answered before j k some lt le forced =
     ]
 
 -- the rounds with the one of the head, if it is one
-rounds-decided : (keeps : ℕ → ℕ → Bool) (acked : ℕ) (site : SiteProgress) → length site.reports ≡ acked → site.rounds ≡ rounds_upto keeps (reported_at site) acked
-    → (decided_at (keeps site.reported (acked + 1)) (acked + 1) site).rounds ≡ rounds_upto keeps (λ k. get_or (site.reports ++ site.reported ∷ []) (k - 1) 0) (acked + 1)
+rounds-decided : (keeps : ℕ → ℕ → Bool) (acked : ℕ) (site : SiteProgress) → length site.reports ≡ acked
+    → site.rounds ≡ rounds_upto keeps (reported_at site) acked
+    → (decided_at (keeps site.reported (acked + 1)) (acked + 1) site).rounds
+    ≡ rounds_upto keeps (λ k. get_or (site.reports ++ site.reported ∷ []) (k - 1) 0) (acked + 1)
 rounds-decided keeps acked site count rounds =
     let next : acked + 1 ≡ suc acked = omega arith in
-    let here : get_or (site.reports ++ site.reported ∷ []) (suc acked - 1) 0 ≡ site.reported = get_or_push site.reports site.reported 0 (suc acked - 1) (omega arith) in
+    let here : get_or (site.reports ++ site.reported ∷ []) (suc acked - 1) 0 ≡ site.reported =
+    get_or_push site.reports site.reported 0 (suc acked - 1) (omega arith) in
     let before : rounds_upto keeps (λ k. get_or (site.reports ++ site.reported ∷ []) (k - 1) 0) acked ≡ site.rounds =
-    rounds_upto-same keeps keeps (λ k. get_or (site.reports ++ site.reported ∷ []) (k - 1) 0) (reported_at site) acked (λ k some le. ap (λ r. keeps r k) (get_or-append site.reports (site.reported ∷ []) 0 (k - 1) (omega arith))) ∙ sym rounds in
+    rounds_upto-same keeps keeps (λ k. get_or (site.reports ++ site.reported ∷ []) (k - 1) 0) (reported_at site) acked
+    (λ k some le. ap (λ r. keeps r k) (get_or-append site.reports (site.reported ∷ []) 0 (k - 1) (omega arith)))
+    ∙ sym rounds in
     elim (cases_Bool (keeps site.reported (suc acked))) [
       | inl kept ↦ rw (next, here, kept, before) refl
       | inr forced ↦ rw (next, here, forced, before) refl
@@ -272,8 +314,9 @@ windows-decided keeps acked site count windows =
     ]
 
 -- a site after the decision of the head
-IsSiteSound-decided : (keeps : ℕ → ℕ → Bool) (updates acked later : ℕ) (site : SiteProgress) → IsSiteSound keeps updates acked acked site → keeps site.reported later ≡ true
-    → (later ≡ acked) ⊎ (later ≡ acked + 1) → IsSiteSound keeps updates later (acked + 1) (decided_at (keeps site.reported (acked + 1)) (acked + 1) site)
+IsSiteSound-decided : (keeps : ℕ → ℕ → Bool) (updates acked later : ℕ) (site : SiteProgress)
+    → IsSiteSound keeps updates acked acked site → keeps site.reported later ≡ true → (later ≡ acked) ⊎ (later ≡ acked + 1)
+    → IsSiteSound keeps updates later (acked + 1) (decided_at (keeps site.reported (acked + 1)) (acked + 1) site)
 IsSiteSound-decided keeps updates acked later site is within step = record {
   reported = is.reported;
   sent = is.sent;
@@ -284,26 +327,38 @@ IsSiteSound-decided keeps updates acked later site is within step = record {
   answered = λ k some le forced. elim (cases_lt acked k) [
     | inl past ↦ absurd (let next : k ≡ acked + 1 = elim step [ inl same ↦ omega (arith, same) | inr one ↦ omega (arith, one) ] in
         let e : k ≡ later = elim step [ inl same ↦ omega (arith, same) | inr one ↦ next ∙ sym one ] in
-        let here : get_or (site.reports ++ site.reported ∷ []) (k - 1) 0 ≡ site.reported = get_or_push site.reports site.reported 0 (k - 1) (omega (arith, is.count)) in
+        let here : get_or (site.reports ++ site.reported ∷ []) (k - 1) 0 ≡ site.reported =
+        get_or_push site.reports site.reported 0 (k - 1) (omega (arith, is.count)) in
         let kept : keeps site.reported k ≡ true = ap (keeps site.reported) e ∙ within in
         false≢true (sym (rw here at forced) ∙ kept))
-    | inr before ↦ is.answered k some before (ap (λ r. keeps r k) (sym (get_or-append site.reports (site.reported ∷ []) 0 (k - 1) (omega (arith, is.count)))) ∙ forced)
+    | inr before ↦
+        is.answered k some before
+        (ap (λ r. keeps r k) (sym (get_or-append site.reports (site.reported ∷ []) 0 (k - 1) (omega (arith, is.count)))) ∙ forced)
   ];
   within = within;
-  rising = λ j k le lt. rising-push site.reports site.reported is.risen (λ i l le lt. is.rising i l le (omega (arith, is.count))) j k le (omega (arith, is.count));
+  rising = λ j k le lt.
+      rising-push site.reports site.reported is.risen (λ i l le lt. is.rising i l le (omega (arith, is.count))) j k le
+      (omega (arith, is.count));
   before = before-push keeps acked site is.count is.answered is.before;
 }
 
 -- a primary after the first settlement of the head
-pub IsPrimary-decided : (p q : PrimaryState) → IsPrimary p → p.acked ≡ p.decided → p.acked < length p.log.sets → Decides p q → IsPrimary q
+pub IsPrimary-decided : (p q : PrimaryState) → IsPrimary p → p.acked ≡ p.decided → p.acked < length p.log.sets → Decides p q
+    → IsPrimary q
 IsPrimary-decided p q is first some decides =
     let within_at : (s : ℕ) (d : SiteProgress) → s < length p.sites → is_within p s (get_or p.sites s d).reported q.acked ≡ true =
     λ s d lt. rw decides.acked (elim (acked_after-some p.acked (forced_now p)) [
-      | inl done ↦ rw (done.0, get_or_default p.sites s d first_progress lt) (not_false (is_within p s (progress_at p s).reported (p.acked + 1)) (where_below-none _ (length p.sites) s lt done.1))
+      | inl done ↦
+          rw (done.0, get_or_default p.sites s d first_progress lt)
+          (not_false (is_within p s (progress_at p s).reported (p.acked + 1)) (where_below-none _ (length p.sites) s lt done.1))
       | inr same ↦ rw same (is.sites s d lt).within
     ]) in
     let acked : (p.acked ≤ q.acked) × (q.acked ≤ p.acked + 1) = rw decides.acked (acked_after-near p.acked (forced_now p)) in
-    let step : (q.acked ≡ p.acked) ⊎ (q.acked ≡ p.acked + 1) = elim (acked_after-some p.acked (forced_now p)) [ inl done ↦ inr (decides.acked ∙ done.0) | inr same ↦ inl (decides.acked ∙ same) ] in
+    let step : (q.acked ≡ p.acked) ⊎ (q.acked ≡ p.acked + 1) =
+    elim (acked_after-some p.acked (forced_now p)) [
+      | inl done ↦ inr (decides.acked ∙ done.0)
+      | inr same ↦ inl (decides.acked ∙ same)
+    ] in
     record {
       ready = rw decides.setup is.ready;
       start = rw (decides.setup, decides.log) is.start;
@@ -315,20 +370,25 @@ IsPrimary-decided p q is first some decides =
       decided = rw decides.log (omega (arith, decides.decided));
       sites = λ s d lt. (let before : s < length p.sites = omega (arith, decides.count) in
           rw (decides.setup, decides.log, decides.decided, decides.sites s d before, get_or_default p.sites s first_progress d before)
-          (IsSiteSound-decided (is_within p s) (length p.log.sets) p.acked q.acked (get_or p.sites s d) (rw (← first) at (is.sites s d before)) (within_at s d before) step));
+          (IsSiteSound-decided (is_within p s) (length p.log.sets) p.acked q.acked (get_or p.sites s d)
+          (rw (← first) at (is.sites s d before)) (within_at s d before) step));
     }
 
 -- elements that are related one by one stay so under a view
-map-related : {X Y : Type 0} (f : X → Y) (g : ℕ → Y → Y) (old new : List X) → length new ≡ length old → ((s : ℕ) (d : X) → s < length old → f (get_or new s d) ≡ g s (f (get_or old s d)))
-    → (s : ℕ) (d : Y) → s < length old → get_or (map f new) s d ≡ g s (get_or (map f old) s d)
+map-related : {X Y : Type 0} (f : X → Y) (g : ℕ → Y → Y) (old new : List X) → length new ≡ length old
+    → ((s : ℕ) (d : X) → s < length old → f (get_or new s d) ≡ g s (f (get_or old s d))) → (s : ℕ) (d : Y) → s < length old
+    → get_or (map f new) s d ≡ g s (get_or (map f old) s d)
 map-related f g [] new count related s d lt = absurd (omega arith)
 map-related f g (x ∷ old) new count related s d lt =
     get_or-map f new s x d (omega (arith, count)) ∙ related s x lt ∙ ap (g s) (sym (get_or-map f (x ∷ old) s x d lt))
 
 -- what is put down at each site is the decision of the head
-pub Decides-put_down : {A : Type 0} (p q : PrimaryState) (old new : List (Progress A)) (forced : List ℕ) → p.sites ≡ map progress_of old → q.sites ≡ map progress_of new → forced ≡ forced_now p → length new ≡ length old
-    → ((s : ℕ) (d : Progress A) → s < length old → progress_of (get_or new s d) ≡ decided_at (not (list_any (λ t. t == s) forced)) (p.acked + 1) (progress_of (get_or old s d)))
-    → q.setup ≡ p.setup → q.log ≡ p.log → q.acked ≡ acked_after p.acked forced → q.decided ≡ p.acked + 1 → Decides p q
+pub Decides-put_down : {A : Type 0} (p q : PrimaryState) (old new : List (Progress A)) (forced : List ℕ)
+    → p.sites ≡ map progress_of old → q.sites ≡ map progress_of new → forced ≡ forced_now p → length new ≡ length old
+    → ((s : ℕ) (d : Progress A) → s < length old
+    → progress_of (get_or new s d) ≡ decided_at (not (list_any (λ t. t == s) forced)) (p.acked + 1) (progress_of (get_or old s d)))
+    → q.setup ≡ p.setup → q.log ≡ p.log → q.acked ≡ acked_after p.acked forced → q.decided ≡ p.acked + 1
+    → Decides p q
 Decides-put_down p q old new forced before after listed count related setup log acked decided = record {
   setup = setup;
   log = log;
@@ -339,7 +399,8 @@ Decides-put_down p q old new forced before after listed count related setup log 
       let test : not (list_any (λ t. t == s) forced) ≡ is_within p s (progress_at p s).reported (p.acked + 1) =
       ap (λ ts. not (list_any (λ t. t == s) ts)) listed ∙ ap not (where_below-listed _ (length p.sites) s lt) ∙ not_not _ in
       ap (λ sites. get_or sites s d) after
-      ∙ map-related progress_of (λ t site. decided_at (not (list_any (λ u. u == t) forced)) (p.acked + 1) site) old new count related s d there
+      ∙ map-related progress_of (λ t site. decided_at (not (list_any (λ u. u == t) forced)) (p.acked + 1) site)
+      old new count related s d there
       ∙ ap (λ sites. decided_at (not (list_any (λ t. t == s) forced)) (p.acked + 1) (get_or sites s d)) (sym before)
       ∙ ap (λ b. decided_at b (p.acked + 1) (get_or p.sites s d)) test);
 }
@@ -352,8 +413,10 @@ ready-from_start d e = elim (cases_Bool (is_ready d)) [
   | inr other ↦ absurd (let refused : start_refusal d ≡ Some Empty = rw other refl in cc)
 ]
 
-pub IsPrimary-new : (p : PrimaryState) → AreDeclared p.setup → start_refusal p.setup ≡ None → p.log ≡ record { start = initial_state p.setup.objects; sets = [] } → IsLegalHistory p.log → p.acked ≡ 0 → p.decided ≡ 0
-    → p.sites ≡ replicate (length p.setup.sites) first_progress → IsPrimary p
+pub IsPrimary-new : (p : PrimaryState) → AreDeclared p.setup → start_refusal p.setup ≡ None
+    → p.log ≡ record { start = initial_state p.setup.objects; sets = [] } → IsLegalHistory p.log → p.acked ≡ 0 → p.decided ≡ 0
+    → p.sites ≡ replicate (length p.setup.sites) first_progress
+    → IsPrimary p
 IsPrimary-new p declared ready log legal acked decided sites = record {
   ready = ready-from_start p.setup ready;
   start = ap (λ (h : History). h.start) log;
@@ -363,7 +426,8 @@ IsPrimary-new p declared ready log legal acked decided sites = record {
   acked = omega (arith, acked);
   next = omega (arith, decided);
   decided = omega (arith, decided);
-  sites = λ s d lt. (let there : s < length p.setup.sites = omega (arith, ap length sites, length-replicate (length p.setup.sites) first_progress) in
+  sites = λ s d lt. (let there : s < length p.setup.sites =
+      omega (arith, ap length sites, length-replicate (length p.setup.sites) first_progress) in
       rw (acked, decided, sites, get_or-replicate (length p.setup.sites) s first_progress d there) (record {
         reported = omega arith;
         sent = omega arith;
@@ -379,13 +443,16 @@ IsPrimary-new p declared ready log legal acked decided sites = record {
 }
 
 -- a later settlement that waits for none acknowledges
-pub IsPrimary-acked : (p : PrimaryState) (sites : List ℕ) (head : ℕ) → IsPrimary p → p.acked < p.decided → head ≡ p.acked + 1 → sites ≡ waiting_now p → sites ≡ [] → IsPrimary (record p { acked = head })
+pub IsPrimary-acked : (p : PrimaryState) (sites : List ℕ) (head : ℕ) → IsPrimary p → p.acked < p.decided → head ≡ p.acked + 1
+    → sites ≡ waiting_now p → sites ≡ []
+    → IsPrimary (record p { acked = head })
 IsPrimary-acked p sites head is later here waiting none =
     let e : acked_after p.acked (waiting_now p) ≡ head = ap (acked_after p.acked) (sym waiting ∙ none) ∙ sym here in
     rw e at (IsPrimary-waited p is later)
 
 -- there is an update to send
-pub send-allowed : (p : PrimaryState) (s sent : ℕ) → sent ≡ (progress_at p s).sent → (sent ≡ length p.log.sets → ⊥) → send_refusal p s ≡ None
+pub send-allowed : (p : PrimaryState) (s sent : ℕ) → sent ≡ (progress_at p s).sent → (sent ≡ length p.log.sets → ⊥)
+    → send_refusal p s ≡ None
 send-allowed p s sent e more = rw (ne_eqb (progress_at p s).sent (length p.log.sets) (λ f. more (e ∙ f))) refl
 
 -- ---- a primary in its fields
@@ -410,39 +477,61 @@ reported_as place site = record {
 
 module _ {A : Type 0} where
   -- a site as callers see it
-  pub view_at : (l : Inside A) (i s : ℕ) (x : Progress A) → i ≡ s → s < length (state_of l).sites → x ≡ get_or l.sites.items i x → progress_at (state_of l) s ≡ progress_of x
+  pub view_at : (l : Inside A) (i s : ℕ) (x : Progress A) → i ≡ s → s < length (state_of l).sites → x ≡ get_or l.sites.items i x
+      → progress_at (state_of l) s ≡ progress_of x
   view_at l i s x same lt at =
       let there : s < length l.sites.items = omega (arith, length-map l.sites.items (progress_of {A = A})) in
-      get_or-map progress_of l.sites.items s x first_progress there ∙ ap (λ k. progress_of (get_or l.sites.items k x)) (sym same) ∙ ap progress_of (sym at)
+      get_or-map progress_of l.sites.items s x first_progress there
+      ∙ ap (λ k. progress_of (get_or l.sites.items k x)) (sym same)
+      ∙ ap progress_of (sym at)
 
   -- how many reports were put down for it
-  pub reports-count : (l : Inside A) (i s : ℕ) (x : Progress A) → IsPrimary (state_of l) → i ≡ s → s < length (state_of l).sites → x ≡ get_or l.sites.items i x → vec_len x.reports ≡ l.decided
-  reports-count l i s x is same lt at = x.reports.ok.0 ∙ ap (λ (site : SiteProgress). length site.reports) (sym (view_at l i s x same lt at)) ∙ (is.sites s first_progress lt).count
+  pub reports-count : (l : Inside A) (i s : ℕ) (x : Progress A) → IsPrimary (state_of l) → i ≡ s → s < length (state_of l).sites
+      → x ≡ get_or l.sites.items i x
+      → vec_len x.reports ≡ l.decided
+  reports-count l i s x is same lt at =
+      x.reports.ok.0
+      ∙ ap (λ (site : SiteProgress). length site.reports) (sym (view_at l i s x same lt at))
+      ∙ (is.sites s first_progress lt).count
 
   -- a site that changes, as callers see it
-  pub view-set : (l : Inside A) (i s : ℕ) (x y : Progress A) (f : SiteProgress → SiteProgress) → i ≡ s → s < length (state_of l).sites → x ≡ get_or l.sites.items i x → progress_of y ≡ f (progress_of x)
+  pub view-set : (l : Inside A) (i s : ℕ) (x y : Progress A) (f : SiteProgress → SiteProgress) → i ≡ s
+      → s < length (state_of l).sites → x ≡ get_or l.sites.items i x → progress_of y ≡ f (progress_of x)
       → map progress_of (set l.sites.items i y) ≡ set (state_of l).sites s (f (progress_at (state_of l) s))
   view-set l i s x y f same lt at e =
-      map-set progress_of l.sites.items i y ∙ ap (λ k. set (state_of l).sites k (progress_of y)) same ∙ ap (set (state_of l).sites s) (e ∙ ap f (sym (view_at l i s x same lt at)))
+      map-set progress_of l.sites.items i y
+      ∙ ap (λ k. set (state_of l).sites k (progress_of y)) same
+      ∙ ap (set (state_of l).sites s) (e ∙ ap f (sym (view_at l i s x same lt at)))
 
   -- one update more was sent to a site
-  pub IsPrimary-sent : (l : Inside A) (sites : List SiteProgress) (s : ℕ) → IsPrimary (state_of l) → s < length (state_of l).sites → (progress_at (state_of l) s).sent < length l.log.sets
-      → sites ≡ set (state_of l).sites s (sent_more (progress_at (state_of l) s)) → IsPrimary (record (state_of l) { sites = sites })
+  pub IsPrimary-sent : (l : Inside A) (sites : List SiteProgress) (s : ℕ) → IsPrimary (state_of l) → s < length (state_of l).sites
+      → (progress_at (state_of l) s).sent < length l.log.sets
+      → sites ≡ set (state_of l).sites s (sent_more (progress_at (state_of l) s))
+      → IsPrimary (record (state_of l) { sites = sites })
   IsPrimary-sent l sites s is lt unsent e =
-      rw e (IsPrimary-with_site (state_of l) s (sent_more (progress_at (state_of l) s)) is lt (IsSiteSound-sent (is_within (state_of l) s) (length l.log.sets) l.acked l.decided (progress_at (state_of l) s) (is.sites s first_progress lt) unsent))
+      rw e (IsPrimary-with_site (state_of l) s (sent_more (progress_at (state_of l) s)) is lt
+      (IsSiteSound-sent (is_within (state_of l) s) (length l.log.sets) l.acked l.decided (progress_at (state_of l) s)
+      (is.sites s first_progress lt) unsent))
 
   -- a site reported a later place
-  pub IsPrimary-reported : (l : Inside A) (sites : List SiteProgress) (s place : ℕ) → IsPrimary (state_of l) → s < length (state_of l).sites → (progress_at (state_of l) s).reported ≤ place → place ≤ (progress_at (state_of l) s).sent
-      → sites ≡ set (state_of l).sites s (reported_as place (progress_at (state_of l) s)) → IsPrimary (record (state_of l) { sites = sites })
+  pub IsPrimary-reported : (l : Inside A) (sites : List SiteProgress) (s place : ℕ) → IsPrimary (state_of l)
+      → s < length (state_of l).sites → (progress_at (state_of l) s).reported ≤ place → place ≤ (progress_at (state_of l) s).sent
+      → sites ≡ set (state_of l).sites s (reported_as place (progress_at (state_of l) s))
+      → IsPrimary (record (state_of l) { sites = sites })
   IsPrimary-reported l sites s place is lt risen sent e =
-      rw e (IsPrimary-with_site (state_of l) s (reported_as place (progress_at (state_of l) s)) is lt (IsSiteSound-reported (state_of l) s place (progress_at (state_of l) s) (is.sites s first_progress lt) risen sent))
+      rw e (IsPrimary-with_site (state_of l) s (reported_as place (progress_at (state_of l) s)) is lt
+      (IsSiteSound-reported (state_of l) s place (progress_at (state_of l) s) (is.sites s first_progress lt) risen sent))
 
   -- the decision of the head, as it is put down
-  pub Decides-at : (l : Inside A) (roomed new : List (Progress A)) (forced : List ℕ) (acked head : ℕ) → map progress_of roomed ≡ map progress_of l.sites.items → forced ≡ forced_now (state_of l) → length new ≡ length roomed
-      → ((s : ℕ) (d : Progress A) → s < length roomed → progress_of (get_or new s d) ≡ decided_at (not (list_any (λ t. t == s) forced)) head (progress_of (get_or roomed s d)))
-      → head ≡ l.acked + 1 → acked ≡ acked_after l.acked forced → Decides (state_of l) (record (state_of l) { acked = acked; decided = head; sites = map progress_of new })
+  pub Decides-at : (l : Inside A) (roomed new : List (Progress A)) (forced : List ℕ) (acked head : ℕ)
+      → map progress_of roomed ≡ map progress_of l.sites.items → forced ≡ forced_now (state_of l) → length new ≡ length roomed
+      → ((s : ℕ) (d : Progress A) → s < length roomed
+      → progress_of (get_or new s d) ≡ decided_at (not (list_any (λ t. t == s) forced)) head (progress_of (get_or roomed s d)))
+      → head ≡ l.acked + 1 → acked ≡ acked_after l.acked forced
+      → Decides (state_of l) (record (state_of l) { acked = acked; decided = head; sites = map progress_of new })
   Decides-at l roomed new forced acked head same listed count related here e =
-      Decides-put_down (state_of l) (record (state_of l) { acked = acked; decided = head; sites = map progress_of new }) roomed new forced (sym same) refl listed count
+      Decides-put_down (state_of l) (record (state_of l) { acked = acked; decided = head; sites = map progress_of new }) roomed new forced
+      (sym same) refl listed count
       (λ s d lt. related s d lt ∙ ap (λ k. decided_at (not (list_any (λ t. t == s) forced)) k (progress_of (get_or roomed s d))) here)
       refl refl e here
 
@@ -452,7 +541,8 @@ nil-from_empty [] e = refl
 nil-from_empty (x ∷ xs) e = absurd (false≢true (sym (e ∙ ne_eqb (length (x ∷ xs)) 0 (omega arith))))
 
 -- where none is forced, the head is acknowledged, and else it is not
-pub acked-none : (acked head : ℕ) (forced : List ℕ) → true ≡ (length forced == 0) → head ≡ acked + 1 → head ≡ acked_after acked forced
+pub acked-none : (acked head : ℕ) (forced : List ℕ) → true ≡ (length forced == 0) → head ≡ acked + 1
+    → head ≡ acked_after acked forced
 acked-none acked head forced none here = here ∙ ap (acked_after acked) (sym (nil-from_empty forced none))
 
 pub acked-some : (acked : ℕ) (forced : List ℕ) → false ≡ (length forced == 0) → acked ≡ acked_after acked forced
@@ -460,8 +550,10 @@ acked-some acked [] e = absurd (false≢true e)
 acked-some acked (s ∷ forced) e = refl
 
 -- the head, once it is decided, waits for a site that has not reported it where the site's rounds end with it
-pub waits-by_last_round : (p : PrimaryState) (s k : ℕ) → IsPrimary p → s < length p.sites → p.acked < p.decided → k ≡ p.acked + 1 → (progress_at p s).reported < k
-    → (last_place (progress_at p s).rounds == k) ≡ (not (is_within p s (reported_at (progress_at p s) k) k) && nat_lt (progress_at p s).reported k)
+pub waits-by_last_round : (p : PrimaryState) (s k : ℕ) → IsPrimary p → s < length p.sites → p.acked < p.decided
+    → k ≡ p.acked + 1 → (progress_at p s).reported < k
+    → (last_place (progress_at p s).rounds == k)
+    ≡ (not (is_within p s (reported_at (progress_at p s) k) k) && nat_lt (progress_at p s).reported k)
 waits-by_last_round p s k is below later head late =
     let decided : p.decided ≡ k = omega (arith, is.next) in
     let rounds = (is.sites s first_progress below).rounds ∙ ap (rounds_upto (is_within p s) (reported_at (progress_at p s))) decided in

@@ -1,5 +1,6 @@
 -- Lists of the numbers for which a test passes, and rounds.
-use Rattle.std.proofs.Common.{◌≡◌, ℕ, zero, suc, ◌<◌, ◌≤◌, ◌==◌, Bool, true, false, not, List, [], ◌∷◌, ◌++◌, length, ◌-◌, arith, refl, sym}
+use Rattle.std.proofs.Common.{◌≡◌, ℕ, zero, suc, ◌<◌, ◌≤◌, ◌==◌, Bool, true, false}
+use Rattle.std.proofs.Common.{not, List, [], ◌∷◌, ◌++◌, length, ◌-◌, arith, refl, sym}
 use Rattle.std.proofs.Common.{ap, ◌∙◌, inl, inr}
 use Rattle.std.specs.Prelude.{◌||◌}
 use Rattle.std.specs.List.{list_any}
@@ -13,7 +14,9 @@ use Rattle.ordup_primary.specs.Settling.{where_below, last_place}
 pub where_below-none : (test : ℕ → Bool) (n s : ℕ) → s < n → where_below test n ≡ [] → test s ≡ false
 where_below-none test zero s lt e = absurd (omega arith)
 where_below-none test (suc n) s lt e = elim (cases_Bool (test n)) [
-  | inl passes ↦ absurd (let more : where_below test n ++ n ∷ [] ≡ [] = rw passes at e in omega (arith, ap length more, length_push (where_below test n) n))
+  | inl passes ↦
+      absurd (let more : where_below test n ++ n ∷ [] ≡ [] = rw passes at e in
+      omega (arith, ap length more, length_push (where_below test n) n))
   | inr fails ↦ elim (cases_lt s n) [
     | inl before ↦ where_below-none test n s before (rw fails at e)
     | inr past ↦ (let here : s ≡ n = omega arith in ap test here ∙ fails)
@@ -62,7 +65,8 @@ last_round-upto v f (suc d) = elim (cases_Bool (v (f (suc d)) (suc d))) [
 ]
 
 -- the last round is at place d exactly where the site was forced there
-pub last_round-forced : (v : ℕ → ℕ → Bool) (f : ℕ → ℕ) (d : ℕ) → 0 < d → (last_place (rounds_upto v f d) == d) ≡ not (v (f d) d)
+pub last_round-forced : (v : ℕ → ℕ → Bool) (f : ℕ → ℕ) (d : ℕ) → 0 < d
+    → (last_place (rounds_upto v f d) == d) ≡ not (v (f d) d)
 last_round-forced v f zero some = absurd (omega arith)
 last_round-forced v f (suc d) some = elim (cases_Bool (v (f (suc d)) (suc d))) [
   | inl kept ↦ rw kept (ne_eqb (last_place (rounds_upto v f d)) (suc d) (omega (arith, last_round-upto v f d)))

@@ -15,7 +15,8 @@ pub AreDeclared-site : (d : Declared) (name : List ℕ) (capacity : ℕ) (sites 
     → AreDeclared (record { objects = d.objects; groups = d.groups; sites = sites; limits = limits })
 AreDeclared-site d name capacity sites limits is room some e f = record {
   few = omega (arith, ap length e, length_push d.sites (name, capacity));
-  capacities = rw e (All-push (λ (s : List ℕ × ℕ). (1 ≤ s.1) × (s.1 ≤ greatest_capacity)) d.sites (name, capacity) is.capacities some);
+  capacities =
+      rw e (All-push (λ (s : List ℕ × ℕ). (1 ≤ s.1) × (s.1 ≤ greatest_capacity)) d.sites (name, capacity) is.capacities some);
   count = omega (arith, ap length e, ap length f, length_push d.sites (name, capacity), length_push d.limits [], is.count);
   members = is.members;
   known = rw f (All-push (AreScopesKnown (length d.objects) d.groups) d.limits [] is.known

@@ -1,5 +1,6 @@
 -- What is declared before a store starts.
-use Rattle.std.specs.Prelude.{◌≡◌, ℕ, ℤ, ◌<◌, ◌≤◌, ◌==◌, ◌&&◌, ◌||◌, not, if◌then◌else◌, Option, Some, None, Bool, List, []}
+use Rattle.std.specs.Prelude.{◌≡◌, ℕ, ℤ, ◌<◌, ◌≤◌, ◌==◌, ◌&&◌, ◌||◌}
+use Rattle.std.specs.Prelude.{not, if◌then◌else◌, Option, Some, None, Bool, List, []}
 use Rattle.std.specs.Prelude.{◌∷◌, ◌++◌, length, nat_lt, is_some, slice_index_or, slice_set, All}
 use Rattle.std.specs.Option.{option_or}
 use Rattle.ordup_objects.specs.declared.refusal.Refusal.{Refusal}
@@ -41,7 +42,9 @@ with_site d name capacity = record d { sites = d.sites ++ (name, capacity) ∷ [
 
 -- one limit of a site more
 abbrev pub with_limit : Declared → ℕ → Scope → ℕ → Declared
-with_limit d s scope amount = record d { limits = slice_set d.limits s (limits_of d s ++ (record { scope = scope; amount = amount }) ∷ []) }
+with_limit d s scope amount = record d {
+  limits = slice_set d.limits s (limits_of d s ++ (record { scope = scope; amount = amount }) ∷ []);
+}
 
 -- the feeds of the sites have room for 1 to 1,024 updates
 abbrev pub AreCapacities : List (List ℕ × ℕ) → Type 0

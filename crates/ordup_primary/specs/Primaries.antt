@@ -1,5 +1,6 @@
 -- What a primary holds, and what a settlement makes of it.
-use Rattle.std.specs.Prelude.{◌≡◌, ℕ, ◌+◌, ◌<◌, ◌≤◌, ◌==◌, Bool, true, false, if◌then◌else◌, Option, Some, None, List, [], ◌∷◌, ◌++◌}
+use Rattle.std.specs.Prelude.{◌≡◌, ℕ, ◌+◌, ◌<◌, ◌≤◌, ◌==◌, Bool, true, false}
+use Rattle.std.specs.Prelude.{if◌then◌else◌, Option, Some, None, List, [], ◌∷◌, ◌++◌}
 use Rattle.std.specs.Prelude.{length, slice_index_or}
 use Rattle.ordup_objects.specs.declared.refusal.Refusal.{Refusal}
 use Rattle.ordup_objects.specs.declared.refusal.Refusal.TheVariants.{NothingToSend, NothingToSettle}
@@ -51,7 +52,9 @@ abbrev pub forced_now : PrimaryState → List ℕ
 forced_now p = forced_sites (is_within p) (λ s. (progress_at p s).reported) (length p.sites) (p.acked + 1)
 
 abbrev pub waiting_now : PrimaryState → List ℕ
-waiting_now p = waiting_sites (is_within p) (λ s. reported_at (progress_at p s) (p.acked + 1)) (λ s. (progress_at p s).reported) (length p.sites) (p.acked + 1)
+waiting_now p =
+    waiting_sites (is_within p) (λ s. reported_at (progress_at p s) (p.acked + 1)) (λ s. (progress_at p s).reported) (length p.sites)
+    (p.acked + 1)
 
 -- an acknowledgement where no site holds the head up
 abbrev pub acked_or_round : {A : Type 0} → ℕ → List ℕ → Settled A
@@ -97,9 +100,12 @@ pub record Decides (p q : PrimaryState) : Type 0 where
   pub acked : q.acked ≡ acked_after p.acked (forced_now p)
   pub decided : q.decided ≡ p.acked + 1
   pub count : length q.sites ≡ length p.sites
-  pub sites : (s : ℕ) (d : SiteProgress) → s < length p.sites → slice_index_or q.sites s d ≡ decided_at (is_within p s (progress_at p s).reported (p.acked + 1)) (p.acked + 1) (slice_index_or p.sites s d)
+  pub sites : (s : ℕ) (d : SiteProgress) → s < length p.sites
+      → slice_index_or q.sites s d
+      ≡ decided_at (is_within p s (progress_at p s).reported (p.acked + 1)) (p.acked + 1) (slice_index_or p.sites s d)
 
--- What a primary keeps of a site, where `keeps a b` says whether the span from a to b passes no limit of the site: what is acknowledged and the site has not reported passes none, and each acknowledged round was reported.
+-- What a primary keeps of a site, where `keeps a b` says whether the span from a to b passes no limit of the site:
+-- what is acknowledged and the site has not reported passes none, and each acknowledged round was reported.
 pub record IsSiteSound (keeps : ℕ → ℕ → Bool) (updates acked decided : ℕ) (site : SiteProgress) : Type 0 where
   pub reported : site.reported ≤ site.sent
   pub sent : site.sent ≤ updates
@@ -122,7 +128,8 @@ pub record IsPrimary (p : PrimaryState) : Type 0 where
   pub acked : p.acked ≤ p.decided
   pub next : p.decided ≤ p.acked + 1
   pub decided : p.decided ≤ length p.log.sets
-  pub sites : (s : ℕ) (d : SiteProgress) → s < length p.sites → IsSiteSound (is_within p s) (length p.log.sets) p.acked p.decided (slice_index_or p.sites s d)
+  pub sites : (s : ℕ) (d : SiteProgress) → s < length p.sites
+      → IsSiteSound (is_within p s) (length p.log.sets) p.acked p.decided (slice_index_or p.sites s d)
 
 -- the rounds of each site are the fewest of any schedule that keeps its limits, as its windows show
 abbrev pub HasFewestRounds : PrimaryState → Type 0

@@ -1,5 +1,6 @@
 -- Which sites a settlement forces, and for which it waits.
-use Rattle.std.specs.Prelude.{ℕ, zero, suc, ◌-◌, ◌&&◌, not, if◌then◌else◌, nat_lt, Bool, List, [], ◌∷◌, ◌++◌, length, slice_index_or}
+use Rattle.std.specs.Prelude.{ℕ, zero, suc, ◌-◌, ◌&&◌, not, if◌then◌else◌, nat_lt}
+use Rattle.std.specs.Prelude.{Bool, List, [], ◌∷◌, ◌++◌, length, slice_index_or}
 
 -- the numbers below n for which the test passes, in order
 abbrev pub where_below : (ℕ → Bool) → ℕ → List ℕ

@@ -41,12 +41,15 @@ pub charge-import_of : ChargesAreImports
 charge-import_of s marks x marked h j p site reference = rw (site.travelled x, reference x marked) (between h x j p)
 
 -- so is what a read was charged
-pub import-import_of : (s : SiteState) (marks : List ℕ) (x charged : ℕ) → x < length marks → charged ≡ charge s marks x → (h : History) (j p : ℕ) → HasApplied s h j → AreMarks h p marks → charged ≡ import_of h x j p
+pub import-import_of : (s : SiteState) (marks : List ℕ) (x charged : ℕ) → x < length marks → charged ≡ charge s marks x
+    → (h : History) (j p : ℕ) → HasApplied s h j → AreMarks h p marks
+    → charged ≡ import_of h x j p
 import-import_of s marks x charged marked e h j p site reference = e ∙ charge-import_of s marks x marked h j p site reference
 
 -- and the value at the reference is no further off
-pub import-near : (s : SiteState) (marks : List ℕ) (x charged : ℕ) (value : ℤ) → x < length marks → charged ≡ charge s marks x → value ≡ value_at s.values x
-    → (h : History) (j p : ℕ) → HasApplied s h j → AreMarks h p marks → distance value (value_at (serial h p) x) ≤ charged
+pub import-near : (s : SiteState) (marks : List ℕ) (x charged : ℕ) (value : ℤ) → x < length marks → charged ≡ charge s marks x
+    → value ≡ value_at s.values x → (h : History) (j p : ℕ) → HasApplied s h j → AreMarks h p marks
+    → distance value (value_at (serial h p) x) ≤ charged
 import-near s marks x charged value marked e f h j p site reference =
     let is : charged ≡ import_of h x j p = import-import_of s marks x charged marked e h j p site reference in
     let read : value ≡ value_at (serial h j) x = f ∙ ap (λ v. value_at v x) site.values in

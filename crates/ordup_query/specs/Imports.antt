@@ -17,4 +17,6 @@ charge s marks x = abs_diff (travelled_at s x) (mark_at marks x)
 -- where the site applied the first j updates of a history, and the marks are those of a reference on it, the charge is the import
 abbrev pub ChargesAreImports : Type 0
 ChargesAreImports =
-    (s : SiteState) (marks : List ℕ) (x : ℕ) → x < length marks → (h : History) (j p : ℕ) → HasApplied s h j → AreMarks h p marks → charge s marks x ≡ import_of h x j p
+    (s : SiteState) (marks : List ℕ) (x : ℕ) → x < length marks
+    → (h : History) (j p : ℕ) → HasApplied s h j → AreMarks h p marks
+    → charge s marks x ≡ import_of h x j p

@@ -1,6 +1,7 @@
 -- The definitions at a case of seven places, worked out by hand. The limit is 2 updates. The site had reported nothing at the decisions
 -- of the places 1 to 3, then 3 updates at those of 4 and 5, and 4 at those of 6 and 7. So it is forced at 3 and at 7.
-use Rattle.std.proofs.Common.{◌≡◌, ℕ, ◌-◌, ◌<◌, ◌≤◌, ◌==◌, Bool, true, false, Some, None, List, [], ◌∷◌, length, not, inl, inr, arith, refl}
+use Rattle.std.proofs.Common.{◌≡◌, ℕ, ◌-◌, ◌<◌, ◌≤◌, ◌==◌, Bool, true, false}
+use Rattle.std.proofs.Common.{Some, None, List, [], ◌∷◌, length, not, inl, inr, arith, refl}
 use Rattle.std.specs.Prelude.{◌||◌, if◌then◌else◌, nat_le, nat_lt, unwrap_or, is_some, slice_index}
 use Rattle.std.proofs.lemmas.Bool.{agree_below, agree_below_at, le-leb, leb-true, or_cases, or_left, or_right, true≢false, false≢true}
 use Rattle.std.proofs.lemmas.List.Elements.{All-nil, All-cons}

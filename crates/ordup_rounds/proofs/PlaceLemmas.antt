@@ -113,14 +113,16 @@ module _ (decided : ℕ) (places : List ℕ) (are : AreRoundPlaces decided place
   pub round_count-places : round_count (full_rounds places) decided ≡ length places
   round_count-places =
       round_count-full decided
-      ∙ count_upto-all decided places (All-weaker (λ k. (0 < k) × (k ≤ decided)) (λ k. k ≤ decided) (λ k is. is.1) places are.each)
+      ∙ count_upto-all decided places
+      (All-weaker (λ k. (0 < k) × (k ≤ decided)) (λ k. k ≤ decided) (λ k is. is.1) places are.each)
 
 pub places_are_full_rounds : PlacesAreFullRounds
 places_are_full_rounds decided places are =
     (λ k m some le awaits. full-own (has_place k places) k m awaits, round_count-full decided places are)
 
 -- up to one of them, its round waits for it
-pub awaited_place-full : (places : List ℕ) (k : ℕ) → 0 < k → has_place k places ≡ true → k ≤ awaited_place (full_rounds places) k
+pub awaited_place-full : (places : List ℕ) (k : ℕ) → 0 < k → has_place k places ≡ true
+    → k ≤ awaited_place (full_rounds places) k
 awaited_place-full places zero some has = absurd (omega arith)
 awaited_place-full places (suc k) some has =
     let own : unwrap_or (full_rounds places (suc k)) 0 ≡ suc k = rw has refl in

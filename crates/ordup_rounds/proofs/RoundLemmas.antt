@@ -1,5 +1,6 @@
 -- The rounds and the windows of the rule.
-use Rattle.std.proofs.Common.{◌≡◌, ℕ, zero, suc, ◌+◌, ◌<◌, ◌≤◌, Bool, true, false, length, inl, inr, arith, refl, sym, ◌∙◌}
+use Rattle.std.proofs.Common.{◌≡◌, ℕ, zero, suc, ◌+◌, ◌<◌, ◌≤◌, Bool}
+use Rattle.std.proofs.Common.{true, false, length, inl, inr, arith, refl, sym, ◌∙◌}
 use Rattle.std.specs.Prelude.{◌||◌, All, AllPairs}
 use Rattle.std.proofs.lemmas.Bool.{cases_Bool, cases_lt, eq-eqb, false≢true}
 use Rattle.std.proofs.lemmas.List.{length_push}
@@ -37,14 +38,16 @@ record IsForced (within : ℕ → ℕ → Bool) (reported_at : ℕ → ℕ) (d :
   pub last : w.to ≤ d
 
 -- tests and reports that agree on the decided places give the same rounds, and the same windows
-pub rounds_upto-same : (v w : ℕ → ℕ → Bool) (f g : ℕ → ℕ) (d : ℕ) → ((k : ℕ) → 0 < k → k ≤ d → v (f k) k ≡ w (g k) k)
+pub rounds_upto-same : (v w : ℕ → ℕ → Bool) (f g : ℕ → ℕ) (d : ℕ)
+    → ((k : ℕ) → 0 < k → k ≤ d → v (f k) k ≡ w (g k) k)
     → rounds_upto v f d ≡ rounds_upto w g d
 rounds_upto-same v w f g zero same = refl
 rounds_upto-same v w f g (suc d) same =
     rw (same (suc d) (omega arith) (omega arith), rounds_upto-same v w f g d (λ k some le. same k some (omega arith))) refl
 
-pub windows_upto-same : (v w : ℕ → ℕ → Bool) (f g : ℕ → ℕ) (d : ℕ) → ((k : ℕ) → 0 < k → k ≤ d → v (f k) k ≡ w (g k) k)
-    → ((k : ℕ) → 0 < k → k ≤ d → f k ≡ g k) → windows_upto v f d ≡ windows_upto w g d
+pub windows_upto-same : (v w : ℕ → ℕ → Bool) (f g : ℕ → ℕ) (d : ℕ)
+    → ((k : ℕ) → 0 < k → k ≤ d → v (f k) k ≡ w (g k) k) → ((k : ℕ) → 0 < k → k ≤ d → f k ≡ g k)
+    → windows_upto v f d ≡ windows_upto w g d
 windows_upto-same v w f g zero same reports = refl
 windows_upto-same v w f g (suc d) same reports =
     let rest : windows_upto v f d ≡ windows_upto w g d =
@@ -59,7 +62,8 @@ module _ (within : ℕ → ℕ → Bool) (reported_at : ℕ → ℕ) where
   rounds_upto-each (suc d) =
       let rounds = rounds_upto within reported_at d in
       let before : All (λ k. (0 < k) × (k ≤ suc d)) rounds =
-      All-weaker (λ k. (0 < k) × (k ≤ d)) (λ k. (0 < k) × (k ≤ suc d)) (λ k is. (is.0, omega (arith, is.1))) rounds (rounds_upto-each d) in
+      All-weaker (λ k. (0 < k) × (k ≤ d)) (λ k. (0 < k) × (k ≤ suc d)) (λ k is. (is.0, omega (arith, is.1))) rounds
+      (rounds_upto-each d) in
       elim (cases_Bool (within (reported_at (suc d)) (suc d))) [
         | inl kept ↦ rw kept before
         | inr forced ↦ rw forced (All-push (λ k. (0 < k) × (k ≤ suc d)) rounds (suc d) before (omega arith, omega arith))
@@ -80,7 +84,8 @@ module _ (within : ℕ → ℕ → Bool) (reported_at : ℕ → ℕ) where
   }
 
   -- a place is one of them where the span to it passes a limit
-  has_place-upto : (d k : ℕ) → 0 < k → k ≤ d → within (reported_at k) k ≡ false → has_place k (rounds_upto within reported_at d) ≡ true
+  has_place-upto : (d k : ℕ) → 0 < k → k ≤ d → within (reported_at k) k ≡ false
+      → has_place k (rounds_upto within reported_at d) ≡ true
   has_place-upto zero k some le forced = absurd (omega arith)
   has_place-upto (suc d) k some le forced = elim (cases_lt k (suc d)) [
     | inl before ↦ (
@@ -106,7 +111,8 @@ module _ (within : ℕ → ℕ → Bool) (reported_at : ℕ → ℕ) where
       ]
 
   -- those of them up to an earlier place are the rounds up to it
-  count_upto-rounds : (d e : ℕ) → e ≤ d → count_upto e (rounds_upto within reported_at d) ≡ length (rounds_upto within reported_at e)
+  count_upto-rounds : (d e : ℕ) → e ≤ d
+      → count_upto e (rounds_upto within reported_at d) ≡ length (rounds_upto within reported_at e)
   count_upto-rounds zero e le = let none : e ≡ 0 = omega arith in rw none refl
   count_upto-rounds (suc d) e le = elim (cases_lt e (suc d)) [
     | inl before ↦ (
@@ -145,12 +151,14 @@ module _ (within : ℕ → ℕ → Bool) (reported_at : ℕ → ℕ) where
       (λ w is. record { from = is.from; over = is.over; last = omega (arith, is.last) }) windows (windows_upto-forced d) in
       elim (cases_Bool (within (reported_at (suc d)) (suc d))) [
         | inl kept ↦ rw kept before
-        | inr forced ↦ rw forced (All-push (IsForced within reported_at (suc d)) windows (record { from = reported_at (suc d); to = suc d })
+        | inr forced ↦
+            rw forced (All-push (IsForced within reported_at (suc d)) windows (record { from = reported_at (suc d); to = suc d })
             before (record { from = refl; over = forced; last = omega arith }))
       ]
 
   -- each ends where the site has reported it before the next round
-  windows_upto-pairs : (decided : ℕ) → IsLimitTest within → AreRoundsReported within reported_at decided → (d : ℕ) → d ≤ decided
+  windows_upto-pairs : (decided : ℕ) → IsLimitTest within → AreRoundsReported within reported_at decided
+      → (d : ℕ) → d ≤ decided
       → AllPairs (λ v w. v.to ≤ w.from) (windows_upto within reported_at d)
   windows_upto-pairs decided test reported zero le = λ i j x lt there. absurd (omega arith)
   windows_upto-pairs decided test reported (suc d) le =

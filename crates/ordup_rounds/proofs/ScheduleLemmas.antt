@@ -1,5 +1,6 @@
 -- How many rounds a schedule has, and what they wait for.
-use Rattle.std.proofs.Common.{◌≡◌, ℕ, zero, suc, ◌+◌, ◌<◌, ◌≤◌, Option, Some, None, max, ◌⊎◌, inl, inr, arith, refl, ap}
+use Rattle.std.proofs.Common.{◌≡◌, ℕ, zero, suc, ◌+◌, ◌<◌, ◌≤◌, Option}
+use Rattle.std.proofs.Common.{Some, None, max, ◌⊎◌, inl, inr, arith, refl, ap}
 use Rattle.std.specs.Prelude.{if◌then◌else◌, is_some, unwrap_or, IsSome}
 use Rattle.std.proofs.lemmas.Bool.{cases_lt}
 use Rattle.ordup_rounds.specs.Schedules.{Schedule, IsSchedule, round_count, awaited_place}

@@ -6,7 +6,8 @@ use Rattle.ordup_rounds.specs.Windows.{IsWindow, AreDisjointWindows, HasRoundIn}
 use Rattle.ordup_rounds.specs.Rounds.{AreRoundPlaces, count_upto, full_rounds, rounds_upto, windows_upto, AreRoundsReported}
 
 -- a certificate: rounds that keep the limits, and as many disjoint windows
-pub record IsCertificate (within : ℕ → ℕ → Bool) (reported_at : ℕ → ℕ) (decided : ℕ) (rounds : List ℕ) (windows : List Window) : Type 0 where
+pub record IsCertificate (within : ℕ → ℕ → Bool) (reported_at : ℕ → ℕ) (decided : ℕ) (rounds : List ℕ)
+    (windows : List Window) : Type 0 where
   pub places : AreRoundPlaces decided rounds
   pub keeps : StaysWithin within reported_at decided (full_rounds rounds)
   pub disjoint : AreDisjointWindows within reported_at decided windows
@@ -14,7 +15,8 @@ pub record IsCertificate (within : ℕ → ℕ → Bool) (reported_at : ℕ → 
 
 -- The promise for a site: its rounds and windows are a certificate; no list of disjoint windows is longer; and no schedule of full or
 -- partial rounds that keeps the limits has fewer rounds, up to each decided place.
-pub record AreFewest (within : ℕ → ℕ → Bool) (reported_at : ℕ → ℕ) (decided : ℕ) (rounds : List ℕ) (windows : List Window) : Type 0 where
+pub record AreFewest (within : ℕ → ℕ → Bool) (reported_at : ℕ → ℕ) (decided : ℕ) (rounds : List ℕ) (windows : List Window)
+    : Type 0 where
   pub certificate : IsCertificate within reported_at decided rounds windows
   pub longest : (ws : List Window) → AreDisjointWindows within reported_at decided ws → length ws ≤ length rounds
   pub fewest : (p : Schedule) → IsSchedule decided p → StaysWithin within reported_at decided p →
@@ -50,5 +52,6 @@ CertifiedRoundsAreFewest =
 -- the rounds and the windows of the rule keep the promise
 abbrev pub ForcedRoundsAreFewest : Type 0
 ForcedRoundsAreFewest =
-    (within : ℕ → ℕ → Bool) (reported_at : ℕ → ℕ) (decided : ℕ) → IsLimitTest within → AreRoundsReported within reported_at decided →
+    (within : ℕ → ℕ → Bool) (reported_at : ℕ → ℕ) (decided : ℕ) → IsLimitTest within
+    → AreRoundsReported within reported_at decided →
     AreFewest within reported_at decided (rounds_upto within reported_at decided) (windows_upto within reported_at decided)

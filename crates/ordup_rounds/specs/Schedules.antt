@@ -1,5 +1,6 @@
 -- Schedules of rounds, and which of them keep the limits of a site.
-use Rattle.std.specs.Prelude.{◌≡◌, ℕ, zero, suc, ◌+◌, ◌<◌, ◌≤◌, Bool, true, if◌then◌else◌, Option, Some, is_some, unwrap_or, max}
+use Rattle.std.specs.Prelude.{◌≡◌, ℕ, zero, suc, ◌+◌, ◌<◌, ◌≤◌, Bool, true}
+use Rattle.std.specs.Prelude.{if◌then◌else◌, Option, Some, is_some, unwrap_or, max}
 
 -- Here and in the files beside it `within a b` tells whether the span from a to b passes no limit of a site, and `reported_at k` is
 -- what the site had reported at the decision of place k. The places from 1 to `decided` are decided.

@@ -12,7 +12,8 @@ pub record IsWindow (within : ℕ → ℕ → Bool) (reported_at : ℕ → ℕ) 
   pub unreported : reported_at w.to ≤ w.from
 
 -- windows are disjoint where each ends at or before the `from` of the next
-pub record AreDisjointWindows (within : ℕ → ℕ → Bool) (reported_at : ℕ → ℕ) (decided : ℕ) (windows : List Window) : Type 0 where
+pub record AreDisjointWindows (within : ℕ → ℕ → Bool) (reported_at : ℕ → ℕ) (decided : ℕ) (windows : List Window)
+    : Type 0 where
   pub each : All (IsWindow within reported_at decided) windows
   pub apart : AllAdjacentBelow (λ v w. v.to ≤ w.from) windows (length windows)
 

@@ -1,5 +1,6 @@
 -- What values travel by a set.
-use Rattle.std.proofs.Common.{◌≡◌, ℕ, suc, ◌+◌, ◌*◌, ◌<◌, ◌≤◌, ℤ, true, false, cond, List, [], ◌∷◌, length, get_or, take, drop}
+use Rattle.std.proofs.Common.{◌≡◌, ℕ, suc, ◌+◌, ◌*◌, ◌<◌, ◌≤◌, ℤ, true}
+use Rattle.std.proofs.Common.{false, cond, List, [], ◌∷◌, length, get_or, take, drop}
 use Rattle.std.proofs.Common.{map, drop-cons, add-one, arith, refl, sym, ap, ◌∙◌, inl, inr}
 use Rattle.std.specs.Prelude.{All, ◌==◌, ◌↔◌, Result, Ok, Err, IsOk, OnOk, IsTrue}
 use Rattle.std.specs.List.{list_any, slice_set}
@@ -34,7 +35,8 @@ travelled_on_more v m before ts i x moved c b lt less is at e =
 
 -- a number of a list of small numbers is small, past its end too
 pub bounded_at : (ts : List ℕ) (x most : ℕ) → All (λ t. t ≤ most) ts → get_or ts x 0 ≤ most
-bounded_at ts x most bounded = elim (cases_lt x (length ts)) [ inl lt ↦ bounded x 0 lt | inr le ↦ rw (get_or_past ts x 0 le) (omega arith) ]
+bounded_at ts x most bounded =
+    elim (cases_lt x (length ts)) [ inl lt ↦ bounded x 0 lt | inr le ↦ rw (get_or_past ts x 0 le) (omega arith) ]
 
 -- what values travelled stays small on the way
 pub few_more : (ts : List ℕ) (x moved i : ℕ) → All (λ t. t ≤ greatest_distance * most_updates + greatest_distance * i) ts
@@ -71,14 +73,17 @@ moved_one v w (c ∷ m) (b ∷ before) ts x distinct known read =
       | inl e ↦ (let here : c.object ≡ x = eqb-true c.object x e in
           let none : list_any (λ d. d.object == x) m ≡ false = rw here at apart.0 in
           rw e
-          (others_stay w m before _ x none ∙ get_or-set_at ts c.object x _ 0 (sym here) (known 0 c (omega arith)) ∙ rw (first, here) refl))
+          (others_stay w m before _ x none
+          ∙ get_or-set_at ts c.object x _ 0 (sym here) (known 0 c (omega arith))
+          ∙ rw (first, here) refl))
       | inr e ↦ rw e (moved_one v w m before _ x apart.1 (λ k d h. rw length-set (known (suc k) d (omega arith))) rest
           ∙ ap (λ t. t + cond (list_any (λ d. d.object == x) m) (distance (value_at w x) (value_at v x)) 0)
           (get_or-set_other ts c.object x _ 0 (λ f. eqb-false c.object x e (sym f))))
     ]
 
 -- a value that no change is of stays
-value_after-other : (v : State) (m : List Change) (x : ℕ) → list_any (λ c. c.object == x) m ≡ false → value_after v m x ≡ value_at v x
+value_after-other : (v : State) (m : List Change) (x : ℕ) → list_any (λ c. c.object == x) m ≡ false
+    → value_after v m x ≡ value_at v x
 value_after-other v [] x none = refl
 value_after-other v (c ∷ m) x none =
     let both : (c.object == x) ≡ false × list_any (λ d. d.object == x) m ≡ false = or_parts _ _ none in
@@ -92,13 +97,15 @@ travelled_on-after v m before ts x distinct known same read =
     let one = moved_one v (after m v) m before ts x distinct (λ k d h. let lt = (known k d h).0 in omega arith) read in
     elim (cases_Bool (list_any (λ c. c.object == x) m)) [
       | inl e ↦ rw e at one
-      | inr e ↦ (let stays : value_at (after m v) x ≡ value_at v x = value_at-after v m x distinct known ∙ value_after-other v m x e in
+      | inr e ↦ (let stays : value_at (after m v) x ≡ value_at v x =
+          value_at-after v m x distinct known ∙ value_after-other v m x e in
           let none : distance (value_at (after m v) x) (value_at v x) ≡ 0 = rw stays (distance-same (value_at v x)) in
           rw e at one ∙ omega (arith, none))
     ]
 
 -- as many objects as before
-length-travelled_on : (v : State) (m : List Change) (before : List ℤ) (ts : List ℕ) → length (travelled_on v m before ts) ≡ length ts
+length-travelled_on : (v : State) (m : List Change) (before : List ℤ) (ts : List ℕ)
+    → length (travelled_on v m before ts) ≡ length ts
 length-travelled_on v [] before ts = refl
 length-travelled_on v (c ∷ m) [] ts = refl
 length-travelled_on v (c ∷ m) (b ∷ before) ts = length-travelled_on v m before _ ∙ length-set ts c.object _

@@ -14,7 +14,8 @@ use Rattle.ordup_world.specs.declared.event.Answer.{Answer}
 use Rattle.ordup_world.proofs.AfterLemmas.{updates-are}
 
 module _ {A : Type 0} where
-  KeepSites-own : (w : WorldState) (past : Past A) → IsSound w → KeepsLimits w → StandsFor w.primary.setup w past → KeepSites w.primary.setup past
+  KeepSites-own : (w : WorldState) (past : Past A) → IsSound w → KeepsLimits w → StandsFor w.primary.setup w past
+      → KeepSites w.primary.setup past
   KeepSites-own w past sound limits stands s below =
       let d : SiteState = record { applied = 0; values = []; travelled = [] } in
       let lt : s < length w.sites = omega (arith, below, sound.store.count, sound.store.primary.count) in
@@ -29,7 +30,8 @@ module _ {A : Type 0} where
       }
 
   -- a sound world that keeps its limits: so do the accepted events that it stands for
-  pub KeepSites-stands : (setup : Declared) (w : WorldState) (past : Past A) → IsSound w → KeepsLimits w → StandsFor setup w past → KeepSites setup past
+  pub KeepSites-stands : (setup : Declared) (w : WorldState) (past : Past A) → IsSound w → KeepsLimits w → StandsFor setup w past
+      → KeepSites setup past
   KeepSites-stands setup w past sound limits stands =
       rw (← stands.store.declared) (KeepSites-own w past sound limits (rw (← stands.store.declared) at stands))
 
@@ -43,14 +45,20 @@ module _ {A : Type 0} where
       rw (stands.store.rounds s lt, stands.store.windows s lt, here.reports, stands.store.decided, stands.store.log) at fewest
 
   -- the rounds of a sound world are the fewest: so are those after the accepted events that it stands for
-  pub HaveFewest-stands : (setup : Declared) (w : WorldState) (past : Past A) → IsSound w → StandsFor setup w past → HaveFewest setup past
+  pub HaveFewest-stands : (setup : Declared) (w : WorldState) (past : Past A) → IsSound w → StandsFor setup w past
+      → HaveFewest setup past
   HaveFewest-stands setup w past sound stands =
       rw (← stands.store.declared) (HaveFewest-own w past sound (rw (← stands.store.declared) at stands))
 
   -- one event more
-  pub Along-push : (Holds : Past A → Type 0) (setup : Declared) (past : Past A) (events : List (Event A)) (answers : List (Answer A)) (e : Event A) (a : Answer A) → AreAnswers setup past events answers
-      → Along Holds past events answers → Holds (later (past_after past events answers) e a) → Along Holds past (events ++ e ∷ []) (answers ++ a ∷ [])
+  pub Along-push : (Holds : Past A → Type 0) (setup : Declared) (past : Past A) (events : List (Event A)) (answers : List (Answer A))
+      (e : Event A) (a : Answer A) → AreAnswers setup past events answers → Along Holds past events answers
+      → Holds (later (past_after past events answers) e a)
+      → Along Holds past (events ++ e ∷ []) (answers ++ a ∷ [])
   Along-push Holds setup past [] [] e a are along now = (along, now)
   Along-push Holds setup past [] (b ∷ answers) e a are along now = absurd are
   Along-push Holds setup past (f ∷ events) [] e a are along now = absurd are
-  Along-push Holds setup past (f ∷ events) (b ∷ answers) e a are along now = (along.0, Along-push Holds setup (later past f b) events answers e a are.1 along.1 now)
+  Along-push Holds setup past (f ∷ events) (b ∷ answers) e a are along now = (
+    along.0,
+    Along-push Holds setup (later past f b) events answers e a are.1 along.1 now,
+  )

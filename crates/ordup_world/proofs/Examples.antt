@@ -2,7 +2,9 @@
 use Rattle.std.proofs.Common.{◌≡◌, ℕ, pos, List, [], ◌∷◌, replicate, map, refl}
 use Rattle.std.specs.Prelude.{Some, None, codes}
 use Rattle.ordup_objects.specs.declared.change.Op.TheVariants.{Add, Set}
-use Rattle.ordup_objects.specs.declared.refusal.Refusal.TheVariants.{UnknownObject, UnknownSite, OutOfRange, TooMany, NothingToSend, FeedFull, NothingToApply, NothingToSettle, UnknownQuery, QueryOpen, OverImport}
+use Rattle.ordup_objects.specs.declared.refusal.Refusal.TheVariants.{UnknownObject, UnknownSite, OutOfRange, TooMany}
+use Rattle.ordup_objects.specs.declared.refusal.Refusal.TheVariants.{NothingToSend, FeedFull, NothingToApply, NothingToSettle}
+use Rattle.ordup_objects.specs.declared.refusal.Refusal.TheVariants.{UnknownQuery, QueryOpen, OverImport}
 use Rattle.ordup_log.specs.declared.scope.Scope.TheVariants.{Object}
 use Rattle.ordup_primary.specs.Declarations.{Declared}
 use Rattle.ordup_primary.specs.declared.settled.Settled.TheVariants.{Acked, Round, Waiting}
@@ -11,7 +13,8 @@ use Rattle.ordup_world.specs.Events.{Past, decisions, rounds, opened, open_count
 use Rattle.ordup_world.specs.declared.event.Event.{Event}
 use Rattle.ordup_world.specs.declared.event.Event.TheVariants.{Propose, Send, Apply, Report, Settle, Begin, Read, End, Abandon, Show}
 use Rattle.ordup_world.specs.declared.event.Answer.{Answer}
-use Rattle.ordup_world.specs.declared.event.Answer.TheVariants.{Proposed, Sent, Applied, Reported, Settlement, Begun, ReadOut, Ended, Abandoned, Shown, Refused}
+use Rattle.ordup_world.specs.declared.event.Answer.TheVariants.{Proposed, Sent, Applied, Reported, Settlement, Begun}
+use Rattle.ordup_world.specs.declared.event.Answer.TheVariants.{ReadOut, Ended, Abandoned, Shown, Refused}
 
 -- x at 0 and y at 10; the site 0 has a feed of 4 and a limit of 5 on x, the site 1 a feed of 1 and no limit
 abbrev pub setup : Declared
@@ -42,41 +45,46 @@ IsTold past story = replies past (map (λ s. s.0) story) ≡ map (λ s. s.1) sto
 
 -- 5 is not over 5, and 6 is; a report that comes late cancels no round, and ends the waiting once it reaches the head
 late : IsTold [] (
-    (Settle, Refused NothingToSettle) ∷ (add_to_x 5, Proposed 1) ∷ (Settle, Settlement (Acked 1)) ∷ (Settle, Refused NothingToSettle) ∷
-    (add_to_x 1, Proposed 2) ∷ (Settle, Settlement (Round 2 (0 ∷ []))) ∷ (Settle, Settlement (Waiting 2 (0 ∷ []))) ∷
-    (Send 0, Sent 0 1) ∷ (Send 0, Sent 0 2) ∷ (Apply 0, Applied 0 1) ∷ (Report 0, Reported 0 1) ∷ (Settle, Settlement (Waiting 2 (0 ∷ []))) ∷
-    (Apply 0, Applied 0 2) ∷ (Show 0, Shown 2 2 1 1 (pos 6 ∷ pos 10 ∷ [])) ∷ (Settle, Settlement (Waiting 2 (0 ∷ []))) ∷
-    (Report 0, Reported 0 2) ∷ (Settle, Settlement (Acked 2)) ∷ (Show 0, Shown 2 2 2 1 (pos 6 ∷ pos 10 ∷ [])) ∷ (Show 1, Shown 0 0 0 0 (pos 0 ∷ pos 10 ∷ [])) ∷ [])
+    (Settle, Refused NothingToSettle) ∷ (add_to_x 5, Proposed 1) ∷ (Settle, Settlement (Acked 1)) ∷
+    (Settle, Refused NothingToSettle) ∷ (add_to_x 1, Proposed 2) ∷ (Settle, Settlement (Round 2 (0 ∷ []))) ∷
+    (Settle, Settlement (Waiting 2 (0 ∷ []))) ∷ (Send 0, Sent 0 1) ∷ (Send 0, Sent 0 2) ∷ (Apply 0, Applied 0 1) ∷
+    (Report 0, Reported 0 1) ∷ (Settle, Settlement (Waiting 2 (0 ∷ []))) ∷ (Apply 0, Applied 0 2) ∷
+    (Show 0, Shown 2 2 1 1 (pos 6 ∷ pos 10 ∷ [])) ∷ (Settle, Settlement (Waiting 2 (0 ∷ []))) ∷ (Report 0, Reported 0 2) ∷
+    (Settle, Settlement (Acked 2)) ∷ (Show 0, Shown 2 2 2 1 (pos 6 ∷ pos 10 ∷ [])) ∷
+    (Show 1, Shown 0 0 0 0 (pos 0 ∷ pos 10 ∷ [])) ∷ [])
 late = refl
 
 -- the same with the report of 1 before the second settlement
 in_time : IsTold [] (
-    (add_to_x 5, Proposed 1) ∷ (Settle, Settlement (Acked 1)) ∷ (Send 0, Sent 0 1) ∷ (Apply 0, Applied 0 1) ∷ (Report 0, Reported 0 1) ∷
-    (add_to_x 1, Proposed 2) ∷ (Settle, Settlement (Acked 2)) ∷ (Show 0, Shown 1 1 1 0 (pos 5 ∷ pos 10 ∷ [])) ∷ [])
+    (add_to_x 5, Proposed 1) ∷ (Settle, Settlement (Acked 1)) ∷ (Send 0, Sent 0 1) ∷ (Apply 0, Applied 0 1) ∷
+    (Report 0, Reported 0 1) ∷ (add_to_x 1, Proposed 2) ∷ (Settle, Settlement (Acked 2)) ∷
+    (Show 0, Shown 1 1 1 0 (pos 5 ∷ pos 10 ∷ [])) ∷ [])
 in_time = refl
 
 -- a query that may import 4, of a site behind its reference, at it and ahead of it
 imports : IsTold [] (
-    (add_to_x 3, Proposed 1) ∷ (Settle, Settlement (Acked 1)) ∷ (Send 0, Sent 0 1) ∷ (Begin q 0 4, Begun q 1) ∷ (Begin q 0 4, Refused QueryOpen) ∷
-    (Read q 0, ReadOut (record { value = pos 0; import = 3; total = 3 })) ∷ (Apply 0, Applied 0 1) ∷ (Read q 0, ReadOut (record { value = pos 3; import = 0; total = 3 })) ∷
-    (add_to_x 2, Proposed 2) ∷ (Send 0, Sent 0 2) ∷ (Apply 0, Applied 0 2) ∷ (Read q 0, Refused OverImport) ∷
+    (add_to_x 3, Proposed 1) ∷ (Settle, Settlement (Acked 1)) ∷ (Send 0, Sent 0 1) ∷ (Begin q 0 4, Begun q 1) ∷
+    (Begin q 0 4, Refused QueryOpen) ∷ (Read q 0, ReadOut (record { value = pos 0; import = 3; total = 3 })) ∷
+    (Apply 0, Applied 0 1) ∷ (Read q 0, ReadOut (record { value = pos 3; import = 0; total = 3 })) ∷ (add_to_x 2, Proposed 2) ∷
+    (Send 0, Sent 0 2) ∷ (Apply 0, Applied 0 2) ∷ (Read q 0, Refused OverImport) ∷
     (End q, Ended (record { place = 1; sum = pos 3; total = 3; reads = 2 })) ∷ (End q, Refused UnknownQuery) ∷
     (Begin q 0 4, Begun q 1) ∷ (Abandon q, Abandoned q) ∷ (Abandon q, Refused UnknownQuery) ∷ [])
 imports = refl
 
 -- where two refusals apply the first is answered
 refusals : IsTold [] (
-    (set_too_high 2, Refused UnknownObject) ∷ (set_too_high 1, Refused OutOfRange) ∷
-    (Send 2, Refused UnknownSite) ∷ (Send 1, Refused NothingToSend) ∷ (add_to_x 1, Proposed 1) ∷ (Send 1, Sent 1 1) ∷
-    (Send 1, Refused NothingToSend) ∷ (add_to_x 1, Proposed 2) ∷ (Send 1, Refused FeedFull) ∷
-    (Apply 2, Refused UnknownSite) ∷ (Apply 0, Refused NothingToApply) ∷ (Report 2, Refused UnknownSite) ∷ (Show 2, Refused UnknownSite) ∷
-    (Read q 2, Refused UnknownObject) ∷ (Read q 1, Refused UnknownQuery) ∷ [])
+    (set_too_high 2, Refused UnknownObject) ∷ (set_too_high 1, Refused OutOfRange) ∷ (Send 2, Refused UnknownSite) ∷
+    (Send 1, Refused NothingToSend) ∷ (add_to_x 1, Proposed 1) ∷ (Send 1, Sent 1 1) ∷ (Send 1, Refused NothingToSend) ∷
+    (add_to_x 1, Proposed 2) ∷ (Send 1, Refused FeedFull) ∷ (Apply 2, Refused UnknownSite) ∷ (Apply 0, Refused NothingToApply) ∷
+    (Report 2, Refused UnknownSite) ∷ (Show 2, Refused UnknownSite) ∷ (Read q 2, Refused UnknownObject) ∷
+    (Read q 1, Refused UnknownQuery) ∷ [])
 refusals = refl
 
 -- with 64 open queries, and with one fewer
 begins : IsTold (replicate 64 (Begin q 0 0)) (
-    (Begin q 2 1000000000000000001, Refused UnknownSite) ∷ (Begin q 0 1000000000000000001, Refused OutOfRange) ∷ (Begin q 0 0, Refused TooMany) ∷
-    (End q, Ended (record { place = 0; sum = pos 0; total = 0; reads = 0 })) ∷ (Begin q 0 1000000000000000000, Begun q 0) ∷ [])
+    (Begin q 2 1000000000000000001, Refused UnknownSite) ∷ (Begin q 0 1000000000000000001, Refused OutOfRange) ∷
+    (Begin q 0 0, Refused TooMany) ∷ (End q, Ended (record { place = 0; sum = pos 0; total = 0; reads = 0 })) ∷
+    (Begin q 0 1000000000000000000, Begun q 0) ∷ [])
 begins = refl
 
 -- ---- the numbers of a past, its newest event first
@@ -85,7 +93,9 @@ begins = refl
 abbrev past : Past ℕ
 past = Settle ∷ Report 0 ∷ Apply 0 ∷ Apply 0 ∷ Send 0 ∷ Send 0 ∷ Settle ∷ add_to_x 1 ∷ Settle ∷ add_to_x 5 ∷ []
 
-decided : ((decisions setup past).acked ≡ 2) × ((decisions setup past).decided ≡ 2) × ((decisions setup past).reports 0 ≡ 0 ∷ 0 ∷ [])
+decided : ((decisions setup past).acked ≡ 2)
+    × ((decisions setup past).decided ≡ 2)
+    × ((decisions setup past).reports 0 ≡ 0 ∷ 0 ∷ [])
     × (rounds setup 0 past ≡ 2 ∷ []) × (rounds setup 1 past ≡ [])
 decided = (refl, refl, refl, refl, refl)
 
@@ -97,8 +107,12 @@ abbrev read_x : ℕ → ℕ → ReadMade
 read_x value import = record { object = 0; value = pos value; import = import }
 
 opens : (opened setup q reading ≡ Some (record { site = 0; place = 1; limit = 4; reads = read_x 3 0 ∷ read_x 0 3 ∷ [] }))
-    × (opened setup (codes "p") reading ≡ None) × (opened setup q (End q ∷ reading) ≡ None) × (opened setup q (Abandon q ∷ reading) ≡ None)
-    × (open_count (Begin (codes "p") 1 0 ∷ reading) ≡ 2) × (open_count (End q ∷ reading) ≡ 0) × (open_count (Abandon q ∷ reading) ≡ 0)
+    × (opened setup (codes "p") reading ≡ None)
+    × (opened setup q (End q ∷ reading) ≡ None)
+    × (opened setup q (Abandon q ∷ reading) ≡ None)
+    × (open_count (Begin (codes "p") 1 0 ∷ reading) ≡ 2)
+    × (open_count (End q ∷ reading) ≡ 0)
+    × (open_count (Abandon q ∷ reading) ≡ 0)
 opens = (refl, refl, refl, refl, refl, refl, refl)
 
 -- the 256th read may import 4, and no more; the 257th is too many, whatever it imports

@@ -1,4 +1,5 @@
--- Which answers are answers, and what each world keeps, at small numbers worked out by hand: no definition can be made weaker, or impossible, unseen.
+-- Which answers are answers, and what each world keeps, at small numbers worked out by hand:
+-- no definition can be made weaker, or impossible, unseen.
 use Rattle.std.proofs.Common.{◌≡◌, ℕ, zero, suc, ◌≤◌, pos, [], ◌∷◌, replicate, map, true, false, arith, refl, inl, inr}
 use Rattle.std.specs.Prelude.{All}
 use Rattle.std.proofs.lemmas.List.Elements.{All-nil, All-cons}
@@ -22,7 +23,8 @@ memory : (map (takes_memory {A = ℕ}) (add_to_x 1 ∷ Settle ∷ Begin q 0 0 �
 memory = (refl, refl)
 
 -- the reply is an answer, and NoMemory is one where the event takes memory and is not refused; nothing else is
-answered : AreAnswers {A = ℕ} setup [] (add_to_x 5 ∷ Settle ∷ Settle ∷ []) (Proposed 1 ∷ Refused NoMemory ∷ Settlement (Acked 1) ∷ [])
+answered : AreAnswers {A = ℕ} setup [] (add_to_x 5 ∷ Settle ∷ Settle ∷ [])
+    (Proposed 1 ∷ Refused NoMemory ∷ Settlement (Acked 1) ∷ [])
 answered = (inl refl, (inr (refl, refl, refl), (inl refl, tt)))
 
 sends_want_no_memory : IsAnswer setup (add_to_x 5 ∷ []) (Send 0) (Refused NoMemory) → ⊥
@@ -60,7 +62,13 @@ fed_too_much k = let le : 2 ≤ 1 = k.feed in omega arith
 -- a world of the one update that adds so much to x, which is acknowledged; the sites have reported and applied so many
 abbrev world : ℕ → ℕ → ℕ → WorldState
 world n reported applied = record {
-  primary = record { setup = setup; log = log_of setup (add_to_x n ∷ []); acked = 1; decided = 1; sites = replicate 2 (record { sent = 1; reported = reported; reports = 0 ∷ []; rounds = []; windows = [] }) };
+  primary = record {
+    setup = setup;
+    log = log_of setup (add_to_x n ∷ []);
+    acked = 1;
+    decided = 1;
+    sites = replicate 2 (record { sent = 1; reported = reported; reports = 0 ∷ []; rounds = []; windows = [] });
+  };
   sites = replicate 2 (record { applied = applied; values = []; travelled = [] });
   queries = [];
 }
@@ -93,11 +101,21 @@ are_near v r s h k = All-cons (IsNear v) r (s ∷ []) h (All-cons (IsNear v) s [
 
 -- where x is 5 and y is 10 at the reference, x is 2 off, which is what was imported
 near : KeepsImport (pos 5 ∷ pos 10 ∷ []) (reads 2 0)
-near = record { total = omega arith; near = are_near (pos 5 ∷ pos 10 ∷ []) _ _ (omega arith) (omega arith); sum = omega arith; exact = λ e. absurd (omega arith) }
+near = record {
+  total = omega arith;
+  near = are_near (pos 5 ∷ pos 10 ∷ []) _ _ (omega arith) (omega arith);
+  sum = omega arith;
+  exact = λ e. absurd (omega arith);
+}
 
 -- with both at the reference nothing need be imported
 exact : KeepsImport (pos 3 ∷ pos 10 ∷ []) (reads 0 0)
-exact = record { total = omega arith; near = are_near (pos 3 ∷ pos 10 ∷ []) _ _ (omega arith) (omega arith); sum = omega arith; exact = λ e. refl }
+exact = record {
+  total = omega arith;
+  near = are_near (pos 3 ∷ pos 10 ∷ []) _ _ (omega arith) (omega arith);
+  sum = omega arith;
+  exact = λ e. refl;
+}
 
 -- x is 2 off by its own import of 1, though by no more than the total; or the total is 3
 one_is_far : KeepsImport (pos 5 ∷ pos 10 ∷ []) (reads 1 1) → ⊥

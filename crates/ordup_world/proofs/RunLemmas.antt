@@ -13,7 +13,8 @@ all_yielded yielded (x ∷ left) all none e = absurd (omega arith)
 
 module _ {A : Type 0} where
   -- the past after one event more
-  pub past_after-push : (setup : Declared) (past : Past A) (events : List (Event A)) (answers : List (Answer A)) (e : Event A) (a : Answer A) → AreAnswers setup past events answers
+  pub past_after-push : (setup : Declared) (past : Past A) (events : List (Event A)) (answers : List (Answer A)) (e : Event A)
+      (a : Answer A) → AreAnswers setup past events answers
       → past_after past (events ++ e ∷ []) (answers ++ a ∷ []) ≡ later (past_after past events answers) e a
   past_after-push setup past [] [] e a are = refl
   past_after-push setup past [] (b ∷ answers) e a are = absurd are
@@ -21,9 +22,13 @@ module _ {A : Type 0} where
   past_after-push setup past (f ∷ events) (b ∷ answers) e a are = past_after-push setup (later past f b) events answers e a are.1
 
   -- one event more is answered after those before it
-  pub AreAnswers-push : (setup : Declared) (past : Past A) (events : List (Event A)) (answers : List (Answer A)) (e : Event A) (a : Answer A) → AreAnswers setup past events answers
-      → IsAnswer setup (past_after past events answers) e a → AreAnswers setup past (events ++ e ∷ []) (answers ++ a ∷ [])
+  pub AreAnswers-push : (setup : Declared) (past : Past A) (events : List (Event A)) (answers : List (Answer A)) (e : Event A)
+      (a : Answer A) → AreAnswers setup past events answers → IsAnswer setup (past_after past events answers) e a
+      → AreAnswers setup past (events ++ e ∷ []) (answers ++ a ∷ [])
   AreAnswers-push setup past [] [] e a are is = (is, tt)
   AreAnswers-push setup past [] (b ∷ answers) e a are is = absurd are
   AreAnswers-push setup past (f ∷ events) [] e a are is = absurd are
-  AreAnswers-push setup past (f ∷ events) (b ∷ answers) e a are is = (are.0, AreAnswers-push setup (later past f b) events answers e a are.1 is)
+  AreAnswers-push setup past (f ∷ events) (b ∷ answers) e a are is = (
+    are.0,
+    AreAnswers-push setup (later past f b) events answers e a are.1 is,
+  )

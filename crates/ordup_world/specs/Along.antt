@@ -14,7 +14,8 @@ module _ {A : Type 0} where
   Along Holds past (e ∷ events) [] = Holds past
   Along Holds past (e ∷ events) (a ∷ answers) = Holds past × Along Holds (later past e a) events answers
 
-  -- a site has applied what it reported, and no more than was sent to it; its feed holds no more than it may; and the acknowledged updates that it has not applied weigh at most each of its limits
+  -- a site has applied what it reported, and no more than was sent to it; its feed holds no more than it may;
+  -- and the acknowledged updates that it has not applied weigh at most each of its limits
   pub record KeepsSite (setup : Declared) (past : Past A) (s : ℕ) : Type 0 where
     pub told : reported s past ≤ applied s past
     pub got : applied s past ≤ sent s past

@@ -1,9 +1,12 @@
 -- Events, what they are answered, and the numbers of a list of accepted events.
-use Rattle.std.specs.Prelude.{◌≡◌, ◌⊎◌, ℕ, ◌+◌, ◌-◌, ◌==◌, not, if◌then◌else◌, nat_eq, nat_lt, Bool, true, false, Option, Some, None, option_map, is_some, List, [], ◌∷◌, ◌++◌, length}
+use Rattle.std.specs.Prelude.{◌≡◌, ◌⊎◌, ℕ, ◌+◌, ◌-◌, ◌==◌, not, if◌then◌else◌, nat_eq, nat_lt, Bool}
+use Rattle.std.specs.Prelude.{true, false, Option, Some, None, option_map, is_some, List, [], ◌∷◌, ◌++◌, length}
 use Rattle.std.specs.Cmp.Lexicographic.{pointwise}
 use Rattle.ordup_objects.specs.declared.change.Change.{Change}
 use Rattle.ordup_objects.specs.declared.refusal.Refusal.{Refusal}
-use Rattle.ordup_objects.specs.declared.refusal.Refusal.TheVariants.{UnknownObject, UnknownSite, OutOfRange, TooMany, NothingToSend, FeedFull, NothingToApply, NothingToSettle, UnknownQuery, QueryOpen, NoMemory}
+use Rattle.ordup_objects.specs.declared.refusal.Refusal.TheVariants.{UnknownObject, UnknownSite, OutOfRange, TooMany}
+use Rattle.ordup_objects.specs.declared.refusal.Refusal.TheVariants.{NothingToSend, FeedFull, NothingToApply, NothingToSettle}
+use Rattle.ordup_objects.specs.declared.refusal.Refusal.TheVariants.{UnknownQuery, QueryOpen, NoMemory}
 use Rattle.ordup_objects.specs.States.{value_at}
 use Rattle.ordup_objects.specs.Tables.{initial_state}
 use Rattle.ordup_objects.specs.Sets.{are_known}
@@ -22,7 +25,8 @@ use Rattle.ordup_world.specs.Queries.{ReadMade, Opened, import_total, values_rea
 use Rattle.ordup_world.specs.declared.event.Event.{Event}
 use Rattle.ordup_world.specs.declared.event.Event.TheVariants.{Propose, Send, Apply, Report, Settle, Begin, Read, End, Abandon, Show}
 use Rattle.ordup_world.specs.declared.event.Answer.{Answer}
-use Rattle.ordup_world.specs.declared.event.Answer.TheVariants.{Proposed, Sent, Applied, Reported, Settlement, Begun, ReadOut, Ended, Abandoned, Shown, Refused}
+use Rattle.ordup_world.specs.declared.event.Answer.TheVariants.{Proposed, Sent, Applied, Reported, Settlement, Begun}
+use Rattle.ordup_world.specs.declared.event.Answer.TheVariants.{ReadOut, Ended, Abandoned, Shown, Refused}
 
 -- the accepted events, the newest first
 abbrev pub Past : Type 0 → Type 0
@@ -81,9 +85,12 @@ module _ {A : Type 0} where
 
   -- the sites that were forced at the decision of the head and have not reported it
   abbrev pub waiting_after : Declared → Past A → Decisions → List ℕ
-  waiting_after setup past ds = waiting_sites (is_within_after setup past) (λ s. report_at (ds.reports s) (ds.acked + 1)) (λ s. reported s past) (length setup.sites) (ds.acked + 1)
+  waiting_after setup past ds =
+      waiting_sites (is_within_after setup past) (λ s. report_at (ds.reports s) (ds.acked + 1)) (λ s. reported s past)
+      (length setup.sites) (ds.acked + 1)
 
-  -- The first settlement of the head decides it: what each site has reported then counts from now on. It is acknowledged where no site is forced, and later where no forced site is waited for.
+  -- The first settlement of the head decides it: what each site has reported then counts from now on.
+  -- It is acknowledged where no site is forced, and later where no forced site is waited for.
   abbrev pub settled : Declared → Past A → Decisions → Decisions
   settled setup past ds = if ds.acked == ds.decided then (record {
     acked = acked_after ds.acked (forced_after setup past ds);
@@ -99,18 +106,22 @@ module _ {A : Type 0} where
 
   -- what a settlement answers
   abbrev pub settlement_of : Declared → Past A → Decisions → Settled A
-  settlement_of setup past ds = if ds.acked == ds.decided then acked_or_round (ds.acked + 1) (forced_after setup past ds) else acked_or_waiting (ds.acked + 1) (waiting_after setup past ds)
+  settlement_of setup past ds =
+      if ds.acked == ds.decided then acked_or_round (ds.acked + 1) (forced_after setup past ds)
+      else acked_or_waiting (ds.acked + 1) (waiting_after setup past ds)
 
   -- the rounds of a site: the decided places for which the span from what it had reported at the decision passes a limit
   abbrev pub rounds : Declared → ℕ → Past A → List ℕ
-  rounds setup s past = rounds_upto (is_within_after setup past s) (report_at ((decisions setup past).reports s)) (decisions setup past).decided
+  rounds setup s past =
+      rounds_upto (is_within_after setup past s) (report_at ((decisions setup past).reports s)) (decisions setup past).decided
 
   -- its windows: one for each round, from what it had reported at the decision to the decided place
   abbrev pub windows : Declared → ℕ → Past A → List Window
   windows setup s past =
       windows_upto (is_within_after setup past s) (report_at ((decisions setup past).reports s)) (decisions setup past).decided
 
-  -- a read of object x at site s by the reference p: the value that the site holds, and the weight on the object of the span between the two places
+  -- a read of object x at site s by the reference p: the value that the site holds,
+  -- and the weight on the object of the span between the two places
   abbrev pub read_now : Declared → Past A → ℕ → ℕ → ℕ → ReadMade
   read_now setup past s p x = record {
     object = x;
@@ -120,13 +131,22 @@ module _ {A : Type 0} where
 
   -- a query with one read more
   abbrev pub with_read : Declared → Past A → ℕ → Opened → Opened
-  with_read setup past x o = record { site = o.site; place = o.place; limit = o.limit; reads = read_now setup past o.site o.place x ∷ o.reads }
+  with_read setup past x o = record {
+    site = o.site;
+    place = o.place;
+    limit = o.limit;
+    reads = read_now setup past o.site o.place x ∷ o.reads;
+  }
 
-  -- the query of a name, where it is open: where its last Begin has no End or Abandon after it. Its reference is what was acknowledged at that Begin.
+  -- the query of a name, where it is open: where its last Begin has no End or Abandon after it.
+  -- Its reference is what was acknowledged at that Begin.
   abbrev pub opened : Declared → List ℕ → Past A → Option Opened
   opened setup q [] = None
-  opened setup q (Begin r s limit ∷ past) = if is_same r q then Some (record { site = s; place = (decisions setup past).acked; limit = limit; reads = [] }) else opened setup q past
-  opened setup q (Read r x ∷ past) = if is_same r q then option_map (with_read setup past x) (opened setup q past) else opened setup q past
+  opened setup q (Begin r s limit ∷ past) =
+      if is_same r q then Some (record { site = s; place = (decisions setup past).acked; limit = limit; reads = [] })
+      else opened setup q past
+  opened setup q (Read r x ∷ past) =
+      if is_same r q then option_map (with_read setup past x) (opened setup q past) else opened setup q past
   opened setup q (End r ∷ past) = if is_same r q then None else opened setup q past
   opened setup q (Abandon r ∷ past) = if is_same r q then None else opened setup q past
   opened setup q (_ ∷ past) = opened setup q past
@@ -148,12 +168,14 @@ module _ {A : Type 0} where
   abbrev pub read_reply : Option Opened → (Opened → ReadMade) → Answer A
   read_reply None now = Refused UnknownQuery
   read_reply (Some o) now =
-      refused_or (refusal_now o (now o)) (ReadOut (record { value = (now o).value; import = (now o).import; total = import_total o.reads + (now o).import }))
+      refused_or (refusal_now o (now o))
+      (ReadOut (record { value = (now o).value; import = (now o).import; total = import_total o.reads + (now o).import }))
 
   -- what the end of a query is answered
   abbrev pub end_reply : Option Opened → Answer A
   end_reply None = Refused UnknownQuery
-  end_reply (Some o) = Ended (record { place = o.place; sum = value_sum (values_read o.reads); total = import_total o.reads; reads = length o.reads })
+  end_reply (Some o) =
+      Ended (record { place = o.place; sum = value_sum (values_read o.reads); total = import_total o.reads; reads = length o.reads })
 
   -- the reply to an event after the past: the first refusal that applies, or else the answer
   abbrev pub reply : Declared → Past A → Event A → Answer A
@@ -216,7 +238,8 @@ module _ {A : Type 0} where
   -- an event after the past may be answered so: by the reply, or by NoMemory where the event takes memory and the reply is no refusal
   abbrev pub IsAnswer : Declared → Past A → Event A → Answer A → Type 0
   IsAnswer setup past e answer =
-      (answer ≡ reply setup past e) ⊎ ((takes_memory e ≡ true) × (is_refused (reply setup past e) ≡ false) × (answer ≡ Refused NoMemory))
+      (answer ≡ reply setup past e)
+      ⊎ ((takes_memory e ≡ true) × (is_refused (reply setup past e) ≡ false) × (answer ≡ Refused NoMemory))
 
   -- a fact where an answer is a refusal
   abbrev pub OnRefused : Answer A → Type 0 → Type 0

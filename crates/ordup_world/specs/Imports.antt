@@ -12,7 +12,9 @@ use Rattle.ordup_world.specs.Events.{Past, log_of, opened, reply, is_refused}
 abbrev pub values_on : State → List ReadMade → List ℤ
 values_on v reads = map (λ r. value_at v r.object) reads
 
--- A query keeps its import limit: what its reads imported is within the limit. Each value that it read is no further from the value at its reference, the state v, than the read imported; so are the sums; and where nothing was imported, the values are those of the reference.
+-- A query keeps its import limit: what its reads imported is within the limit.
+-- Each value that it read is no further from the value at its reference, the state v, than the read imported; so are the sums;
+-- and where nothing was imported, the values are those of the reference.
 pub record KeepsImport (v : State) (o : Opened) : Type 0 where
   pub total : import_total o.reads ≤ o.limit
   pub near : All (λ r. distance r.value (value_at v r.object) ≤ r.import) o.reads
@@ -27,4 +29,5 @@ module _ {A : Type 0} where
 
   -- each query that is open after the past keeps its import limit, by the state of the log at its reference
   abbrev pub KeepImports : Declared → Past A → Type 0
-  KeepImports setup past = (q : List ℕ) (o : Opened) → opened setup q past ≡ Some o → KeepsImport (serial (log_of setup past) o.place) o
+  KeepImports setup past =
+      (q : List ℕ) (o : Opened) → opened setup q past ≡ Some o → KeepsImport (serial (log_of setup past) o.place) o

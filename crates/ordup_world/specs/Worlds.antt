@@ -1,5 +1,6 @@
 -- What a world holds, and for which accepted events it stands.
-use Rattle.std.specs.Prelude.{◌≡◌, ℕ, ℤ, ◌+◌, ◌<◌, ◌≤◌, true, Option, Some, option_map, List, length, replicate, slice_index_or}
+use Rattle.std.specs.Prelude.{◌≡◌, ℕ, ℤ, ◌+◌, ◌<◌, ◌≤◌, true, Option}
+use Rattle.std.specs.Prelude.{Some, option_map, List, length, replicate, slice_index_or}
 use Rattle.std.specs.Map.{lookup}
 use Rattle.ordup_objects.specs.Tables.{initial_state}
 use Rattle.ordup_objects.specs.Serial.{History, serial}
@@ -59,7 +60,8 @@ pub record IsStore (w : StoreState) : Type 0 where
   pub sites : (s : ℕ) (d : SiteState) → s < length w.sites →
       HoldsFeed w.primary.log (capacity_of w.primary.setup s) (progress_at w.primary s) (slice_index_or w.sites s d)
 
--- what a world keeps of an open query: its reference was acknowledged, its marks are those of the reference, and what it imported is within its limit
+-- what a world keeps of an open query: its reference was acknowledged, its marks are those of the reference,
+-- and what it imported is within its limit
 pub record IsOpenSound (w : StoreState) (o : OpenState) : Type 0 where
   pub site : o.site < length w.sites
   pub place : o.query.place ≤ w.primary.acked

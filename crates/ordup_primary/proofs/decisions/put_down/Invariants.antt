@@ -11,6 +11,8 @@ abbrev pub invariant-loop-place : goal.invariant-loop-place
 invariant-loop-place g l = record {
   count : length l.sites.items ≡ length l.fn.sites.items;
   done : (t : ℕ) (d : Progress g.row.A.Denot) → t < l.place →
-      progress_of (slice_index_or l.sites.items t d) ≡ decided_at (not (list_any (λ u. u == t) l.forced)) l.number (progress_of (slice_index_or l.fn.sites.items t d));
-  rest : (t : ℕ) (d : Progress g.row.A.Denot) → l.place ≤ t → slice_index_or l.sites.items t d ≡ slice_index_or l.fn.sites.items t d;
+      progress_of (slice_index_or l.sites.items t d)
+      ≡ decided_at (not (list_any (λ u. u == t) l.forced)) l.number (progress_of (slice_index_or l.fn.sites.items t d));
+  rest : (t : ℕ) (d : Progress g.row.A.Denot) → l.place ≤ t
+      → slice_index_or l.sites.items t d ≡ slice_index_or l.fn.sites.items t d;
 }

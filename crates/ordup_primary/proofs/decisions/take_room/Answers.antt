@@ -7,7 +7,8 @@ use Rattle.ordup_primary.proofs.decisions.take_room.Goals as goal
 
 pub returns-in_err-take_room_at-clause-same : goal.returns-in_err-take_room_at-clause-same
 returns-in_err-take_room_at-clause-same g c =
-    map-set_same progress_of c.loop-place.sites.items c.loop-place.place c.take_room_at.new.site c.index_mut.result.now (c.take_room_at.ensures.same ∙ ap progress_of c.index_mut.ensures.value)
+    map-set_same progress_of c.loop-place.sites.items c.loop-place.place c.take_room_at.new.site c.index_mut.result.now
+    (c.take_room_at.ensures.same ∙ ap progress_of c.index_mut.ensures.value)
     ∙ c.loop-place.invariant.same
 
 pub loop-place-preserved : goal.loop-place-preserved
@@ -16,7 +17,10 @@ loop-place-preserved g c =
     let x = c.take_room_at.new.site in
     let before = c.loop-place.invariant in
     record {
-      same = map-set_same progress_of xs c.loop-place.place x c.index_mut.result.now (c.take_room_at.ensures.same ∙ ap progress_of c.index_mut.ensures.value) ∙ before.same;
+      same =
+          map-set_same progress_of xs c.loop-place.place x c.index_mut.result.now
+          (c.take_room_at.ensures.same ∙ ap progress_of c.index_mut.ensures.value)
+          ∙ before.same;
       count = length-set xs c.loop-place.place x ∙ before.count;
       room = each-more HasRoom xs c.loop-place.place x (omega arith) c.in_ok-take_room_at.ensures.room before.room;
     }

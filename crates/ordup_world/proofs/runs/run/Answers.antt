@@ -13,41 +13,58 @@ loop-event-preserved g c =
     let before = c.loop-event.invariant in
     let mid = past_after {A = g.row.A.Denot} [] c.loop-event.yielded c.loop-event.answers.items in
     record {
-      left = append_assoc c.loop-event.yielded (c.in-Some.event ∷ []) (into_iter_items c.next.new.self) ∙ ap (λ xs. c.loop-event.yielded ++ xs) (sym c.in-Some.ensures.steps.0) ∙ before.left;
+      left =
+          append_assoc c.loop-event.yielded (c.in-Some.event ∷ []) (into_iter_items c.next.new.self)
+          ∙ ap (λ xs. c.loop-event.yielded ++ xs) (sym c.in-Some.ensures.steps.0)
+          ∙ before.left;
       room = omega (arith, before.room, c.in-Some.ensures.steps.1, c.push_reserved.ensures.len, c.push_reserved.ensures.capacity);
       setup = c.step.ensures.setup ∙ before.setup;
       sound = c.step.ensures.sound;
       limits = c.step.ensures.limits;
-      answers = rw c.push_reserved.ensures.items (AreAnswers-push c.args.setup [] c.loop-event.yielded c.loop-event.answers.items c.in-Some.event c.step.result before.answers (c.step.ensures.answer c.args.setup mid before.state));
+      answers =
+          rw c.push_reserved.ensures.items (AreAnswers-push c.args.setup [] c.loop-event.yielded
+          c.loop-event.answers.items c.in-Some.event c.step.result before.answers (c.step.ensures.answer c.args.setup mid before.state));
       along =
           let after = c.step.ensures.state c.args.setup mid before.state in
-          let now = KeepSites-stands c.args.setup c.step.new.self (later mid c.in-Some.event c.step.result) c.step.ensures.sound c.step.ensures.limits after in
-          rw c.push_reserved.ensures.items (Along-push (KeepSites c.args.setup) c.args.setup [] c.loop-event.yielded c.loop-event.answers.items c.in-Some.event c.step.result before.answers before.along now);
+          let now = KeepSites-stands c.args.setup c.step.new.self (later mid c.in-Some.event c.step.result)
+          c.step.ensures.sound c.step.ensures.limits after in
+          rw c.push_reserved.ensures.items (Along-push (KeepSites c.args.setup) c.args.setup [] c.loop-event.yielded
+          c.loop-event.answers.items c.in-Some.event c.step.result before.answers before.along now);
       fewest =
           let after = c.step.ensures.state c.args.setup mid before.state in
           let now = HaveFewest-stands c.args.setup c.step.new.self (later mid c.in-Some.event c.step.result) c.step.ensures.sound after in
           rw c.push_reserved.ensures.items
           (Along-push (HaveFewest c.args.setup) c.args.setup [] c.loop-event.yielded c.loop-event.answers.items c.in-Some.event
           c.step.result before.answers before.fewest now);
-      state = rw (c.push_reserved.ensures.items, past_after-push c.args.setup [] c.loop-event.yielded c.loop-event.answers.items c.in-Some.event c.step.result before.answers) (c.step.ensures.state c.args.setup mid before.state);
+      state =
+          rw (
+            c.push_reserved.ensures.items,
+            past_after-push c.args.setup [] c.loop-event.yielded c.loop-event.answers.items c.in-Some.event c.step.result before.answers,
+          ) (c.step.ensures.state c.args.setup mid before.state);
     }
 
 pub returns-clause-answers : goal.returns-clause-answers
 returns-clause-answers g c =
     let before = c.loop-event.invariant in
-    let all : c.loop-event.yielded ≡ c.args.events.items = all_yielded c.loop-event.yielded (into_iter_items c.loop-event.event-iterator) c.args.events.items (omega (arith, c.in-None.ensures.steps.0, c.loop-event.event-iterator.rest.ok)) before.left in
+    let all : c.loop-event.yielded ≡ c.args.events.items =
+    all_yielded c.loop-event.yielded (into_iter_items c.loop-event.event-iterator) c.args.events.items
+    (omega (arith, c.in-None.ensures.steps.0, c.loop-event.event-iterator.rest.ok)) before.left in
     rw all at before.answers
 
 pub returns-clause-state : goal.returns-clause-state
 returns-clause-state g c =
     let before = c.loop-event.invariant in
-    let all : c.loop-event.yielded ≡ c.args.events.items = all_yielded c.loop-event.yielded (into_iter_items c.loop-event.event-iterator) c.args.events.items (omega (arith, c.in-None.ensures.steps.0, c.loop-event.event-iterator.rest.ok)) before.left in
+    let all : c.loop-event.yielded ≡ c.args.events.items =
+    all_yielded c.loop-event.yielded (into_iter_items c.loop-event.event-iterator) c.args.events.items
+    (omega (arith, c.in-None.ensures.steps.0, c.loop-event.event-iterator.rest.ok)) before.left in
     rw all at before.state
 
 pub returns-clause-along : goal.returns-clause-along
 returns-clause-along g c =
     let before = c.loop-event.invariant in
-    let all : c.loop-event.yielded ≡ c.args.events.items = all_yielded c.loop-event.yielded (into_iter_items c.loop-event.event-iterator) c.args.events.items (omega (arith, c.in-None.ensures.steps.0, c.loop-event.event-iterator.rest.ok)) before.left in
+    let all : c.loop-event.yielded ≡ c.args.events.items =
+    all_yielded c.loop-event.yielded (into_iter_items c.loop-event.event-iterator) c.args.events.items
+    (omega (arith, c.in-None.ensures.steps.0, c.loop-event.event-iterator.rest.ok)) before.left in
     rw all at before.along
 
 pub returns-clause-fewest : goal.returns-clause-fewest
@@ -65,7 +82,9 @@ returns-clause-rounds g c = HasFewestRounds-sound c.loop-event.world.primary c.l
 pub returns-clause-imports : goal.returns-clause-imports
 returns-clause-imports g c =
     let before = c.loop-event.invariant in
-    let all : c.loop-event.yielded ≡ c.args.events.items = all_yielded c.loop-event.yielded (into_iter_items c.loop-event.event-iterator) c.args.events.items (omega (arith, c.in-None.ensures.steps.0, c.loop-event.event-iterator.rest.ok)) before.left in
+    let all : c.loop-event.yielded ≡ c.args.events.items =
+    all_yielded c.loop-event.yielded (into_iter_items c.loop-event.event-iterator) c.args.events.items
+    (omega (arith, c.in-None.ensures.steps.0, c.loop-event.event-iterator.rest.ok)) before.left in
     KeepImports-along c.args.setup c.args.events.items c.loop-event.answers.items (rw all at before.answers)
 
 pub loop-event-init : goal.loop-event-init

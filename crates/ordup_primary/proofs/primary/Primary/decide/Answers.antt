@@ -8,8 +8,13 @@ invariant_of-self-then-is_empty g c =
     let forced = c.as_slice.ensures ∙ rw (← c.self.view_is) at c.in_ok-forced.ensures.sites in
     let here = rw (← c.self.view_is) at c.requires.head in
     record {
-      primary = IsPrimary-decided (state_of c.self.inside) _ c.self.invariant.primary (rw (← c.self.view_is) at c.requires.first) (omega (arith, here, rw (← c.self.view_is) at c.requires.some))
-          (Decides-at c.self.inside c.take_room.new.sites.items c.put_down.new.sites.items c.as_slice.result.now c.args.head c.args.head c.in_ok-take_room.ensures.same forced c.put_down.ensures.count c.put_down.ensures.sites here (acked-none c.self.inside.acked c.args.head c.as_slice.result.now (c.if-is_empty.ensures ∙ ap (λ xs. length xs == 0) (c.as_slice-2.ensures ∙ sym c.as_slice.ensures)) here));
+      primary =
+          IsPrimary-decided (state_of c.self.inside) _ c.self.invariant.primary (rw (← c.self.view_is) at c.requires.first)
+          (omega (arith, here, rw (← c.self.view_is) at c.requires.some))
+          (Decides-at c.self.inside c.take_room.new.sites.items c.put_down.new.sites.items c.as_slice.result.now c.args.head
+          c.args.head c.in_ok-take_room.ensures.same forced c.put_down.ensures.count c.put_down.ensures.sites here
+          (acked-none c.self.inside.acked c.args.head c.as_slice.result.now
+          (c.if-is_empty.ensures ∙ ap (λ xs. length xs == 0) (c.as_slice-2.ensures ∙ sym c.as_slice.ensures)) here));
       count = c.raise.ensures.count;
       marks = c.raise.ensures.marks;
     }
@@ -18,15 +23,23 @@ pub returns-then-is_empty-clause-decides : goal.returns-then-is_empty-clause-dec
 returns-then-is_empty-clause-decides g c =
     let forced = c.as_slice.ensures ∙ rw (← c.self.view_is) at c.in_ok-forced.ensures.sites in
     let here = rw (← c.self.view_is) at c.requires.head in
-    rw (← c.self.view_is) (Decides-at c.self.inside c.take_room.new.sites.items c.put_down.new.sites.items c.as_slice.result.now c.args.head c.args.head c.in_ok-take_room.ensures.same forced c.put_down.ensures.count c.put_down.ensures.sites here (acked-none c.self.inside.acked c.args.head c.as_slice.result.now (c.if-is_empty.ensures ∙ ap (λ xs. length xs == 0) (c.as_slice-2.ensures ∙ sym c.as_slice.ensures)) here))
+    rw (← c.self.view_is) (Decides-at c.self.inside c.take_room.new.sites.items
+    c.put_down.new.sites.items c.as_slice.result.now c.args.head c.args.head c.in_ok-take_room.ensures.same forced
+    c.put_down.ensures.count c.put_down.ensures.sites here (acked-none c.self.inside.acked c.args.head c.as_slice.result.now
+    (c.if-is_empty.ensures ∙ ap (λ xs. length xs == 0) (c.as_slice-2.ensures ∙ sym c.as_slice.ensures)) here))
 
 pub invariant_of-self-else-is_empty : goal.invariant_of-self-else-is_empty
 invariant_of-self-else-is_empty g c =
     let forced = c.as_slice.ensures ∙ rw (← c.self.view_is) at c.in_ok-forced.ensures.sites in
     let here = rw (← c.self.view_is) at c.requires.head in
     record {
-      primary = IsPrimary-decided (state_of c.self.inside) _ c.self.invariant.primary (rw (← c.self.view_is) at c.requires.first) (omega (arith, here, rw (← c.self.view_is) at c.requires.some))
-          (Decides-at c.self.inside c.take_room.new.sites.items c.put_down.new.sites.items c.as_slice.result.now c.self.inside.acked c.args.head c.in_ok-take_room.ensures.same forced c.put_down.ensures.count c.put_down.ensures.sites here (acked-some c.self.inside.acked c.as_slice.result.now (c.if-is_empty.ensures ∙ ap (λ xs. length xs == 0) (c.as_slice-2.ensures ∙ sym c.as_slice.ensures))));
+      primary =
+          IsPrimary-decided (state_of c.self.inside) _ c.self.invariant.primary (rw (← c.self.view_is) at c.requires.first)
+          (omega (arith, here, rw (← c.self.view_is) at c.requires.some))
+          (Decides-at c.self.inside c.take_room.new.sites.items c.put_down.new.sites.items c.as_slice.result.now
+          c.self.inside.acked c.args.head c.in_ok-take_room.ensures.same forced c.put_down.ensures.count c.put_down.ensures.sites here
+          (acked-some c.self.inside.acked c.as_slice.result.now
+          (c.if-is_empty.ensures ∙ ap (λ xs. length xs == 0) (c.as_slice-2.ensures ∙ sym c.as_slice.ensures))));
       count = c.self.invariant.count;
       marks = c.self.invariant.marks;
     }
@@ -35,18 +48,29 @@ pub returns-clause-decides : goal.returns-clause-decides
 returns-clause-decides g c =
     let forced = c.as_slice.ensures ∙ rw (← c.self.view_is) at c.in_ok-forced.ensures.sites in
     let here = rw (← c.self.view_is) at c.requires.head in
-    rw (← c.self.view_is) (Decides-at c.self.inside c.take_room.new.sites.items c.put_down.new.sites.items c.as_slice.result.now c.self.inside.acked c.args.head c.in_ok-take_room.ensures.same forced c.put_down.ensures.count c.put_down.ensures.sites here (acked-some c.self.inside.acked c.as_slice.result.now (c.if-is_empty.ensures ∙ ap (λ xs. length xs == 0) (c.as_slice-2.ensures ∙ sym c.as_slice.ensures))))
+    rw (← c.self.view_is) (Decides-at c.self.inside c.take_room.new.sites.items c.put_down.new.sites.items c.as_slice.result.now
+    c.self.inside.acked c.args.head c.in_ok-take_room.ensures.same forced c.put_down.ensures.count c.put_down.ensures.sites here
+    (acked-some c.self.inside.acked c.as_slice.result.now
+    (c.if-is_empty.ensures ∙ ap (λ xs. length xs == 0) (c.as_slice-2.ensures ∙ sym c.as_slice.ensures))))
 
 pub returns-then-is_empty-clause-sound : goal.returns-then-is_empty-clause-sound
 returns-then-is_empty-clause-sound g c =
     let forced = c.as_slice.ensures ∙ rw (← c.self.view_is) at c.in_ok-forced.ensures.sites in
     let here = rw (← c.self.view_is) at c.requires.head in
-    IsPrimary-decided (state_of c.self.inside) _ c.self.invariant.primary (rw (← c.self.view_is) at c.requires.first) (omega (arith, here, rw (← c.self.view_is) at c.requires.some))
-    (Decides-at c.self.inside c.take_room.new.sites.items c.put_down.new.sites.items c.as_slice.result.now c.args.head c.args.head c.in_ok-take_room.ensures.same forced c.put_down.ensures.count c.put_down.ensures.sites here (acked-none c.self.inside.acked c.args.head c.as_slice.result.now (c.if-is_empty.ensures ∙ ap (λ xs. length xs == 0) (c.as_slice-2.ensures ∙ sym c.as_slice.ensures)) here))
+    IsPrimary-decided (state_of c.self.inside) _ c.self.invariant.primary (rw (← c.self.view_is) at c.requires.first)
+    (omega (arith, here, rw (← c.self.view_is) at c.requires.some))
+    (Decides-at c.self.inside c.take_room.new.sites.items c.put_down.new.sites.items c.as_slice.result.now c.args.head
+    c.args.head c.in_ok-take_room.ensures.same forced c.put_down.ensures.count c.put_down.ensures.sites here
+    (acked-none c.self.inside.acked c.args.head c.as_slice.result.now
+    (c.if-is_empty.ensures ∙ ap (λ xs. length xs == 0) (c.as_slice-2.ensures ∙ sym c.as_slice.ensures)) here))
 
 pub returns-clause-sound : goal.returns-clause-sound
 returns-clause-sound g c =
     let forced = c.as_slice.ensures ∙ rw (← c.self.view_is) at c.in_ok-forced.ensures.sites in
     let here = rw (← c.self.view_is) at c.requires.head in
-    IsPrimary-decided (state_of c.self.inside) _ c.self.invariant.primary (rw (← c.self.view_is) at c.requires.first) (omega (arith, here, rw (← c.self.view_is) at c.requires.some))
-    (Decides-at c.self.inside c.take_room.new.sites.items c.put_down.new.sites.items c.as_slice.result.now c.self.inside.acked c.args.head c.in_ok-take_room.ensures.same forced c.put_down.ensures.count c.put_down.ensures.sites here (acked-some c.self.inside.acked c.as_slice.result.now (c.if-is_empty.ensures ∙ ap (λ xs. length xs == 0) (c.as_slice-2.ensures ∙ sym c.as_slice.ensures))))
+    IsPrimary-decided (state_of c.self.inside) _ c.self.invariant.primary (rw (← c.self.view_is) at c.requires.first)
+    (omega (arith, here, rw (← c.self.view_is) at c.requires.some))
+    (Decides-at c.self.inside c.take_room.new.sites.items c.put_down.new.sites.items c.as_slice.result.now c.self.inside.acked c.args.head
+    c.in_ok-take_room.ensures.same forced c.put_down.ensures.count c.put_down.ensures.sites here
+    (acked-some c.self.inside.acked c.as_slice.result.now
+    (c.if-is_empty.ensures ∙ ap (λ xs. length xs == 0) (c.as_slice-2.ensures ∙ sym c.as_slice.ensures))))

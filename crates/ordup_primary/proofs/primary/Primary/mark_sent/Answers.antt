@@ -14,19 +14,29 @@ overflow_add-index_mut g c =
 pub invariant_of-self : goal.invariant_of-self
 invariant_of-self g c =
     let lt = rw (← c.self.view_is) at c.requires.site in
-    let e = view-set c.self.inside c.index.result c.args.site c.index_mut.result.now (record c.index_mut.result.now { sent = c.index_mut.result.now.sent + 1 }) sent_more c.index.ensures lt c.index_mut.ensures.value refl in
-    record { primary = IsPrimary-sent c.self.inside _ c.args.site c.self.invariant.primary lt (rw (← c.self.view_is) at c.requires.unsent) e; count = c.self.invariant.count; marks = c.self.invariant.marks }
+    let e = view-set c.self.inside c.index.result c.args.site c.index_mut.result.now
+    (record c.index_mut.result.now { sent = c.index_mut.result.now.sent + 1 })
+    sent_more c.index.ensures lt c.index_mut.ensures.value refl in
+    record {
+      primary = IsPrimary-sent c.self.inside _ c.args.site c.self.invariant.primary lt (rw (← c.self.view_is) at c.requires.unsent) e;
+      count = c.self.invariant.count;
+      marks = c.self.invariant.marks;
+    }
 
 pub returns-clause-marked : goal.returns-clause-marked
 returns-clause-marked g c =
     let lt = rw (← c.self.view_is) at c.requires.site in
-    let e = view-set c.self.inside c.index.result c.args.site c.index_mut.result.now (record c.index_mut.result.now { sent = c.index_mut.result.now.sent + 1 }) sent_more c.index.ensures lt c.index_mut.ensures.value refl in
+    let e = view-set c.self.inside c.index.result c.args.site c.index_mut.result.now
+    (record c.index_mut.result.now { sent = c.index_mut.result.now.sent + 1 })
+    sent_more c.index.ensures lt c.index_mut.ensures.value refl in
     rw (← c.self.view_is) (ap (λ sites. let p : PrimaryState = record (state_of c.self.inside) { sites = sites } in p) e)
 
 pub returns-clause-sound : goal.returns-clause-sound
 returns-clause-sound g c =
     let lt = rw (← c.self.view_is) at c.requires.site in
-    let e = view-set c.self.inside c.index.result c.args.site c.index_mut.result.now (record c.index_mut.result.now { sent = c.index_mut.result.now.sent + 1 }) sent_more c.index.ensures lt c.index_mut.ensures.value refl in
+    let e = view-set c.self.inside c.index.result c.args.site c.index_mut.result.now
+    (record c.index_mut.result.now { sent = c.index_mut.result.now.sent + 1 })
+    sent_more c.index.ensures lt c.index_mut.ensures.value refl in
     IsPrimary-sent c.self.inside _ c.args.site c.self.invariant.primary lt (rw (← c.self.view_is) at c.requires.unsent) e
 
 pub index_mut-requires : goal.index_mut-requires

@@ -11,15 +11,20 @@ invariant_of-self-2 g c =
     let set : IsSet c.args.set = search rules in
     let before = c.self.invariant in
     rw c.in_ok-number.ensures.added (record {
-      primary = IsPrimary-proposed (state_of c.self.inside) c.args.set before.primary set (rw (← c.self.view_is) at c.requires) c.in_ok-number.ensures.allowed;
+      primary =
+          IsPrimary-proposed (state_of c.self.inside) c.args.set before.primary set (rw (← c.self.view_is) at c.requires)
+          c.in_ok-number.ensures.allowed;
       count = before.count;
-      marks = AreMarks-longer c.self.inside.log c.self.inside.acked c.self.inside.marks.items (c.args.set ∷ []) (omega (arith, before.primary.acked, before.primary.decided)) before.marks;
+      marks =
+          AreMarks-longer c.self.inside.log c.self.inside.acked c.self.inside.marks.items (c.args.set ∷ [])
+          (omega (arith, before.primary.acked, before.primary.decided)) before.marks;
     })
 
 pub returns-clause-sound : goal.returns-clause-sound
 returns-clause-sound g c =
     let set : IsSet c.args.set = search rules in
-    rw c.in_ok-number.ensures.added (IsPrimary-proposed (state_of c.self.inside) c.args.set c.self.invariant.primary set (rw (← c.self.view_is) at c.requires) c.in_ok-number.ensures.allowed)
+    rw c.in_ok-number.ensures.added (IsPrimary-proposed (state_of c.self.inside) c.args.set c.self.invariant.primary set
+    (rw (← c.self.view_is) at c.requires) c.in_ok-number.ensures.allowed)
 
 pub append-requires : goal.append-requires
 append-requires g c = grind (arith, common_steps)

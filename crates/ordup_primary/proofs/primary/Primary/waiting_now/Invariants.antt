@@ -6,4 +6,8 @@ use Rattle.ordup_primary.proofs.primary.Primary.waiting_now.Given as goal
 
 -- the sites so far for which the head waits
 abbrev pub invariant-loop-place : goal.invariant-loop-place
-invariant-loop-place g l = l.waiting ≡ where_below (λ s. not (is_within l.self s (reported_at (progress_at l.self s) l.head) l.head) && nat_lt (progress_at l.self s).reported l.head) l.place
+invariant-loop-place g l =
+    l.waiting
+    ≡ where_below
+    (λ s. not (is_within l.self s (reported_at (progress_at l.self s) l.head) l.head) && nat_lt (progress_at l.self s).reported l.head)
+    l.place

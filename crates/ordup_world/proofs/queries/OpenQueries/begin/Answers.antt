@@ -7,11 +7,13 @@ use Rattle.ordup_world.proofs.queries.OpenQueries.begin.Goals as goal
 
 pub returns-then-index-len : goal.returns-then-index-len
 returns-then-index-len g c =
-    unknown-begin (with_queries (state_of c.args.store.now) c.args.self.now) c.args.name c.args.site c.args.limit c.requires (grind (arith, common_steps))
+    unknown-begin (with_queries (state_of c.args.store.now) c.args.self.now) c.args.name c.args.site c.args.limit c.requires
+    (grind (arith, common_steps))
 
 pub returns-then-limit-gt-GREATEST_IMPORT_LIMIT : goal.returns-then-limit-gt-GREATEST_IMPORT_LIMIT
 returns-then-limit-gt-GREATEST_IMPORT_LIMIT g c =
-    limit_out_of_range (with_queries (state_of c.args.store.now) c.args.self.now) c.args.name c.args.site c.args.limit c.requires (grind (arith, common_steps)) (grind (arith, common_steps))
+    limit_out_of_range (with_queries (state_of c.args.store.now) c.args.self.now) c.args.name c.args.site c.args.limit c.requires
+    (grind (arith, common_steps)) (grind (arith, common_steps))
 
 pub returns-then-len-eq-MOST_QUERIES : goal.returns-then-len-eq-MOST_QUERIES
 returns-then-len-eq-MOST_QUERIES g c =
@@ -25,6 +27,7 @@ returns-then-contains g c =
 
 pub returns : goal.returns
 returns g c =
-    begun (with_queries (state_of c.args.store.now) c.args.self.now) c.insert.new.self c.in-Ok.open c.args.name c.args.site c.args.limit c.acked.result c.requires
+    begun (with_queries (state_of c.args.store.now) c.args.self.now) c.insert.new.self c.in-Ok.open c.args.name c.args.site
+    c.args.limit c.acked.result c.requires
     (grind (arith, common_steps)) (grind (arith, common_steps)) (grind (arith, common_steps)) (grind (arith, common_steps))
     c.in-Ok.ensures.begun c.in-Ok-insert.ensures.found c.in-Ok-insert.ensures.len c.acked.ensures.acked

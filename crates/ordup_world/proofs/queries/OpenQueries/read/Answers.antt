@@ -7,18 +7,22 @@ use Rattle.ordup_world.proofs.QueryStepLemmas.{unknown-read, read_refused, read_
 use Rattle.ordup_world.proofs.queries.OpenQueries.read.Goals as goal
 
 pub returns-then-index-len : goal.returns-then-index-len
-returns-then-index-len g c = unknown-read (with_queries (state_of c.args.store.now) c.args.self.now) c.args.name c.args.object c.requires (grind (arith, common_steps))
+returns-then-index-len g c =
+    unknown-read (with_queries (state_of c.args.store.now) c.args.self.now) c.args.name c.args.object c.requires
+    (grind (arith, common_steps))
 
 pub read_at-requires-clause-site : goal.read_at-requires-clause-site
 read_at-requires-clause-site g c =
     let w : WorldState = with_queries (state_of c.args.store.now) c.args.self.now in
-    rw c.as_slice.ensures.value (if-found (find_query c.args.name w.queries) (λ o. o.site < length w.sites) (λ o found. (c.requires.queries c.args.name o found).site))
+    rw c.as_slice.ensures.value (if-found (find_query c.args.name w.queries) (λ o. o.site < length w.sites)
+    (λ o found. (c.requires.queries c.args.name o found).site))
 
 pub read_at-requires-clause-marked : goal.read_at-requires-clause-marked
 read_at-requires-clause-marked g c =
     let w : WorldState = with_queries (state_of c.args.store.now) c.args.self.now in
     let known : c.args.object < length w.primary.setup.objects = grind (arith, common_steps) in
-    if-found (find_query c.args.name w.queries) (λ o. c.args.object < length o.query.marks) (λ o found. omega (arith, known, (c.requires.queries c.args.name o found).count))
+    if-found (find_query c.args.name w.queries) (λ o. c.args.object < length o.query.marks)
+    (λ o found. omega (arith, known, (c.requires.queries c.args.name o found).count))
 
 pub read_at-requires-clause-known : goal.read_at-requires-clause-known
 read_at-requires-clause-known g c =
@@ -28,10 +32,12 @@ read_at-requires-clause-known g c =
 
 pub returns-in-Ok : goal.returns-in-Ok
 returns-in-Ok g c =
-    read_out (with_queries (state_of c.args.store.now) c.args.self.now) c.read_at.new.self c.args.name c.args.object c.in-Ok.answer c.requires (grind (arith, common_steps))
+    read_out (with_queries (state_of c.args.store.now) c.args.self.now) c.read_at.new.self c.args.name c.args.object c.in-Ok.answer
+    c.requires (grind (arith, common_steps))
     (rw c.as_slice.ensures.value at c.in-Ok.ensures.ok)
 
 pub returns-in-Err : goal.returns-in-Err
 returns-in-Err g c =
-    read_refused (with_queries (state_of c.args.store.now) c.args.self.now) c.read_at.new.self c.args.name c.args.object c.in-Err.refusal c.requires (grind (arith, common_steps))
+    read_refused (with_queries (state_of c.args.store.now) c.args.self.now) c.read_at.new.self c.args.name c.args.object
+    c.in-Err.refusal c.requires (grind (arith, common_steps))
     (rw c.as_slice.ensures.value at c.in-Err.ensures.refused) c.in-Err.ensures.err

@@ -14,7 +14,8 @@ returns-then-index-len g c = unknown-apply (state_of c.args.self.now) c.args.sit
 
 pub returns-then-applied-sent : goal.returns-then-applied-sent
 returns-then-applied-sent g c =
-    nothing_to_apply (state_of c.args.self.now) c.args.site c.index-3.result.now c.requires (grind (arith, common_steps)) (grind (arith, common_steps)) (grind (arith, common_steps))
+    nothing_to_apply (state_of c.args.self.now) c.args.site c.index-3.result.now c.requires (grind (arith, common_steps))
+    (grind (arith, common_steps)) (grind (arith, common_steps))
 
 pub apply-requires-clause-known : goal.apply-requires-clause-known
 apply-requires-clause-known g c =
@@ -48,7 +49,10 @@ returns g c =
     let lt : c.args.site < length w.sites = grind (arith, common_steps) in
     let at : site ≡ get_or w.sites c.args.site site = grind (arith, common_steps) in
     let holds = holds-at w c.args.site site c.requires lt at in
-    let less : site.applied < (progress_at w.primary c.args.site).sent = omega (arith, holds.holds.got, here, c.sent-sent.ensures, c.if-applied-sent.false) in
+    let less : site.applied < (progress_at w.primary c.args.site).sent =
+    omega (arith, holds.holds.got, here, c.sent-sent.ensures, c.if-applied-sent.false) in
     let set : c.set.result.now ≡ set_at w.primary.log (site.applied + 1) = rw (c.log.ensures, here) at c.set.ensures.set in
-    let next : HasApplied c.apply.new.self w.primary.log (site.applied + 1) = c.apply.ensures.next w.primary.log site.applied holds.holds.prefix (omega (arith, less, holds.holds.logged)) set in
-    rw c.index-4.ensures (applied_next w c.args.site site c.apply.new.self (c.applied-applied.result + 1) c.requires lt at less (grind (arith, common_steps)) next)
+    let next : HasApplied c.apply.new.self w.primary.log (site.applied + 1) =
+    c.apply.ensures.next w.primary.log site.applied holds.holds.prefix (omega (arith, less, holds.holds.logged)) set in
+    rw c.index-4.ensures (applied_next w c.args.site site c.apply.new.self (c.applied-applied.result + 1) c.requires lt at less
+    (grind (arith, common_steps)) next)

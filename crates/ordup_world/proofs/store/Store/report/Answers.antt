@@ -9,5 +9,6 @@ returns-then-index-len g c = unknown-report (state_of c.args.self.now) c.args.si
 
 pub returns : goal.returns
 returns g c =
-    reported_now (state_of c.args.self.now) c.report.new.self c.args.site c.applied-place.result c.index-3.result.now c.requires (grind (arith, common_steps)) (grind (arith, common_steps))
+    reported_now (state_of c.args.self.now) c.report.new.self c.args.site c.applied-place.result c.index-3.result.now c.requires
+    (grind (arith, common_steps)) (grind (arith, common_steps))
     c.applied-place.ensures.applied c.report.ensures.sound c.report.ensures.noted

@@ -9,17 +9,22 @@ returns-then-index-len g c = unknown-send (state_of c.args.self.now) c.args.site
 
 pub returns-then-sent-len : goal.returns-then-sent-len
 returns-then-sent-len g c =
-    nothing_to_send (state_of c.args.self.now) c.args.site c.requires (grind (arith, common_steps)) (sym c.sent-sent.ensures ∙ c.if-sent-len.true ∙ rw c.log.ensures at c.len-2.ensures.len)
+    nothing_to_send (state_of c.args.self.now) c.args.site c.requires (grind (arith, common_steps))
+    (sym c.sent-sent.ensures ∙ c.if-sent-len.true ∙ rw c.log.ensures at c.len-2.ensures.len)
 
 pub returns-then-sent-applied : goal.returns-then-sent-applied
 returns-then-sent-applied g c =
-    feed_full (state_of c.args.self.now) c.args.site c.index-3.result.now c.requires (grind (arith, common_steps)) (grind (arith, common_steps))
+    feed_full (state_of c.args.self.now) c.args.site c.index-3.result.now c.requires (grind (arith, common_steps))
+    (grind (arith, common_steps))
     (λ all. c.if-sent-len.false (c.sent-sent.ensures ∙ all ∙ sym (rw c.log.ensures at c.len-2.ensures.len)))
-    (omega (arith, c.sent-sent.ensures, c.applied.ensures.applied, c.if-sent-applied.true, rw c.setup.ensures at c.capacity.ensures.capacity))
+    (omega
+    (arith, c.sent-sent.ensures, c.applied.ensures.applied, c.if-sent-applied.true, rw c.setup.ensures at c.capacity.ensures.capacity))
 
 pub returns : goal.returns
 returns g c =
-    sent_next (state_of c.args.self.now) c.mark_sent.new.self c.args.site c.index-3.result.now (c.sent-sent.result + 1) c.requires (grind (arith, common_steps)) (grind (arith, common_steps))
+    sent_next (state_of c.args.self.now) c.mark_sent.new.self c.args.site c.index-3.result.now (c.sent-sent.result + 1) c.requires
+    (grind (arith, common_steps)) (grind (arith, common_steps))
     (λ all. c.if-sent-len.false (c.sent-sent.ensures ∙ all ∙ sym (rw c.log.ensures at c.len-2.ensures.len)))
-    (λ full. c.if-sent-applied.false (omega (arith, c.sent-sent.ensures, c.applied.ensures.applied, full, rw c.setup.ensures at c.capacity.ensures.capacity)))
+    (λ full. c.if-sent-applied.false
+    (omega (arith, c.sent-sent.ensures, c.applied.ensures.applied, full, rw c.setup.ensures at c.capacity.ensures.capacity)))
     (ap (λ n. n + 1) c.sent-sent.ensures) c.mark_sent.ensures.sound c.mark_sent.ensures.marked

@@ -8,4 +8,5 @@ returns-in-Ok g c =
     c.settle.ensures.sound c.in-Ok.ensures.first c.in-Ok.ensures.later
 
 pub returns-in-Err : goal.returns-in-Err
-returns-in-Err g c = settle_refused (state_of c.args.self.now) c.settle.new.self c.in-Err.refusal c.requires c.in-Err.ensures.refused c.in-Err.ensures.err
+returns-in-Err g c =
+    settle_refused (state_of c.args.self.now) c.settle.new.self c.in-Err.refusal c.requires c.in-Err.ensures.refused c.in-Err.ensures.err

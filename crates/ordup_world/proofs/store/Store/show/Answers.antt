@@ -9,8 +9,10 @@ returns-then-index-len g c = unknown-show (state_of c.args.self.now) c.args.site
 
 pub returns-in-Ok : goal.returns-in-Ok
 returns-in-Ok g c =
-    shown (state_of c.args.self.now) c.args.site c.index-replica.result.now _ _ _ _ _ c.requires (grind (arith, common_steps)) (grind (arith, common_steps))
+    shown (state_of c.args.self.now) c.args.site c.index-replica.result.now _ _ _ _ _ c.requires (grind (arith, common_steps))
+    (grind (arith, common_steps))
     c.sent.ensures c.applied.ensures.applied c.reported.ensures (grind (arith, common_steps)) (grind (arith, common_steps))
 
 pub returns-in-Err : goal.returns-in-Err
-returns-in-Err g c = show_refused (state_of c.args.self.now) c.args.site c.in-Err.refusal c.requires (grind (arith, common_steps)) c.in-Err.ensures.refused
+returns-in-Err g c =
+    show_refused (state_of c.args.self.now) c.args.site c.in-Err.refusal c.requires (grind (arith, common_steps)) c.in-Err.ensures.refused

@@ -15,5 +15,6 @@ returns-clause-state g c =
 pub returns-clause-sound : goal.returns-clause-sound
 returns-clause-sound g c =
     let made = c.in_ok-primary.ensures in
-    IsStore-start (state_of (record { primary = c.in_ok-primary.primary; sites = c.in_ok-sites.sites })) made.sound (rw (← made.setup) at made.log) (rw (← made.setup) at made.sites)
+    IsStore-start (state_of (record { primary = c.in_ok-primary.primary; sites = c.in_ok-sites.sites })) made.sound
+    (rw (← made.setup) at made.log) (rw (← made.setup) at made.sites)
     (rw (← made.setup) at c.in_ok-sites.ensures.sites)

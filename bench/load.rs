@@ -1,4 +1,4 @@
-//! Writes a script for ordup: `load KIND LINES`.
+//! Writes a script for ordup: `load KIND LINES`, or `load recorded UPDATES`.
 //!
 //! The same words give the same bytes each time, and a longer script of a kind
 //! begins with the shorter one. A new kind is one more line in `main`.
@@ -610,11 +610,35 @@ fn spans<W: Write>(script: &mut Script<W>) -> io::Result<()> {
     Ok(())
 }
 
+/// So many updates of one to three changes over the objects and sites of `mixed`, for the record of a site. Each is sent
+/// to and applied at every site and settled, and then each site reports, or not, with the same chance.
+fn recorded<W: Write>(script: &mut Script<W>) -> io::Result<()> {
+    let updates = std::mem::replace(&mut script.left, u64::MAX);
+    let mut store = Store::new(script, goods(), 0);
+    store.group("drinks".to_owned(), vec![9, 10, 11, 12]);
+    let limits = [(Scope::Object(10), 7_000), (Scope::Group(0), 24_000), (Scope::All, 48_000), (Scope::Count, 7)];
+    four_sites(&mut store, &limits);
+    store.start()?;
+    for _ in 0..updates {
+        store.propose(3)?;
+        for site in 0..4 {
+            store.bring_up(site, 0)?;
+        }
+        store.settle()?;
+        for site in 0..4 {
+            if store.random.one_in(2) {
+                store.report(site)?;
+            }
+        }
+    }
+    Ok(())
+}
+
 fn main() -> ExitCode {
     let words: Vec<String> = env::args().skip(1).collect();
     let lines = words.get(1).and_then(|word| word.parse().ok());
     let (2, Some(left)) = (words.len(), lines) else {
-        eprintln!("usage: load KIND LINES");
+        eprintln!("usage: load KIND LINES, or load recorded UPDATES");
         return ExitCode::from(2);
     };
     let mut script = Script { to: BufWriter::new(io::stdout().lock()), left };
@@ -627,6 +651,7 @@ fn main() -> ExitCode {
         "waiting" => waiting(&mut script),
         "unmoved" => unmoved(&mut script),
         "spans" => spans(&mut script),
+        "recorded" => recorded(&mut script),
         kind => {
             eprintln!("load: no kind of load is named {kind}");
             return ExitCode::from(2);

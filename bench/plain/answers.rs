@@ -88,6 +88,14 @@ impl Out {
         Ok(())
     }
 
+    /// Writes what is unwritten, where it has so many bytes.
+    pub fn write_from(&mut self, most: usize, output: &mut impl Write) -> io::Result<()> {
+        if self.end >= most {
+            self.write_to(output)?;
+        }
+        Ok(())
+    }
+
     pub fn refuse(&mut self, refusal: Refusal) {
         let answer = refusal.answer();
         self.bytes[self.end..][..answer.len()].copy_from_slice(answer);
@@ -110,6 +118,13 @@ impl<const LENGTH: usize> Part for &[u8; LENGTH] {
     fn put(self, out: &mut Out) {
         out.bytes[out.end..out.end + LENGTH].copy_from_slice(self);
         out.end += LENGTH;
+    }
+}
+
+impl Part for &[u8] {
+    fn put(self, out: &mut Out) {
+        out.bytes[out.end..out.end + self.len()].copy_from_slice(self);
+        out.end += self.len();
     }
 }
 

@@ -1,8 +1,9 @@
-//! What `ordup run` does, in plain Rust, as a mark to measure it against.
+//! What `ordup run`, `ordup record SITE` and `ordup check` do, in plain Rust, as a mark
+//! to measure them against.
 //!
-//! Reads a script on standard input, and answers it on standard output, byte for
-//! byte as ordup does; but for the command `certify`, which it refuses. It is written
-//! for speed, and nothing of it is proved.
+//! Reads a script or a record on standard input, and answers on standard output, byte for
+//! byte as ordup does; but for the command `certify`, which it refuses, and for records
+//! with quotes. It is written for speed, and nothing of it is proved.
 //!
 //! - `main`: reads in large pieces, and holds at most one unended line.
 //! - `words`: the words, numbers and changes of a line.
@@ -12,11 +13,17 @@
 //! - `queries`: queries.
 //! - `lag`: what each limit of a site has left.
 //! - `answers`: refusals, and the one buffer of the answers.
+//! - `record`: the rows of a site's record, from the store.
+//! - `rows`: a record, from its rows.
+//! - `check`: the verdict on a record.
 
 mod answers;
+mod check;
 mod lag;
 mod names;
 mod queries;
+mod record;
+mod rows;
 mod store;
 mod updates;
 mod words;
@@ -24,9 +31,10 @@ mod words;
 use std::io::{self, Read, Write};
 use std::process::ExitCode;
 
-use answers::{Out, Refusal};
+use answers::{answer, Out, Refusal};
+use rows::Reader;
 use store::Store;
-use words::{Words, BEHIND, LONGEST_LINE};
+use words::{Word, Words, BEHIND, LONGEST_LINE};
 
 const PIECE: usize = 128 * 1024;
 
@@ -70,11 +78,12 @@ fn not_accepted(text: &[u8], start: usize, refusal: Refusal, out: &mut Out) -> u
     start + length + 1
 }
 
-fn run(input: &mut impl Read, output: &mut impl Write) -> io::Result<()> {
-    let mut store = Store::new();
-    let mut out = Out::new(PIECE);
+/// Gives what takes lines the pieces of a text, each up to a place where a line has ended. The second argument of it is
+/// that place. A line that is too long comes as one of `LONGEST_LINE + 1` bytes.
+fn pieces(input: &mut impl Read, mut take: impl FnMut(&[u8], usize) -> io::Result<()>) -> io::Result<()> {
     let mut piece = vec![0; PIECE + LONGEST_LINE + BEHIND];
     let room = piece.len() - BEHIND;
+    let too_long = [vec![b'x'; LONGEST_LINE + 1], vec![b'\n'; 1 + BEHIND]].concat();
     // The unended line at the front of the piece. Of one that is too long nothing is held.
     let mut held = 0;
     let mut is_too_long = false;
@@ -88,32 +97,97 @@ fn run(input: &mut impl Read, output: &mut impl Write) -> io::Result<()> {
         let mut front = 0;
         if is_too_long {
             let Some(length) = piece[..end].iter().position(|&byte| byte == b'\n') else { continue };
-            out.refuse(Refusal::Syntax);
+            take(&too_long, LONGEST_LINE + 2)?;
             front = length + 1;
         }
         let ended = piece[front..end].iter().rposition(|&byte| byte == b'\n').map_or(0, |last| last + 1);
-        lines(&mut store, &piece[front..], ended, &mut out, output)?;
+        take(&piece[front..], ended)?;
         let unended = front + ended..end;
         is_too_long = unended.len() > LONGEST_LINE;
         held = if is_too_long { 0 } else { unended.len() };
         piece.copy_within(unended.start..unended.start + held, 0);
     }
     if is_too_long {
-        out.refuse(Refusal::Syntax);
+        take(&too_long, LONGEST_LINE + 2)?;
     } else if held > 0 {
         piece[held] = b'\n';
-        lines(&mut store, &piece, held + 1, &mut out, output)?;
+        take(&piece, held + 1)?;
     }
+    Ok(())
+}
+
+/// Answers a script, and gives the store that it leaves.
+fn run(input: &mut impl Read, output: &mut impl Write) -> io::Result<Store> {
+    let mut store = Store::new();
+    let mut out = Out::new(PIECE);
+    pieces(input, |text, end| lines(&mut store, text, end, &mut out, output))?;
     out.write_to(output)?;
-    output.flush()
+    output.flush()?;
+    Ok(store)
+}
+
+/// Prints the record of a site after a script.
+fn record(site: &str, input: &mut impl Read, output: &mut impl Write) -> io::Result<ExitCode> {
+    let store = run(input, &mut io::sink())?;
+    let refused = match store.find_site(Word::new(site.as_bytes())) {
+        Ok(site) => {
+            let mut out = Out::new(PIECE);
+            store.record(site, PIECE, &mut out, output)?;
+            out.write_to(output)?;
+            output.flush()?;
+            return Ok(ExitCode::SUCCESS);
+        }
+        Err(refused) => refused,
+    };
+    let mut out = Out::new(0);
+    out.refuse(refused);
+    out.write_to(&mut io::stderr())?;
+    Ok(ExitCode::from(if store.is_started { 2 } else { 3 }))
+}
+
+/// Prints the verdict on a record.
+fn check(input: &mut impl Read, output: &mut impl Write) -> io::Result<ExitCode> {
+    let mut reader = Reader::new();
+    let read = pieces(input, |text, end| reader.lines(&text[..end]));
+    let record = match read.and_then(|()| reader.end()) {
+        Ok(record) => record,
+        Err(error) if error.kind() == io::ErrorKind::InvalidData => {
+            eprintln!("malformed {error}");
+            return Ok(ExitCode::from(3));
+        }
+        Err(error) => return Err(error),
+    };
+    let mut out = Out::new(0);
+    let status = match check::check(record) {
+        Ok(rounds) => {
+            let _: Result<(), Refusal> = answer!(out, b"yes ", rounds);
+            ExitCode::SUCCESS
+        }
+        Err((row, reason)) => {
+            writeln!(output, "no {row} {reason}")?;
+            ExitCode::from(1)
+        }
+    };
+    out.write_to(output)?;
+    output.flush()?;
+    Ok(status)
 }
 
 fn main() -> ExitCode {
-    match run(&mut io::stdin().lock(), &mut io::stdout().lock()) {
-        Ok(()) => ExitCode::SUCCESS,
-        Err(error) => {
-            eprintln!("plain: {error}");
-            ExitCode::FAILURE
+    let words: Vec<String> = std::env::args().skip(1).collect();
+    let words: Vec<&str> = words.iter().map(String::as_str).collect();
+    let (input, output) = (&mut io::stdin().lock(), &mut io::stdout().lock());
+    let done = match words[..] {
+        ["run"] => run(input, output).map(|_| ExitCode::SUCCESS),
+        ["record", site] => record(site, input, output),
+        ["check"] => check(input, output),
+        _ => {
+            eprintln!("usage: plain run, plain record SITE or plain check");
+            return ExitCode::from(2);
         }
-    }
+    };
+    done.unwrap_or_else(|error| {
+        eprintln!("plain: {error}");
+        ExitCode::FAILURE
+    })
 }

@@ -46,6 +46,8 @@ pub struct Store {
     pub members: Vec<Vec<usize>>,
     pub site_names: Names,
     pub sites: Vec<Site>,
+    /// The values that the objects were declared with.
+    pub first_values: Vec<i64>,
     /// The objects at the end of the log; before the start, the first ones.
     pub held: Vec<Held>,
     pub log: Log,
@@ -55,8 +57,6 @@ pub struct Store {
     pub decided: usize,
     /// The sites that have a forced round at the head, one bit each.
     pub forced: u32,
-    /// What each site had reported when each update was decided, one after the other.
-    pub reports: Vec<u32>,
     /// How far the acknowledged updates moved each object.
     pub marks: Vec<u64>,
     pub open: Table,
@@ -92,13 +92,13 @@ impl Store {
             members: Vec::new(),
             site_names: Names::new(MOST_SITES),
             sites: Vec::new(),
+            first_values: Vec::new(),
             held: Vec::new(),
             log: Log { changes: Vec::new(), ends: vec![0] },
             results: [0; MOST_CHANGES],
             acknowledged: 0,
             decided: 0,
             forced: 0,
-            reports: Vec::new(),
             marks: Vec::new(),
             open: Table::new(MOST_QUERIES),
             queries: Vec::new(),
@@ -147,6 +147,7 @@ impl Store {
         Refusal::OutOfRange.when(!is_value(value))?;
         Refusal::TooMany.when(self.objects.is_full())?;
         self.objects.add(name);
+        self.first_values.push(value);
         self.held.push(Held { value, travelled: 0 });
         answer!(out, b"ok object ", name)
     }
@@ -184,6 +185,7 @@ impl Store {
             held: Vec::new(),
             limits: Vec::new(),
             lag: Lag::new(&[], 0, &[]),
+            reports: Vec::new(),
             rounds: Vec::new(),
         });
         answer!(out, b"ok site ", name)

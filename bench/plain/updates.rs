@@ -57,9 +57,7 @@ impl Log {
     }
 }
 
-/// A forced round at the update `to`, which the site had reported up to `from`. Both are
-/// kept because ordup keeps them; no answer here is made of them.
-#[allow(dead_code)]
+/// A forced round at the update `to`, which the site had reported up to `from`.
 pub struct Window {
     pub from: usize,
     pub to: usize,
@@ -74,6 +72,8 @@ pub struct Site {
     pub held: Vec<Held>,
     pub limits: Vec<Limit>,
     pub lag: Lag,
+    /// The decided updates at which what the site had reported is more than at the one before, with that.
+    pub reports: Vec<(u32, u32)>,
     pub rounds: Vec<Window>,
 }
 
@@ -206,7 +206,9 @@ impl Store {
         let changes = self.log.after(head - 1);
         self.forced = 0;
         for (place, site) in self.sites.iter_mut().enumerate() {
-            self.reports.push(site.reported as u32);
+            if site.reports.last().map_or(0, |&(_, report)| report) < site.reported as u32 {
+                site.reports.push((head as u32, site.reported as u32));
+            }
             if site.reported < head && site.lag.extend(changes) {
                 site.rounds.push(Window { from: site.reported, to: head });
                 self.forced |= 1 << place;

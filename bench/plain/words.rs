@@ -19,6 +19,15 @@ pub struct Word {
 const NO_NAME: u128 = u128::MAX;
 
 impl Word {
+    pub fn new(bytes: &[u8]) -> Word {
+        let mut key = [0; LONGEST_NAME];
+        let Some(front) = key.get_mut(..bytes.len()) else {
+            return Word { key: NO_NAME, length: bytes.len() };
+        };
+        front.copy_from_slice(bytes);
+        Word { key: u128::from_le_bytes(key), length: bytes.len() }
+    }
+
     /// The key of a word of at most 8 bytes; of a longer one 0, which is no word's.
     #[inline]
     pub fn short_key(self) -> u64 {

@@ -161,6 +161,16 @@ impl<A: Allocator + Copy> Log<A> {
         self.end.get(object)
     }
 
+    /// How far each change of the update with this number moved its object's value, in the order of the changes.
+    pub fn distances(&self, number: u64) -> &[u64]
+        requires first { 0 < number }
+        requires last { number ≤ length self.now.sets }
+        ensures distances { result.now ≡ distances_of (serial self.now (number - 1)) (set_at self.now number) }
+        ensures legal { IsLegalHistory self.now }
+    {
+        &self.distances[number as usize - 1]
+    }
+
     /// The weight of an update on a scope: the distance that values travelled, or 1 on `Count`.
     pub fn weight(&self, number: u64, scope: Scope, groups: &Groups<A>) -> u64
         requires first { 0 < number }
@@ -169,7 +179,7 @@ impl<A: Allocator + Copy> Log<A> {
         ensures weight { result ≡ weight self.now groups.now scope (number - 1) }
         ensures few { result ≤ greatest_weight }
     {
-        let distances = self.distances_at(number);
+        let distances = self.distances(number);
         match scope {
             Scope::Object(object) => distance_beside(self.set(number).changes(), distances, object),
             Scope::Group(group) => {
@@ -198,16 +208,6 @@ impl<A: Allocator + Copy> Log<A> {
             total += self.weight(place + 1, *scope, groups);
         }
         total
-    }
-
-    /// How far each change of an update moved its object's value.
-    fn distances_at(&self, number: u64) -> &[u64]
-        requires first { 0 < number }
-        requires last { number ≤ length self.now.sets }
-        ensures distances { result.now ≡ distances_of (serial self.now (number - 1)) (set_at self.now number) }
-        ensures legal { IsLegalHistory self.now }
-    {
-        &self.distances[number as usize - 1]
     }
 }
 

@@ -1,2 +1,5 @@
 pub mod LimitLemmas
+mod TotalLemmas
+mod MaskLemmas
+pub mod LedgerLemmas
 mod Examples

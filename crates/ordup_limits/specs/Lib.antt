@@ -1,2 +1,5 @@
 pub mod Sizes
 pub mod Limits
+pub mod Totals
+pub mod Ledgers
+pub mod LedgerInside

@@ -1,4 +1,5 @@
 ghost use Rattle.ordup_limits.specs.Limits.{LongerHistoriesKeepLimits, LaterSpansKeepLimits, EmptySpansKeepLimits, LimitsAreTests};
+ghost use Rattle.ordup_limits.specs.Ledgers.{LongerHistoriesKeepLedgers};
 
 /// A law: updates that are added later leave it as it was whether a span passes a limit.
 pub fn longer_histories_keep_limits()
@@ -18,4 +19,9 @@ pub fn empty_spans_keep_limits()
 /// A law: the limits of a site are a test of spans, as the law of the fewest rounds asks for it.
 pub fn limits_are_tests()
     ensures { LimitsAreTests }
+{}
+
+/// A law: a ledger of a log is one of each longer log.
+pub fn longer_histories_keep_ledgers()
+    ensures { LongerHistoriesKeepLedgers }
 {}

@@ -3,14 +3,18 @@
 //! The one contract above this layer: which limit a span passes first, in order of declaration.
 #![tactic(auto)]
 
+mod lag_ledger;
 mod laws;
 mod limit;
 mod limit_table;
+mod masks;
 pub mod sizes;
+mod totals;
 
+pub use lag_ledger::LagLedger;
 pub use laws::{
     empty_spans_keep_limits, later_spans_keep_limits, limits_are_tests,
-    longer_histories_keep_limits,
+    longer_histories_keep_ledgers, longer_histories_keep_limits,
 };
 pub use limit::Limit;
 pub use limit_table::{LimitTable, check_scope};

@@ -1,0 +1,65 @@
+-- Masks, and the bits that are put into them.
+use Rattle.std.proofs.Common.{◌≡◌, ℕ, ◌+◌, ◌*◌, ◌<◌, ◌^◌, ◌%◌, Bool, true, false, List, length, get_or, arith, sym, refl, ap, ◌∙◌, inl, inr}
+use Rattle.std.specs.Prelude.{◌==◌, ◌&&◌, ◌||◌, nat_lt}
+use Rattle.std.specs.Int.{bit_at}
+use Rattle.std.specs.Int.RustNames.{bit_or}
+use Rattle.std.proofs.Math.ListN.{set}
+use Rattle.std.proofs.Math.Pow.{pow-lt}
+use Rattle.std.proofs.lemmas.Bool.{cases_eq, cases_lt, eq-eqb, ne_eqb, lt-ltb, le-ltb}
+use Rattle.std.proofs.lemmas.Grind.{get_or-set_at, get_or_default_zero}
+use Rattle.std.proofs.lemmas.List.{get_or-set_other}
+use Rattle.std.proofs.lemmas.Nat.Bits.{bit_at_or, bit_at-lt, bit_at-pow_same, bit_at-pow_other}
+use Rattle.ordup_limits.specs.Totals.{has_bit}
+
+shifted : (limit : ℕ) → limit < 64 → 1 * 2 ^ limit % 18446744073709551616 ≡ 2 ^ limit
+shifted limit lt = let small : 2 ^ limit < 18446744073709551616 = pow-lt lt in omega (arith, small)
+
+-- a bit is put into the mask of an object
+pub has_bit-put : (masks : List ℕ) (object limit at old : ℕ) → limit < 64 → at ≡ object → object < length masks
+    → old ≡ get_or masks at old → (x i : ℕ)
+    → has_bit (set masks at (bit_or old (1 * 2 ^ limit % 18446744073709551616))) i x
+    ≡ (((object == x) && (i == limit)) || has_bit masks i x)
+has_bit-put masks object limit at old few same there is x i = elim (cases_eq x object) [
+  | inl here ↦ (let value : get_or (set masks at (bit_or old (1 * 2 ^ limit % 18446744073709551616))) x 0 ≡ bit_or old (2 ^ limit) =
+      get_or-set_at masks at x _ 0 (here ∙ sym same) (rw same there) ∙ ap (bit_or old) (shifted limit few) in
+      let before : get_or masks x 0 ≡ old =
+      ap (λ k. get_or masks k 0) (here ∙ sym same) ∙ sym (get_or_default_zero masks at old (rw same there)) ∙ sym is in
+      elim (cases_eq i limit) [
+        | inl this ↦ (let one : bit_at (bit_or old (2 ^ limit)) i ≡ 1 =
+            bit_at_or old (2 ^ limit) i
+            ∙ (let bit : bit_at (2 ^ limit) i ≡ 1 = rw this (bit_at-pow_same limit) in omega (arith, bit, bit_at-lt old i)) in
+            rw (value, eq-eqb object x (sym here), eq-eqb i limit this) (eq-eqb _ 1 one))
+        | inr other ↦ (let kept : bit_at (bit_or old (2 ^ limit)) i ≡ bit_at old i =
+            bit_at_or old (2 ^ limit) i ∙ omega (arith, bit_at-pow_other limit i other) in
+            rw (value, before, eq-eqb object x (sym here), ne_eqb i limit other) (ap (λ n. n == 1) kept))
+      ])
+  | inr other ↦ rw (get_or-set_other masks at x _ 0 (λ e. other (e ∙ same)), ne_eqb object x (λ e. other (sym e))) refl
+]
+
+and_false : (b : Bool) → (b && false) ≡ false
+and_false true = refl
+and_false false = refl
+
+and_true : (b : Bool) → (b && true) ≡ b
+and_true true = refl
+and_true false = refl
+
+or_false : (b : Bool) → (b || false) ≡ b
+or_false true = refl
+or_false false = refl
+
+-- with one limit more the bits of the limits so far are those that count
+pub bits-next : (counts : ℕ → Bool) (old new : Bool) (i place : ℕ) → new ≡ ((counts place && (i == place)) || old)
+    → old ≡ (nat_lt i place && counts i)
+    → new ≡ (nat_lt i (place + 1) && counts i)
+bits-next counts old new i place put before = elim (cases_lt i place) [
+  | inl lt ↦
+      put ∙ rw (before, ne_eqb i place (omega arith), lt-ltb i place lt, lt-ltb i (place + 1) (omega arith), and_false (counts place)) refl
+  | inr le ↦ elim (cases_eq i place) [
+    | inl same ↦
+        put ∙ rw (before, eq-eqb i place same, le-ltb i place le, lt-ltb i (place + 1) (omega arith), and_true (counts place))
+        (or_false (counts place) ∙ ap counts (sym same))
+    | inr other ↦
+        put ∙ rw (before, ne_eqb i place other, le-ltb i place le, le-ltb i (place + 1) (omega arith), and_false (counts place)) refl
+  ]
+]

@@ -1,0 +1,271 @@
+-- What changes weigh on the scopes of limits.
+use Rattle.std.proofs.Common.{◌≡◌, ℕ, zero, suc, ◌+◌, ◌-◌, ◌*◌, ◌<◌, ◌≤◌, Bool, true, false, nat_eq, List, [], ◌∷◌}
+use Rattle.std.proofs.Common.{length, get_or, replicate, sum, sum_by, drop, drop-cons, add-one, arith, refl, sym, ap, ◌∙◌, inl, inr}
+use Rattle.std.specs.Prelude.{◌==◌, All}
+use Rattle.std.specs.List.{list_any}
+use Rattle.std.proofs.lemmas.Bool.{cases_Bool, cases_eq, or_parts, eq-eqb, ne_eqb, eqb-true}
+use Rattle.std.proofs.lemmas.List.{length-map}
+use Rattle.std.proofs.lemmas.List.Sums.{sum_by-cons}
+use Rattle.ordup_objects.specs.declared.change.Change.{Change}
+use Rattle.ordup_objects.specs.Repeats.{repeats}
+use Rattle.ordup_objects.specs.Sets.{are_of_one_object}
+use Rattle.ordup_objects.specs.Serial.{History, serial, IsLegalHistory}
+use Rattle.ordup_objects.specs.Sizes.{most_objects, greatest_distance, greatest_weight}
+use Rattle.ordup_objects.specs.States.{State}
+use Rattle.ordup_objects.specs.Sums.{sum_from}
+use Rattle.ordup_objects.specs.Weights.{object_weight, distance_by, distances_of}
+use Rattle.ordup_objects.proofs.SetLemmas.{moved_by, distance_beside-distances_of}
+use Rattle.ordup_objects.proofs.SumLemmas.{sum_from-add, sum_from-same, sum_from-constant}
+use Rattle.ordup_log.specs.Groups.{GroupList, IsGroup, members_at}
+use Rattle.ordup_log.specs.Spans.{weight, span, IsScopeKnown}
+use Rattle.ordup_log.specs.declared.scope.Scope.{Scope}
+use Rattle.ordup_log.specs.declared.scope.Scope.TheVariants.{Object, Group, All as Everything, Count}
+use Rattle.ordup_log.proofs.WeightLemmas.{distance_beside-at, distances-few, sum-at, sum-few}
+use Rattle.ordup_limits.specs.Limits.{Limits, AreScopesKnown}
+use Rattle.ordup_limits.specs.Totals.{counts_on, weighed, AreTotals, has_bit, AreMasks, share, weight_of, weight_where}
+
+-- ---- changes that pass a test
+
+eqb-sym : (a b : ℕ) → (a == b) ≡ (b == a)
+eqb-sym a b = elim (cases_eq a b) [
+  | inl same ↦ rw (eq-eqb a b same, eq-eqb b a (sym same)) refl
+  | inr other ↦ rw (ne_eqb a b other, ne_eqb b a (λ e. other (sym e))) refl
+]
+
+-- tests that agree on the objects of changes
+weight_of-same : (p q : ℕ → Bool) (m : List Change) (ds : List ℕ)
+    → ((k : ℕ) (c : Change) → k < length m → p (get_or m k c).object ≡ q (get_or m k c).object)
+    → weight_of p m ds ≡ weight_of q m ds
+weight_of-same p q [] ds same = refl
+weight_of-same p q (c ∷ m) [] same = refl
+weight_of-same p q (c ∷ m) (d ∷ ds) same =
+    omega (arith, ap (λ b. share b d) (same 0 c (omega arith)), weight_of-same p q m ds (λ k e lt. same (suc k) e (omega arith)))
+
+-- a test that none passes
+weight_of-none : (m : List Change) (ds : List ℕ) → weight_of (λ z. false) m ds ≡ 0
+weight_of-none [] ds = refl
+weight_of-none (c ∷ m) [] = refl
+weight_of-none (c ∷ m) (d ∷ ds) = omega (arith, weight_of-none m ds)
+
+-- a test that is either of two
+weight_of-either : (p q r : ℕ → Bool) (m : List Change) (ds : List ℕ)
+    → ((z d : ℕ) → share (r z) d ≡ share (p z) d + share (q z) d)
+    → weight_of r m ds ≡ weight_of p m ds + weight_of q m ds
+weight_of-either p q r [] ds each = refl
+weight_of-either p q r (c ∷ m) [] each = refl
+weight_of-either p q r (c ∷ m) (d ∷ ds) each = omega (arith, each c.object d, weight_of-either p q r m ds each)
+
+-- no more than all changes
+weight_of-most : (p : ℕ → Bool) (m : List Change) (ds : List ℕ) → weight_of p m ds ≤ sum ds
+weight_of-most p [] ds = omega arith
+weight_of-most p (c ∷ m) [] = omega arith
+weight_of-most p (c ∷ m) (d ∷ ds) =
+    let rest : weight_of p m ds ≤ sum ds = weight_of-most p m ds in
+    let more = sum_by-cons (λ (x : ℕ). x) d ds in
+    elim (cases_Bool (p c.object)) [
+      | inl counts ↦ rw counts (omega (arith, rest, more))
+      | inr other ↦ rw other (omega (arith, rest, more))
+    ]
+
+-- ---- the changes of a message set
+
+-- of one object, where none of them is of it
+weight_of-absent : (m : List Change) (ds : List ℕ) (x : ℕ) → list_any (λ c. c.object == x) m ≡ false
+    → weight_of (λ z. x == z) m ds ≡ 0
+weight_of-absent [] ds x none = refl
+weight_of-absent (c ∷ m) [] x none = refl
+weight_of-absent (c ∷ m) (d ∷ ds) x none =
+    let both : (c.object == x) ≡ false × list_any (λ d. d.object == x) m ≡ false = or_parts _ _ none in
+    let other : (x == c.object) ≡ false = eqb-sym x c.object ∙ both.0 in
+    rw other (omega (arith, weight_of-absent m ds x both.1))
+
+-- of one object
+weight_of-object : (v : State) (m : List Change) (x : ℕ) → repeats are_of_one_object m ≡ false
+    → weight_of (λ z. x == z) m (distances_of v m) ≡ moved_by v m x
+weight_of-object v [] x distinct = refl
+weight_of-object v (c ∷ m) x distinct =
+    let apart : list_any (λ d. d.object == c.object) m ≡ false × repeats are_of_one_object m ≡ false = or_parts _ _ distinct in
+    elim (cases_Bool (c.object == x)) [
+      | inl e ↦ (let here : c.object ≡ x = eqb-true c.object x e in
+          let back : (x == c.object) ≡ true = eqb-sym x c.object ∙ e in
+          let none : list_any (λ d. d.object == x) m ≡ false = rw here at apart.0 in
+          rw (e, back) (omega (arith, weight_of-absent m (distances_of v m) x none)))
+      | inr e ↦ (let back : (x == c.object) ≡ false = eqb-sym x c.object ∙ e in
+          rw (e, back) (omega (arith, weight_of-object v m x apart.1)))
+    ]
+
+-- a number is one of these, asked in two ways
+any-sym : (x : ℕ) (members : List ℕ) → list_any (nat_eq x) members ≡ false → list_any (λ y. y == x) members ≡ false
+any-sym x [] none = refl
+any-sym x (y ∷ members) none =
+    let both : (x == y) ≡ false × list_any (nat_eq x) members ≡ false = or_parts _ _ none in
+    let other : (y == x) ≡ false = eqb-sym y x ∙ both.0 in
+    rw other (any-sym x members both.1)
+
+-- of distinct members
+weight_of-members : (v : State) (m : List Change) (members : List ℕ) → repeats are_of_one_object m ≡ false
+    → repeats nat_eq members ≡ false → weight_of (λ z. list_any (λ y. y == z) members) m (distances_of v m) ≡ sum_by (moved_by v m) members
+weight_of-members v m [] distinct apart = weight_of-none m (distances_of v m)
+weight_of-members v m (x ∷ members) distinct apart =
+    let parts : list_any (nat_eq x) members ≡ false × repeats nat_eq members ≡ false = or_parts _ _ apart in
+    let either : (z d : ℕ) → share (list_any (λ y. y == z) (x ∷ members)) d ≡ share (x == z) d + share (list_any (λ y. y == z) members) d =
+    λ z d. elim (cases_Bool (x == z)) [
+      | inl e ↦ (let here : x ≡ z = eqb-true x z e in
+          let none : list_any (λ y. y == z) members ≡ false = rw here at (any-sym x members parts.0) in
+          rw (e, none) (omega arith))
+      | inr e ↦ rw e (omega arith)
+    ] in
+    omega (
+      arith,
+      weight_of-either (λ z. x == z) (λ z. list_any (λ y. y == z) members) (λ z. list_any (λ y. y == z) (x ∷ members)) m (distances_of v m)
+          either,
+      weight_of-object v m x distinct,
+      weight_of-members v m members distinct parts.1,
+      sum_by-cons (moved_by v m) x members,
+    )
+
+-- of all
+weight_of-all : (v : State) (m : List Change) → weight_of (λ z. true) m (distances_of v m) ≡ sum (distances_of v m)
+weight_of-all v [] = refl
+weight_of-all v (c ∷ m) =
+    omega (arith, weight_of-all v m, sum_by-cons (λ (x : ℕ). x) (distance_by v c) (distances_of v m))
+
+-- ---- updates
+
+-- an update's changes weigh what it weighs on an object
+weight_where-object : (h : History) → IsLegalHistory h → (x j : ℕ) → j < length h.sets
+    → weight_where (λ z. x == z) h j ≡ object_weight h x j
+weight_where-object h legal x j lt =
+    weight_of-object (serial h j) (get_or h.sets j []) x (legal.sets j [] lt).distinct
+    ∙ sym (distance_beside-distances_of (serial h j) (get_or h.sets j []) x) ∙ distance_beside-at h legal x j lt
+
+-- those of the members on a group
+weight_where-group : (h : History) → IsLegalHistory h → (members : List ℕ) (j : ℕ) → repeats nat_eq members ≡ false
+    → j < length h.sets → weight_where (λ z. list_any (λ y. y == z) members) h j ≡ sum_by (λ x. object_weight h x j) members
+weight_where-group h legal members j apart lt =
+    let m = get_or h.sets j [] in
+    let each : (x : ℕ) → moved_by (serial h j) m x ≡ object_weight h x j =
+    λ x. sym (distance_beside-distances_of (serial h j) m x) ∙ distance_beside-at h legal x j lt in
+    weight_of-members (serial h j) m members (legal.sets j [] lt).distinct apart ∙ ap (λ w. sum_by w members) (λ i x. each x i)
+
+-- no more than an update may weigh
+pub weight_where-few : (h : History) → IsLegalHistory h → (p : ℕ → Bool) (j : ℕ) → j < length h.sets
+    → weight_where p h j ≤ greatest_weight
+weight_where-few h legal p j lt =
+    omega (arith, weight_of-most p (get_or h.sets j []) (distances_of (serial h j) (get_or h.sets j [])), sum-few h legal j lt)
+
+-- each of its distances is small
+pub distance-few : (h : History) → IsLegalHistory h → (j i : ℕ) (m : List Change) (ds : List ℕ) → j < length h.sets
+    → m ≡ get_or h.sets j [] → ds ≡ distances_of (serial h j) (get_or h.sets j []) → i < length m
+    → get_or ds i 0 ≤ greatest_distance
+distance-few h legal j i m ds lt same are below =
+    rw are (distances-few h legal j lt i 0
+    (omega (arith, below, ap length same, length-map (get_or h.sets j []) (distance_by (serial h j)))))
+
+-- ---- one after the other
+
+-- one change less is left
+pub weight_of-next : (p : ℕ → Bool) (m : List Change) (ds : List ℕ) (i : ℕ) (c : Change) → i < length m → length ds ≡ length m
+    → c ≡ get_or m i c
+    → weight_of p (drop i m) (drop i ds) ≡ share (p c.object) (get_or ds i 0) + weight_of p (drop (i + 1) m) (drop (i + 1) ds)
+weight_of-next p m ds i c lt same at =
+    let e : drop i m ≡ c ∷ drop (i + 1) m = rw add-one (drop-cons m i c lt) ∙ ap (λ d. d ∷ drop (i + 1) m) (sym at) in
+    let f : drop i ds ≡ get_or ds i 0 ∷ drop (i + 1) ds = rw add-one (drop-cons ds i 0 (omega arith)) in
+    rw (e, f) refl
+
+-- one place more
+pub sum_from-next : (f : ℕ → ℕ) (a b : ℕ) → a ≤ b → sum_from f a (b + 1 - a) ≡ sum_from f a (b - a) + f b
+sum_from-next f a b le =
+    let e : b + 1 - a ≡ suc (b - a) = omega arith in
+    let g : a + (b - a) ≡ b = omega arith in
+    rw (e, g) refl
+
+-- ---- totals
+
+-- the span to a place and the one from it on
+pub span-from_start : (h : History) (groups : GroupList) (s : Scope) (a b : ℕ) → a ≤ b
+    → span h groups s 0 a + sum_from (weight h groups s) a (b - a) ≡ span h groups s 0 b
+span-from_start h groups s a b le =
+    let all : b - 0 ≡ a + (b - a) = omega arith in
+    let first : a - 0 ≡ a = omega arith in
+    let start : 0 + a ≡ a = omega arith in
+    omega (
+      arith,
+      ap (sum_from (weight h groups s) 0) all,
+      ap (sum_from (weight h groups s) 0) first,
+      sum_from-add (weight h groups s) 0 a (b - a),
+      ap (λ k. sum_from (weight h groups s) k (b - a)) start,
+    )
+
+-- the changes of the updates after a place that count on a scope
+weighed-more : (h : History) → IsLegalHistory h → (groups : GroupList) → All (λ g. IsGroup g.1) groups → (s : Scope)
+    → IsScopeKnown (length h.start) groups s → (a b : ℕ) → a ≤ b → b ≤ length h.sets
+    → weighed h groups s a + sum_from (weight_where (counts_on groups s) h) a (b - a) ≡ weighed h groups s b
+weighed-more h legal groups are (Object x) known a b le last =
+    omega (
+      arith,
+      span-from_start h groups (Object x) a b le,
+      sum_from-same (weight_where (counts_on groups (Object x)) h) (weight h groups (Object x)) a (b - a)
+          (λ j lt. weight_where-object h legal x j (omega arith)),
+    )
+weighed-more h legal groups are (Group g) known a b le last =
+    omega (
+      arith,
+      span-from_start h groups (Group g) a b le,
+      sum_from-same (weight_where (counts_on groups (Group g)) h) (weight h groups (Group g)) a (b - a)
+          (λ j lt. weight_where-group h legal (members_at groups g) j (are g ([], []) known).distinct (omega arith)),
+    )
+weighed-more h legal groups are Everything known a b le last =
+    omega (
+      arith,
+      span-from_start h groups Everything a b le,
+      sum_from-same (weight_where (counts_on groups Everything) h) (weight h groups Everything) a (b - a)
+          (λ j lt. weight_of-all (serial h j) (get_or h.sets j []) ∙ sum-at h legal j (omega arith)),
+    )
+weighed-more h legal groups are Count known a b le last =
+    omega (
+      arith,
+      sum_from-same (weight_where (counts_on groups Count) h) (λ j. 0) a (b - a)
+          (λ j lt. weight_of-none (get_or h.sets j []) (distances_of (serial h j) (get_or h.sets j []))),
+      sum_from-constant 0 a (b - a),
+    )
+
+-- totals that are raised by the changes that have the bits of the masks
+pub AreTotals-raised : (h : History) (groups : GroupList) (limits : Limits) (masks old new : List ℕ) (a b : ℕ) → IsLegalHistory h
+    → All (λ g. IsGroup g.1) groups → AreScopesKnown (length h.start) groups limits → length h.start ≤ most_objects
+    → AreMasks groups limits masks → a ≤ b → b ≤ length h.sets → length old ≡ length limits → AreTotals h groups limits a old
+    → ((i : ℕ) → get_or new i 0 ≤ greatest_weight * b)
+    → ((i : ℕ) → i < length old → get_or new i 0 ≡ get_or old i 0 + sum_from (weight_where (has_bit masks i) h) a (b - a))
+    → AreTotals h groups limits b new
+AreTotals-raised h groups limits masks old new a b legal are known few_objects masked le last count before few raised = record {
+  few = few;
+  each = λ i d lt. (let s = (get_or limits i d).scope in
+      let same : sum_from (weight_where (has_bit masks i) h) a (b - a) ≡ sum_from (weight_where (counts_on groups s) h) a (b - a) =
+      sum_from-same _ _ a (b - a)
+      (λ j below. weight_of-same (has_bit masks i) (counts_on groups s) (get_or h.sets j [])
+      (distances_of (serial h j) (get_or h.sets j []))
+      (λ k c at. masked (get_or (get_or h.sets j []) k c).object i d
+      (let there = (legal.known j [] (omega arith) k c at).0 in omega (arith, there)) lt)) in
+      raised i (omega arith)
+      ∙ (let first = before.each i d lt in let more = weighed-more h legal groups are s (known i d lt) a b le last in
+      omega (arith, first, more, same)));
+}
+
+-- a list of zeros has no other number
+pub none_at : (n x : ℕ) → get_or (replicate {A = ℕ} n 0) x 0 ≡ 0
+none_at zero x = refl
+none_at (suc n) zero = refl
+none_at (suc n) (suc x) = none_at n x
+
+weighed-none : (h : History) (groups : GroupList) (s : Scope) → weighed h groups s 0 ≡ 0
+weighed-none h groups (Object x) = refl
+weighed-none h groups (Group g) = refl
+weighed-none h groups Everything = refl
+weighed-none h groups Count = refl
+
+-- no update weighs anything
+pub AreTotals-none : (h : History) (groups : GroupList) (limits : Limits) (n : ℕ) → AreTotals h groups limits 0 (replicate {A = ℕ} n 0)
+AreTotals-none h groups limits n = record {
+  few = λ i. omega (arith, none_at n i);
+  each = λ i d lt. none_at n i ∙ sym (weighed-none h groups (get_or limits i d).scope);
+}

@@ -1,0 +1,161 @@
+ghost use Rattle.std.specs.Prelude.{◌≡◌, ◌≤◌, ◌<◌, ℕ, IfOk, IfErr, length, not, true, slice_index_or};
+ghost use Rattle.ordup_objects.specs.Serial.{History};
+ghost use Rattle.ordup_objects.specs.Sizes.{most_objects};
+ghost use Rattle.ordup_log.specs.Groups.{GroupList};
+ghost use Rattle.ordup_limits.specs.declared.limit.Limit.{Limit};
+ghost use Rattle.ordup_limits.specs.Limits.{keeps, within, AreScopesKnown};
+
+use crate::limit_table::LimitTable;
+use crate::masks::{fill, no_masks};
+use crate::totals::{no_totals, raise_to};
+use ordup_log::{Groups, Log, Scope};
+use ordup_objects::Refusal;
+use std::alloc::{Allocator, Global};
+use std::marker::Model;
+
+/// What the updates weigh by which a site lags, kept while the log grows and the site reports.
+///
+/// It stands at two places of a log: the reported one, up to which the site has reported, and the extended one, up to which
+/// updates were added. Of each limit it keeps what the updates up to each place weigh, so that the span between the places
+/// weighs the difference. The reported place may pass the extended one: then the span is empty and weighs nothing.
+///
+/// All calls of a ledger are given one log, as it grows, and the same groups. Each of them costs by the changes of the updates
+/// that it goes over, however long the span is.
+#[derive(Debug, Drop)]
+pub struct LagLedger<A: Allocator + Copy = Global> {
+    limits: LimitTable<A>,
+    reported: u64,
+    extended: u64,
+    /// For each limit what the updates up to the reported place weigh on its scope; nothing is kept on the count of updates.
+    taken: Vec<u64, A>,
+    /// The same of the updates up to the extended place.
+    added: Vec<u64, A>,
+    /// For each object the limits on whose scopes its changes count, a bit for each, once a call has seen the groups.
+    masks: Vec<u64, A>,
+    has_masks: bool,
+}
+
+impl<A: Allocator + Copy> Model for LagLedger<A> {
+    ghost use Rattle.ordup_limits.specs.Ledgers.{LedgerState};
+    ghost use Rattle.ordup_limits.specs.LedgerInside.{ledger_of, KeepsLedger};
+
+    ghost Value = { LedgerState };
+
+    ghost view = { ledger_of };
+
+    ghost invariant = { KeepsLedger };
+}
+
+impl<A: Allocator + Copy> LagLedger<A> {
+    ghost use Rattle.ordup_limits.specs.Ledgers.{StandsFor};
+    ghost use Rattle.ordup_limits.specs.Totals.{AreMasks};
+
+    /// A ledger of these limits that stands at the places 0 and 0 of each log over at most 256 objects.
+    ///
+    /// It takes all the room that it ever needs. It is refused `NoMemory` alone.
+    pub fn new(alloc: A, limits: &LimitTable<A>) -> Result<Self, Refusal>
+        ensures limits { IfOk result (λ ledger. ledger.limits ≡ limits.now) }
+        ensures places { IfOk result (λ ledger. (ledger.reported ≡ 0) × (ledger.extended ≡ 0)) }
+        ensures stands { IfOk result (λ ledger. (h : History) (groups : GroupList) → length h.start ≤ most_objects →
+            AreScopesKnown (length h.start) groups limits.now → StandsFor ledger h groups) }
+        ensures refused { IfErr result (λ e. e ≡ Refusal.NoMemory) }
+    {
+        let taken = no_totals(alloc, limits.len())?;
+        let added = no_totals(alloc, limits.len())?;
+        let masks = no_masks(alloc)?;
+        let limits = limits.copy(alloc)?;
+        Ok(LagLedger {
+            limits,
+            reported: 0,
+            extended: 0,
+            taken,
+            added,
+            masks,
+            has_masks: false,
+        })
+    }
+
+    /// Adds the updates after the extended place, up to a later one. It takes no memory.
+    pub fn extend(&mut self, log: &Log<A>, groups: &Groups<A>, to: u64)
+        requires forward { self.old.extended ≤ to }
+        requires last { to ≤ length log.now.sets }
+        requires stands { StandsFor self.old log.now groups.now }
+        ensures limits { self.new.limits ≡ self.old.limits }
+        ensures places { (self.new.reported ≡ self.old.reported) × (self.new.extended ≡ to) }
+        ensures stands { StandsFor self.new log.now groups.now }
+    {
+        // For the proof: each update is legal, and the members of a group are distinct.
+        let _updates = log.len();
+        let _groups = groups.len();
+        self.prepare(groups);
+        let masks = self.masks.as_slice();
+        raise_to(&mut self.added, log, masks, self.extended, to);
+        self.extended = to;
+    }
+
+    /// Takes off the updates up to a place that the site has reported. It takes no memory.
+    pub fn reported(&mut self, log: &Log<A>, groups: &Groups<A>, to: u64)
+        requires forward { self.old.reported ≤ to }
+        requires last { to ≤ length log.now.sets }
+        requires stands { StandsFor self.old log.now groups.now }
+        ensures limits { self.new.limits ≡ self.old.limits }
+        ensures places { (self.new.reported ≡ to) × (self.new.extended ≡ self.old.extended) }
+        ensures stands { StandsFor self.new log.now groups.now }
+    {
+        // For the proof: each update is legal, and the members of a group are distinct.
+        let _updates = log.len();
+        let _groups = groups.len();
+        self.prepare(groups);
+        let masks = self.masks.as_slice();
+        raise_to(&mut self.taken, log, masks, self.reported, to);
+        self.reported = to;
+    }
+
+    /// Whether the span from the reported place to the extended one passes a limit. Equal is not over.
+    pub fn over(&self) -> bool
+        ensures { (h : History) (groups : GroupList) → StandsFor self.now h groups →
+            result ≡ not (within h groups self.now.limits self.now.reported self.now.extended) }
+    {
+        for place in 0..self.len() {
+            if !self.keeps(place) {
+                return true;
+            }
+        }
+        false
+    }
+
+    fn len(&self) -> usize
+        ensures { result ≡ length self.now.limits }
+    {
+        self.limits.len()
+    }
+
+    /// Whether the span between the places keeps a limit.
+    fn keeps(&self, place: usize) -> bool
+        requires { place < length self.now.limits }
+        ensures { (h : History) (groups : GroupList) (d : Limit) → StandsFor self.now h groups →
+            result ≡ keeps h groups self.now.reported self.now.extended (slice_index_or self.now.limits place d) }
+    {
+        let (scope, amount) = self.limits.get(place);
+        match scope {
+            Scope::Count => self.extended.saturating_sub(self.reported) <= amount,
+            Scope::Object(_) | Scope::Group(_) | Scope::All => {
+                self.added[place].saturating_sub(self.taken[place]) <= amount
+            }
+        }
+    }
+
+    /// Puts the masks down, where that was not done.
+    fn prepare(&mut self, groups: &Groups<A>)
+        requires known { (n : ℕ) × AreScopesKnown n groups.now self.old.limits }
+        requires masks { self.old.has_masks ≡ true → AreMasks groups.now self.old.limits self.old.masks }
+        ensures masks { AreMasks groups.now self.new.limits self.new.masks }
+        ensures rest { self.new ≡ record self.old { masks = self.new.masks; has_masks = true } }
+    {
+        if self.has_masks {
+            return;
+        }
+        fill(&mut self.masks, &self.limits, groups);
+        self.has_masks = true;
+    }
+}

@@ -1,0 +1,95 @@
+ghost use Rattle.std.specs.Prelude.{◌≡◌, ◌==◌, ◌≤◌, ◌<◌, ◌+◌, ◌-◌, ◌*◌, ℕ, IfOk, IfErr, length, replicate, slice_index};
+ghost use Rattle.std.specs.Int.{bit_at};
+ghost use Rattle.ordup_objects.specs.Sizes.{greatest_weight, greatest_distance, most_updates};
+ghost use Rattle.ordup_objects.specs.Sums.{sum_from};
+ghost use Rattle.ordup_limits.specs.Sizes.{most_limits};
+ghost use Rattle.ordup_limits.specs.Totals.{has_bit, share, weight_where};
+
+use ordup_log::Log;
+use ordup_objects::Refusal;
+use std::alloc::Allocator;
+
+/// The totals of no update: 0 for each of so many limits.
+pub(crate) fn no_totals<A: Allocator + Copy>(alloc: A, count: usize) -> Result<Vec<u64, A>, Refusal>
+    ensures totals { IfOk result (λ totals. totals.items ≡ replicate count 0) }
+    ensures refused { IfErr result (λ e. e ≡ Refusal.NoMemory) }
+{
+    match Vec::from_elem(alloc, 0, count) {
+        Ok(totals) => Ok(totals),
+        Err(_) => Err(Refusal::NoMemory),
+    }
+}
+
+/// Raises the totals of the updates up to a place to those of the updates up to a later one.
+pub(crate) fn raise_to<A: Allocator + Copy>(
+    totals: &mut Vec<u64, A>,
+    log: &Log<A>,
+    masks: &[u64],
+    from: u64,
+    to: u64,
+)
+    requires forward { from ≤ to }
+    requires last { to ≤ length log.now.sets }
+    requires objects { length log.now.start ≤ length masks.now }
+    requires count { length totals.old.items ≤ most_limits }
+    requires few { (i : ℕ) → slice_index totals.old.items i ≤ greatest_weight * from }
+    ensures count { length totals.new.items ≡ length totals.old.items }
+    ensures few { (i : ℕ) → slice_index totals.new.items i ≤ greatest_weight * to }
+    ensures totals { (i : ℕ) → i < length totals.old.items →
+        slice_index totals.new.items i ≡ slice_index totals.old.items i + sum_from
+        (weight_where (has_bit masks.now i) log.now) from (to - from) }
+{
+    for place in from..to {
+        raise(totals, log, masks, place + 1);
+    }
+}
+
+/// Raises the totals of the updates before a place to those of the updates up to it.
+///
+/// It looks at the changes of the update at the place, and at no other.
+fn raise<A: Allocator + Copy>(totals: &mut Vec<u64, A>, log: &Log<A>, masks: &[u64], place: u64)
+    requires first { 0 < place }
+    requires last { place ≤ length log.now.sets }
+    requires objects { length log.now.start ≤ length masks.now }
+    requires count { length totals.old.items ≤ most_limits }
+    requires few { (i : ℕ) → slice_index totals.old.items i ≤ greatest_weight * (place - 1) }
+    ensures count { length totals.new.items ≡ length totals.old.items }
+    ensures few { (i : ℕ) → slice_index totals.new.items i ≤ greatest_weight * place }
+    ensures totals { (i : ℕ) → i < length totals.old.items →
+        slice_index totals.new.items i ≡ slice_index totals.old.items i + weight_where (has_bit masks.now i) log.now (place - 1) }
+{
+    // For the proof: there are few enough updates for the totals to fit.
+    let _updates = log.len();
+    let changes = log.set(place).changes();
+    let distances = log.distances(place);
+    for (i, change) in changes.iter().enumerate() {
+        add(totals, masks[change.object.index()], distances[i]);
+    }
+}
+
+/// Adds a weight to the totals whose bit is set in the mask.
+fn add<A: Allocator + Copy>(totals: &mut Vec<u64, A>, mask: u64, weight: u64)
+    requires count { length totals.old.items ≤ most_limits }
+    requires weight { weight ≤ greatest_distance }
+    requires few { (i : ℕ) → slice_index totals.old.items i ≤ greatest_weight * most_updates }
+    ensures count { length totals.new.items ≡ length totals.old.items }
+    ensures most { (i : ℕ) → slice_index totals.new.items i ≤ slice_index totals.old.items i + weight }
+    ensures totals { (i : ℕ) → i < length totals.old.items →
+        slice_index totals.new.items i ≡ slice_index totals.old.items i + share (bit_at mask i == 1) weight }
+{
+    for place in 0..totals.len() {
+        totals[place] += share(mask, place, weight);
+    }
+}
+
+/// The weight where the mask has the bit, and else nothing.
+fn share(mask: u64, bit: usize, weight: u64) -> u64
+    requires { bit < most_limits }
+    ensures share { result ≡ share (bit_at mask bit == 1) weight }
+    ensures most { result ≤ weight }
+{
+    if (mask >> bit) % 2 == 1 {
+        return weight;
+    }
+    0
+}

@@ -1,5 +1,5 @@
 -- Marks that are raised, one change after the other.
-use Rattle.std.proofs.Common.{◌≡◌, ℕ, zero, suc, ◌+◌, ◌-◌, ◌*◌, ◌<◌, ◌≤◌}
+use Rattle.std.proofs.Common.{◌≡◌, ℕ, ◌+◌, ◌-◌, ◌*◌, ◌<◌, ◌≤◌}
 use Rattle.std.proofs.Common.{false, List, [], ◌∷◌, length, get_or, drop, drop-cons}
 use Rattle.std.proofs.Common.{add-one, arith, refl, sym, ap, ◌∙◌, inl, inr}
 use Rattle.std.specs.Prelude.{◌==◌, if◌then◌else◌}
@@ -12,7 +12,7 @@ use Rattle.ordup_objects.specs.declared.change.Change.{Change}
 use Rattle.ordup_objects.specs.Sizes.{greatest_distance}
 use Rattle.ordup_objects.specs.Repeats.{repeats}
 use Rattle.ordup_objects.specs.Sets.{are_of_one_object}
-use Rattle.ordup_objects.specs.Serial.{History, serial, with_update, IsLegalHistory}
+use Rattle.ordup_objects.specs.Serial.{History, serial, IsLegalHistory}
 use Rattle.ordup_objects.specs.Weights.{object_weight, object_span, distance_beside, distances_of}
 use Rattle.ordup_log.specs.declared.scope.Scope.TheVariants.{Object}
 use Rattle.ordup_log.proofs.SpanLemmas.{span-more}

@@ -26,8 +26,8 @@ use Rattle.ordup_limits.proofs.LimitLemmas.{within-empty, within-later, within-l
 use Rattle.ordup_primary.specs.Declarations.{Declared, AreDeclared, limits_of, is_ready, start_refusal}
 use Rattle.ordup_primary.specs.Settling.{last_place}
 use Rattle.ordup_primary.specs.Primaries.{SiteProgress, PrimaryState, first_progress, progress_at, reported_at, is_within, forced_now}
-use Rattle.ordup_primary.specs.Primaries.{waiting_now, acked_after, decided_at, send_refusal, Decides, IsSiteSound, IsPrimary}
-use Rattle.ordup_primary.specs.Primaries.{HasFewestRounds}
+use Rattle.ordup_primary.specs.Primaries.{waiting_now, acked_after, decided_at, send_refusal, settle_refusal, Decides, IsSiteSound, IsPrimary}
+use Rattle.ordup_primary.specs.Primaries.{HasFewestRounds, acked_or_waiting, settled_as}
 use Rattle.ordup_primary.specs.PrimaryInside.{progress_of, state_of}
 use Rattle.ordup_primary.specs.declared.primary.Primary.TheInside.{Inside}
 use Rattle.ordup_primary.specs.declared.progress.Progress.{Progress}
@@ -572,3 +572,13 @@ pub HasFewestRounds-sound : (p : PrimaryState) → IsPrimary p → HasFewestRoun
 HasFewestRounds-sound p is s lt =
     fewest-sound (is_within p s) (length p.log.sets) p.acked p.decided (progress_at p s)
     (within-test p.log p.setup.groups (limits_of p.setup s)) (is.sites s first_progress lt)
+
+-- there is an update to settle
+pub settle-allowed : (p : PrimaryState) (updates : ℕ) → updates ≡ length p.log.sets → (p.acked ≡ updates → ⊥)
+    → settle_refusal p ≡ None
+settle-allowed p updates is more = rw (ne_eqb p.acked (length p.log.sets) (λ e. more (e ∙ sym is))) refl
+
+-- a head that is decided is waited for
+pub settled-later : {A : Type 0} (p : PrimaryState) → (p.acked ≡ p.decided → ⊥)
+    → acked_or_waiting (p.acked + 1) (waiting_now p) ≡ settled_as {A = A} p
+settled-later p later = rw (ne_eqb p.acked p.decided later) refl

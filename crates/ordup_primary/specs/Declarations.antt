@@ -1,5 +1,5 @@
 -- What is declared before a store starts.
-use Rattle.std.specs.Prelude.{◌≡◌, ℕ, ℤ, ◌<◌, ◌≤◌, ◌==◌, ◌&&◌, ◌||◌}
+use Rattle.std.specs.Prelude.{◌≡◌, ℕ, ℤ, ◌≤◌, ◌==◌, ◌&&◌, ◌||◌}
 use Rattle.std.specs.Prelude.{not, if◌then◌else◌, Option, Some, None, Bool, List, []}
 use Rattle.std.specs.Prelude.{◌∷◌, ◌++◌, length, nat_lt, is_some, slice_index_or, slice_set, All}
 use Rattle.std.specs.Option.{option_or}

@@ -6,6 +6,7 @@
 #![tactic(auto)]
 
 mod decisions;
+mod ledgers;
 mod marks;
 mod parcel;
 mod primary;

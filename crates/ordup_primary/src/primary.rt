@@ -4,6 +4,7 @@ ghost use Rattle.ordup_primary.specs.Declarations.{Declared, start_refusal};
 ghost use Rattle.ordup_primary.specs.Primaries.{first_progress};
 
 use crate::decisions::{last_place, put_down, take_room};
+use crate::ledgers::{extend_to, first_ledgers, sites_over};
 use crate::marks::raise;
 use crate::parcel::Parcel;
 use crate::progress::Progress;
@@ -11,6 +12,7 @@ use crate::settled::Settled;
 use crate::setup::Setup;
 use crate::site_list::SiteList;
 use crate::starting::first_parts;
+use ordup_limits::LagLedger;
 use ordup_log::Log;
 use ordup_objects::{MessageSet, Refusal, SiteId};
 use ordup_rounds::Window;
@@ -29,18 +31,20 @@ pub struct Primary<A: Allocator + Copy = Global> {
     sites: Vec<Progress<A>, A>,
     /// For each object how much the acknowledged updates weigh on it.
     marks: Vec<u64, A>,
+    /// For each site what the updates up to the head weigh that it has not reported.
+    ledgers: Vec<LagLedger<A>, A>,
 }
 
 impl<A: Allocator + Copy> Model for Primary<A> {
     ghost use Rattle.std.specs.Prelude.{map};
     ghost use Rattle.ordup_primary.specs.Primaries.{PrimaryState};
-    ghost use Rattle.ordup_primary.specs.PrimaryInside.{state_of, KeepsMarks};
+    ghost use Rattle.ordup_primary.specs.PrimaryInside.{state_of, KeepsSums};
 
     ghost Value = { PrimaryState };
 
     ghost view = { state_of };
 
-    ghost invariant = { KeepsMarks };
+    ghost invariant = { KeepsSums };
 }
 
 impl<A: Allocator + Copy> Primary<A> {
@@ -65,6 +69,7 @@ impl<A: Allocator + Copy> Primary<A> {
         ensures refused { IfErr result (λ e. e ≡ Refusal.NoMemory) }
     {
         let (log, sites, marks) = first_parts(alloc, &setup)?;
+        let ledgers = first_ledgers(alloc, &setup)?;
         Ok(Primary {
             setup,
             log,
@@ -72,6 +77,7 @@ impl<A: Allocator + Copy> Primary<A> {
             decided: 0,
             sites,
             marks,
+            ledgers,
         })
     }
 
@@ -131,6 +137,7 @@ impl<A: Allocator + Copy> Primary<A> {
         ensures noted { self.new ≡ record self.old { sites = slice_set self.old.sites site (record (progress_at self.old site) { reported = place }) } }
     {
         self.sites[site.index()].reported = place;
+        self.ledgers[site.index()].reported(&self.log, self.setup.groups(), place);
     }
 
     /// Settles the head, the update after the last acknowledged one.
@@ -308,21 +315,19 @@ impl<A: Allocator + Copy> Primary<A> {
         self.setup.sites()
     }
 
-    /// The sites that a first settlement of the head forces.
-    fn forced_now(&self, head: u64) -> Result<SiteList<A>, Refusal>
-        requires head { head ≡ self.now.acked + 1 }
-        requires some { head ≤ length self.now.log.sets }
-        ensures sites { IfOk result (λ sites. sites ≡ forced_now self.now) }
+    /// The sites that a first settlement of the head forces. It adds the updates up to the head to the ledgers.
+    fn forced_now(&mut self, head: u64) -> Result<SiteList<A>, Refusal>
+        requires head { head ≡ self.old.acked + 1 }
+        requires some { head ≤ length self.old.log.sets }
+        ensures sites { IfOk result (λ sites. sites ≡ forced_now self.old) }
         ensures refused { IfErr result (λ e. e ≡ Refusal.NoMemory) }
+        ensures same { self.new ≡ self.old }
+        ensures sound { IsPrimary self.new }
     {
-        let mut forced = SiteList::new(*self.sites.allocator());
-        for place in 0..self.count() {
-            let site = SiteId::new(place as u8);
-            if !self.is_within(site, self.reported(site), head) && forced.push(site).is_err() {
-                return Err(Refusal::NoMemory);
-            }
-        }
-        Ok(forced)
+        // For the proof: there are few enough sites.
+        let _sites = self.setup.sites();
+        extend_to(&mut self.ledgers, &self.log, self.setup.groups(), head);
+        sites_over(*self.ledgers.allocator(), self.ledgers.as_slice())
     }
 
     /// The sites that were forced at the decision of the head and have not reported it.
@@ -354,17 +359,5 @@ impl<A: Allocator + Copy> Primary<A> {
     {
         let _decided = self.decided;
         self.reported(site) < head && last_place(self.rounds(site)) == head
-    }
-
-    /// Whether the span from a place to another passes no limit of a site.
-    fn is_within(&self, site: SiteId, from: u64, to: u64) -> bool
-        requires site { site < length self.now.sites }
-        requires last { to ≤ length self.now.log.sets }
-        ensures { result ≡ is_within self.now site from to }
-    {
-        self.setup
-            .limits(site)
-            .over(&self.log, self.setup.groups(), from, to)
-            .is_none()
     }
 }

@@ -1,64 +1,95 @@
-use Rattle.std.proofs.Common.{arith, ap, sym, ◌∙◌, length, ◌==◌}
+use Rattle.std.proofs.Common.{arith, ap, sym, ◌∙◌, ◌≡◌, ◌-◌, length, ◌==◌}
 use Rattle.ordup_primary.specs.PrimaryInside.{state_of}
 use Rattle.ordup_primary.proofs.PrimaryLemmas.{IsPrimary-decided, Decides-at, acked-none, acked-some}
+use Rattle.ordup_primary.proofs.LedgerLemmas.{AreLedgers-decided}
 use Rattle.ordup_primary.proofs.primary.Primary.decide.Goals as goal
+
+pub invariant_of-self : goal.invariant_of-self
+invariant_of-self g c =
+    let before = c.self.invariant in
+    let same = c.in_err-take_room.ensures.same in
+    record {
+      primary = rw same before.primary;
+      count = before.count;
+      marks = before.marks;
+      ledgers = rw same before.ledgers;
+    }
+
+pub raise-requires-clause-before : goal.raise-requires-clause-before
+raise-requires-clause-before g c =
+    let is = c.self.view_is ∙ c.in_ok-forced.ensures.same in
+    let before : c.args.head - 1 ≡ c.self.inside.acked = omega (arith, rw (← is) at c.requires.head) in
+    rw before c.self.invariant.marks
 
 pub invariant_of-self-then-is_empty : goal.invariant_of-self-then-is_empty
 invariant_of-self-then-is_empty g c =
-    let forced = c.as_slice.ensures ∙ rw (← c.self.view_is) at c.in_ok-forced.ensures.sites in
-    let here = rw (← c.self.view_is) at c.requires.head in
+    let is = c.self.view_is ∙ c.in_ok-forced.ensures.same in
+    let forced = c.as_slice.ensures ∙ rw (← is) at c.in_ok-forced.ensures.sites in
+    let here = rw (← is) at c.requires.head in
+    let decides =
+    Decides-at c.self.inside c.take_room.new.sites.items c.put_down.new.sites.items c.as_slice.result.now c.args.head
+    c.args.head c.in_ok-take_room.ensures.same forced c.put_down.ensures.count c.put_down.ensures.sites here
+    (acked-none c.self.inside.acked c.args.head c.as_slice.result.now
+    (c.if-is_empty.ensures ∙ ap (λ xs. length xs == 0) (c.as_slice-2.ensures ∙ sym c.as_slice.ensures)) here) in
     record {
       primary =
-          IsPrimary-decided (state_of c.self.inside) _ c.self.invariant.primary (rw (← c.self.view_is) at c.requires.first)
-          (omega (arith, here, rw (← c.self.view_is) at c.requires.some))
-          (Decides-at c.self.inside c.take_room.new.sites.items c.put_down.new.sites.items c.as_slice.result.now c.args.head
-          c.args.head c.in_ok-take_room.ensures.same forced c.put_down.ensures.count c.put_down.ensures.sites here
-          (acked-none c.self.inside.acked c.args.head c.as_slice.result.now
-          (c.if-is_empty.ensures ∙ ap (λ xs. length xs == 0) (c.as_slice-2.ensures ∙ sym c.as_slice.ensures)) here));
+          IsPrimary-decided (state_of c.self.inside) _ c.self.invariant.primary (rw (← is) at c.requires.first)
+          (omega (arith, here, rw (← is) at c.requires.some))
+          decides;
       count = c.raise.ensures.count;
       marks = c.raise.ensures.marks;
+      ledgers = AreLedgers-decided (state_of c.self.inside) _ c.self.inside.ledgers.items c.self.invariant.ledgers
+          (omega (arith, here)) decides;
     }
 
 pub returns-then-is_empty-clause-decides : goal.returns-then-is_empty-clause-decides
 returns-then-is_empty-clause-decides g c =
-    let forced = c.as_slice.ensures ∙ rw (← c.self.view_is) at c.in_ok-forced.ensures.sites in
-    let here = rw (← c.self.view_is) at c.requires.head in
-    rw (← c.self.view_is) (Decides-at c.self.inside c.take_room.new.sites.items
+    let is = c.self.view_is ∙ c.in_ok-forced.ensures.same in
+    let forced = c.as_slice.ensures ∙ rw (← is) at c.in_ok-forced.ensures.sites in
+    let here = rw (← is) at c.requires.head in
+    rw (← is) (Decides-at c.self.inside c.take_room.new.sites.items
     c.put_down.new.sites.items c.as_slice.result.now c.args.head c.args.head c.in_ok-take_room.ensures.same forced
     c.put_down.ensures.count c.put_down.ensures.sites here (acked-none c.self.inside.acked c.args.head c.as_slice.result.now
     (c.if-is_empty.ensures ∙ ap (λ xs. length xs == 0) (c.as_slice-2.ensures ∙ sym c.as_slice.ensures)) here))
 
 pub invariant_of-self-else-is_empty : goal.invariant_of-self-else-is_empty
 invariant_of-self-else-is_empty g c =
-    let forced = c.as_slice.ensures ∙ rw (← c.self.view_is) at c.in_ok-forced.ensures.sites in
-    let here = rw (← c.self.view_is) at c.requires.head in
+    let is = c.self.view_is ∙ c.in_ok-forced.ensures.same in
+    let forced = c.as_slice.ensures ∙ rw (← is) at c.in_ok-forced.ensures.sites in
+    let here = rw (← is) at c.requires.head in
+    let decides =
+    Decides-at c.self.inside c.take_room.new.sites.items c.put_down.new.sites.items c.as_slice.result.now
+    c.self.inside.acked c.args.head c.in_ok-take_room.ensures.same forced c.put_down.ensures.count c.put_down.ensures.sites here
+    (acked-some c.self.inside.acked c.as_slice.result.now
+    (c.if-is_empty.ensures ∙ ap (λ xs. length xs == 0) (c.as_slice-2.ensures ∙ sym c.as_slice.ensures))) in
     record {
       primary =
-          IsPrimary-decided (state_of c.self.inside) _ c.self.invariant.primary (rw (← c.self.view_is) at c.requires.first)
-          (omega (arith, here, rw (← c.self.view_is) at c.requires.some))
-          (Decides-at c.self.inside c.take_room.new.sites.items c.put_down.new.sites.items c.as_slice.result.now
-          c.self.inside.acked c.args.head c.in_ok-take_room.ensures.same forced c.put_down.ensures.count c.put_down.ensures.sites here
-          (acked-some c.self.inside.acked c.as_slice.result.now
-          (c.if-is_empty.ensures ∙ ap (λ xs. length xs == 0) (c.as_slice-2.ensures ∙ sym c.as_slice.ensures))));
+          IsPrimary-decided (state_of c.self.inside) _ c.self.invariant.primary (rw (← is) at c.requires.first)
+          (omega (arith, here, rw (← is) at c.requires.some))
+          decides;
       count = c.self.invariant.count;
       marks = c.self.invariant.marks;
+      ledgers = AreLedgers-decided (state_of c.self.inside) _ c.self.inside.ledgers.items c.self.invariant.ledgers
+          (omega (arith, here)) decides;
     }
 
 pub returns-clause-decides : goal.returns-clause-decides
 returns-clause-decides g c =
-    let forced = c.as_slice.ensures ∙ rw (← c.self.view_is) at c.in_ok-forced.ensures.sites in
-    let here = rw (← c.self.view_is) at c.requires.head in
-    rw (← c.self.view_is) (Decides-at c.self.inside c.take_room.new.sites.items c.put_down.new.sites.items c.as_slice.result.now
+    let is = c.self.view_is ∙ c.in_ok-forced.ensures.same in
+    let forced = c.as_slice.ensures ∙ rw (← is) at c.in_ok-forced.ensures.sites in
+    let here = rw (← is) at c.requires.head in
+    rw (← is) (Decides-at c.self.inside c.take_room.new.sites.items c.put_down.new.sites.items c.as_slice.result.now
     c.self.inside.acked c.args.head c.in_ok-take_room.ensures.same forced c.put_down.ensures.count c.put_down.ensures.sites here
     (acked-some c.self.inside.acked c.as_slice.result.now
     (c.if-is_empty.ensures ∙ ap (λ xs. length xs == 0) (c.as_slice-2.ensures ∙ sym c.as_slice.ensures))))
 
 pub returns-then-is_empty-clause-sound : goal.returns-then-is_empty-clause-sound
 returns-then-is_empty-clause-sound g c =
-    let forced = c.as_slice.ensures ∙ rw (← c.self.view_is) at c.in_ok-forced.ensures.sites in
-    let here = rw (← c.self.view_is) at c.requires.head in
-    IsPrimary-decided (state_of c.self.inside) _ c.self.invariant.primary (rw (← c.self.view_is) at c.requires.first)
-    (omega (arith, here, rw (← c.self.view_is) at c.requires.some))
+    let is = c.self.view_is ∙ c.in_ok-forced.ensures.same in
+    let forced = c.as_slice.ensures ∙ rw (← is) at c.in_ok-forced.ensures.sites in
+    let here = rw (← is) at c.requires.head in
+    IsPrimary-decided (state_of c.self.inside) _ c.self.invariant.primary (rw (← is) at c.requires.first)
+    (omega (arith, here, rw (← is) at c.requires.some))
     (Decides-at c.self.inside c.take_room.new.sites.items c.put_down.new.sites.items c.as_slice.result.now c.args.head
     c.args.head c.in_ok-take_room.ensures.same forced c.put_down.ensures.count c.put_down.ensures.sites here
     (acked-none c.self.inside.acked c.args.head c.as_slice.result.now
@@ -66,10 +97,11 @@ returns-then-is_empty-clause-sound g c =
 
 pub returns-clause-sound : goal.returns-clause-sound
 returns-clause-sound g c =
-    let forced = c.as_slice.ensures ∙ rw (← c.self.view_is) at c.in_ok-forced.ensures.sites in
-    let here = rw (← c.self.view_is) at c.requires.head in
-    IsPrimary-decided (state_of c.self.inside) _ c.self.invariant.primary (rw (← c.self.view_is) at c.requires.first)
-    (omega (arith, here, rw (← c.self.view_is) at c.requires.some))
+    let is = c.self.view_is ∙ c.in_ok-forced.ensures.same in
+    let forced = c.as_slice.ensures ∙ rw (← is) at c.in_ok-forced.ensures.sites in
+    let here = rw (← is) at c.requires.head in
+    IsPrimary-decided (state_of c.self.inside) _ c.self.invariant.primary (rw (← is) at c.requires.first)
+    (omega (arith, here, rw (← is) at c.requires.some))
     (Decides-at c.self.inside c.take_room.new.sites.items c.put_down.new.sites.items c.as_slice.result.now c.self.inside.acked c.args.head
     c.in_ok-take_room.ensures.same forced c.put_down.ensures.count c.put_down.ensures.sites here
     (acked-some c.self.inside.acked c.as_slice.result.now

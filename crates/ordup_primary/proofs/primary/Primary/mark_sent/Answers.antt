@@ -3,6 +3,7 @@ use Rattle.std.proofs.lemmas.Grind.{common_steps}
 use Rattle.ordup_primary.specs.Primaries.{SiteProgress, PrimaryState}
 use Rattle.ordup_primary.specs.PrimaryInside.{state_of}
 use Rattle.ordup_primary.proofs.PrimaryLemmas.{view_at, view-set, sent_more, IsPrimary-sent}
+use Rattle.ordup_primary.proofs.LedgerLemmas.{AreLedgers-with_site}
 use Rattle.ordup_primary.proofs.primary.Primary.mark_sent.Goals as goal
 
 pub overflow_add-index_mut : goal.overflow_add-index_mut
@@ -21,6 +22,8 @@ invariant_of-self g c =
       primary = IsPrimary-sent c.self.inside _ c.args.site c.self.invariant.primary lt (rw (← c.self.view_is) at c.requires.unsent) e;
       count = c.self.invariant.count;
       marks = c.self.invariant.marks;
+      ledgers =
+          AreLedgers-with_site (state_of c.self.inside) c.self.inside.ledgers.items c.args.site _ _ c.self.invariant.ledgers lt refl e;
     }
 
 pub returns-clause-marked : goal.returns-clause-marked

@@ -1,9 +1,9 @@
 use Rattle.std.proofs.Common.{arith, rules, ◌∷◌, []}
-use Rattle.std.proofs.lemmas.Grind.{common_steps}
 use Rattle.ordup_objects.specs.Sets.{IsSet}
 use Rattle.ordup_primary.specs.PrimaryInside.{state_of}
 use Rattle.ordup_objects.proofs.SpanLemmas.{AreMarks-longer}
 use Rattle.ordup_primary.proofs.PrimaryLemmas.{IsPrimary-proposed}
+use Rattle.ordup_primary.proofs.LedgerLemmas.{AreLedgers-proposed}
 use Rattle.ordup_primary.proofs.primary.Primary.propose.Goals as goal
 
 pub invariant_of-self-2 : goal.invariant_of-self-2
@@ -18,6 +18,7 @@ invariant_of-self-2 g c =
       marks =
           AreMarks-longer c.self.inside.log c.self.inside.acked c.self.inside.marks.items (c.args.set ∷ [])
           (omega (arith, before.primary.acked, before.primary.decided)) before.marks;
+      ledgers = AreLedgers-proposed (state_of c.self.inside) c.args.set c.self.inside.ledgers.items before.ledgers;
     })
 
 pub returns-clause-sound : goal.returns-clause-sound
@@ -27,4 +28,4 @@ returns-clause-sound g c =
     (rw (← c.self.view_is) at c.requires) c.in_ok-number.ensures.allowed)
 
 pub append-requires : goal.append-requires
-append-requires g c = grind (arith, common_steps)
+append-requires g c = rw (← c.self.view_is) at c.requires

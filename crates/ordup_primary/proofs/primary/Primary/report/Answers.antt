@@ -1,8 +1,11 @@
-use Rattle.std.proofs.Common.{arith, refl, ap}
+use Rattle.std.proofs.Common.{arith, refl, ap, ◌≡◌, ◌∙◌, get_or}
+use Rattle.std.proofs.lemmas.List.{get_or_read}
+use Rattle.ordup_limits.specs.Ledgers.{LedgerState}
 use Rattle.std.proofs.lemmas.Grind.{common_steps}
-use Rattle.ordup_primary.specs.Primaries.{PrimaryState}
+use Rattle.ordup_primary.specs.Primaries.{PrimaryState, progress_at}
 use Rattle.ordup_primary.specs.PrimaryInside.{state_of}
 use Rattle.ordup_primary.proofs.PrimaryLemmas.{view-set, reported_as, IsPrimary-reported}
+use Rattle.ordup_primary.proofs.LedgerLemmas.{AreLedgers-reported}
 use Rattle.ordup_primary.proofs.primary.Primary.report.Goals as goal
 
 pub invariant_of-self : goal.invariant_of-self
@@ -17,6 +20,18 @@ invariant_of-self g c =
           (rw (← c.self.view_is) at c.requires.risen) (rw (← c.self.view_is) at c.requires.sent) e;
       count = c.self.invariant.count;
       marks = c.self.invariant.marks;
+      ledgers =
+          (let x = c.index_mut-2.result.now in
+          let l = c.reported.new.self in
+          let at : x ≡ get_or c.self.inside.ledgers.items c.args.site l =
+          get_or_read c.self.inside.ledgers.items c.index-2.result x
+          (omega (arith, c.index-2.ensures, lt, c.self.invariant.ledgers.count)) c.index_mut-2.ensures.value l
+          ∙ ap (λ k. get_or c.self.inside.ledgers.items k l) c.index-2.ensures in
+          let made = c.reported.ensures in
+          rw c.index-2.ensures (AreLedgers-reported (state_of c.self.inside) c.self.inside.ledgers.items c.args.site c.args.place l
+          (reported_as c.args.place (progress_at (state_of c.self.inside) c.args.site)) _ e c.self.invariant.ledgers lt
+          (rw c.groups.ensures.groups at made.stands) (made.limits ∙ ap (λ (k : LedgerState). k.limits) at)
+          (made.places.0, made.places.1 ∙ ap (λ (k : LedgerState). k.extended) at) refl));
     }
 
 pub returns-clause-noted : goal.returns-clause-noted

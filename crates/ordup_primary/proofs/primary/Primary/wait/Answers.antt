@@ -1,6 +1,8 @@
-use Rattle.std.proofs.Common.{arith, ◌∙◌, ◌≡◌, ◌-◌}
+use Rattle.std.proofs.Common.{arith, ◌∙◌, ◌≡◌, ◌-◌, ap, refl}
+use Rattle.ordup_primary.specs.Primaries.{PrimaryState, acked_after, waiting_now}
 use Rattle.ordup_primary.specs.PrimaryInside.{state_of}
-use Rattle.ordup_primary.proofs.PrimaryLemmas.{IsPrimary-acked, nil-from_empty}
+use Rattle.ordup_primary.proofs.PrimaryLemmas.{IsPrimary-acked, nil-from_empty, acked-none}
+use Rattle.ordup_primary.proofs.LedgerLemmas.{AreLedgers-kept}
 use Rattle.ordup_primary.proofs.primary.Primary.wait.Goals as goal
 
 pub invariant_of-self : goal.invariant_of-self
@@ -13,6 +15,9 @@ invariant_of-self g c =
           (nil-from_empty c.as_slice.result.now c.if-is_empty.ensures);
       count = c.raise.ensures.count;
       marks = c.raise.ensures.marks;
+      ledgers =
+          AreLedgers-kept (state_of c.self.inside) (record (state_of c.self.inside) { acked = c.args.head }) c.self.inside.ledgers.items
+          c.self.invariant.ledgers refl refl (omega (arith, rw (← c.self.view_is) at c.requires.head)) refl (λ s lt. refl);
     }
 
 pub returns-then-is_empty-clause-sound : goal.returns-then-is_empty-clause-sound
@@ -26,3 +31,12 @@ pub raise-requires-clause-before : goal.raise-requires-clause-before
 raise-requires-clause-before g c =
     let before : c.args.head - 1 ≡ c.self.inside.acked = omega (arith, rw (← c.self.view_is) at c.requires.head) in
     rw before c.self.invariant.marks
+
+pub returns-then-is_empty-clause-later : goal.returns-then-is_empty-clause-later
+returns-then-is_empty-clause-later g c =
+    let p = state_of c.self.inside in
+    let waiting = c.as_slice.ensures ∙ rw (← c.self.view_is) at c.in_ok-waiting.ensures.sites in
+    let after : c.args.head ≡ acked_after p.acked (waiting_now p) =
+    acked-none p.acked c.args.head c.as_slice.result.now c.if-is_empty.ensures (rw (← c.self.view_is) at c.requires.head)
+    ∙ ap (acked_after p.acked) waiting in
+    rw (← c.self.view_is) (ap (λ acked. let q : PrimaryState = record p { acked = acked } in q) after)

@@ -1,0 +1,71 @@
+ghost use Rattle.std.specs.Prelude.{◌≡◌, ◌<◌, ◌≤◌, ℕ, All, length, slice_index_or, IfOk, IfErr};
+ghost use Rattle.ordup_objects.specs.Serial.{History};
+ghost use Rattle.ordup_objects.specs.Sizes.{most_sites};
+ghost use Rattle.ordup_log.specs.Groups.{GroupList};
+ghost use Rattle.ordup_limits.specs.Ledgers.{LedgerState, StandsFor};
+ghost use Rattle.ordup_primary.specs.PrimaryInside.{AreLedgers, first_state, IsExtended, is_over};
+ghost use Rattle.ordup_primary.specs.Settling.{where_below};
+
+use crate::setup::Setup;
+use crate::site_list::SiteList;
+use ordup_limits::LagLedger;
+use ordup_log::{Groups, Log};
+use ordup_objects::{Refusal, SiteId};
+use std::alloc::Allocator;
+
+/// The ledgers of the sites at the start.
+pub(crate) fn first_ledgers<A: Allocator + Copy>(
+    alloc: A,
+    setup: &Setup<A>,
+) -> Result<Vec<LagLedger<A>, A>, Refusal>
+    ensures ledgers { IfOk result (λ ledgers. AreLedgers (first_state setup.now) ledgers.items) }
+    ensures refused { IfErr result (λ e. e ≡ Refusal.NoMemory) }
+{
+    // For the proof: there are few enough objects for a ledger.
+    let _objects = setup.objects().len();
+    let mut ledgers = Vec::new(alloc);
+    for site in 0..setup.sites() {
+        let ledger = LagLedger::new(alloc, setup.limits(SiteId::new(site as u8)))?;
+        if ledgers.push(ledger).is_err() {
+            return Err(Refusal::NoMemory);
+        }
+    }
+    Ok(ledgers)
+}
+
+/// Adds the updates up to a place to each ledger.
+pub(crate) fn extend_to<A: Allocator + Copy>(
+    ledgers: &mut Vec<LagLedger<A>, A>,
+    log: &Log<A>,
+    groups: &Groups<A>,
+    to: u64,
+)
+    requires ledgers { All (λ l. StandsFor l log.now groups.now × (l.extended ≤ to)) ledgers.old.items }
+    requires last { to ≤ length log.now.sets }
+    ensures count { length ledgers.new.items ≡ length ledgers.old.items }
+    ensures ledgers { (s : ℕ) (d : LedgerState) → s < length ledgers.old.items →
+        IsExtended log.now groups.now to (slice_index_or ledgers.old.items s d) (slice_index_or ledgers.new.items s d) }
+{
+    for site in 0..ledgers.len() {
+        ledgers[site].extend(log, groups, to);
+    }
+}
+
+/// The sites whose ledgers are over a limit.
+pub(crate) fn sites_over<A: Allocator + Copy>(
+    alloc: A,
+    ledgers: &[LagLedger<A>],
+) -> Result<SiteList<A>, Refusal>
+    requires few { length ledgers.now ≤ most_sites }
+    ensures sites { IfOk result (λ sites. (h : History) (groups : GroupList) (d : LedgerState) → All (λ l. StandsFor l h groups) ledgers.now →
+        sites ≡ where_below (λ s. is_over h groups (slice_index_or ledgers.now s d)) (length ledgers.now)) }
+    ensures refused { IfErr result (λ e. e ≡ Refusal.NoMemory) }
+{
+    let mut sites = SiteList::new(alloc);
+    for place in 0..ledgers.len() {
+        if ledgers[place].over() && sites.push(SiteId::new(place as u8)).is_err() {
+            return Err(Refusal::NoMemory);
+        }
+    }
+    Ok(sites)
+}

@@ -4,4 +4,5 @@ pub mod MarkLemmas
 mod LedgerLemmas
 pub mod PrimaryLemmas
 pub mod SetupLemmas
+pub mod ParcelLemmas
 mod Examples

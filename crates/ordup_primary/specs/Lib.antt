@@ -2,3 +2,4 @@ pub mod Declarations
 pub mod Settling
 pub mod Primaries
 pub mod PrimaryInside
+pub mod Parcels

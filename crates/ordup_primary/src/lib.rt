@@ -6,6 +6,7 @@
 #![tactic(auto)]
 
 mod decisions;
+mod laws;
 mod ledgers;
 mod marks;
 mod parcel;
@@ -16,6 +17,7 @@ mod setup;
 mod site_list;
 mod starting;
 
+pub use laws::next_updates_may_follow;
 pub use ordup_limits::{GroupId, Groups, LimitTable, Scope};
 pub use ordup_rounds::Window;
 pub use parcel::Parcel;

@@ -1,0 +1,3 @@
+pub mod ParcelLemmas
+pub mod QueueMoves
+mod Examples

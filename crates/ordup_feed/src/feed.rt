@@ -1,0 +1,80 @@
+ghost use Rattle.std.specs.Prelude.{◌≡◌, ◌<◌, [], IfOk, IfErr};
+ghost use Rattle.ordup_objects.specs.Refusals.{IsRefusal};
+ghost use Rattle.ordup_objects.specs.States.{IsState};
+ghost use Rattle.ordup_objects.specs.Tables.{initial_state};
+ghost use Rattle.ordup_feed.specs.Parcels.{feed_refusal};
+ghost use Rattle.ordup_feed.specs.Ends.{AreNewEnds};
+
+use crate::queue::{Ends, Queue, Start};
+use crate::send_end::SendEnd;
+use crate::take_end::TakeEnd;
+use crate::word::{Halves, Word};
+use ordup_objects::sizes::GREATEST_CAPACITY;
+use ordup_objects::{ObjectTable, Refusal};
+use std::alloc::{AllocError, Global};
+use std::marker::Brand;
+use std::sync::Arc;
+
+/// Makes feeds.
+pub struct Feed;
+
+impl Feed {
+    /// The two ends of a feed with room for so many parcels, 1 to 1,024, over the initial values of these objects.
+    ///
+    /// It makes all the room that the ends ever need. It is refused `OutOfRange` for the capacity, and `NoMemory`.
+    pub fn new(
+        alloc: Global,
+        objects: &ObjectTable,
+        capacity: u64,
+    ) -> Result<(SendEnd, TakeEnd), Refusal>
+        ensures ends { IfOk result (λ ends. AreNewEnds (initial_state objects.now) capacity ends.0 ends.1) }
+        ensures allowed { IfOk result (λ _. feed_refusal capacity ≡ None) }
+        ensures refused { IfErr result (λ e. IsRefusal (feed_refusal capacity) e) }
+    {
+        if capacity == 0 || capacity > GREATEST_CAPACITY {
+            return Err(Refusal::OutOfRange);
+        }
+        // For the proof: the initial values are a state.
+        let _objects = objects.len();
+        match open::<Brand>(alloc, objects, capacity as usize) {
+            Ok(ends) => Ok(ends),
+            Err(_) => Err(Refusal::NoMemory),
+        }
+    }
+}
+
+/// Makes a feed whose initial state is picked.
+fn open<J: Start>(
+    alloc: Global,
+    objects: &ObjectTable,
+    capacity: usize,
+) -> Result<(SendEnd, TakeEnd), AllocError>
+    requires room { 0 < capacity }
+    requires start { J.start ≡ initial_state objects.now }
+    requires state { IsState J.start }
+    ensures { IfOk result (λ ends. AreNewEnds (initial_state objects.now) capacity ends.0 ends.1) }
+{
+    let (queue, mut pass) = Queue::ruled(alloc, capacity)?;
+    let taker_pass = queue.another::<Ends<J>>(&mut pass);
+    let queue = Arc::new(alloc, queue)?;
+    let taker_queue = Arc::try_clone(&queue)?;
+    let (word, mut mark) = Word::ruled(alloc, [0])?;
+    let taker_mark = word.split_pass::<Halves>(&mut mark);
+    let word = Arc::new(alloc, word)?;
+    let taker_word = Arc::try_clone(&word)?;
+    let sender = SendEnd {
+        queue,
+        pass,
+        word,
+        mark,
+        count: 0,
+    };
+    let taker = TakeEnd {
+        queue: taker_queue,
+        pass: taker_pass,
+        word: taker_word,
+        mark: taker_mark,
+        count: 0,
+    };
+    Ok((sender, taker))
+}

@@ -1,0 +1,13 @@
+ghost use Rattle.ordup_feed.specs.Laws.{TakenIsAPrefixOfPushed, KnownIsAtMostTold};
+
+/// A law: between any two steps what was taken is a prefix of what was pushed, and in order.
+///
+/// So a site that applies what it takes holds the serial result of a prefix of what was pushed.
+pub fn taken_is_a_prefix_of_pushed()
+    ensures { TakenIsAPrefixOfPushed }
+{}
+
+/// A law: between any two steps the sender knows at most the place that the taker told.
+pub fn known_is_at_most_told()
+    ensures { KnownIsAtMostTold }
+{}

@@ -1,0 +1,84 @@
+ghost use Rattle.std.specs.Prelude.{◌≡◌, ◌≤◌, [], ◌∷◌, ◌++◌, length, min, IfOk, IfErr};
+ghost use Rattle.ordup_feed.specs.Parcels.{AreInOrder, IsNext};
+ghost use Rattle.ordup_feed.specs.Ends.{Sending};
+
+use crate::queue::{Push, Queue, QueuePass};
+use crate::word::{Look, Word, WordPass};
+use ordup_objects::Refusal;
+use ordup_primary::Parcel;
+use std::alloc::Global;
+use std::marker::Model;
+use std::sync::{Arc, Wait};
+
+/// The primary's end of a feed: it pushes parcels, and looks how many of them the site told that it took.
+#[derive(Drop)]
+pub struct SendEnd {
+    pub(crate) queue: Arc<Queue, Global>,
+    pub(crate) pass: QueuePass,
+    pub(crate) word: Arc<Word, Global>,
+    pub(crate) mark: WordPass,
+    /// How many parcels were pushed.
+    pub(crate) count: u64,
+}
+
+impl Model for SendEnd {
+    ghost use Rattle.ordup_feed.specs.Ends.{Sending};
+
+    ghost Value = { Sending };
+
+    ghost use Rattle.ordup_feed.specs.EndsInside.{sending_of, KeepsSender};
+
+    ghost view = { sending_of };
+
+    ghost invariant = { KeepsSender };
+}
+
+/// A parcel that a feed did not take, and why.
+#[derive(Drop)]
+pub struct Returned {
+    /// `FeedFull`.
+    pub refusal: Refusal,
+    /// The parcel.
+    pub parcel: Parcel,
+}
+
+impl SendEnd {
+    /// Pushes a parcel behind all that were pushed. It takes no memory.
+    ///
+    /// The caller sees to it that the parcel is the next one: its number follows the last one pushed and is at most 1,000,000, and
+    /// its set is legal after those pushed. What `Primary::next_for` gives is, where the updates before it were pushed.
+    ///
+    /// It is refused `FeedFull` where the queue was full at one moment of the call, and the parcel is handed back.
+    pub fn push<R: Wait>(&mut self, rt: &R, parcel: Parcel) -> Result<(), Returned>
+        requires { IsNext self.old.start self.old.pushed parcel }
+        ensures pushed { IfOk result (λ _. self.new ≡ record self.old { pushed = self.old.pushed ++ parcel ∷ [] }) }
+        ensures full { IfErr result (λ back. self.old.feed.capacity ≤ length self.old.pushed) }
+        ensures refused { IfErr result (λ back. (back.refusal ≡ Refusal.FeedFull) × (back.parcel ≡ parcel) × (self.new ≡ self.old)) }
+    {
+        // For the proof: the set of a parcel is a message set.
+        let _changes = parcel.set.changes();
+        match self.queue.push_as::<Push, R>(rt, &mut self.pass, parcel) {
+            Ok(()) => {
+                self.count += 1;
+                Ok(())
+            }
+            Err(parcel) => {
+                let refusal = Refusal::FeedFull;
+                Err(Returned { refusal, parcel })
+            }
+        }
+    }
+
+    /// How many parcels the site told that it took, as far as the primary knows now; or the number pushed where that is less.
+    ///
+    /// It takes no memory.
+    pub fn look<R: Wait>(&mut self, rt: &R) -> u64
+        ensures answer { result ≡ min self.new.known (length self.new.pushed) }
+        ensures risen { self.old.known ≤ self.new.known }
+        ensures looked { self.new ≡ record self.old { known = self.new.known } }
+        ensures order { AreInOrder self.new.start self.new.pushed }
+    {
+        let found = self.word.load_as::<Look, R>(rt, &mut self.mark);
+        found[0].min(self.count)
+    }
+}

@@ -1,0 +1,33 @@
+//! Parcels that follow each other.
+ghost use Rattle.std.specs.Prelude.{◌≤◌, length, IfOk};
+ghost use Rattle.ordup_objects.specs.Sizes.{most_updates};
+ghost use Rattle.ordup_feed_tests.specs.Following.{FollowsAny};
+
+use ordup_objects::{Change, MessageSet, ObjectId, ObjectTable, Op, Refusal};
+use ordup_primary::Parcel;
+use std::alloc::Global;
+
+/// The object x at 0.
+pub fn x(alloc: Global) -> Result<ObjectTable, Refusal> {
+    let mut objects = ObjectTable::new(alloc);
+    objects.declare(b"x", 0)?;
+    Ok(objects)
+}
+
+/// The parcel with this number, which sets x to 1. It follows any parcels before it.
+pub fn parcel(alloc: Global, objects: &ObjectTable, number: u64) -> Result<Parcel, Refusal>
+    requires { number ≤ most_updates }
+    ensures { IfOk result (FollowsAny (length objects.now) number) }
+{
+    let change = Change {
+        object: ObjectId::new(0),
+        op: Op::Set(1),
+    };
+    match Vec::from_slice(alloc, &[change]) {
+        Ok(changes) => Ok(Parcel {
+            number,
+            set: MessageSet::new(objects, changes)?,
+        }),
+        Err(_) => Err(Refusal::NoMemory),
+    }
+}

@@ -1,11 +1,11 @@
 -- Rows that are written one by one.
-use Rattle.std.proofs.Common.{◌≡◌, ◌∙◌, ap, sym, refl, ℕ, ℤ, pos, zero, suc, ◌+◌, ◌<◌, ◌≤◌, List, [], ◌∷◌, ◌++◌, length, drop, get_or}
-use Rattle.std.proofs.Common.{arith, append_assoc, add-one, drop-cons, Some, None, Option}
+use Rattle.std.proofs.Common.{◌≡◌, ◌∙◌, ap, sym, refl, ℕ, ◌+◌, ◌<◌, List, [], ◌∷◌, ◌++◌, length, drop, get_or}
+use Rattle.std.proofs.Common.{append_assoc, add-one, drop-cons, Some, None, Option}
 use Rattle.std.specs.Prelude.{option_map, slice_get}
-use Rattle.std.proofs.lemmas.List.{append-nil, get_or-map}
+use Rattle.std.proofs.lemmas.List.{get_or-map}
 use Rattle.std.proofs.lemmas.Option.{get_or_from_slice_get, slice_get-map}
 use Rattle.csv.specs.Writing.{default_writer, row_text}
-use Rattle.ordup_objects.specs.Tables.{Objects, initial_state, names_of}
+use Rattle.ordup_objects.specs.Tables.{Objects, names_of}
 use Rattle.ordup_log.specs.Groups.{GroupList}
 use Rattle.ordup_objects.specs.declared.change.Change.{Change}
 use Rattle.ordup_rows.specs.Forming.{csv_text}

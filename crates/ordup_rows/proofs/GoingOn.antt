@@ -25,7 +25,7 @@ use Rattle.ordup_rows.proofs.ReadingBack.{HasNumber, what_is_told_is_read}
 use Rattle.ordup_rows.proofs.Refusals.{set_allowed}
 use Rattle.ordup_rows.proofs.Running.{IsRecord-told, IsStage, no_record, run_whole, stage_rows}
 use Rattle.ordup_rows.proofs.Taking.{take_row}
-use Rattle.ordup_rows.proofs.Told.{IsTold}
+use Rattle.ordup_rows.proofs.ToldSoFar.{IsTold}
 use Rattle.ordup_rows.proofs.Words.{change_by-text}
 
 -- a record whose rows begin with these

@@ -5,9 +5,9 @@ use Rattle.std.specs.Prelude.{slice_index_or, slice_set}
 use Rattle.std.proofs.Math.Seq.{get_or-append_seam, set-append_seam}
 use Rattle.std.proofs.lemmas.Bool.{and_parts, eqb-true}
 use Rattle.std.proofs.lemmas.List.{append-nil, length_push, map-append}
-use Rattle.ordup_objects.specs.Tables.{Objects}
+use Rattle.ordup_objects.specs.Tables.{Objects, with_entry}
 use Rattle.ordup_objects.specs.declared.change.Change.{Change}
-use Rattle.ordup_log.specs.Groups.{GroupList}
+use Rattle.ordup_log.specs.Groups.{GroupList, last_members, with_member}
 use Rattle.ordup_limits.specs.declared.limit.Limit.{Limit}
 use Rattle.ordup_rounds.specs.declared.window.Window.{Window}
 use Rattle.ordup_record.specs.Records.{RecordState}
@@ -15,7 +15,7 @@ use Rattle.ordup_record.specs.declared.report_change.ReportChange.{ReportChange}
 use Rattle.ordup_rows.specs.Rows.{Row, change_row, change_rows, counted, head_row, limit_row, member_row, member_rows, object_row}
 use Rattle.ordup_rows.specs.Rows.{report_row, round_row, rows_so_far, window_row}
 use Rattle.ordup_rows.specs.Stages.{is_before_changes, is_before_limits, is_before_members, is_before_reports, is_before_rounds}
-use Rattle.ordup_rows.specs.Stages.{is_before_windows, last_group, last_set, member_count, with_change, with_member}
+use Rattle.ordup_rows.specs.Stages.{is_before_windows, last_name, last_set, member_count, with_change}
 
 -- ---- what was not told yet
 
@@ -77,13 +77,18 @@ last_of xs x d = rw (last_place xs x) (get_or-append_seam xs x [] d)
 pub set_last : {X : Type 0} (xs : List X) (x y : X) → slice_set (xs ++ x ∷ []) (length (xs ++ x ∷ []) - 1) y ≡ xs ++ y ∷ []
 set_last xs x y = rw (last_place xs x) (set-append_seam xs x [] y)
 
-pub last_group-of : (front : GroupList) (g : List ℕ × List ℕ) → last_group (front ++ g ∷ []) ≡ g
-last_group-of front g = last_of front g ([], [])
+pub last_name-of : (front : GroupList) (g : List ℕ × List ℕ) → last_name (front ++ g ∷ []) ≡ g.0
+last_name-of front g = ap (λ (h : List ℕ × List ℕ). h.0) (last_of front g ([], []))
+
+pub last_members-of : (front : GroupList) (g : List ℕ × List ℕ) → last_members (front ++ g ∷ []) ≡ g.1
+last_members-of front g = ap (λ (h : List ℕ × List ℕ). h.1) (last_of front g ([], []))
 
 pub with_member-last : (front : GroupList) (g : List ℕ × List ℕ) (x : ℕ) → with_member (front ++ g ∷ []) x ≡ front
     ++ (g.0, g.1 ++ x ∷ []) ∷ []
 with_member-last front g x =
-    ap (λ (h : List ℕ × List ℕ). slice_set (front ++ g ∷ []) (length (front ++ g ∷ []) - 1) (h.0, h.1 ++ x ∷ [])) (last_group-of front g)
+    let groups = front ++ g ∷ [] in
+    ap (λ members. with_entry groups (length groups - 1) (members ++ x ∷ [])) (last_members-of front g)
+    ∙ ap (λ (h : List ℕ × List ℕ). slice_set groups (length groups - 1) (h.0, g.1 ++ x ∷ [])) (last_of front g ([], g.1 ++ x ∷ []))
     ∙ set_last front g (g.0, g.1 ++ x ∷ [])
 
 pub last_set-of : (front : List (List Change)) (m : List Change) → last_set (front ++ m ∷ []) ≡ m

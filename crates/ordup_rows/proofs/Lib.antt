@@ -3,7 +3,7 @@ pub mod Names
 pub mod Words
 pub mod Refusals
 pub mod Growth
-pub mod Told
+pub mod ToldSoFar
 pub mod Taking
 pub mod Running
 pub mod ReadingBack
@@ -11,4 +11,6 @@ pub mod GoingOn
 pub mod BadRows
 pub mod FormLemmas
 pub mod PlainLemmas
+pub mod SizeLemmas
+pub mod TextLemmas
 mod Examples

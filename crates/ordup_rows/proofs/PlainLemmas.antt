@@ -1,21 +1,22 @@
 -- No column of a record's rows needs quotes: `csv` writes each row as its columns with commas between them.
-use Rattle.std.proofs.Common.{◌≡◌, ◌∙◌, ap, refl, ℕ, ℤ, pos, negsuc, suc, ◌+◌, ◌^◌, ◌<◌, ◌≤◌, true, false, List, [], ◌∷◌, ◌++◌, length, map}
-use Rattle.std.proofs.Common.{arith, codes, unsigned_abs}
-use Rattle.std.specs.Prelude.{All, IfSome}
+use Rattle.std.proofs.Common.{◌≡◌, ◌∙◌, ap, refl, ℕ, ℤ, pos, negsuc, suc, ◌+◌, ◌^◌, ◌<◌, ◌≤◌, ◌==◌, Bool}
+use Rattle.std.proofs.Common.{true, false, List, [], ◌∷◌, ◌++◌, length, map}
+use Rattle.std.proofs.Common.{arith, codes, unsigned_abs, lit<, lit≤}
+use Rattle.std.specs.Prelude.{All, IfSome, ◌||◌, ◌&&◌, nat_le}
 use Rattle.std.specs.Char.{is_ascii_digit}
 use Rattle.std.specs.Fmt.{decimal, signed_decimal}
-use Rattle.std.specs.List.{list_all}
+use Rattle.std.specs.List.{list_all, list_any}
 use Rattle.std.specs.Str.{all_ascii_digits}
-use Rattle.std.proofs.lemmas.Bool.{and_parts, or_from}
+use Rattle.std.proofs.lemmas.Bool.{and_parts, leb-true, or_from, or_parts}
 use Rattle.std.proofs.lemmas.Bool.Decides.{nat_tests}
-use Rattle.std.proofs.lemmas.Fmt.{digits_decimal}
-use Rattle.std.proofs.lemmas.List.{append-nil}
+use Rattle.std.proofs.lemmas.Fmt.{digits_decimal, length-decimal-le}
+use Rattle.std.proofs.lemmas.List.{append-nil, length-append}
 use Rattle.std.proofs.lemmas.List.Elements.{All-append, All-cons, All-nil}
-use Rattle.std.proofs.lemmas.List.Folds.{list_any-append}
+use Rattle.std.proofs.lemmas.List.Folds.{list_any-append, list_any_none}
 use Rattle.csv.specs.Quoting.{needs_byte}
 use Rattle.csv.specs.Writing.{default_writer, fields_text, is_blank, needs_quotes, row_text}
 use Rattle.ordup_grammar.proofs.Decimals.{numerals}
-use Rattle.ordup_objects.specs.Names.{is_name, is_name_byte}
+use Rattle.ordup_objects.specs.Names.{begins_with_letter, is_name, is_name_byte}
 use Rattle.ordup_objects.specs.Ops.{number_of as op_number, source_of}
 use Rattle.ordup_objects.specs.Sets.{AreKnown, IsKnown, IsSet}
 use Rattle.ordup_objects.specs.States.{IsInRange, IsState}
@@ -32,66 +33,130 @@ use Rattle.ordup_limits.specs.declared.limit.Limit.{Limit}
 use Rattle.ordup_rounds.specs.declared.window.Window.{Window}
 use Rattle.ordup_record.specs.Records.{IsRecord, RecordState}
 use Rattle.ordup_record.specs.declared.report_change.ReportChange.{ReportChange}
-use Rattle.ordup_objects.specs.Sizes.{most_updates}
+use Rattle.ordup_objects.specs.Sizes.{most_name_bytes, most_updates}
 use Rattle.ordup_rows.specs.Forming.{csv_text}
 use Rattle.ordup_rows.specs.Rows.{Row, change_row, change_rows, change_text, change_word, counted, head_row, limit_row, member_row}
 use Rattle.ordup_rows.specs.Rows.{member_rows, name_at, object_row, operation_text, report_row, round_row, row_line, rows_of, rows_text}
 use Rattle.ordup_rows.specs.Rows.{scope_text, window_row}
 use Rattle.ordup_rows.specs.Stages.{member_count}
 use Rattle.ordup_rows.proofs.ReadingBack.{HasNumber, member_count-few, rounds_few}
-use Rattle.ordup_rows.proofs.Told.{HasKnown, HasName}
+use Rattle.ordup_rows.proofs.ToldSoFar.{HasKnown, HasName}
 use Rattle.ordup_rows.proofs.Words.{name_of}
 
-abbrev pub IsPlain : List ℕ → Type 0
-IsPlain column = needs_quotes default_writer column ≡ false
+-- a byte that calls for quotes, or is 0
+abbrev pub is_special : ℕ → Bool
+is_special b = needs_byte default_writer b || (b == 0)
 
--- a row that is written as its line
-abbrev pub IsLine : Row → Type 0
-IsLine row = row_text default_writer row ≡ row_line row
+-- a column of at most so many bytes, with none of these
+pub record IsPlain (most : ℕ) (column : List ℕ) : Type 0 where
+  pub plain : list_any is_special column ≡ false
+  pub few : length column ≤ most
 
-pub IsLine-columns : (a b c d : List ℕ) → IsPlain a → IsPlain b → IsPlain c → IsPlain d → IsLine (a ∷ b ∷ c ∷ d ∷ [])
+-- a row with a byte that is 0
+abbrev pub has_zero : Row → Bool
+has_zero row = list_any (list_any (λ b. b == 0)) row
+
+-- a row that is written as its line, has no byte that is 0, and is short
+pub record IsLine (row : Row) : Type 0 where
+  pub text : row_text default_writer row ≡ row_line row
+  pub no_zero : has_zero row ≡ false
+  pub short : length (row_line row) ≤ 100
+
+-- bytes that are none of these are none of those
+none_of : (p q : ℕ → Bool) → ((b : ℕ) → q b ≡ false → p b ≡ false) → (bytes : List ℕ) → list_any q bytes ≡ false → list_any p bytes ≡ false
+none_of p q less [] none = refl
+none_of p q less (b ∷ bytes) none =
+    let both = or_parts (q b) (list_any q bytes) none in
+    or_from (p b) (list_any p bytes) (less b both.0) (none_of p q less bytes both.1)
+
+unquoted : (n : ℕ) (column : List ℕ) → IsPlain n column → needs_quotes default_writer column ≡ false
+unquoted n column is =
+    none_of (needs_byte default_writer) is_special (λ b none. (or_parts (needs_byte default_writer b) (b == 0) none).0)
+    column is.plain
+
+without_zero : (n : ℕ) (column : List ℕ) → IsPlain n column → list_any (λ b. b == 0) column ≡ false
+without_zero n column is =
+    none_of (λ b. b == 0) is_special (λ b none. (or_parts (needs_byte default_writer b) (b == 0) none).1) column is.plain
+
+line_length : (a b c d : List ℕ) → length (row_line (a ∷ b ∷ c ∷ d ∷ [])) ≡ length a + length b + length c + length d + 4
+line_length a b c d =
+    let whole = length-append (a ++ 44 ∷ (b ++ 44 ∷ (c ++ 44 ∷ d))) (10 ∷ []) in
+    omega (arith, whole, length-append a (44 ∷ (b ++ 44 ∷ (c ++ 44 ∷ d))), length-append b (44 ∷ (c ++ 44 ∷ d)), length-append c (44 ∷ d))
+
+pub IsLine-columns : {i j k l : ℕ} (a b c d : List ℕ) → IsPlain i a → IsPlain j b → IsPlain k c → IsPlain l d → i + j + k + l ≤ 96
+    → IsLine (a ∷ b ∷ c ∷ d ∷ [])
 unfolding fields_text is_blank
-IsLine-columns a b c d pa pb pc pd = rw (pa, pb, pc, pd, append-nil d) refl
+IsLine-columns {i} {j} {k} {l} a b c d pa pb pc pd most = record {
+  text = rw (unquoted i a pa, unquoted j b pb, unquoted k c pc, unquoted l d pd, append-nil d) refl;
+  no_zero = rw (without_zero i a pa, without_zero j b pb, without_zero k c pc, without_zero l d pd) refl;
+  short = omega (arith, most, line_length a b c d, pa.few, pb.few, pc.few, pd.few);
+}
 
 pub lines : (rows : List Row) → All IsLine rows → csv_text rows ≡ rows_text rows
 lines [] are = refl
 lines (row ∷ rows) are =
-    ap (λ t. t ++ csv_text rows) (are 0 row (omega arith))
+    let line = are 0 row (omega arith) in
+    ap (λ t. t ++ csv_text rows) line.text
     ∙ ap (λ t. row_line row ++ t) (lines rows (λ k d lt. are (suc k) d (omega arith)))
 
-digit_plain : (b : ℕ) → is_ascii_digit b ≡ true → needs_byte default_writer b ≡ false
+digit_plain : (b : ℕ) → is_ascii_digit b ≡ true → is_special b ≡ false
 digit_plain b h = grind (arith, nat_tests)
 
-digits_plain : (digits : List ℕ) → all_ascii_digits digits ≡ true → IsPlain digits
+digits_plain : (digits : List ℕ) → all_ascii_digits digits ≡ true → list_any is_special digits ≡ false
 digits_plain [] h = refl
 digits_plain (b ∷ digits) h =
     let both = and_parts (is_ascii_digit b) (all_ascii_digits digits) h in
     or_from _ _ (digit_plain b both.0) (digits_plain digits both.1)
 
-pub decimal_plain : (n : ℕ) → n < 10 ^ 19 → IsPlain (decimal n)
-decimal_plain n small = digits_plain (decimal n) (digits_decimal numerals n (omega arith))
+pub decimal_plain : (n : ℕ) → n < 10 ^ 19 → IsPlain 19 (decimal n)
+decimal_plain n small = record {
+  plain = digits_plain (decimal n) (digits_decimal numerals n (omega arith));
+  few = length-decimal-le 19 n (lit< tt) small (omega arith);
+}
 
-pub number_plain : (z : ℤ) → unsigned_abs z < 10 ^ 19 → IsPlain (signed_decimal z)
-number_plain (pos n) small = decimal_plain n small
-number_plain (negsuc n) small = decimal_plain (suc n) (omega arith)
+pub number_plain : (z : ℤ) → unsigned_abs z < 10 ^ 19 → IsPlain 20 (signed_decimal z)
+number_plain (pos n) small = let is = decimal_plain n small in record { plain = is.plain; few = omega (arith, is.few) }
+number_plain (negsuc n) small =
+    let is = decimal_plain (suc n) (omega arith) in
+    record { plain = is.plain; few = omega (arith, is.few) }
 
-name_byte_plain : (b : ℕ) → is_name_byte b ≡ true → needs_byte default_writer b ≡ false
+name_byte_plain : (b : ℕ) → is_name_byte b ≡ true → is_special b ≡ false
 name_byte_plain b h = grind (arith, nat_tests)
 
-name_bytes_plain : (name : List ℕ) → list_all is_name_byte name ≡ true → IsPlain name
+name_bytes_plain : (name : List ℕ) → list_all is_name_byte name ≡ true → list_any is_special name ≡ false
 name_bytes_plain [] h = refl
 name_bytes_plain (b ∷ name) h =
     let both = and_parts (is_name_byte b) (list_all is_name_byte name) h in
     or_from _ _ (name_byte_plain b both.0) (name_bytes_plain name both.1)
 
-pub name_plain : (name : List ℕ) → is_name name ≡ true → IsPlain name
-name_plain name h = name_bytes_plain name (and_parts _ (list_all is_name_byte name) h).1
+pub name_plain : (name : List ℕ) → is_name name ≡ true → IsPlain 16 name
+name_plain name h =
+    let first = and_parts (begins_with_letter name && nat_le (length name) most_name_bytes) (list_all is_name_byte name) h in
+    let size = (and_parts (begins_with_letter name) (nat_le (length name) most_name_bytes) first.0).1 in
+    record { plain = name_bytes_plain name first.1; few = leb-true (length name) most_name_bytes size }
 
-pub join_plain : (x y : List ℕ) → IsPlain x → IsPlain y → IsPlain (x ++ y)
-join_plain x y px py = list_any-append (needs_byte default_writer) x y ∙ or_from _ _ px py
+pub join_plain : {m n : ℕ} (x y : List ℕ) → IsPlain m x → IsPlain n y → IsPlain (m + n) (x ++ y)
+join_plain {m} {n} x y px py = record {
+  plain = list_any-append is_special x y ∙ or_from _ _ px.plain py.plain;
+  few = omega (arith, length-append x y, px.few, py.few);
+}
 
-pub word_plain : (kind x operand : List ℕ) → IsPlain kind → IsPlain x → IsPlain operand → IsPlain (change_word kind x operand)
-word_plain kind x operand pk px po = join_plain kind (58 ∷ (x ++ 58 ∷ operand)) pk (join_plain x (58 ∷ operand) px po)
+colon_plain : {n : ℕ} (x : List ℕ) → IsPlain n x → IsPlain (n + 1) (58 ∷ x)
+colon_plain {n} x px = record { plain = px.plain; few = omega (arith, px.few) }
+
+pub word_plain : {m n : ℕ} (kind x operand : List ℕ) → IsPlain m kind → IsPlain n operand → IsPlain 16 x
+    → m + n ≤ 24 → IsPlain 42 (change_word kind x operand)
+word_plain {m} {n} kind x operand pk po px most =
+    let rest = colon_plain (x ++ 58 ∷ operand) (join_plain x (58 ∷ operand) px (colon_plain operand po)) in
+    let word = join_plain kind (58 ∷ (x ++ 58 ∷ operand)) pk rest in
+    record { plain = word.plain; few = omega (arith, most, word.few) }
+
+-- a column of these bytes
+code : (column : List ℕ) → list_any is_special column ≡ false → IsPlain (length column) column
+code column plain = record { plain = plain; few = omega arith }
+
+wider : {m : ℕ} (n : ℕ) (column : List ℕ) → IsPlain m column → m ≤ n → IsPlain n column
+wider n column is le = record { plain = is.plain; few = omega (arith, le, is.few) }
 
 -- counted rows, each of which is a line
 pub counted_lines : {X : Type 0} (row : ℕ → X → Row) (P : X → Type 0) (most : ℕ) → ((i : ℕ) (x : X) → i ≤ most → P x → IsLine (row i x))
@@ -103,27 +168,32 @@ counted_lines row P most each i (x ∷ xs) few all =
 
 -- ---- the rows of a record
 
-number_word : (kind x : List ℕ) (n : ℤ) → IsPlain kind → IsPlain x → IsInRange n → IsPlain (change_word kind x (signed_decimal n))
-number_word kind x n pk px range = word_plain kind x (signed_decimal n) pk px (number_plain n (omega arith))
+number_word : (kind x : List ℕ) (n : ℤ) → IsPlain 3 kind → IsPlain 16 x → IsInRange n → IsPlain 42 (change_word kind x (signed_decimal n))
+number_word kind x n pk px range = word_plain kind x (signed_decimal n) pk (number_plain n (omega arith)) px (lit≤ tt)
 
-operation_plain : (objects : Objects) (x : List ℕ) (op : Op) → AreNames objects → IsPlain x
+operation_plain : (objects : Objects) (x : List ℕ) (op : Op) → AreNames objects → IsPlain 16 x
     → IfSome (source_of op) (λ y. y < length objects)
-    → IfSome (op_number op) IsInRange → IsPlain (operation_text objects x op)
-operation_plain objects x (Add n) names px known range = number_word (codes "add") x n refl px range
-operation_plain objects x (Set n) names px known range = number_word (codes "set") x n refl px range
-operation_plain objects x (Mul n) names px known range = number_word (codes "mul") x n refl px range
-operation_plain objects x (Max n) names px known range = number_word (codes "max") x n refl px range
-operation_plain objects x (Min n) names px known range = number_word (codes "min") x n refl px range
+    → IfSome (op_number op) IsInRange → IsPlain 42 (operation_text objects x op)
+operation_plain objects x (Add n) names px known range = number_word (codes "add") x n (code (codes "add") refl) px range
+operation_plain objects x (Set n) names px known range = number_word (codes "set") x n (code (codes "set") refl) px range
+operation_plain objects x (Mul n) names px known range = number_word (codes "mul") x n (code (codes "mul") refl) px range
+operation_plain objects x (Max n) names px known range = number_word (codes "max") x n (code (codes "max") refl) px range
+operation_plain objects x (Min n) names px known range = number_word (codes "min") x n (code (codes "min") refl) px range
 operation_plain objects x (Take y) names px known range =
-    word_plain (codes "take") x (name_at objects y) refl px (name_plain (name_at objects y) (name_of objects y names known))
+    word_plain (codes "take") x (name_at objects y) (code (codes "take") refl)
+    (name_plain (name_at objects y) (name_of objects y names known)) px (lit≤ tt)
 
 scope_plain : (objects : Objects) (groups : GroupList) (s : Scope) → AreNames objects → AreNames groups
     → IsScopeKnown (length objects) groups s
-    → IsPlain (scope_text objects groups s)
-scope_plain objects groups (Object x) names called known = name_plain (name_at objects x) (name_of objects x names known)
-scope_plain objects groups (Group g) names called known = name_plain (name_at groups g) (name_of groups g called known)
-scope_plain objects groups Everything names called known = refl
-scope_plain objects groups Count names called known = refl
+    → IsPlain 23 (scope_text objects groups s)
+scope_plain objects groups (Object x) names called known =
+    join_plain (codes "object:") (name_at objects x) (code (codes "object:") refl)
+    (name_plain (name_at objects x) (name_of objects x names known))
+scope_plain objects groups (Group g) names called known =
+    wider 23 (scope_text objects groups (Group g)) (join_plain (codes "group:") (name_at groups g) (code (codes "group:") refl)
+    (name_plain (name_at groups g) (name_of groups g called known))) (lit≤ tt)
+scope_plain objects groups Everything names called known = wider 23 (codes "all") (code (codes "all") refl) (lit≤ tt)
+scope_plain objects groups Count names called known = wider 23 (codes "count") (code (codes "count") refl) (lit≤ tt)
 
 -- an entry of a table
 record IsEntry (e : List ℕ × ℤ) : Type 0 where
@@ -139,8 +209,8 @@ entries (e ∷ objects) names values =
 object_line : (i : ℕ) (e : List ℕ × ℤ) → i ≤ 4096 → IsEntry e → IsLine (object_row i e)
 object_line i e few is =
     let range = is.range in
-    IsLine-columns (codes "object") (decimal i) e.0 (signed_decimal e.1) refl (decimal_plain i (omega arith)) (name_plain e.0 is.name)
-    (number_plain e.1 (omega arith))
+    IsLine-columns (codes "object") (decimal i) e.0 (signed_decimal e.1) (code (codes "object") refl)
+    (decimal_plain i (omega arith)) (name_plain e.0 is.name) (number_plain e.1 (omega arith)) (lit≤ tt)
 
 groups_lines : (objects : Objects) (i : ℕ) (groups : GroupList) → AreNames objects → All HasName groups
     → All (HasKnown (length objects)) groups
@@ -149,9 +219,9 @@ groups_lines objects i [] names called known few = All-nil IsLine
 groups_lines objects i (g ∷ groups) names called known few =
     All-append IsLine (counted (member_row objects g.0) i g.1) (member_rows objects (i + length g.1) groups)
     (counted_lines (member_row objects g.0) (λ x. x < length objects) 4096 (λ k x most lt.
-    IsLine-columns (codes "member") (decimal k) g.0 (name_at objects x) refl (decimal_plain k (omega arith))
+    IsLine-columns (codes "member") (decimal k) g.0 (name_at objects x) (code (codes "member") refl) (decimal_plain k (omega arith))
     (name_plain g.0 (called 0 g (omega arith)))
-    (name_plain (name_at objects x) (name_of objects x names lt)))
+    (name_plain (name_at objects x) (name_of objects x names lt)) (lit≤ tt))
     i g.1 (omega arith) (known 0 g (omega arith)))
     (groups_lines objects (i + length g.1) groups names (λ k d lt. called (suc k) d (omega arith))
     (λ k d lt. known (suc k) d (omega arith)) (omega arith))
@@ -170,10 +240,11 @@ written_set n (c ∷ m) known range =
 change_line : (objects : Objects) (k i : ℕ) (c : Change) → AreNames objects → k ≤ 1000001 → i ≤ 4096 → IsWritten (length objects) c
     → IsLine (change_row objects k i c)
 change_line objects k i c names few place is =
-    IsLine-columns (codes "change") (decimal k) (decimal i) (change_text objects c) refl (decimal_plain k (omega arith))
+    IsLine-columns (codes "change") (decimal k) (decimal i) (change_text objects c) (code (codes "change") refl)
+    (decimal_plain k (omega arith))
     (decimal_plain i (omega arith))
     (operation_plain objects (name_at objects c.object) c.op names
-    (name_plain (name_at objects c.object) (name_of objects c.object names is.known.0)) is.known.1 is.range)
+    (name_plain (name_at objects c.object) (name_of objects c.object names is.known.0)) is.known.1 is.range) (lit≤ tt)
 
 sets_lines : (objects : Objects) (k : ℕ) (sets : List (List Change)) → AreNames objects → All IsSet sets
     → All (AreKnown (length objects)) sets
@@ -188,7 +259,7 @@ sets_lines objects k (m ∷ sets) names are known few =
     1 m (omega arith) (written_set (length objects) m (known 0 m (omega arith)) set.numbers))
     (sets_lines objects (k + 1) sets names (λ k d lt. are (suc k) d (omega arith)) (λ k d lt. known (suc k) d (omega arith)) (omega arith))
 
-abbrev IsReportWithin : ℕ → ReportChange → Type 0
+abbrev pub IsReportWithin : ℕ → ReportChange → Type 0
 IsReportWithin d c = (0 < c.place) × (c.place ≤ d)
 
 -- a limit with its scope and amount
@@ -215,9 +286,9 @@ reports_lines (c ∷ changes) d few places reported =
     let place = places 0 c (omega arith) in
     let number = reported 0 c (omega arith) in
     All-cons IsLine (report_row c) (map report_row changes)
-    (IsLine-columns (codes "report") (decimal c.place) (decimal c.reported) (codes "-") refl
+    (IsLine-columns (codes "report") (decimal c.place) (decimal c.reported) (codes "-") (code (codes "report") refl)
     (decimal_plain c.place (omega (arith, place.1)))
-    (decimal_plain c.reported (omega (arith, number.1))) refl)
+    (decimal_plain c.reported (omega (arith, number.1))) (code (codes "-") refl) (lit≤ tt))
     (reports_lines changes d few (λ k e lt. places (suc k) e (omega arith)) (λ k e lt. reported (suc k) e (omega arith)))
 
 module _ (r : RecordState) (is : IsRecord r) where
@@ -237,9 +308,9 @@ module _ (r : RecordState) (is : IsRecord r) where
       let few = is.limits.few in
       counted_lines (limit_row r.objects r.groups) (IsWrittenLimit (length r.objects) r.groups) 4096 (λ i l most w.
       let amount = w.amount in
-      IsLine-columns (codes "limit") (decimal i) (scope_text r.objects r.groups l.scope) (decimal l.amount) refl
+      IsLine-columns (codes "limit") (decimal i) (scope_text r.objects r.groups l.scope) (decimal l.amount) (code (codes "limit") refl)
       (decimal_plain i (omega arith))
-      (scope_plain r.objects r.groups l.scope is.objects.names is.groups.names w.known) (decimal_plain l.amount (omega arith)))
+      (scope_plain r.objects r.groups l.scope is.objects.names is.groups.names w.known) (decimal_plain l.amount (omega arith)) (lit≤ tt))
       1 r.limits (omega arith) (λ k l lt. record { known = is.scopes k l lt; amount = is.limits.amounts k l lt })
 
   changes_lines : All IsLine (change_rows r.objects 1 r.sets)
@@ -250,8 +321,8 @@ module _ (r : RecordState) (is : IsRecord r) where
       let few = is.few in
       let short = rounds_few (length r.sets) r.rounds is.rounds in
       counted_lines round_row (λ k. (0 < k) × (k ≤ length r.sets)) 1000000 (λ i k most within.
-      IsLine-columns (codes "round") (decimal i) (decimal k) (codes "-") refl (decimal_plain i (omega arith))
-      (decimal_plain k (omega (arith, within.1))) refl)
+      IsLine-columns (codes "round") (decimal i) (decimal k) (codes "-") (code (codes "round") refl) (decimal_plain i (omega arith))
+      (decimal_plain k (omega (arith, within.1))) (code (codes "-") refl) (lit≤ tt))
       1 r.rounds (omega (arith, short)) is.rounds.each
 
   windows_lines : All IsLine (counted window_row 1 r.windows)
@@ -259,18 +330,26 @@ module _ (r : RecordState) (is : IsRecord r) where
       let few = is.few in
       let short = is.few_windows in
       counted_lines window_row (λ (w : Window). (w.from ≤ length r.sets) × (w.to ≤ length r.sets)) 1000000 (λ i w most within.
-      IsLine-columns (codes "window") (decimal i) (decimal w.from) (decimal w.to) refl (decimal_plain i (omega arith))
-      (decimal_plain w.from (omega (arith, within.0))) (decimal_plain w.to (omega (arith, within.1))))
+      IsLine-columns (codes "window") (decimal i) (decimal w.from) (decimal w.to) (code (codes "window") refl)
+      (decimal_plain i (omega arith))
+      (decimal_plain w.from (omega (arith, within.0))) (decimal_plain w.to (omega (arith, within.1))) (lit≤ tt))
       1 r.windows (omega arith) is.windows
 
-  -- csv writes the rows of a record as their lines
-  pub lines_of : csv_text (rows_of r) ≡ rows_text (rows_of r)
-  lines_of =
+  pub all_lines : All IsLine (rows_of r)
+  all_lines =
       let few = is.few in
-      lines (rows_of r) (All-cons IsLine (head_row r.site (length r.sets)) _
-      (IsLine-columns (codes "ordup") (codes "1") r.site (decimal (length r.sets)) refl refl (name_plain r.site is.site)
-      (decimal_plain (length r.sets) (omega arith)))
+      All-cons IsLine (head_row r.site (length r.sets)) _
+      (IsLine-columns (codes "ordup") (codes "1") r.site (decimal (length r.sets)) (code (codes "ordup") refl) (code (codes "1") refl)
+      (name_plain r.site is.site) (decimal_plain (length r.sets) (omega arith)) (lit≤ tt))
       (seven_lines (counted object_row 1 r.objects) (member_rows r.objects 1 r.groups) (counted (limit_row r.objects r.groups) 1 r.limits)
       (change_rows r.objects 1 r.sets) (map report_row r.reports) (counted round_row 1 r.rounds) (counted window_row 1 r.windows)
       objects_lines members_lines limits_lines changes_lines
-      (reports_lines r.reports (length r.sets) few is.reports.each is.reports.reported) rounds_lines windows_lines))
+      (reports_lines r.reports (length r.sets) few is.reports.each is.reports.reported) rounds_lines windows_lines)
+
+  -- csv writes the rows of a record as their lines
+  pub lines_of : csv_text (rows_of r) ≡ rows_text (rows_of r)
+  lines_of = lines (rows_of r) all_lines
+
+  -- no row of a record has a byte that is 0
+  pub rows_without_zero : list_any has_zero (rows_of r) ≡ false
+  rows_without_zero = list_any_none has_zero (rows_of r) (λ k d lt. let line = all_lines k d lt in line.no_zero)

@@ -22,7 +22,7 @@ use Rattle.ordup_objects.specs.Sizes.{most_changes, most_members, most_objects, 
 use Rattle.ordup_objects.specs.States.{IsInRange}
 use Rattle.ordup_objects.specs.Tables.{Objects, initial_state, object_refusal, place_of}
 use Rattle.ordup_objects.specs.declared.change.Change.{Change}
-use Rattle.ordup_log.specs.Groups.{AreMembersKnown, GroupList, IsGroup, group_refusal}
+use Rattle.ordup_log.specs.Groups.{AreMembersKnown, GroupList, IsGroup, group_refusal, member_refusal}
 use Rattle.ordup_log.specs.Spans.{IsScopeKnown}
 use Rattle.ordup_limits.specs.Limits.{AreLimits, AreScopesKnown, Limits, are_on_one_scope, limit_refusal}
 use Rattle.ordup_limits.specs.Sizes.{greatest_amount, most_limits}
@@ -35,14 +35,15 @@ use Rattle.ordup_rows.specs.Laws.{RowsTellOneRecord, WhatIsToldIsRead}
 use Rattle.ordup_rounds.specs.Rounds.{AreRoundPlaces}
 use Rattle.ordup_rows.specs.Rows.{Row, change_row, change_rows, change_text, counted, head_row, limit_row, member_row, member_rows, name_at}
 use Rattle.ordup_rows.specs.Rows.{object_row, report_row, round_row, rows_of, scope_text, window_row}
-use Rattle.ordup_rows.specs.Stages.{Stage, closed, is_last_group, last_group, last_number, member_count, member_refusal, record_at, run}
+use Rattle.ordup_rows.specs.Stages.{Stage, closed, is_last_group, last_name, last_number, member_count, record_at, run}
 use Rattle.ordup_rows.specs.Stages.{step, told, told_by, unread}
 use Rattle.ordup_rows.proofs.Columns.{bound, bytes_same, natural_of-decimal, writes-decimal}
-use Rattle.ordup_rows.proofs.Growth.{ends, last_group-of, last_set-of, member_count-append, with_change-last, with_member-last}
+use Rattle.ordup_rows.proofs.Growth.{ends, last_members-of, last_name-of, last_set-of, member_count-append, with_change-last}
+use Rattle.ordup_rows.proofs.Growth.{with_member-last}
 use Rattle.ordup_rows.proofs.Names.{absent_before, other_name, place_of-name}
 use Rattle.ordup_rows.proofs.Refusals.{IsNewGroup, IsNewLimit, IsNewMember, IsNewObject, group_allowed, limit_allowed, member_allowed}
 use Rattle.ordup_rows.proofs.Refusals.{object_allowed, set_allowed}
-use Rattle.ordup_rows.proofs.Told.{HasGroup, HasKnown, HasName, above_last, all_at, all_front}
+use Rattle.ordup_rows.proofs.ToldSoFar.{HasGroup, HasKnown, HasName, above_last, all_at, all_front}
 use Rattle.ordup_rows.proofs.Words.{change_by-text, scope_of-text}
 
 -- ---- one after another
@@ -137,16 +138,15 @@ not_last : (groups : GroupList) (name : List ℕ) → place_of name groups ≡ N
 not_last [] name none = refl
 not_last (h ∷ groups) name none =
     let (front, g, e) = ends (h ∷ groups) (omega arith) in
-    let last : (last_group (h ∷ groups)).0 ≡ g.0 =
-    ap (λ l. (last_group l).0) e ∙ ap (λ (k : List ℕ × List ℕ). k.0) (last_group-of front g) in
-    let other : bytes_eq name (last_group (h ∷ groups)).0 ≡ false =
+    let last : last_name (h ∷ groups) ≡ g.0 = ap last_name e ∙ last_name-of front g in
+    let other : bytes_eq name (last_name (h ∷ groups)) ≡ false =
     rw last (other_name name front g [] (ap (place_of name) (sym e) ∙ none)) in
     and_right _ _ other
 
 is_last : (front : GroupList) (g : List ℕ × List ℕ) → is_last_group (front ++ g ∷ []) g.0 ≡ true
 is_last front g =
     and_from _ _ (lt-ltb 0 (length (front ++ g ∷ [])) (omega (arith, length_push front g)))
-    (ap (λ (k : List ℕ × List ℕ). bytes_eq g.0 k.0) (last_group-of front g) ∙ bytes_same g.0)
+    (ap (bytes_eq g.0) (last_name-of front g) ∙ bytes_same g.0)
 
 step_first_member : (d : ℕ) (r : RecordState) (groups : GroupList) (name : List ℕ) (x n : ℕ) → place_of (name_at r.objects x) r.objects
     ≡ Some x
@@ -163,7 +163,7 @@ step_more_member : (d : ℕ) (r : RecordState) (front : GroupList) (g : List ℕ
     → step (at_groups d r (front ++ g ∷ [])) (member_row r.objects g.0 n x) ≡ Some (at_groups d r (front ++ (g.0, g.1 ++ x ∷ []) ∷ []))
 step_more_member d r front g x n found count small free =
     let reads : writes (decimal n) (member_count (front ++ g ∷ []) + 1) ≡ true = rw (← count) (writes-decimal n small) in
-    rw (found, reads, is_last front g, with_member-last front g x, last_group-of front g, free) refl
+    rw (found, reads, is_last front g, with_member-last front g x, last_members-of front g, free) refl
 
 pub member_count-few : (groups : GroupList) → All HasGroup groups → member_count groups ≤ most_members * length groups
 member_count-few [] are = omega arith

@@ -1,11 +1,13 @@
 -- What is not refused, by what is so of it.
-use Rattle.std.proofs.Common.{◌≡◌, refl, ℕ, suc, ◌<◌, ◌≤◌, ◌==◌, true, false, not, Bool, List, [], ◌∷◌, length, Option, Some, None}
+use Rattle.std.proofs.Common.{◌≡◌, ◌∙◌, refl, sym, ℕ, suc, ◌<◌, ◌≤◌, ◌==◌, true, false, not, Bool, List, [], ◌∷◌, length, Option, Some}
+use Rattle.std.proofs.Common.{None}
 use Rattle.std.proofs.Common.{if◌then◌else◌, ℤ, arith, nat_eq}
 use Rattle.std.specs.Prelude.{IfSome, nat_lt, is_some, ◌||◌}
 use Rattle.std.specs.List.{All, list_all, list_any}
 use Rattle.std.specs.Option.{is_none, option_or}
 use Rattle.std.proofs.lemmas.Bool.{and_from, and_parts, or_parts, leb-true, le-leb, lt-ltb, ltb-true}
 use Rattle.std.proofs.lemmas.Bool.Decides.{nat_tests}
+use Rattle.std.proofs.lemmas.Cmp.{nat_eq_equiv}
 use Rattle.std.proofs.lemmas.List.Elements.{All-cons, All-nil}
 use Rattle.ordup_objects.specs.Names.{is_name}
 use Rattle.ordup_objects.specs.Ops.{is_none_or, number_of, source_of}
@@ -15,13 +17,13 @@ use Rattle.ordup_objects.specs.Sizes.{most_changes, most_groups, most_members, m
 use Rattle.ordup_objects.specs.States.{IsInRange, in_range}
 use Rattle.ordup_objects.specs.Tables.{Objects, object_refusal, place_of}
 use Rattle.ordup_objects.specs.declared.change.Change.{Change}
-use Rattle.ordup_log.specs.Groups.{AreMembersKnown, GroupList, IsGroup, are_members_known, group_refusal}
+use Rattle.ordup_objects.proofs.RepeatLemmas.{list_any-alike}
+use Rattle.ordup_log.specs.Groups.{AreMembersKnown, GroupList, IsGroup, are_members_known, group_refusal, member_refusal}
 use Rattle.ordup_log.specs.Spans.{IsScopeKnown}
 use Rattle.ordup_log.specs.declared.scope.Scope.{Scope}
 use Rattle.ordup_log.specs.declared.scope.Scope.TheVariants.{Object, Group, All as Everything, Count}
 use Rattle.ordup_limits.specs.Limits.{Limits, amount_refusal, is_same_scope, limit_refusal, scope_refusal}
 use Rattle.ordup_limits.specs.Sizes.{greatest_amount, most_limits}
-use Rattle.ordup_rows.specs.Stages.{member_refusal}
 
 passes : {A : Type 0} (b : Bool) (x : A) (rest : Option A) → (if not b then Some x else rest) ≡ None → (b ≡ true) × (rest ≡ None)
 passes true x rest h = (refl, h)
@@ -135,22 +137,25 @@ pub record IsNewMember (n : ℕ) (members : List ℕ) (x : ℕ) : Type 0 where
   pub room : length members < most_members
   pub new : list_any (λ y. y == x) members ≡ false
 
+member_alike : (x : ℕ) (members : List ℕ) → list_any (nat_eq x) members ≡ list_any (λ y. y == x) members
+member_alike x members = list_any-alike (nat_eq x) (λ y. y == x) (λ y. nat_eq_equiv.symm x y) members
+
 pub member_taken : (n : ℕ) (members : List ℕ) (x : ℕ) → length members ≤ most_members → member_refusal n members x ≡ None
     → IsNewMember n members x
 member_taken n members x few h =
     let (known, h1) = passes (nat_lt x n) _ _ h in
     let (room, h2) = avoids (length members == most_members) _ _ h1 in
-    let (new, _) = avoids (list_any (λ y. y == x) members) _ _ h2 in
+    let (new, _) = avoids (list_any (nat_eq x) members) _ _ h2 in
     record {
       known = ltb-true x n known;
       room = grind (arith, nat_tests);
-      new = new;
+      new = sym (member_alike x members) ∙ new;
     }
 
 pub member_allowed : (n : ℕ) (members : List ℕ) (x : ℕ) → IsNewMember n members x → member_refusal n members x ≡ None
 member_allowed n members x is =
     let room : (length members == most_members) ≡ false = let lt = is.room in grind (arith, nat_tests) in
-    rw (lt-ltb x n is.known, room, is.new) refl
+    rw (lt-ltb x n is.known, room, member_alike x members, is.new) refl
 
 -- ---- limits
 

@@ -25,7 +25,7 @@ use Rattle.ordup_rows.specs.Stages.{Stage, closed, has_objects, has_updates, hea
 use Rattle.ordup_rows.proofs.Columns.{bound, four_columns, kept, kind_spelled, mapped, natural_spelled, same_bytes}
 use Rattle.ordup_rows.proofs.Names.{AreDistinct-none}
 use Rattle.ordup_rows.proofs.Taking.{row_by, take_row}
-use Rattle.ordup_rows.proofs.Told.{AreGroups-none, IsTold}
+use Rattle.ordup_rows.proofs.ToldSoFar.{AreGroups-none, IsTold}
 
 -- the rows that a stage was told
 abbrev pub stage_rows : Stage → List Row
@@ -148,7 +148,8 @@ IsRecord-told decided r is some all = record {
   windows = rw all is.windows.each;
 }
 
-closed_told : (stage : Stage) (r : RecordState) → IsStage stage → closed stage ≡ Some r → IsRecord r × (stage_rows stage ≡ rows_of r)
+-- what is closed is a record
+pub closed_told : (stage : Stage) (r : RecordState) → IsStage stage → closed stage ≡ Some r → IsRecord r × (stage_rows stage ≡ rows_of r)
 closed_told unread r is h = absurd cc
 closed_told (told decided q) r is h =
     let (tests, same) = kept (has_updates decided q) q r h in

@@ -14,7 +14,7 @@ use Rattle.ordup_objects.specs.Sets.{AreKnown, IsKnown, IsSet, set_refusal}
 use Rattle.ordup_objects.specs.Sizes.{most_updates}
 use Rattle.ordup_objects.specs.Tables.{Objects, object_refusal, place_of}
 use Rattle.ordup_objects.specs.declared.change.Change.{Change}
-use Rattle.ordup_log.specs.Groups.{GroupList, group_refusal}
+use Rattle.ordup_log.specs.Groups.{GroupList, group_refusal, last_members, member_refusal, with_member}
 use Rattle.ordup_log.specs.Spans.{IsScopeKnown}
 use Rattle.ordup_limits.specs.Limits.{limit_refusal}
 use Rattle.ordup_limits.specs.declared.limit.Limit.{Limit}
@@ -27,20 +27,22 @@ use Rattle.ordup_rows.specs.RowKinds.{kind_text}
 use Rattle.ordup_rows.specs.Rows.{Row, change_row, change_rows, change_text, limit_row, member_row, member_rows, object_row, report_row}
 use Rattle.ordup_rows.specs.Rows.{round_row, rows_so_far, window_row}
 use Rattle.ordup_rows.specs.Stages.{has_objects, has_updates, is_before_changes, is_before_limits, is_before_members, is_before_reports}
-use Rattle.ordup_rows.specs.Stages.{is_before_rounds, is_before_windows, is_last_group, last_group, last_number, last_set, member_count}
-use Rattle.ordup_rows.specs.Stages.{member_refusal, membership_refusal, with_change, with_change_row, with_first_change, with_limit}
-use Rattle.ordup_rows.specs.Stages.{with_member, with_member_row, with_membership, with_next_change, with_object, with_report, with_round}
+use Rattle.ordup_rows.specs.Stages.{is_before_rounds, is_before_windows, is_last_group, last_name, last_number, last_set, may_report}
+use Rattle.ordup_rows.specs.Stages.{may_round, member_count}
+use Rattle.ordup_rows.specs.Stages.{membership_refusal, with_change, with_change_row, with_first_change, with_limit}
+use Rattle.ordup_rows.specs.Stages.{with_member_row, with_membership, with_next_change, with_object, with_report, with_round}
 use Rattle.ordup_rows.specs.Stages.{with_row, with_window}
 use Rattle.ordup_rows.specs.declared.row_kind.RowKind.{RowKind}
 use Rattle.ordup_rows.specs.declared.row_kind.RowKind.TheVariants as kind
 use Rattle.ordup_rows.proofs.Columns.{bound, kept, name_found, natural_spelled, same_bytes, written}
 use Rattle.ordup_rows.proofs.Growth.{before_changes, before_limits, before_members, before_reports, before_rounds, before_windows}
 use Rattle.ordup_rows.proofs.Growth.{change_rows-grow, change_rows-new, ends, grow_groups, grow_limit, grow_object, grow_report, grow_round}
-use Rattle.ordup_rows.proofs.Growth.{grow_sets, grow_window, last_group-of, last_set-of, member_rows-grow, member_rows-new}
+use Rattle.ordup_rows.proofs.Growth.{grow_sets, grow_window, last_members-of, last_name-of, last_set-of, member_rows-grow, member_rows-new}
 use Rattle.ordup_rows.proofs.Growth.{with_change-last, with_member-last}
 use Rattle.ordup_rows.proofs.Refusals.{group_taken, limit_taken, member_taken, none_is, object_taken, set_taken}
-use Rattle.ordup_rows.proofs.Told.{AreGroups-grow, AreGroups-none, AreGroups-push, AreObjects-push, AreSetsSoFar, HasGroup, IsTold, all_at}
-use Rattle.ordup_rows.proofs.Told.{all_front, all_none, increasing-push}
+use Rattle.ordup_rows.proofs.ToldSoFar.{AreGroups-grow, AreGroups-none, AreGroups-push, AreObjects-push, AreSetsSoFar, HasGroup, IsTold}
+use Rattle.ordup_rows.proofs.ToldSoFar.{all_at}
+use Rattle.ordup_rows.proofs.ToldSoFar.{all_front, all_none, increasing-push}
 use Rattle.ordup_rows.proofs.Words.{change_spelled, scope_spelled}
 
 either : {A : Type 0} (b : Bool) (o p : Option A) (y : A) → (if b then o else p) ≡ Some y
@@ -72,13 +74,12 @@ record Joins (objects : Objects) (old : GroupList) (name : List ℕ) (x : ℕ) (
 
 join_last : (objects : Objects) (front : GroupList) (g : List ℕ × List ℕ) (name : List ℕ) (x : ℕ)
     → AreGroups (length objects) (front ++ g ∷ [])
-    → bytes_eq name (last_group (front ++ g ∷ [])).0 ≡ true → member_refusal (length objects) (last_group (front ++ g ∷ [])).1 x ≡ None
+    → bytes_eq name (last_name (front ++ g ∷ [])) ≡ true → member_refusal (length objects) (last_members (front ++ g ∷ [])) x ≡ None
     → Joins objects (front ++ g ∷ []) name x (with_member (front ++ g ∷ []) x)
 join_last objects front g name x are same free =
-    let last = last_group-of front g in
-    let called : name ≡ g.0 = same_bytes name g.0 (ap (λ (h : List ℕ × List ℕ). bytes_eq name h.0) (sym last) ∙ same) in
+    let called : name ≡ g.0 = same_bytes name g.0 (ap (bytes_eq name) (sym (last_name-of front g)) ∙ same) in
     let allowed : member_refusal (length objects) g.1 x ≡ None =
-    ap (λ (h : List ℕ × List ℕ). member_refusal (length objects) h.1 x) (sym last) ∙ free in
+    ap (λ members. member_refusal (length objects) members x) (sym (last_members-of front g)) ∙ free in
     let new = member_taken (length objects) g.1 x (all_at HasGroup front g [] are.each).few allowed in
     subst (Joins objects (front ++ g ∷ []) name x) (sym (with_member-last front g x)) (record {
       groups = AreGroups-grow (length objects) front g x are new;
@@ -90,11 +91,11 @@ join_last objects front g name x are same free =
 join : (objects : Objects) (groups : GroupList) (name : List ℕ) (x : ℕ) → AreGroups (length objects) groups
     → membership_refusal (length objects) groups name x ≡ None → Joins objects groups name x (with_membership groups name x)
 join objects groups name x are free = elim (cases_Bool (is_last_group groups name)) [
-  | inl last ↦ (let (some, same) = and_parts (nat_lt 0 (length groups)) (bytes_eq name (last_group groups).0) last in
+  | inl last ↦ (let (some, same) = and_parts (nat_lt 0 (length groups)) (bytes_eq name (last_name groups)) last in
       let (front, g, e) = ends groups (ltb-true 0 (length groups) some) in
-      let allowed : member_refusal (length objects) (last_group groups).1 x ≡ None = rw last at free in
-      let P : GroupList → Type 0 = λ l. AreGroups (length objects) l → bytes_eq name (last_group l).0 ≡ true
-      → member_refusal (length objects) (last_group l).1 x ≡ None → Joins objects l name x (with_member l x) in
+      let allowed : member_refusal (length objects) (last_members groups) x ≡ None = rw last at free in
+      let P : GroupList → Type 0 = λ l. AreGroups (length objects) l → bytes_eq name (last_name l) ≡ true
+      → member_refusal (length objects) (last_members l) x ≡ None → Joins objects l name x (with_member l x) in
       rw last (subst P (sym e) (join_last objects front g name x) are same allowed))
   | inr other ↦ (let allowed : group_refusal (length objects) groups name (x ∷ []) ≡ None = rw other at free in
       let joined : Joins objects groups name x (groups ++ (name, x ∷ []) ∷ []) = record {
@@ -344,11 +345,11 @@ module _ (decided : ℕ) (r : RecordState) (is : IsTold decided r) (c : Columns)
       let (tests, same) = kept _ _ next rest2 in
       let places = map (λ (c : ReportChange). c.place) r.reports in
       let numbers = map (λ (c : ReportChange). c.reported) r.reports in
-      let (t1, few) = and_parts _ (nat_le reported most_updates) tests in
-      let (t2, rises) = and_parts _ (nat_lt (last_number numbers) reported) t1 in
-      let (t3, within) = and_parts _ (nat_le place decided) t2 in
-      let (t4, later) = and_parts _ (nat_lt (last_number places) place) t3 in
-      let (t5, dash) = and_parts _ (bytes_eq c.third (codes "-")) t4 in
+      let (t1, dash) = and_parts (may_report decided r place reported) (bytes_eq c.third (codes "-")) tests in
+      let (t2, few) = and_parts _ (nat_le reported most_updates) t1 in
+      let (t3, rises) = and_parts _ (nat_lt (last_number numbers) reported) t2 in
+      let (t4, within) = and_parts _ (nat_le place decided) t3 in
+      let (t5, later) = and_parts _ (nat_lt (last_number places) place) t4 in
       let (t6, before) = and_parts _ (is_before_rounds r) t5 in
       let (some, all) = updated t6 in
       let none = before_rounds r before in
@@ -388,10 +389,10 @@ module _ (decided : ℕ) (r : RecordState) (is : IsTold decided r) (c : Columns)
   take_round next kind h =
       let (place, read, rest) = bound _ (natural_of c.second) next h in
       let (tests, same) = kept _ _ next rest in
-      let (t1, within) = and_parts _ (nat_le place decided) tests in
-      let (t2, later) = and_parts _ (nat_lt (last_number r.rounds) place) t1 in
-      let (t3, count) = and_parts _ (writes c.first (length r.rounds + 1)) t2 in
-      let (t4, dash) = and_parts _ (bytes_eq c.third (codes "-")) t3 in
+      let (t1, count) = and_parts _ (writes c.first (length r.rounds + 1)) tests in
+      let (t2, dash) = and_parts (may_round decided r place) (bytes_eq c.third (codes "-")) t1 in
+      let (t3, within) = and_parts _ (nat_le place decided) t2 in
+      let (t4, later) = and_parts _ (nat_lt (last_number r.rounds) place) t3 in
       let (t5, before) = and_parts _ (is_before_windows r) t4 in
       let (some, all) = updated t5 in
       let q : RecordState = record r { rounds = r.rounds ++ place ∷ [] } in

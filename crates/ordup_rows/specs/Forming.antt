@@ -1,5 +1,5 @@
 -- Rows as the crate `csv` writes them.
-use Rattle.std.specs.Prelude.{◌≡◌, ℕ, false, List, [], ◌∷◌, ◌++◌, Option, Some, Vec, All}
+use Rattle.std.specs.Prelude.{◌≡◌, ℕ, false, List, [], ◌∷◌, ◌++◌, Option, Some, option_map, Vec, All}
 use Rattle.std.specs.Global.{Global}
 use Rattle.csv.specs.Writing.{default_writer, fields_written, has_written, row_text, text_written, writer_setup}
 use Rattle.csv.specs.declared.writer.Writer.{Writer}
@@ -20,6 +20,14 @@ pub record IsClean (w : Writer (Vec ℕ Global)) : Type 0 where
 -- what was written so far
 abbrev pub text_so_far : Writer (Vec ℕ Global) → Option (List ℕ)
 text_so_far w = text_written (λ v. Some v.items) w
+
+-- one row was written
+abbrev pub AddsRow : Writer (Vec ℕ Global) → Writer (Vec ℕ Global) → Row → Type 0
+AddsRow old new row = text_so_far new ≡ option_map (λ t. t ++ row_text default_writer row) (text_so_far old)
+
+-- these rows were written, one after the other
+abbrev pub AddsRows : Writer (Vec ℕ Global) → Writer (Vec ℕ Global) → List Row → Type 0
+AddsRows old new rows = text_so_far new ≡ option_map (λ t. t ++ csv_text rows) (text_so_far old)
 
 -- the members of each group are among the first n objects
 abbrev pub AreGroupsKnown : ℕ → GroupList → Type 0

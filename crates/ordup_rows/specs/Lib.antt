@@ -1,7 +1,10 @@
+pub mod Sizes
 pub mod Rows
 pub mod Telling
 pub mod RowKinds
 pub mod Columns
 pub mod Stages
 pub mod Laws
+pub mod Texts
+pub mod TextLaws
 pub mod Forming

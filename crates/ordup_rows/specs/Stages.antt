@@ -1,7 +1,6 @@
 -- Rows that are read one after another.
-use Rattle.std.specs.Prelude.{ℕ, ◌+◌, ◌-◌, ◌==◌, ◌&&◌, not, Bool, List, [], ◌∷◌, ◌++◌, length, map, nat_lt, nat_le, slice_index}
+use Rattle.std.specs.Prelude.{ℕ, ℤ, ◌+◌, ◌-◌, ◌==◌, ◌&&◌, Bool, List, [], ◌∷◌, ◌++◌, length, map, nat_lt, nat_le, slice_index}
 use Rattle.std.specs.Prelude.{slice_index_or, slice_set}
-use Rattle.std.specs.List.{list_any}
 use Rattle.std.specs.Prelude.{Option, Some, None, option_map, option_and_then, codes, if◌then◌else◌}
 use Rattle.std.specs.Bool.{then_some}
 use Rattle.std.specs.Option.{is_none}
@@ -9,12 +8,11 @@ use Rattle.std.specs.Str.{bytes_eq}
 use Rattle.ordup_grammar.specs.Numbers.{number_of}
 use Rattle.ordup_objects.specs.Names.{is_name}
 use Rattle.ordup_objects.specs.Sets.{set_refusal}
-use Rattle.ordup_objects.specs.Sizes.{most_members, most_updates}
+use Rattle.ordup_objects.specs.Sizes.{most_updates}
 use Rattle.ordup_objects.specs.Tables.{object_refusal, place_of}
 use Rattle.ordup_objects.specs.declared.change.Change.{Change}
 use Rattle.ordup_objects.specs.declared.refusal.Refusal.{Refusal}
-use Rattle.ordup_objects.specs.declared.refusal.Refusal.TheVariants.{UnknownObject, TooMany, Repeated}
-use Rattle.ordup_log.specs.Groups.{GroupList, group_refusal}
+use Rattle.ordup_log.specs.Groups.{GroupList, group_refusal, last_members, member_refusal, with_member}
 use Rattle.ordup_limits.specs.Limits.{limit_refusal}
 use Rattle.ordup_record.specs.Records.{RecordState, most_windows}
 use Rattle.ordup_record.specs.declared.report_change.ReportChange.{ReportChange}
@@ -56,37 +54,29 @@ has_objects r = nat_lt 0 (length r.objects)
 abbrev pub has_updates : ℕ → RecordState → Bool
 has_updates decided r = has_objects r && (length r.sets == decided)
 
+-- the record with the object of a row, which has this value
+abbrev pub with_value : RecordState → Columns → ℤ → Option RecordState
+with_value r c value =
+    then_some
+    (is_before_members r && writes c.first (length r.objects + 1) && is_none (object_refusal r.objects c.second value))
+    (record r { objects = r.objects ++ (c.second, value) ∷ [] })
+
 -- the record with the object of a row
 abbrev pub with_object : RecordState → Columns → Option RecordState
-with_object r c = do
-  value ← number_of c.third
-  then_some
-      (is_before_members r && writes c.first (length r.objects + 1) && is_none (object_refusal r.objects c.second value))
-      (record r { objects = r.objects ++ (c.second, value) ∷ [] })
+with_object r c = option_and_then (with_value r c) (number_of c.third)
 
--- the last group
-abbrev pub last_group : GroupList → List ℕ × List ℕ
-last_group groups = slice_index_or groups (length groups - 1) ([], [])
+-- the name of the last group
+abbrev pub last_name : GroupList → List ℕ
+last_name groups = (slice_index_or groups (length groups - 1) ([], [])).0
 
 -- the last group has this name
 abbrev pub is_last_group : GroupList → List ℕ → Bool
-is_last_group groups name = nat_lt 0 (length groups) && bytes_eq name (last_group groups).0
-
--- the groups with a member more in the last one
-abbrev pub with_member : GroupList → ℕ → GroupList
-with_member groups x = slice_set groups (length groups - 1) ((last_group groups).0, (last_group groups).1 ++ x ∷ [])
-
--- why a member more of a group is refused, if it is
-abbrev pub member_refusal : ℕ → List ℕ → ℕ → Option Refusal
-member_refusal n members x =
-    if not (nat_lt x n) then Some UnknownObject else
-    if length members == most_members then Some TooMany else
-    if list_any (λ y. y == x) members then Some Repeated else None
+is_last_group groups name = nat_lt 0 (length groups) && bytes_eq name (last_name groups)
 
 -- why a member of a group of this name is refused, if it is: it is of the last group, or the first of one that is new
 abbrev pub membership_refusal : ℕ → GroupList → List ℕ → ℕ → Option Refusal
 membership_refusal n groups name x =
-    if is_last_group groups name then member_refusal n (last_group groups).1 x else group_refusal n groups name (x ∷ [])
+    if is_last_group groups name then member_refusal n (last_members groups) x else group_refusal n groups name (x ∷ [])
 
 -- the groups with this member
 abbrev pub with_membership : GroupList → List ℕ → ℕ → GroupList
@@ -140,15 +130,25 @@ with_next_change r c change =
     && is_none (set_refusal (length r.objects) (last_set r.sets ++ change ∷ [])))
     (record r { sets = with_change r.sets change })
 
+-- the record with this change of a row
+abbrev pub with_any_change : ℕ → RecordState → Columns → Change → Option RecordState
+with_any_change decided r c change =
+    if writes c.second 1 then with_first_change decided r c change else with_next_change r c change
+
 -- the record with the change of a row
 abbrev pub with_change_row : ℕ → RecordState → Columns → Option RecordState
-with_change_row decided r c = do
-  change ← change_by r.objects c.third
-  if writes c.second 1 then with_first_change decided r c change else with_next_change r c change
+with_change_row decided r c = option_and_then (with_any_change decided r c) (change_by r.objects c.third)
 
 -- the last of ascending numbers, 0 where there is none
 abbrev pub last_number : List ℕ → ℕ
 last_number numbers = slice_index numbers (length numbers - 1)
+
+-- a report change may come next
+abbrev pub may_report : ℕ → RecordState → ℕ → ℕ → Bool
+may_report decided r place reported =
+    has_updates decided r && is_before_rounds r
+    && nat_lt (last_number (map (λ (c : ReportChange). c.place) r.reports)) place && nat_le place decided
+    && nat_lt (last_number (map (λ (c : ReportChange). c.reported) r.reports)) reported && nat_le reported most_updates
 
 -- the record with the report change of a row
 abbrev pub with_report : ℕ → RecordState → Columns → Option RecordState
@@ -156,18 +156,20 @@ with_report decided r c = do
   place ← natural_of c.first
   reported ← natural_of c.second
   then_some
-      (has_updates decided r && is_before_rounds r && bytes_eq c.third (codes "-")
-      && nat_lt (last_number (map (λ (c : ReportChange). c.place) r.reports)) place && nat_le place decided
-      && nat_lt (last_number (map (λ (c : ReportChange). c.reported) r.reports)) reported && nat_le reported most_updates)
+      (may_report decided r place reported && bytes_eq c.third (codes "-"))
       (record r { reports = r.reports ++ (record { place = place; reported = reported }) ∷ [] })
+
+-- the round of a place may come next
+abbrev pub may_round : ℕ → RecordState → ℕ → Bool
+may_round decided r place =
+    has_updates decided r && is_before_windows r && nat_lt (last_number r.rounds) place && nat_le place decided
 
 -- the record with the round of a row
 abbrev pub with_round : ℕ → RecordState → Columns → Option RecordState
 with_round decided r c = do
   place ← natural_of c.second
   then_some
-      (has_updates decided r && is_before_windows r && bytes_eq c.third (codes "-") && writes c.first (length r.rounds + 1)
-      && nat_lt (last_number r.rounds) place && nat_le place decided)
+      (may_round decided r place && bytes_eq c.third (codes "-") && writes c.first (length r.rounds + 1))
       (record r { rounds = r.rounds ++ place ∷ [] })
 
 -- the record with the window of a row

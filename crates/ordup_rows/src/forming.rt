@@ -1,17 +1,18 @@
 //! A record to rows.
-ghost use Rattle.std.specs.Prelude.{◌≡◌, ℕ, ℤ, ◌+◌, ◌<◌, ◌≤◌, ◌++◌, List, IfOk, IfSome, OnOk, length, map, option_map, slice_index_or};
+ghost use Rattle.std.specs.Prelude.{◌≡◌, ℕ, ℤ, ◌+◌, ◌<◌, ◌≤◌, ◌∷◌, [], List, IfOk, IfSome, OnOk, length, map, slice_index_or};
 ghost use Rattle.std.specs.Fmt.{signed_decimal};
-ghost use Rattle.csv.specs.Writing.{default_writer, row_text};
-ghost use Rattle.ordup_rows.specs.Forming.{IsClean, csv_text, text_so_far};
+ghost use Rattle.ordup_rows.specs.Forming.{AddsRow, AddsRows, IsClean};
 ghost use Rattle.ordup_objects.specs.Ops.{source_of};
 ghost use Rattle.ordup_objects.specs.Sets.{AreKnown, IsKnown};
 ghost use Rattle.ordup_log.specs.Groups.{AreMembersKnown};
 ghost use Rattle.ordup_log.specs.Spans.{IsScopeKnown};
 ghost use Rattle.ordup_limits.specs.Limits.{AreScopesKnown};
 ghost use Rattle.ordup_rows.specs.Forming.{AreGroupsKnown};
-ghost use Rattle.ordup_rows.specs.Rows.{change_row, change_rows, change_word, counted, head_row, limit_row, member_row, member_rows, object_row, operation_text, report_row, round_row, rows_of, rows_text, scope_text, window_row};
+ghost use Rattle.ordup_rows.specs.Rows.{change_row, change_rows, change_word, counted, head_row, limit_row, member_row, member_rows};
+ghost use Rattle.ordup_rows.specs.Rows.{object_row, operation_text, report_row, round_row, rows_of, rows_text, scope_text, window_row};
 
 use csv::{Writer, WriterBuilder};
+use itoa::Buffer;
 use ordup_limits::{GroupId, Groups, Limit, LimitTable, Scope};
 use ordup_objects::{Change, Name, ObjectId, ObjectTable, Op};
 use ordup_record::{Record, ReportChange};
@@ -19,35 +20,36 @@ use ordup_rounds::Window;
 use std::alloc::{AllocError, Global};
 
 /// Writes a row.
-fn push_row(rows: &mut Writer<Vec<u8>>, columns: &[&[u8]]) -> Result<(), AllocError>
+fn push_row(
+    rows: &mut Writer<Vec<u8>>,
+    kind: &[u8],
+    first: &[u8],
+    second: &[u8],
+    third: &[u8],
+) -> Result<(), AllocError>
     requires { IsClean rows.old }
     ensures clean { OnOk result (IsClean rows.new) }
-    ensures text { OnOk result (text_so_far rows.new ≡ option_map (λ t. t ++ row_text default_writer (map (λ c. c.now) columns.now)) (text_so_far rows.old)) }
+    ensures text { OnOk result (AddsRow rows.old rows.new (kind.now ∷ first.now ∷ second.now ∷ third.now ∷ [])) }
 {
-    match rows.write_fields(columns) {
+    match rows.write_fields(&[kind, first, second, third]) {
         Ok(()) => Ok(()),
         Err(_) => Err(AllocError),
     }
 }
 
 /// Writes the first row.
-fn push_head(
-    alloc: Global,
-    rows: &mut Writer<Vec<u8>>,
-    site: &[u8],
-    decided: u64,
-) -> Result<(), AllocError>
+fn push_head(rows: &mut Writer<Vec<u8>>, site: &[u8], decided: u64) -> Result<(), AllocError>
     requires { IsClean rows.old }
     ensures clean { OnOk result (IsClean rows.new) }
-    ensures text { OnOk result (text_so_far rows.new ≡ option_map (λ t. t ++ row_text default_writer (head_row site.now decided)) (text_so_far rows.old)) }
+    ensures text { OnOk result (AddsRow rows.old rows.new (head_row site.now decided)) }
 {
-    let decided = decided.to_string(alloc)?;
-    push_row(rows, &[b"ordup", b"1", site, decided.as_bytes()])
+    let mut decided_digits = Buffer::new();
+    let decided = decided_digits.format(decided);
+    push_row(rows, b"ordup", b"1", site, decided.as_bytes())
 }
 
 /// Writes the row of an object.
 fn push_object(
-    alloc: Global,
     rows: &mut Writer<Vec<u8>>,
     objects: &ObjectTable,
     object: ObjectId,
@@ -55,40 +57,36 @@ fn push_object(
     requires clean { IsClean rows.old }
     requires known { object < length objects.now }
     ensures clean { OnOk result (IsClean rows.new) }
-    ensures text { (d : List ℕ × ℤ) → OnOk result (text_so_far rows.new ≡ option_map (λ t. t ++ row_text default_writer (object_row (object + 1) (slice_index_or objects.now object d))) (text_so_far rows.old)) }
+    ensures text { (d : List ℕ × ℤ)
+        → OnOk result (AddsRow rows.old rows.new (object_row (object + 1) (slice_index_or objects.now object d))) }
 {
-    let counter = (object.index() + 1).to_string(alloc)?;
-    let value = objects.initial(object).to_string(alloc)?;
+    let mut counter_digits = Buffer::new();
+    let counter = counter_digits.format(object.index() + 1);
+    let mut value_digits = Buffer::new();
+    let value = value_digits.format(objects.initial(object));
     push_row(
         rows,
-        &[
-            b"object",
-            counter.as_bytes(),
-            objects.name(object).as_bytes(),
-            value.as_bytes(),
-        ],
+        b"object",
+        counter.as_bytes(),
+        objects.name(object).as_bytes(),
+        value.as_bytes(),
     )
 }
 
 /// Writes the rows of the objects.
-fn push_objects(
-    alloc: Global,
-    rows: &mut Writer<Vec<u8>>,
-    objects: &ObjectTable,
-) -> Result<(), AllocError>
+fn push_objects(rows: &mut Writer<Vec<u8>>, objects: &ObjectTable) -> Result<(), AllocError>
     requires { IsClean rows.old }
     ensures clean { OnOk result (IsClean rows.new) }
-    ensures text { OnOk result (text_so_far rows.new ≡ option_map (λ t. t ++ csv_text (counted object_row 1 objects.now)) (text_so_far rows.old)) }
+    ensures text { OnOk result (AddsRows rows.old rows.new (counted object_row 1 objects.now)) }
 {
     for place in 0..objects.len() {
-        push_object(alloc, rows, objects, ObjectId::new(place as u16))?;
+        push_object(rows, objects, ObjectId::new(place as u16))?;
     }
     Ok(())
 }
 
 /// Writes the row of a member of a group.
 fn push_member(
-    alloc: Global,
     rows: &mut Writer<Vec<u8>>,
     objects: &ObjectTable,
     group: &Name,
@@ -98,23 +96,21 @@ fn push_member(
     requires clean { IsClean rows.old }
     requires known { object < length objects.now }
     ensures clean { OnOk result (IsClean rows.new) }
-    ensures text { OnOk result (text_so_far rows.new ≡ option_map (λ t. t ++ row_text default_writer (member_row objects.now group.now counter object)) (text_so_far rows.old)) }
+    ensures text { OnOk result (AddsRow rows.old rows.new (member_row objects.now group.now counter object)) }
 {
-    let counter = counter.to_string(alloc)?;
+    let mut counter_digits = Buffer::new();
+    let counter = counter_digits.format(counter);
     push_row(
         rows,
-        &[
-            b"member",
-            counter.as_bytes(),
-            group.as_bytes(),
-            objects.name(object).as_bytes(),
-        ],
+        b"member",
+        counter.as_bytes(),
+        group.as_bytes(),
+        objects.name(object).as_bytes(),
     )
 }
 
 /// Writes the rows of the members of a group, the first of which has this counter.
 fn push_members(
-    alloc: Global,
     rows: &mut Writer<Vec<u8>>,
     objects: &ObjectTable,
     group: &Name,
@@ -125,17 +121,16 @@ fn push_members(
     requires known { AreMembersKnown (length objects.now) members.now }
     requires few { first + length members.now ≤ 4096 }
     ensures clean { OnOk result (IsClean rows.new) }
-    ensures text { OnOk result (text_so_far rows.new ≡ option_map (λ t. t ++ csv_text (counted (member_row objects.now group.now) first members.now)) (text_so_far rows.old)) }
+    ensures text { OnOk result (AddsRows rows.old rows.new (counted (member_row objects.now group.now) first members.now)) }
 {
     for (i, object) in members.iter().enumerate() {
-        push_member(alloc, rows, objects, group, first + i, *object)?;
+        push_member(rows, objects, group, first + i, *object)?;
     }
     Ok(())
 }
 
 /// Writes the rows of the members of all groups.
 fn push_groups(
-    alloc: Global,
     rows: &mut Writer<Vec<u8>>,
     objects: &ObjectTable,
     groups: &Groups,
@@ -143,55 +138,47 @@ fn push_groups(
     requires clean { IsClean rows.old }
     requires known { AreGroupsKnown (length objects.now) groups.now }
     ensures clean { OnOk result (IsClean rows.new) }
-    ensures text { OnOk result (text_so_far rows.new ≡ option_map (λ t. t ++ csv_text (member_rows objects.now 1 groups.now)) (text_so_far rows.old)) }
+    ensures text { OnOk result (AddsRows rows.old rows.new (member_rows objects.now 1 groups.now)) }
 {
     let mut counter = 1;
     for place in 0..groups.len() {
         let group = GroupId::new(place as u8);
         let members = groups.members(group);
-        push_members(alloc, rows, objects, groups.name(group), counter, members)?;
+        push_members(rows, objects, groups.name(group), counter, members)?;
         counter += members.len();
     }
     Ok(())
 }
 
-/// What a row tells a scope by.
-fn scope_column(
-    alloc: Global,
+/// Fills a column with what a row tells a scope by.
+fn put_scope(
+    column: &mut Vec<u8>,
     objects: &ObjectTable,
     groups: &Groups,
     scope: Scope,
-) -> Result<Vec<u8>, AllocError>
+) -> Result<(), AllocError>
     requires { IsScopeKnown (length objects.now) groups.now scope }
-    ensures { IfOk result (λ column. column.items ≡ scope_text objects.now groups.now scope) }
+    ensures { OnOk result (column.new.items ≡ scope_text objects.now groups.now scope) }
 {
-    let mut column = Vec::new(alloc);
+    column.clear();
     match scope {
         Scope::Object(object) => {
             column.extend_from_slice(b"object:")?;
-            column.extend_from_slice(objects.name(object).as_bytes())?;
-            Ok(column)
+            column.extend_from_slice(objects.name(object).as_bytes())
         }
         Scope::Group(group) => {
             column.extend_from_slice(b"group:")?;
-            column.extend_from_slice(groups.name(group).as_bytes())?;
-            Ok(column)
+            column.extend_from_slice(groups.name(group).as_bytes())
         }
-        Scope::All => {
-            column.extend_from_slice(b"all")?;
-            Ok(column)
-        }
-        Scope::Count => {
-            column.extend_from_slice(b"count")?;
-            Ok(column)
-        }
+        Scope::All => column.extend_from_slice(b"all"),
+        Scope::Count => column.extend_from_slice(b"count"),
     }
 }
 
 /// Writes the row of a limit.
 fn push_limit(
-    alloc: Global,
     rows: &mut Writer<Vec<u8>>,
+    column: &mut Vec<u8>,
     objects: &ObjectTable,
     groups: &Groups,
     counter: usize,
@@ -200,26 +187,26 @@ fn push_limit(
     requires clean { IsClean rows.old }
     requires known { IsScopeKnown (length objects.now) groups.now limit.scope }
     ensures clean { OnOk result (IsClean rows.new) }
-    ensures text { OnOk result (text_so_far rows.new ≡ option_map (λ t. t ++ row_text default_writer (limit_row objects.now groups.now counter limit)) (text_so_far rows.old)) }
+    ensures text { OnOk result (AddsRow rows.old rows.new (limit_row objects.now groups.now counter limit)) }
 {
-    let counter = counter.to_string(alloc)?;
-    let scope = scope_column(alloc, objects, groups, limit.scope)?;
-    let amount = limit.amount.to_string(alloc)?;
+    let mut counter_digits = Buffer::new();
+    let counter = counter_digits.format(counter);
+    put_scope(column, objects, groups, limit.scope)?;
+    let mut amount_digits = Buffer::new();
+    let amount = amount_digits.format(limit.amount);
     push_row(
         rows,
-        &[
-            b"limit",
-            counter.as_bytes(),
-            scope.as_slice(),
-            amount.as_bytes(),
-        ],
+        b"limit",
+        counter.as_bytes(),
+        column.as_slice(),
+        amount.as_bytes(),
     )
 }
 
 /// Writes the rows of the limits.
 fn push_limits(
-    alloc: Global,
     rows: &mut Writer<Vec<u8>>,
+    column: &mut Vec<u8>,
     objects: &ObjectTable,
     groups: &Groups,
     limits: &LimitTable,
@@ -227,71 +214,70 @@ fn push_limits(
     requires clean { IsClean rows.old }
     requires known { AreScopesKnown (length objects.now) groups.now limits.now }
     ensures clean { OnOk result (IsClean rows.new) }
-    ensures text { OnOk result (text_so_far rows.new ≡ option_map (λ t. t ++ csv_text (counted (limit_row objects.now groups.now) 1 limits.now)) (text_so_far rows.old)) }
+    ensures text { OnOk result (AddsRows rows.old rows.new (counted (limit_row objects.now groups.now) 1 limits.now)) }
 {
     for place in 0..limits.len() {
         let (scope, amount) = limits.get(place);
         let limit = Limit { scope, amount };
-        push_limit(alloc, rows, objects, groups, place + 1, limit)?;
+        push_limit(rows, column, objects, groups, place + 1, limit)?;
     }
     Ok(())
 }
 
-/// The word of a change, by its parts.
-fn word_column(
-    alloc: Global,
+/// Fills a column with the word of a change, by its parts.
+fn put_word(
+    column: &mut Vec<u8>,
     kind: &[u8],
     object: &[u8],
     operand: &[u8],
-) -> Result<Vec<u8>, AllocError>
-    ensures { IfOk result (λ column. column.items ≡ change_word kind.now object.now operand.now) }
+) -> Result<(), AllocError>
+    ensures { OnOk result (column.new.items ≡ change_word kind.now object.now operand.now) }
 {
-    let mut column = Vec::new(alloc);
+    column.clear();
     column.extend_from_slice(kind)?;
     column.push(b':')?;
     column.extend_from_slice(object)?;
     column.push(b':')?;
-    column.extend_from_slice(operand)?;
-    Ok(column)
+    column.extend_from_slice(operand)
 }
 
-/// The word of a change by a number.
-fn number_column(
-    alloc: Global,
+/// Fills a column with the word of a change by a number.
+fn put_number_word(
+    column: &mut Vec<u8>,
     kind: &[u8],
     object: &[u8],
     number: i64,
-) -> Result<Vec<u8>, AllocError>
-    ensures { IfOk result (λ column. column.items ≡ change_word kind.now object.now (signed_decimal number)) }
+) -> Result<(), AllocError>
+    ensures { OnOk result (column.new.items ≡ change_word kind.now object.now (signed_decimal number)) }
 {
-    let number = number.to_string(alloc)?;
-    word_column(alloc, kind, object, number.as_bytes())
+    let mut digits = Buffer::new();
+    put_word(column, kind, object, digits.format(number).as_bytes())
 }
 
-/// The word of a change of an object of this name.
-fn change_column(
-    alloc: Global,
+/// Fills a column with the word of a change of an object of this name.
+fn put_change(
+    column: &mut Vec<u8>,
     objects: &ObjectTable,
     object: &[u8],
     op: Op,
-) -> Result<Vec<u8>, AllocError>
+) -> Result<(), AllocError>
     requires { IfSome (source_of op) (λ y. y < length objects.now) }
-    ensures { IfOk result (λ column. column.items ≡ operation_text objects.now object.now op) }
+    ensures { OnOk result (column.new.items ≡ operation_text objects.now object.now op) }
 {
     match op {
-        Op::Add(n) => number_column(alloc, b"add", object, n),
-        Op::Set(n) => number_column(alloc, b"set", object, n),
-        Op::Mul(n) => number_column(alloc, b"mul", object, n),
-        Op::Max(n) => number_column(alloc, b"max", object, n),
-        Op::Min(n) => number_column(alloc, b"min", object, n),
-        Op::Take(source) => { word_column(alloc, b"take", object, objects.name(source).as_bytes()) }
+        Op::Add(n) => put_number_word(column, b"add", object, n),
+        Op::Set(n) => put_number_word(column, b"set", object, n),
+        Op::Mul(n) => put_number_word(column, b"mul", object, n),
+        Op::Max(n) => put_number_word(column, b"max", object, n),
+        Op::Min(n) => put_number_word(column, b"min", object, n),
+        Op::Take(source) => put_word(column, b"take", object, objects.name(source).as_bytes()),
     }
 }
 
 /// Writes the row of a change.
 fn push_change(
-    alloc: Global,
     rows: &mut Writer<Vec<u8>>,
+    column: &mut Vec<u8>,
     objects: &ObjectTable,
     number: u64,
     position: usize,
@@ -300,27 +286,27 @@ fn push_change(
     requires clean { IsClean rows.old }
     requires known { IsKnown (length objects.now) change }
     ensures clean { OnOk result (IsClean rows.new) }
-    ensures text { OnOk result (text_so_far rows.new ≡ option_map (λ t. t ++ row_text default_writer (change_row objects.now number position change)) (text_so_far rows.old)) }
+    ensures text { OnOk result (AddsRow rows.old rows.new (change_row objects.now number position change)) }
 {
-    let number = number.to_string(alloc)?;
-    let position = position.to_string(alloc)?;
+    let mut number_digits = Buffer::new();
+    let number = number_digits.format(number);
+    let mut position_digits = Buffer::new();
+    let position = position_digits.format(position);
     let object = objects.name(change.object);
-    let word = change_column(alloc, objects, object.as_bytes(), change.op)?;
+    put_change(column, objects, object.as_bytes(), change.op)?;
     push_row(
         rows,
-        &[
-            b"change",
-            number.as_bytes(),
-            position.as_bytes(),
-            word.as_slice(),
-        ],
+        b"change",
+        number.as_bytes(),
+        position.as_bytes(),
+        column.as_slice(),
     )
 }
 
 /// Writes the rows of an update.
 fn push_set(
-    alloc: Global,
     rows: &mut Writer<Vec<u8>>,
+    column: &mut Vec<u8>,
     objects: &ObjectTable,
     number: u64,
     changes: &[Change],
@@ -328,129 +314,110 @@ fn push_set(
     requires clean { IsClean rows.old }
     requires known { AreKnown (length objects.now) changes.now }
     ensures clean { OnOk result (IsClean rows.new) }
-    ensures text { OnOk result (text_so_far rows.new ≡ option_map (λ t. t ++ csv_text (counted (change_row objects.now number) 1 changes.now)) (text_so_far rows.old)) }
+    ensures text { OnOk result (AddsRows rows.old rows.new (counted (change_row objects.now number) 1 changes.now)) }
 {
     for (i, change) in changes.iter().enumerate() {
-        push_change(alloc, rows, objects, number, i + 1, *change)?;
+        push_change(rows, column, objects, number, i + 1, *change)?;
     }
     Ok(())
 }
 
 /// Writes the rows of the decided updates.
-fn push_sets(alloc: Global, rows: &mut Writer<Vec<u8>>, whole: &Record) -> Result<(), AllocError>
+fn push_sets(
+    rows: &mut Writer<Vec<u8>>,
+    column: &mut Vec<u8>,
+    whole: &Record,
+) -> Result<(), AllocError>
     requires { IsClean rows.old }
     ensures clean { OnOk result (IsClean rows.new) }
-    ensures text { OnOk result (text_so_far rows.new ≡ option_map (λ t. t ++ csv_text (change_rows whole.now.objects 1 whole.now.sets)) (text_so_far rows.old)) }
+    ensures text { OnOk result (AddsRows rows.old rows.new (change_rows whole.now.objects 1 whole.now.sets)) }
 {
     for place in 0..whole.decided() {
         let changes = whole.set(place + 1).changes();
-        push_set(alloc, rows, whole.objects(), place + 1, changes)?;
+        push_set(rows, column, whole.objects(), place + 1, changes)?;
     }
     Ok(())
 }
 
 /// Writes the row of a report change.
-fn push_report(
-    alloc: Global,
-    rows: &mut Writer<Vec<u8>>,
-    change: ReportChange,
-) -> Result<(), AllocError>
+fn push_report(rows: &mut Writer<Vec<u8>>, change: ReportChange) -> Result<(), AllocError>
     requires { IsClean rows.old }
     ensures clean { OnOk result (IsClean rows.new) }
-    ensures text { OnOk result (text_so_far rows.new ≡ option_map (λ t. t ++ row_text default_writer (report_row change)) (text_so_far rows.old)) }
+    ensures text { OnOk result (AddsRow rows.old rows.new (report_row change)) }
 {
-    let place = change.place.to_string(alloc)?;
-    let reported = change.reported.to_string(alloc)?;
-    push_row(
-        rows,
-        &[b"report", place.as_bytes(), reported.as_bytes(), b"-"],
-    )
+    let mut place_digits = Buffer::new();
+    let place = place_digits.format(change.place);
+    let mut reported_digits = Buffer::new();
+    let reported = reported_digits.format(change.reported);
+    push_row(rows, b"report", place.as_bytes(), reported.as_bytes(), b"-")
 }
 
 /// Writes the rows of the report changes.
-fn push_reports(
-    alloc: Global,
-    rows: &mut Writer<Vec<u8>>,
-    changes: &[ReportChange],
-) -> Result<(), AllocError>
+fn push_reports(rows: &mut Writer<Vec<u8>>, changes: &[ReportChange]) -> Result<(), AllocError>
     requires { IsClean rows.old }
     ensures clean { OnOk result (IsClean rows.new) }
-    ensures text { OnOk result (text_so_far rows.new ≡ option_map (λ t. t ++ csv_text (map report_row changes.now)) (text_so_far rows.old)) }
+    ensures text { OnOk result (AddsRows rows.old rows.new (map report_row changes.now)) }
 {
     for change in changes {
-        push_report(alloc, rows, *change)?;
+        push_report(rows, *change)?;
     }
     Ok(())
 }
 
 /// Writes the row of a round.
-fn push_round(
-    alloc: Global,
-    rows: &mut Writer<Vec<u8>>,
-    counter: usize,
-    place: u64,
-) -> Result<(), AllocError>
+fn push_round(rows: &mut Writer<Vec<u8>>, counter: usize, place: u64) -> Result<(), AllocError>
     requires { IsClean rows.old }
     ensures clean { OnOk result (IsClean rows.new) }
-    ensures text { OnOk result (text_so_far rows.new ≡ option_map (λ t. t ++ row_text default_writer (round_row counter place)) (text_so_far rows.old)) }
+    ensures text { OnOk result (AddsRow rows.old rows.new (round_row counter place)) }
 {
-    let counter = counter.to_string(alloc)?;
-    let place = place.to_string(alloc)?;
-    push_row(
-        rows,
-        &[b"round", counter.as_bytes(), place.as_bytes(), b"-"],
-    )
+    let mut counter_digits = Buffer::new();
+    let counter = counter_digits.format(counter);
+    let mut place_digits = Buffer::new();
+    let place = place_digits.format(place);
+    push_row(rows, b"round", counter.as_bytes(), place.as_bytes(), b"-")
 }
 
 /// Writes the rows of the rounds.
-fn push_rounds(alloc: Global, rows: &mut Writer<Vec<u8>>, places: &[u64]) -> Result<(), AllocError>
+fn push_rounds(rows: &mut Writer<Vec<u8>>, places: &[u64]) -> Result<(), AllocError>
     requires { IsClean rows.old }
     ensures clean { OnOk result (IsClean rows.new) }
-    ensures text { OnOk result (text_so_far rows.new ≡ option_map (λ t. t ++ csv_text (counted round_row 1 places.now)) (text_so_far rows.old)) }
+    ensures text { OnOk result (AddsRows rows.old rows.new (counted round_row 1 places.now)) }
 {
     for (i, place) in places.iter().enumerate() {
-        push_round(alloc, rows, i + 1, *place)?;
+        push_round(rows, i + 1, *place)?;
     }
     Ok(())
 }
 
 /// Writes the row of a window.
-fn push_window(
-    alloc: Global,
-    rows: &mut Writer<Vec<u8>>,
-    counter: usize,
-    window: Window,
-) -> Result<(), AllocError>
+fn push_window(rows: &mut Writer<Vec<u8>>, counter: usize, window: Window) -> Result<(), AllocError>
     requires { IsClean rows.old }
     ensures clean { OnOk result (IsClean rows.new) }
-    ensures text { OnOk result (text_so_far rows.new ≡ option_map (λ t. t ++ row_text default_writer (window_row counter window)) (text_so_far rows.old)) }
+    ensures text { OnOk result (AddsRow rows.old rows.new (window_row counter window)) }
 {
-    let counter = counter.to_string(alloc)?;
-    let from = window.from.to_string(alloc)?;
-    let to = window.to.to_string(alloc)?;
+    let mut counter_digits = Buffer::new();
+    let counter = counter_digits.format(counter);
+    let mut from_digits = Buffer::new();
+    let from = from_digits.format(window.from);
+    let mut to_digits = Buffer::new();
+    let to = to_digits.format(window.to);
     push_row(
         rows,
-        &[
-            b"window",
-            counter.as_bytes(),
-            from.as_bytes(),
-            to.as_bytes(),
-        ],
+        b"window",
+        counter.as_bytes(),
+        from.as_bytes(),
+        to.as_bytes(),
     )
 }
 
 /// Writes the rows of the windows.
-fn push_windows(
-    alloc: Global,
-    rows: &mut Writer<Vec<u8>>,
-    windows: &[Window],
-) -> Result<(), AllocError>
+fn push_windows(rows: &mut Writer<Vec<u8>>, windows: &[Window]) -> Result<(), AllocError>
     requires { IsClean rows.old }
     ensures clean { OnOk result (IsClean rows.new) }
-    ensures text { OnOk result (text_so_far rows.new ≡ option_map (λ t. t ++ csv_text (counted window_row 1 windows.now)) (text_so_far rows.old)) }
+    ensures text { OnOk result (AddsRows rows.old rows.new (counted window_row 1 windows.now)) }
 {
     for (i, window) in windows.iter().enumerate() {
-        push_window(alloc, rows, i + 1, *window)?;
+        push_window(rows, i + 1, *window)?;
     }
     Ok(())
 }
@@ -459,21 +426,22 @@ fn push_windows(
 pub fn form(alloc: Global, whole: &Record) -> Result<Vec<u8>, AllocError>
     ensures { IfOk result (λ text. text.items ≡ rows_text (rows_of whole.now)) }
 {
+    let mut column = Vec::new(alloc);
     let mut rows = WriterBuilder::new().from_writer(Vec::new(alloc));
-    push_head(alloc, &mut rows, whole.site().as_bytes(), whole.decided())?;
-    push_objects(alloc, &mut rows, whole.objects())?;
-    push_groups(alloc, &mut rows, whole.objects(), whole.groups())?;
+    push_head(&mut rows, whole.site().as_bytes(), whole.decided())?;
+    push_objects(&mut rows, whole.objects())?;
+    push_groups(&mut rows, whole.objects(), whole.groups())?;
     push_limits(
-        alloc,
         &mut rows,
+        &mut column,
         whole.objects(),
         whole.groups(),
         whole.limits(),
     )?;
-    push_sets(alloc, &mut rows, whole)?;
-    push_reports(alloc, &mut rows, whole.reports())?;
-    push_rounds(alloc, &mut rows, whole.rounds())?;
-    push_windows(alloc, &mut rows, whole.windows())?;
+    push_sets(&mut rows, &mut column, whole)?;
+    push_reports(&mut rows, whole.reports())?;
+    push_rounds(&mut rows, whole.rounds())?;
+    push_windows(&mut rows, whole.windows())?;
     match rows.into_inner() {
         Ok(text) => Ok(text),
         Err(_) => Err(AllocError),

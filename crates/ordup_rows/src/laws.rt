@@ -9,6 +9,15 @@ ghost use Rattle.ordup_rows.specs.Laws.{
   WhatIsTakenCanGoOn,
   WhatIsToldIsRead,
 };
+ghost use Rattle.ordup_rows.specs.TextLaws.{
+  MalformedTextsAreOne,
+  TextsHaveOneListOfRows,
+  TextsTellOneRecord,
+  ToldTextsAreNotMalformed,
+  WrittenRecordsAreShort,
+  WrittenRecordsAreTold,
+  WrittenRowsAreRead,
+};
 
 /// A law: rows that are read to the end tell the record that was read.
 pub fn what_is_read_is_told()
@@ -53,4 +62,39 @@ pub fn told_rows_are_not_bad()
 /// A law: rows have no two first bad rows.
 pub fn bad_rows_are_one()
     ensures { BadRowsAreOne }
+{}
+
+/// A law: a text is read as one list of rows.
+pub fn texts_have_one_list_of_rows()
+    ensures { TextsHaveOneListOfRows }
+{}
+
+/// A law: what is written of a record is read as its rows.
+pub fn written_rows_are_read()
+    ensures { WrittenRowsAreRead }
+{}
+
+/// A law: what is written of a record tells it.
+pub fn written_records_are_told()
+    ensures { WrittenRecordsAreTold }
+{}
+
+/// A law: what is written of a record is no longer than what may be read.
+pub fn written_records_are_short()
+    ensures { WrittenRecordsAreShort }
+{}
+
+/// A law: a text tells no two records.
+pub fn texts_tell_one_record()
+    ensures { TextsTellOneRecord }
+{}
+
+/// A law: a text that tells a record is not malformed.
+pub fn told_texts_are_not_malformed()
+    ensures { ToldTextsAreNotMalformed }
+{}
+
+/// A law: a text is malformed at one row at most.
+pub fn malformed_texts_are_one()
+    ensures { MalformedTextsAreOne }
 {}

@@ -1,16 +1,21 @@
 //! Records as rows: what an auditor is sent of a site, as comma-separated values.
 //!
-//! The one contract above this layer: rows are read as the record that they tell, or up to the first row that breaks a rule.
+//! The one contract above this layer: rows tell one record, or have one first bad row; and a record is written as its rows.
 #![tactic(auto)]
 
 mod forming;
 mod laws;
 mod row_kind;
+pub mod sizes;
+mod writing;
 
 pub use forming::form;
 pub use laws::{
-    bad_rows_are_one, rows_tell_one_record, rows_tell_or_are_bad, told_rows_are_not_bad,
-    what_is_not_closed_is_missing, what_is_not_taken_is_bad, what_is_read_is_told,
-    what_is_taken_can_go_on, what_is_told_is_read,
+    bad_rows_are_one, malformed_texts_are_one, rows_tell_one_record, rows_tell_or_are_bad,
+    texts_have_one_list_of_rows, texts_tell_one_record, told_rows_are_not_bad,
+    told_texts_are_not_malformed, what_is_not_closed_is_missing, what_is_not_taken_is_bad,
+    what_is_read_is_told, what_is_taken_can_go_on, what_is_told_is_read, written_records_are_short,
+    written_records_are_told, written_rows_are_read,
 };
 pub use row_kind::RowKind;
+pub use writing::{RecordWriteFault, write_record};

@@ -1,0 +1,40 @@
+use Rattle.std.proofs.Common.{◌∙◌, ◌+◌, inl, sym, subst}
+use Rattle.std.specs.Prelude.{IfSome}
+use Rattle.csv.specs.Reading.{source_of}
+use Rattle.ordup_rows.specs.Texts.{IsMalformedAt}
+use Rattle.ordup_record_reader.specs.StageViews.{stage_of}
+use Rattle.ordup_record_reader.proofs.ReadSteps.{bad, begins, onward, malformed-number, whole}
+use Rattle.ordup_rows.proofs.Running.{step_follows}
+use Rattle.ordup_record_reader.proofs.reading.read_rows.Goals as goal
+
+pub loop-count-init : goal.loop-count-init
+loop-count-init g c = (c.requires.plain, c.requires.ready, c.requires.config, tt, begins g.R.Read.remaining c.args.rdr.now c.requires)
+
+pub returns-then-not-is_found-clause-taken : goal.returns-then-not-is_found-clause-taken
+returns-then-not-is_found-clause-taken g c =
+    let (plain, ready, config, is, h) = c.loop-count.invariant in
+    let r = rw c.if-not-is_found.true at (c.in-Ok.ensures.reads plain ready) in
+    whole g.R.Read.remaining c.loop-count.rdr c.read_byte_record.new.self (source_of g.R.Read.remaining c.args.rdr.now)
+    (stage_of c.loop-count.stage) c.loop-count.count _ config h r
+
+pub returns-in_default-next-clause-malformed : goal.returns-in_default-next-clause-malformed
+returns-in_default-next-clause-malformed g c n e =
+    let (plain, ready, config, is, h) = c.loop-count.invariant in
+    let r = rw c.if-not-is_found.false at (c.in-Ok.ensures.reads plain ready) in
+    subst (λ k. IfSome (source_of g.R.Read.remaining c.args.rdr.now) (λ text. IsMalformedAt text k))
+    (malformed-number (c.loop-count.count + 1) n e)
+    (bad g.R.Read.remaining c.loop-count.rdr c.read_byte_record.new.self (source_of g.R.Read.remaining c.args.rdr.now)
+    (stage_of c.loop-count.stage) c.loop-count.count _ config h r (sym (rw c.in_default-next.is at c.in-Ok-take_row.ensures)))
+
+pub loop-count-preserved : goal.loop-count-preserved
+loop-count-preserved g c =
+    let (plain, ready, config, is, h) = c.loop-count.invariant in
+    let r = rw c.if-not-is_found.false at (c.in-Ok.ensures.reads plain ready) in
+    let next = sym (rw c.in-Some.is at c.in-Ok-take_row.ensures) in (
+      r.3 ∙ plain,
+      inl (c.in-Ok.ensures.ready plain),
+      r.2 ∙ config,
+      (step_follows (stage_of c.loop-count.stage) _ (stage_of c.in-Some.next) is next).is,
+      onward g.R.Read.remaining c.loop-count.rdr c.read_byte_record.new.self (source_of g.R.Read.remaining c.args.rdr.now)
+          (stage_of c.loop-count.stage) (stage_of c.in-Some.next) c.loop-count.count _ config h r next,
+    )

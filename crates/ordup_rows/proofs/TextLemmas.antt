@@ -1,0 +1,142 @@
+-- Texts that are read as rows, one way alone; and the text of a record is read as its rows.
+use Rattle.std.proofs.Common.{◌≡◌, ◌∙◌, ap, sym, refl, subst, ℕ, suc, ◌-◌, List, [], ◌∷◌, ◌++◌, length, arith}
+use Rattle.std.proofs.Common.{inl, inr, None, ◌⊎◌}
+use Rattle.std.specs.Prelude.{All}
+use Rattle.std.proofs.lemmas.List.{append-nil, length-append, nil_from_length, take-append-le}
+use Rattle.std.proofs.lemmas.Option.{same_Some}
+use Rattle.csv.specs.Machine.{next_record}
+use Rattle.csv.specs.Reading.{AreRecords, Reached, default_config, strip_bom}
+use Rattle.csv.specs.Writing.{is_blank, read_back}
+use Rattle.csv.specs.declared.parser.State.{State}
+use Rattle.csv.specs.declared.parser.State.TheVariants as st
+use Rattle.csv.proofs.RoundTrip.{read-write}
+use Rattle.ordup_record.specs.Records.{RecordState}
+use Rattle.ordup_rows.specs.Forming.{csv_text}
+use Rattle.ordup_rows.specs.Rows.{Row, rows_of, rows_text}
+use Rattle.ordup_rows.specs.Telling.{CanGoOn, IsBadRow, IsFirstBadRow, Tells}
+use Rattle.ordup_rows.specs.TextLaws.{MalformedTextsAreOne, TextsHaveOneListOfRows, TextsTellOneRecord, ToldTextsAreNotMalformed}
+use Rattle.ordup_rows.specs.TextLaws.{WrittenRecordsAreTold, WrittenRowsAreRead}
+use Rattle.ordup_rows.specs.Texts.{HasRows}
+use Rattle.ordup_rows.proofs.BadRows.{bad_rows_are_one, told_rows_are_not_bad}
+use Rattle.ordup_rows.proofs.PlainLemmas.{IsLine, all_lines, lines_of}
+use Rattle.ordup_rows.proofs.ReadingBack.{rows_tell_one_record}
+
+-- ---- one way alone
+
+-- rows at the front of others
+abbrev IsFront : List Row → List Row → Type 0
+IsFront front rows = (more : List Row) × (rows ≡ front ++ more)
+
+front_more : (a b : Row) (front rows : List Row) → a ≡ b → IsFront front rows → IsFront (a ∷ front) (b ∷ rows)
+front_more a b front rows e (more, is) = (more, rw (e, is) refl)
+
+-- of two lists of first rows one is the front of the other
+fronts : (s t u : State) (text x y : List ℕ) (a b : List Row) → Reached default_config s text a t x → Reached default_config s text b u y
+    → (IsFront a b) ⊎ (IsFront b a)
+unfolding Reached
+fronts s t u text x y [] b h k = inl (b, refl)
+fronts s t u text x y (row ∷ a) [] h k = inr (row ∷ a, refl)
+fronts s t u text x y (row ∷ a) (first ∷ b) (p, e, is, h) (q, f, same, k) =
+    let one : q ≡ p = same_Some q p (sym f ∙ e) in
+    let rows : row ≡ first = is ∙ (ap (λ z. z.0) (sym one) ∙ sym same) in
+    elim (fronts p.1 t u p.2 x y a b h (rw one at k)) [
+      | inl before ↦ inl (front_more row first a b rows before)
+      | inr after ↦ inr (front_more first row b a (sym rows) after)
+    ]
+
+-- the first rows of a text are the front of all of them
+front_of_all : (s t : State) (text x : List ℕ) (a b : List Row) → Reached default_config s text a t x → AreRecords default_config s text b
+    → IsFront a b
+unfolding Reached
+front_of_all s t text x [] b h are = (b, refl)
+front_of_all s t text x (row ∷ a) [] (p, e, is, h) (u, y, (same, whole), none) = absurd (cc (rw (same, whole) at e))
+front_of_all s t text x (row ∷ a) (first ∷ b) (p, e, is, h) (u, y, (q, f, same, k), none) =
+    let one : q ≡ p = same_Some q p (sym f ∙ e) in
+    front_more row first a b (is ∙ (ap (λ z. z.0) (sym one) ∙ sym same)) (front_of_all p.1 t p.2 x a b h (u, y, rw one at k, none))
+
+both_fronts : (a b m n : List Row) → b ≡ a ++ m → a ≡ b ++ n → a ≡ b
+both_fronts a b m n e f =
+    let long = ap length e ∙ length-append a m in
+    let short = ap length f ∙ length-append b n in
+    let none : n ≡ [] = nil_from_length n (omega (arith, long, short)) in
+    f ∙ (ap (λ l. b ++ l) none ∙ append-nil b)
+
+pub texts_have_one_list_of_rows : TextsHaveOneListOfRows
+texts_have_one_list_of_rows text rows more (s, x, h, end) (t, y, k, close) =
+    let (m, e) = front_of_all st.StartRecord s text x rows more h (t, y, k, close) in
+    let (n, f) = front_of_all st.StartRecord t text y more rows k (s, x, h, end) in
+    both_fronts rows more m n e f
+
+-- ---- what is told, and what is malformed
+
+-- a bad row is the first one, whatever comes after
+bad_before : (rows more all : List Row) (n : ℕ) → all ≡ rows ++ more → IsBadRow rows n → IsFirstBadRow all n
+bad_before rows more all n e (some, within, before, bad) =
+    subst (λ l. IsFirstBadRow l n) (sym e) (inl (
+      some,
+      omega (arith, within, length-append rows more),
+      subst CanGoOn (sym (take-append-le (n - 1) rows more (omega (arith, within)))) before,
+      λ on. bad (subst CanGoOn (take-append-le n rows more within) on),
+    ))
+
+pub texts_tell_one_record : TextsTellOneRecord
+texts_tell_one_record text r q (rows, are, tells) (more, all, told) =
+    rows_tell_one_record rows r q tells (subst (λ l. Tells l q) (texts_have_one_list_of_rows text more rows all are) told)
+
+pub told_texts_are_not_malformed : ToldTextsAreNotMalformed
+told_texts_are_not_malformed text r n (rows, are, tells) (inl (front, (s, x, h), bad)) =
+    let (more, e) = front_of_all st.StartRecord s text x front rows h are in
+    told_rows_are_not_bad rows r n tells (bad_before front more rows n e bad)
+told_texts_are_not_malformed text r n (rows, are, tells) (inr (more, all, missing)) =
+    told_rows_are_not_bad more r n (subst (λ l. Tells l r) (texts_have_one_list_of_rows text rows more are all) tells) (inr missing)
+
+pub malformed_texts_are_one : MalformedTextsAreOne
+malformed_texts_are_one text m n (inl (a, (s, x, h), bad)) (inl (b, (t, y, k), worse)) =
+    elim (fronts st.StartRecord s t text x y a b h k) [
+      | inl before ↦ bad_rows_are_one b m n (bad_before a before.0 b m before.1 bad) (inl worse)
+      | inr after ↦ bad_rows_are_one a m n (inl bad) (bad_before b after.0 a n after.1 worse)
+    ]
+malformed_texts_are_one text m n (inl (a, (s, x, h), bad)) (inr (rows, are, missing)) =
+    let (more, e) = front_of_all st.StartRecord s text x a rows h are in
+    bad_rows_are_one rows m n (bad_before a more rows m e bad) (inr missing)
+malformed_texts_are_one text m n (inr (rows, are, missing)) (inl (a, (s, x, h), bad)) =
+    let (more, e) = front_of_all st.StartRecord s text x a rows h are in
+    bad_rows_are_one rows m n (inr missing) (bad_before a more rows n e bad)
+malformed_texts_are_one text m n (inr (rows, are, missing)) (inr (more, all, lacking)) =
+    bad_rows_are_one rows m n (inr missing)
+    (subst (λ l. IsFirstBadRow l n) (texts_have_one_list_of_rows text more rows all are) (inr lacking))
+
+-- ---- the text of a record
+
+-- a row that is written as its line is read back as itself
+read_as_line : (row : Row) → IsLine row → read_back row ≡ row
+unfolding is_blank
+read_as_line [] is = absurd (cc (is.text))
+read_as_line (column ∷ columns) is = refl
+
+reaches : (rows : List Row) → All IsLine rows → Reached default_config st.StartRecord (csv_text rows) rows st.StartRecord []
+unfolding Reached
+reaches [] are = (refl, refl)
+reaches (row ∷ rows) are = (
+  (read_back row, st.StartRecord, csv_text rows),
+  read-write row (csv_text rows),
+  sym (read_as_line row (are 0 row (omega arith))),
+  reaches rows (λ k d lt. are (suc k) d (omega arith)),
+)
+
+no_more : next_record default_config st.StartRecord [] [] [] ≡ None
+unfolding next_record
+no_more = refl
+
+-- the text of a record begins with no byte order mark
+no_mark : (r : RecordState) → strip_bom (rows_text (rows_of r)) ≡ rows_text (rows_of r)
+unfolding strip_bom
+no_mark r = refl
+
+pub written_rows_are_read : WrittenRowsAreRead
+written_rows_are_read r is =
+    rw (no_mark r) (subst (λ text. HasRows text (rows_of r)) (lines_of r is)
+    (st.StartRecord, [], reaches (rows_of r) (all_lines r is), no_more))
+
+pub written_records_are_told : WrittenRecordsAreTold
+written_records_are_told r is = (rows_of r, written_rows_are_read r is, record { valid = is; same = refl })

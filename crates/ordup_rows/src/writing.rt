@@ -1,0 +1,38 @@
+ghost use Rattle.std.specs.Prelude.{◌≡◌, IfErr, OnOk};
+ghost use Rattle.std.specs.Io.KnownBytes.{Appends};
+ghost use Rattle.ordup_output.specs.Fronts.{AppendsFront};
+ghost use Rattle.ordup_rows.specs.Rows.{rows_of, rows_text};
+
+use crate::forming::form;
+use ordup_output::send;
+use ordup_record::Record;
+use std::alloc::Global;
+use std::io::Write;
+
+/// Why not all of a record was written.
+#[derive(Clone, Copy, Debug, PartialEq, Eq)]
+pub enum RecordWriteFault {
+    /// A write failed, or took nothing.
+    Write,
+    /// Memory was refused, before the first write.
+    NoMemory,
+}
+
+/// Writes a record: all of its text, or a front of it where the writer fails. It flushes nothing.
+pub fn write_record<W: Write>(
+    alloc: Global,
+    whole: &Record,
+    output: &mut W,
+) -> Result<(), RecordWriteFault>
+    ensures written { OnOk result (Appends (W.contents output.old) (W.contents output.new) (rows_text (rows_of whole.now))) }
+    ensures front { AppendsFront (W.contents output.old) (W.contents output.new) (rows_text (rows_of whole.now)) }
+    ensures refused { IfErr result (λ e. e ≡ RecordWriteFault.NoMemory → output.new ≡ output.old) }
+{
+    let Ok(text) = form(alloc, whole) else {
+        return Err(RecordWriteFault::NoMemory);
+    };
+    match send(output, text.as_slice()) {
+        Ok(()) => Ok(()),
+        Err(_) => Err(RecordWriteFault::Write),
+    }
+}

@@ -1,4 +1,4 @@
-//! The check of records: an auditor trusts nothing else.
+//! The check of records: an auditor trusts nothing else. All that an auditor calls is to be had here.
 //!
 //! The one contract above this layer: `check` answers the fewest rounds exactly for valid records, and else the first reason
 //! against a record, and its row.
@@ -13,4 +13,7 @@ mod verdict;
 mod windows;
 
 pub use checking::check;
+pub use ordup_record::{Record, record_of};
+pub use ordup_record_reader::{RecordReadFault, read_record};
+pub use ordup_rows::{RecordWriteFault, write_record};
 pub use verdict::{Reason, Verdict};

@@ -1,1 +1,3 @@
-pub mod Statuses
+pub mod Faults
+pub mod Jobs
+pub mod Acts

@@ -2,14 +2,19 @@
 #![tactic(auto)]
 
 mod act;
+mod fault;
+mod jobs;
+#[cfg(test)]
+mod record_tests;
 #[cfg(test)]
 mod rows;
+#[cfg(test)]
+mod streams;
 #[cfg(test)]
 mod tests;
 
 pub use act::act;
-use act::{WRONG_WORDS, tell};
-use ordup_script::ScriptFault;
+use fault::{Fault, WRONG_WORDS, tell};
 use std::alloc::{AllocError, Global};
 use std::io::{self, ErrorKind, Write};
 use std::process::ExitCode;
@@ -25,7 +30,7 @@ fn main(rt: HostRuntime) -> ExitCode {
         Err(error) => return ExitCode::from(tell_lost_words(&mut faults, error.kind())),
     };
     let Ok(words) = texts(alloc, words.as_slice()) else {
-        return ExitCode::from(tell(&mut faults, ScriptFault::NoMemory));
+        return ExitCode::from(tell(&mut faults, Fault::NoMemory));
     };
     ExitCode::from(act(
         alloc,
@@ -57,7 +62,7 @@ fn texts<'a>(alloc: Global, words: &'a [String]) -> Result<Vec<&'a str>, AllocEr
 /// Tells why the words could not be had, and answers the exit status: there was no memory, or one of them is no text.
 fn tell_lost_words<E: Write>(faults: &mut E, why: ErrorKind) -> u8 {
     if why == ErrorKind::OutOfMemory {
-        return tell(faults, ScriptFault::NoMemory);
+        return tell(faults, Fault::NoMemory);
     }
     let _ = faults.write_all(b"an argument is no text\n");
     WRONG_WORDS

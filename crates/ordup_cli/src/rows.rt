@@ -3,6 +3,9 @@
 
 /// A name, and a transcript: a line that begins with `> ` is a line of the script, any other is the answer that must come
 /// there. Each transcript is a script of its own.
+///
+/// Lines that begin with `| ` are the record of a site after the lines of the script up to there, and the line after them, which
+/// begins with `= `, is what the check says of that record.
 pub(crate) const ROWS: [(&str, &str); 39] = [
     ("An empty script", ""),
     (
@@ -26,6 +29,15 @@ ok acked 1
 ok proposed 2
 > settle
 ok round 2 a
+| ordup,1,a,2
+| object,1,x,0
+| object,2,y,10
+| limit,1,object:x,5
+| change,1,1,add:x:5
+| change,2,1,add:x:1
+| round,1,2,-
+| window,1,0,2
+= yes 1
 > show a
 ok show a sent 0 applied 0 reported 0 rounds 1 x=0 y=10
 > certify a
@@ -50,6 +62,15 @@ ok reported a 2
 ok acked 2
 > show a
 ok show a sent 2 applied 2 reported 2 rounds 1 x=6 y=10
+| ordup,1,a,2
+| object,1,x,0
+| object,2,y,10
+| limit,1,object:x,5
+| change,1,1,add:x:5
+| change,2,1,add:x:1
+| round,1,2,-
+| window,1,0,2
+= yes 1
 > certify a
 ok certified a 1 0-2
 ",
@@ -85,6 +106,14 @@ ok acked 2
 ok show a sent 1 applied 1 reported 1 rounds 0 x=5 y=10
 > certify a
 ok certified a 0
+| ordup,1,a,2
+| object,1,x,0
+| object,2,y,10
+| limit,1,object:x,5
+| change,1,1,add:x:5
+| change,2,1,add:x:1
+| report,2,1,-
+= yes 0
 ",
     ),
     (
@@ -118,6 +147,16 @@ ok round 2 a
 ok show a sent 1 applied 1 reported 1 rounds 1 x=0 y=10
 > certify a
 ok certified a 1 1-2
+| ordup,1,a,2
+| object,1,x,0
+| object,2,y,10
+| limit,1,object:x,0
+| change,1,1,set:x:0
+| change,2,1,add:x:1
+| report,2,1,-
+| round,1,2,-
+| window,1,1,2
+= yes 1
 ",
     ),
     (
@@ -145,6 +184,15 @@ ok round 2 a
 ok show a sent 0 applied 0 reported 0 rounds 1 x=0 y=10
 > certify a
 ok certified a 1 0-2
+| ordup,1,a,2
+| object,1,x,0
+| object,2,y,10
+| limit,1,object:x,5
+| change,1,1,add:x:3
+| change,2,1,add:x:-3
+| round,1,2,-
+| window,1,0,2
+= yes 1
 ",
     ),
     (
@@ -172,6 +220,18 @@ ok proposed 2
 ok round 2 a
 > show a
 ok show a sent 0 applied 0 reported 0 rounds 1 x=0 y=10
+| ordup,1,a,2
+| object,1,x,0
+| object,2,y,10
+| member,1,g,x
+| member,2,g,y
+| limit,1,group:g,6
+| change,1,1,add:x:3
+| change,1,2,add:y:3
+| change,2,1,add:y:1
+| round,1,2,-
+| window,1,0,2
+= yes 1
 ",
     ),
     (
@@ -203,6 +263,16 @@ ok round 3 a
 ok show a sent 0 applied 0 reported 0 rounds 1 x=0 y=10
 > certify a
 ok certified a 1 0-3
+| ordup,1,a,3
+| object,1,x,0
+| object,2,y,10
+| limit,1,count,2
+| change,1,1,add:x:1
+| change,2,1,add:x:1
+| change,3,1,add:x:1
+| round,1,3,-
+| window,1,0,3
+= yes 1
 ",
     ),
     (
@@ -382,6 +452,17 @@ ok start
 ok proposed 1
 > settle
 ok round 1 a c e
+| ordup,1,c,1
+| object,1,x,1000000000
+| object,2,y,1000000000
+| member,1,g,x
+| member,2,g,y
+| limit,1,group:g,3999999999
+| change,1,1,mul:x:-1
+| change,1,2,mul:y:-1
+| round,1,1,-
+| window,1,0,1
+= yes 1
 ",
     ),
     (
@@ -403,6 +484,10 @@ ok sent a 1
 ok applied a 1
 > show a
 ok show a sent 1 applied 1 reported 0 rounds 0 x=10 y=0
+| ordup,1,a,0
+| object,1,x,0
+| object,2,y,10
+= yes 0
 ",
     ),
     (
@@ -426,6 +511,15 @@ ok start
 ok proposed 1
 > settle
 ok round 1 b
+| ordup,1,b,1
+| object,1,x,0
+| object,2,y,10
+| limit,1,all,19
+| change,1,1,take:x:y
+| change,1,2,take:y:x
+| round,1,1,-
+| window,1,0,1
+= yes 1
 ",
     ),
     (
@@ -459,6 +553,16 @@ ok round 2 a
 ok show a sent 1 applied 1 reported 1 rounds 1 x=9 y=10
 > certify a
 ok certified a 1 1-2
+| ordup,1,a,2
+| object,1,x,0
+| object,2,y,10
+| limit,1,object:x,5
+| change,1,1,add:x:9
+| change,2,1,add:x:9
+| report,1,1,-
+| round,1,2,-
+| window,1,1,2
+= yes 1
 ",
     ),
     (
@@ -566,6 +670,16 @@ ok proposed 4
 ok waiting 3 a
 > show a
 ok show a sent 0 applied 0 reported 0 rounds 1 x=0 y=10
+| ordup,1,a,3
+| object,1,x,0
+| object,2,y,10
+| limit,1,object:x,5
+| change,1,1,add:x:2
+| change,2,1,add:x:2
+| change,3,1,add:x:2
+| round,1,3,-
+| window,1,0,3
+= yes 1
 ",
     ),
     (

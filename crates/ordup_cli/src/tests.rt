@@ -1,13 +1,12 @@
 //! The program from the outside: scripts with the answers that a person works out, words, and faults.
-ghost use Rattle.std.specs.Prelude.{Some};
 
-use crate::act::{act, tell};
+use crate::fault::{Fault, tell};
 use crate::rows::ROWS;
+use crate::streams::{SOUND, Streams, run_on, run_over};
 use crate::tell_lost_words;
-use ordup_script::ScriptFault;
 use ordup_words::FILE_TIP;
 use std::alloc::{AllocError, Global};
-use std::io::{self, ErrorKind, Read, Write};
+use std::io::ErrorKind;
 use std::test::Fail;
 
 /// A script of 64 bytes, and its 123 bytes of answers.
@@ -28,102 +27,8 @@ ok applied a 1
 ok show a sent 1 applied 1 reported 0 rounds 0 x=5
 ";
 
-/// What is left of a run of the program.
-#[derive(Drop)]
-struct Ended {
-    status: u8,
-    output: Vec<u8>,
-    faults: Vec<u8>,
-}
-
-/// Gives at most so many bytes a call, and fails once so many were given.
-#[derive(Drop)]
-struct ShortReader<'a> {
-    left: &'a [u8],
-    at_once: usize,
-    before_failure: usize,
-}
-
-impl<'a> Read for ShortReader<'a> {
-    fn read(&mut self, buffer: &mut [u8]) -> io::Result<usize> {
-        if self.before_failure == 0 {
-            return Err(io::Error::from(ErrorKind::Other));
-        }
-        let count = buffer
-            .len()
-            .min(self.at_once)
-            .min(self.left.len())
-            .min(self.before_failure);
-        let (front, rest) = self.left.split_at(count);
-        buffer[..count].copy_from_slice(front);
-        self.left = rest;
-        self.before_failure -= count;
-        Ok(count)
-    }
-}
-
-/// Takes so many bytes, and then fails.
-#[derive(Drop)]
-struct ShortWriter {
-    taken: Vec<u8>,
-    room: usize,
-}
-
-impl Write for ShortWriter {
-    ghost contents = { λ w. Some w.taken.items };
-
-    fn write(&mut self, bytes: &[u8]) -> io::Result<usize> {
-        if self.room == 0 {
-            return Err(io::Error::from(ErrorKind::Other));
-        }
-        let count = bytes.len().min(self.room);
-        self.taken.extend_from_slice(&bytes[..count])?;
-        self.room -= count;
-        Ok(count)
-    }
-
-    fn flush(&mut self) -> io::Result<()> {
-        Ok(())
-    }
-}
-
-/// More bytes than a test reads or writes.
-const ALL: usize = 1_000_000;
-
-/// Runs the program on words and a script, which a reader gives in short reads and a writer takes up to its room.
-fn run_with(
-    alloc: Global,
-    words: &[&str],
-    script: &[u8],
-    at_once: usize,
-    before_failure: usize,
-    room: usize,
-) -> Ended {
-    let mut input = ShortReader {
-        left: script,
-        at_once,
-        before_failure,
-    };
-    let mut output = ShortWriter {
-        taken: Vec::new(alloc),
-        room,
-    };
-    let mut faults: Vec<u8> = Vec::new(alloc);
-    let status = act(alloc, words, &mut input, &mut output, &mut faults);
-    Ended {
-        status,
-        output: output.taken,
-        faults,
-    }
-}
-
-/// Whether a run of the program ended so.
-fn is_so(ended: &Ended, status: u8, output: &[u8], faults: &[u8]) -> bool {
-    ended.status == status && ended.output.as_slice() == output && ended.faults.as_slice() == faults
-}
-
 /// The script of a transcript, and the answers in it.
-fn parts(alloc: Global, transcript: &str) -> Result<(Vec<u8>, Vec<u8>), Fail> {
+pub(crate) fn parts(alloc: Global, transcript: &str) -> Result<(Vec<u8>, Vec<u8>), Fail> {
     let mut script = Vec::new(alloc);
     let mut wanted = Vec::new(alloc);
     for line in transcript.lines() {
@@ -132,6 +37,8 @@ fn parts(alloc: Global, transcript: &str) -> Result<(Vec<u8>, Vec<u8>), Fail> {
                 script.extend_from_slice(command)?;
                 script.push(b'\n')?;
             }
+            // The record of a site, and what the check says of it.
+            [b'|' | b'=', b' ', ..] => {}
             answer => {
                 wanted.extend_from_slice(answer)?;
                 wanted.push(b'\n')?;
@@ -145,9 +52,10 @@ fn parts(alloc: Global, transcript: &str) -> Result<(Vec<u8>, Vec<u8>), Fail> {
 fn scripts_are_answered_as_their_transcripts_say(rt: HostRuntime) -> Result<(), Fail> {
     for (name, transcript) in ROWS {
         let (script, wanted) = parts(rt.alloc(), transcript)?;
-        for at_once in [ALL, 1, 2, 3] {
-            let ended = run_with(rt.alloc(), &["ordup", "run"], &script, at_once, ALL, ALL);
-            assert!(rt; is_so(&ended, 0, &wanted, b""), "{name}, by {at_once}");
+        for at_once in [SOUND.at_once, 1, 2, 3] {
+            let streams = Streams { at_once, ..SOUND };
+            let ended = run_over(rt.alloc(), &["ordup", "run"], &script, streams);
+            assert!(rt; ended.is(0, &wanted, b""), "{name}, by {at_once}");
         }
     }
     Ok(())
@@ -261,14 +169,7 @@ fn one_more_than_a_size_is_refused_in_its_order(rt: HostRuntime) -> Result<(), F
         script.push_str(before)?;
         push_times(rt.alloc(), &mut script, part, count)?;
         script.push_str(rest)?;
-        let ended = run_with(
-            rt.alloc(),
-            &["ordup", "run"],
-            script.as_bytes(),
-            ALL,
-            ALL,
-            ALL,
-        );
+        let ended = run_on(rt.alloc(), &["ordup", "run"], script.as_bytes());
         // The first refusal is the last answer.
         let answers = str::from_utf8(&ended.output)?;
         let after = answers.split_once("refused").map(|(_, after)| after);
@@ -302,14 +203,7 @@ fn many_sites_are_forced_at_once(rt: HostRuntime) -> Result<(), Fail> {
             count,
         )?;
         script.push_str("settle\n")?;
-        let ended = run_with(
-            rt.alloc(),
-            &["ordup", "run"],
-            script.as_bytes(),
-            ALL,
-            ALL,
-            ALL,
-        );
+        let ended = run_on(rt.alloc(), &["ordup", "run"], script.as_bytes());
         let answers = str::from_utf8(&ended.output)?;
         let wanted = format!(in rt.alloc();
             "ok proposed 1\nok round 1 {sites}\nok waiting 1 {sites}\nok sent s0 1\n"
@@ -330,8 +224,9 @@ fn lines_of_4096_bytes_are_read_and_longer_ones_are_not(rt: HostRuntime) -> Resu
         script.resize(length, b' ')?;
         // The last line has no line feed.
         script.extend_from_slice(b"\nobject x 1")?;
-        for at_once in [1usize, 4_096, 4_097, ALL] {
-            let ended = run_with(rt.alloc(), &["ordup", "run"], &script, at_once, ALL, ALL);
+        for at_once in [1usize, 4_096, 4_097, SOUND.at_once] {
+            let streams = Streams { at_once, ..SOUND };
+            let ended = run_over(rt.alloc(), &["ordup", "run"], &script, streams);
             assert!(rt;
                 ended.output.as_slice() == wanted,
                 "{length} spaces by {at_once}"
@@ -346,11 +241,21 @@ fn a_writer_that_fails_has_got_a_front_of_the_answers(rt: HostRuntime) -> Result
     let (script, wanted) = parts(rt.alloc(), FIRST_RUN)?;
     assert_eq!(rt; script.len(), 64);
     assert_eq!(rt; wanted.len(), 123);
-    let seven = run_with(rt.alloc(), &["ordup", "run"], &script, ALL, ALL, 7);
+    let seven = run_over(
+        rt.alloc(),
+        &["ordup", "run"],
+        &script,
+        Streams { room: 7, ..SOUND },
+    );
     assert!(rt; seven.output.as_slice() == b"ok obje".as_slice());
     for room in 0..wanted.len() {
-        let ended = run_with(rt.alloc(), &["ordup", "run"], &script, ALL, ALL, room);
-        let is_fault = is_so(&ended, 3, &wanted[..room], b"write fault\n");
+        let ended = run_over(
+            rt.alloc(),
+            &["ordup", "run"],
+            &script,
+            Streams { room, ..SOUND },
+        );
+        let is_fault = ended.is(3, &wanted[..room], b"write fault\n");
         assert!(rt; is_fault, "room for {room}");
     }
     Ok(())
@@ -362,9 +267,14 @@ fn a_reader_that_fails_leaves_the_answers_to_the_lines_that_ended(
 ) -> Result<(), Fail> {
     let (script, wanted) = parts(rt.alloc(), FIRST_RUN)?;
     for (given, written) in [(0usize, 0usize), (10, 0), (11, 12), (25, 22), (26, 31)] {
-        let ended = run_with(rt.alloc(), &["ordup", "run"], &script, ALL, given, ALL);
+        let ended = run_over(
+            rt.alloc(),
+            &["ordup", "run"],
+            &script,
+            Streams { given, ..SOUND },
+        );
         assert!(rt; written <= wanted.len());
-        let is_fault = is_so(&ended, 3, &wanted[..written], b"read fault\n");
+        let is_fault = ended.is(3, &wanted[..written], b"read fault\n");
         assert!(rt; is_fault, "after {given} bytes");
     }
     Ok(())
@@ -372,22 +282,29 @@ fn a_reader_that_fails_leaves_the_answers_to_the_lines_that_ended(
 
 #[test]
 fn wrong_words_end_with_status_2_and_help_with_status_0(rt: HostRuntime) {
-    let wrong: [&[&str]; 5] = [
+    let wrong: [&[&str]; 7] = [
         &["ordup"],
         &["ordup", "nosuch"],
         &["ordup", "run", "more"],
-        &["ordup", "record", "a"],
+        &["ordup", "record"],
+        &["ordup", "record", "a", "more"],
+        &["ordup", "check", "more"],
         &["ordup", "--nosuch"],
     ];
     for words in wrong {
-        let ended = run_with(rt.alloc(), words, b"object x 1\n", ALL, ALL, ALL);
+        let ended = run_on(rt.alloc(), words, b"object x 1\n");
         assert_eq!(rt; ended.status, 2);
         assert!(rt; ended.output.is_empty());
         assert!(rt; !ended.faults.is_empty());
     }
-    let help: [&[&str]; 2] = [&["ordup", "--help"], &["ordup", "run", "--help"]];
+    let help: [&[&str]; 4] = [
+        &["ordup", "--help"],
+        &["ordup", "run", "--help"],
+        &["ordup", "record", "--help"],
+        &["ordup", "check", "--help"],
+    ];
     for words in help {
-        let ended = run_with(rt.alloc(), words, b"object x 1\n", ALL, ALL, ALL);
+        let ended = run_on(rt.alloc(), words, b"object x 1\n");
         assert_eq!(rt; ended.status, 0);
         assert!(rt; !ended.output.is_empty());
         assert!(rt; ended.faults.is_empty());
@@ -396,27 +313,25 @@ fn wrong_words_end_with_status_2_and_help_with_status_0(rt: HostRuntime) {
 
 #[test]
 fn a_file_that_is_named_is_told_where_scripts_come_from(rt: HostRuntime) {
-    let ended = run_with(
-        rt.alloc(),
-        &["ordup", "run", "first.ordup"],
-        b"",
-        ALL,
-        ALL,
-        ALL,
-    );
+    let ended = run_on(rt.alloc(), &["ordup", "run", "first.ordup"], b"");
     assert_eq!(rt; ended.status, 2);
     assert!(rt; ended.faults.as_slice().ends_with(FILE_TIP.as_bytes()));
 }
 
 #[test]
 fn the_version_is_shown(rt: HostRuntime) {
-    let ended = run_with(rt.alloc(), &["ordup", "--version"], b"", ALL, ALL, ALL);
-    assert!(rt; is_so(&ended, 0, b"ordup 0.1.0\n", b""));
+    let ended = run_on(rt.alloc(), &["ordup", "--version"], b"");
+    assert!(rt; ended.is(0, b"ordup 0.1.0\n", b""));
 }
 
 #[test]
 fn help_that_cannot_be_written_is_a_write_fault(rt: HostRuntime) {
-    let ended = run_with(rt.alloc(), &["ordup", "--help"], b"", ALL, ALL, 7);
+    let ended = run_over(
+        rt.alloc(),
+        &["ordup", "--help"],
+        b"",
+        Streams { room: 7, ..SOUND },
+    );
     assert_eq!(rt; ended.status, 3);
     assert!(rt; ended.faults.as_slice() == b"write fault\n".as_slice());
 }
@@ -424,10 +339,18 @@ fn help_that_cannot_be_written_is_a_write_fault(rt: HostRuntime) {
 #[test]
 fn each_fault_has_its_text_and_its_status(rt: HostRuntime) {
     for (fault, text, status) in [
-        (ScriptFault::Read, b"read fault\n".as_slice(), 3),
-        (ScriptFault::TooLong, b"input too long\n", 3),
-        (ScriptFault::Write, b"write fault\n", 3),
-        (ScriptFault::NoMemory, b"no memory\n", 4),
+        (Fault::Read, b"read fault\n".as_slice(), 3),
+        (Fault::TooLong, b"input too long\n", 3),
+        (Fault::Write, b"write fault\n", 3),
+        (Fault::NoMemory, b"no memory\n", 4),
+        (Fault::Malformed { row: 0 }, b"malformed 0\n", 3),
+        (
+            Fault::Malformed { row: u64::MAX },
+            b"malformed 18446744073709551615\n",
+            3,
+        ),
+        (Fault::NotStarted, b"refused 2 NotStarted\n", 3),
+        (Fault::UnknownSite, b"refused 8 UnknownSite\n", 2),
     ] {
         let mut faults: Vec<u8> = Vec::new(rt.alloc());
         assert_eq!(rt; tell(&mut faults, fault), status);

@@ -1,11 +1,18 @@
-use clap::{Command, Error};
+use clap::{Arg, Command, Error};
 use std::alloc::{AllocError, Global};
 
 /// What the words ask for.
-#[derive(Clone, Copy, Debug, PartialEq, Eq)]
+#[derive(Debug, Drop)]
 pub enum Job {
     /// Runs a script.
     Run,
+    /// Prints the record of a site after a script.
+    Record {
+        /// The site's name, as it was given.
+        site: String,
+    },
+    /// Checks a record.
+    Check,
 }
 
 /// The job that the words name, of which the first is the program's name. None of them names no job.
@@ -15,6 +22,13 @@ pub fn job_of(alloc: Global, words: &[&str]) -> Result<Option<Job>, Error> {
     let matches = command(alloc)?.try_get_matches_from(words)?;
     match matches.subcommand() {
         Some(("run", _)) => Ok(Some(Job::Run)),
+        Some(("record", words)) => match words.get_str("SITE") {
+            Some(site) => Ok(Some(Job::Record {
+                site: site.to_string(alloc)?,
+            })),
+            None => Ok(None),
+        },
+        Some(("check", _)) => Ok(Some(Job::Check)),
         _ => Ok(None),
     }
 }
@@ -24,12 +38,25 @@ fn command<'a>(alloc: Global) -> Result<Command<'a>, AllocError> {
     let run = Command::new(alloc, "run")
         .about("Runs a script: answers each command that it reads")
         .after_help(RUN_HELP);
+    let record = Command::new(alloc, "record")
+        .about("Runs a script and prints the record of a site: what an auditor checks")
+        .after_help(RECORD_HELP)
+        .arg(
+            Arg::new(alloc, "SITE")
+                .required(true)
+                .help("The site's name"),
+        )?;
+    let check = Command::new(alloc, "check")
+        .about("Checks whether a record shows that the site's forced rounds are the fewest")
+        .after_help(CHECK_HELP);
     Command::new(alloc, "ordup")
         .about("A replicated store of whole numbers: every site applies the updates in one order")
         .version(VERSION)
         .after_help(HELP)
         .subcommand_required(true)
-        .subcommand(run)
+        .subcommand(run)?
+        .subcommand(record)?
+        .subcommand(check)
 }
 
 /// What `ordup --version` shows after the program's name.
@@ -37,7 +64,7 @@ const VERSION: &str = "0.1.0";
 
 /// What is said of a word that the program does not take, such as the name of a file.
 pub const FILE_TIP: &str = "
-A script comes on standard input: ordup run < FILE
+A script or a record comes on standard input: ordup run < FILE
 ";
 
 const HELP: &str = "\
@@ -50,7 +77,12 @@ answer for each command on standard output:
     propose add:x:5    ok proposed 1
     settle             ok acked 1
 
-Exit statuses: 0 done, 2 wrong words, 3 input or output failed, 4 no memory.
+`ordup record SITE` runs a script and prints the record of a site, and
+`ordup check` says whether a record shows that the site's forced rounds are the
+fewest that keep its limits: `yes N`, or `no ROW REASON`.
+
+Exit statuses: 0 done, 1 a record that is not valid, 2 wrong words or no such
+site, 3 input or output failed or the script did not start, 4 no memory.
 The lines, commands, answers and faults: docs/FORMATS.md.
 A first script: ./ordup run < examples/first.ordup";
 
@@ -61,7 +93,7 @@ and then makes things happen:
     object N V   group G X..   site S CAP   limit S object X N
     limit S group G N   limit S all N   limit S count N   start
     propose C..   send S   apply S   report S   settle   show S
-    begin Q S LIMIT   read Q X   end Q   abandon Q
+    begin Q S LIMIT   read Q X   end Q   abandon Q   certify S
 
 A change C is add:X:n, set:X:n, mul:X:n, max:X:n, min:X:n or take:X:Y.
 
@@ -79,3 +111,40 @@ Exit statuses: 0 for every script that was read to its end, also where commands
 were refused. 3 with `read fault`, `write fault` or `input too long` (more than
 1,073,741,824 bytes) on standard error, 4 with `no memory`, 2 for wrong words.
 The commands, their refusals and their answers: docs/FORMATS.md";
+
+const RECORD_HELP: &str = "\
+Reads a script from standard input to its end and prints no answers. Then it
+prints the record of the site as rows of comma-separated values: what was
+declared, the updates that were decided, what the site had reported at each
+decision, its forced rounds, and a window of updates for each of them, which is
+over a limit alone. So, of a site with a limit of 5 on x:
+
+    ./ordup record a < FILE
+    ordup,1,a,2                site a, of which 2 updates were decided
+    object,1,x,0
+    limit,1,object:x,5
+    change,1,1,add:x:5
+    change,2,1,add:x:1
+    round,1,2,-                forced at update 2
+    window,1,0,2               updates 1 to 2 are over the limit
+
+Exit statuses: 0 the record was printed; 2 with `refused 8 UnknownSite` on
+standard error, or for wrong words; 3 with `refused 2 NotStarted`, `read fault`,
+`write fault` or `input too long`; 4 with `no memory`.
+The rows: docs/FORMATS.md";
+
+const CHECK_HELP: &str = "\
+Reads a record from standard input and prints `yes N` where it shows that no
+schedule that keeps the limits has fewer than its N rounds, else `no ROW REASON`:
+the first reason why it does not, and the row, counted from 1:
+
+    ./ordup record a < FILE | ./ordup check
+    yes 1
+
+The reasons, in the order in which they are looked for: NotLegal, LimitsBroken,
+WindowLight, WindowsMeet, WindowBeforeReport, CountDiffers.
+
+Exit statuses: 0 yes, 1 no; 3 with `malformed ROW` (the first row that breaks a
+rule of the format), `read fault` (also for a record that is too long) or
+`write fault` on standard error; 4 with `no memory`; 2 for wrong words.
+The rows, and each reason: docs/FORMATS.md";

@@ -1,0 +1,12 @@
+use Rattle.ordup_cli.proofs.Outcomes.{judged, judgement_printed}
+use Rattle.ordup_cli.proofs.jobs.check_record.Goals as goal
+
+pub returns-in-Ok : goal.returns-in-Ok
+returns-in-Ok g c = judgement_printed _ _ _ _ (
+  c.in-Ok.read,
+  c.check.result,
+  c.in-Ok.ensures.limited,
+  c.in-Ok.ensures.read,
+  judged _ _ c.check.ensures.verdict c.check.ensures.fewest c.check.ensures.valid,
+  c.print_verdict.ensures,
+)

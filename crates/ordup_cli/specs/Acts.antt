@@ -1,0 +1,23 @@
+-- What the program does with its words.
+use Rattle.std.specs.Prelude.{◌≡◌, ◌⊎◌, ℕ, Ok, Err}
+use Rattle.ordup_output.specs.Fronts.{AppendsFront}
+use Rattle.ordup_words.specs.declared.command_line.Job.{Job}
+use Rattle.ordup_cli.specs.Faults.{Outcome, fault_text, status_of}
+use Rattle.ordup_cli.specs.Jobs.{Bytes, Does}
+
+-- nothing was told of a job that was done, and of any other the line of its fault, or a front of it
+abbrev pub IsTold : Bytes → Bytes → Outcome → Type 0
+IsTold old new (Ok status) = new ≡ old
+IsTold old new (Err fault) = AppendsFront old new (fault_text fault)
+
+-- no job was done: the help or the version was printed, or it could not be; or the words were wrong, or there was no memory to
+-- look at them, and nothing was printed
+abbrev pub IsUsage : Bytes → Bytes → ℕ → Type 0
+IsUsage old new status = ((status ≡ 0) ⊎ (status ≡ 3)) ⊎ (((status ≡ 2) ⊎ (status ≡ 4)) × (new ≡ old))
+
+-- a job was done, it was told how it ended, and the status says so too; or no job was, and nothing was read
+abbrev pub Acts : Bytes → Bytes → Bytes → Bytes → Bytes → Bytes → ℕ → Type 0
+Acts had has old new before after status =
+    ((job : Job) × (outcome : Outcome) × Does job had has old new outcome × IsTold before after outcome
+    × (status ≡ status_of outcome))
+    ⊎ ((has ≡ had) × IsUsage old new status)

@@ -1,0 +1,122 @@
+//! Why a job was not done, and how that is told.
+ghost use Rattle.std.specs.Prelude.{◌≡◌, OnOk, ◌++◌};
+ghost use Rattle.std.specs.Fmt.{decimal};
+ghost use Rattle.std.specs.Io.KnownBytes.{Appends};
+ghost use Rattle.ordup_output.specs.Fronts.{AppendsFront};
+ghost use Rattle.ordup_cli.specs.Faults.{fault_status, fault_text, of_script, of_reading, of_writing};
+
+use itoa::Buffer;
+use ordup_output::{WriteFault, send};
+use ordup_record_reader::RecordReadFault;
+use ordup_rows::RecordWriteFault;
+use ordup_script::ScriptFault;
+use std::io::Write;
+
+/// The exit status where the words ask for nothing that the program does, or name no site.
+pub(crate) const WRONG_WORDS: u8 = 2;
+/// The exit status where the input or the output failed, or the script did not start.
+const INPUT_OR_OUTPUT_FAILED: u8 = 3;
+/// The exit status where there was no memory.
+const NO_MEMORY: u8 = 4;
+
+/// Why a job was not done.
+#[derive(Clone, Copy, Debug, PartialEq, Eq)]
+pub(crate) enum Fault {
+    /// A read failed, or a record has more bytes than it may.
+    Read,
+    /// A script has more bytes than it may.
+    TooLong,
+    /// A write or a flush failed, or a write took nothing.
+    Write,
+    /// This row of a record is the first that breaks a rule of the format.
+    Malformed { row: u64 },
+    /// The script did not start its store.
+    NotStarted,
+    /// The store has no such site.
+    UnknownSite,
+    /// An allocation was refused.
+    NoMemory,
+}
+
+impl Fault {
+    /// The fault of a script.
+    pub(crate) fn of_script(fault: ScriptFault) -> Self
+        ensures { result ≡ of_script fault }
+    {
+        match fault {
+            ScriptFault::Read => Fault::Read,
+            ScriptFault::TooLong => Fault::TooLong,
+            ScriptFault::Write => Fault::Write,
+            ScriptFault::NoMemory => Fault::NoMemory,
+        }
+    }
+
+    /// The fault of reading a record.
+    pub(crate) fn of_reading(fault: RecordReadFault) -> Self
+        ensures { result ≡ of_reading fault }
+    {
+        match fault {
+            RecordReadFault::Read => Fault::Read,
+            RecordReadFault::Malformed { row } => Fault::Malformed { row },
+            RecordReadFault::NoMemory => Fault::NoMemory,
+        }
+    }
+
+    /// The fault of writing a record.
+    pub(crate) fn of_writing(fault: RecordWriteFault) -> Self
+        ensures { result ≡ of_writing fault }
+    {
+        match fault {
+            RecordWriteFault::Write => Fault::Write,
+            RecordWriteFault::NoMemory => Fault::NoMemory,
+        }
+    }
+
+    /// The exit status that tells it.
+    fn status(self) -> u8
+        ensures { result ≡ fault_status self }
+    {
+        match self {
+            Fault::Read => INPUT_OR_OUTPUT_FAILED,
+            Fault::TooLong => INPUT_OR_OUTPUT_FAILED,
+            Fault::Write => INPUT_OR_OUTPUT_FAILED,
+            Fault::Malformed { .. } => INPUT_OR_OUTPUT_FAILED,
+            Fault::NotStarted => INPUT_OR_OUTPUT_FAILED,
+            Fault::UnknownSite => WRONG_WORDS,
+            Fault::NoMemory => NO_MEMORY,
+        }
+    }
+}
+
+/// Tells a fault in a line, or in a front of it where it cannot be written, and answers its exit status.
+pub(crate) fn tell<E: Write>(faults: &mut E, fault: Fault) -> u8
+    ensures status { result ≡ fault_status fault }
+    ensures text { AppendsFront (E.contents faults.old) (E.contents faults.new) (fault_text fault) }
+{
+    let _ = send_line(faults, fault);
+    fault.status()
+}
+
+/// Sends the line that tells a fault.
+fn send_line<E: Write>(faults: &mut E, fault: Fault) -> Result<(), WriteFault>
+    ensures { AppendsFront (E.contents faults.old) (E.contents faults.new) (fault_text fault) }
+{
+    match fault {
+        Fault::Read => send(faults, b"read fault\n"),
+        Fault::TooLong => send(faults, b"input too long\n"),
+        Fault::Write => send(faults, b"write fault\n"),
+        Fault::Malformed { row } => send_malformed(faults, row),
+        Fault::NotStarted => send(faults, b"refused 2 NotStarted\n"),
+        Fault::UnknownSite => send(faults, b"refused 8 UnknownSite\n"),
+        Fault::NoMemory => send(faults, b"no memory\n"),
+    }
+}
+
+/// Sends the line that tells a malformed row.
+fn send_malformed<E: Write>(faults: &mut E, row: u64) -> Result<(), WriteFault>
+    ensures { AppendsFront (E.contents faults.old) (E.contents faults.new) (fault_text (Fault.Malformed row)) }
+{
+    send(faults, b"malformed ")?;
+    send(faults, Buffer::new().format(row).as_bytes())?;
+    send(faults, b"\n")
+}

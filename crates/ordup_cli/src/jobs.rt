@@ -1,0 +1,147 @@
+//! What the words of the program ask for: a script is run, the record of a site is printed, a record is checked.
+ghost use Rattle.std.specs.Prelude.{◌≡◌, IfErr, IfOk, string_bytes};
+ghost use Rattle.ordup_objects.specs.Tables.{place_of};
+ghost use Rattle.std.specs.Io.KnownBytes.{Keeps};
+ghost use Rattle.ordup_cli.specs.Jobs.{Answers, Checks, Does, PrintsRecord, PrintsSite, PrintsVerdict, Records};
+ghost use Rattle.ordup_cli.specs.Jobs.{verdict_status, verdict_text};
+
+use crate::fault::Fault;
+use ordup_check::{Verdict, check};
+use ordup_output::send;
+use ordup_primary::Primary;
+use ordup_record::{Record, record_of};
+use ordup_record_reader::read_record;
+use ordup_rows::write_record;
+use ordup_script::{ScriptEnd, run_script};
+use ordup_words::Job;
+use std::alloc::{AllocError, Global};
+use std::io::{self, Read, Write};
+
+/// The exit status where all was done.
+pub(crate) const DONE: u8 = 0;
+/// The exit status where a record is not valid.
+const NOT_VALID: u8 = 1;
+
+/// How a job ended: with an exit status, or with a fault.
+pub(crate) type Outcome = Result<u8, Fault>;
+
+/// Does a job: reads what it asks for from the input, and prints what comes of it on the output.
+pub(crate) fn do_job<R: Read, W: Write>(
+    alloc: Global,
+    job: &Job,
+    input: &mut R,
+    output: &mut W,
+) -> Outcome
+    ensures { Does job.now (R.remaining input.old) (R.remaining input.new) (W.contents output.old) (W.contents output.new) result }
+{
+    match job {
+        Job::Run => run(alloc, input, output),
+        Job::Record { site } => print_record(alloc, site.as_bytes(), input, output),
+        Job::Check => check_record(alloc, input, output),
+    }
+}
+
+/// Runs a script and prints its answers.
+fn run<R: Read, W: Write>(alloc: Global, input: &mut R, output: &mut W) -> Outcome
+    ensures { Answers (R.remaining input.old) (R.remaining input.new) (W.contents output.old) (W.contents output.new) result }
+{
+    match run_script(alloc, input, output) {
+        Ok(_) => Ok(DONE),
+        Err(fault) => Err(Fault::of_script(fault)),
+    }
+}
+
+/// Runs a script and prints the record of a site in place of the answers.
+fn print_record<R: Read, W: Write>(
+    alloc: Global,
+    site: &[u8],
+    input: &mut R,
+    output: &mut W,
+) -> Outcome
+    ensures { Records site.now (R.remaining input.old) (R.remaining input.new) (W.contents output.old) (W.contents output.new) result }
+{
+    match run_script(alloc, input, &mut io::sink()) {
+        Ok(ScriptEnd::Running(world)) => print_site(alloc, site, world.primary(), output),
+        Ok(ScriptEnd::Declared(_)) => Err(Fault::NotStarted),
+        Err(fault) => Err(Fault::of_script(fault)),
+    }
+}
+
+/// Prints the record of the site of this name.
+fn print_site<W: Write>(alloc: Global, site: &[u8], primary: &Primary, output: &mut W) -> Outcome
+    ensures { PrintsSite primary.now (place_of site.now primary.now.setup.sites) (W.contents output.old) (W.contents output.new) result }
+{
+    let Some(site) = primary.setup().find_site(site) else {
+        return Err(Fault::UnknownSite);
+    };
+    match record_of(alloc, primary, site) {
+        Ok(shown) => print_rows(alloc, &shown, output),
+        Err(_) => Err(Fault::NoMemory),
+    }
+}
+
+/// Prints a record.
+fn print_rows<W: Write>(alloc: Global, shown: &Record, output: &mut W) -> Outcome
+    ensures { PrintsRecord shown.now (W.contents output.old) (W.contents output.new) result }
+{
+    if let Err(fault) = write_record(alloc, shown, output) {
+        return Err(Fault::of_writing(fault));
+    }
+    flush(output)?;
+    Ok(DONE)
+}
+
+/// Checks a record and prints the verdict.
+fn check_record<R: Read, W: Write>(alloc: Global, input: &mut R, output: &mut W) -> Outcome
+    ensures { Checks (R.remaining input.old) (W.contents output.old) (W.contents output.new) result }
+{
+    match read_record(alloc, input) {
+        Ok(read) => print_verdict(alloc, check(&read), output),
+        Err(fault) => Err(Fault::of_reading(fault)),
+    }
+}
+
+/// Prints a verdict, and answers the exit status that goes with it.
+fn print_verdict<W: Write>(alloc: Global, verdict: Verdict, output: &mut W) -> Outcome
+    ensures { PrintsVerdict verdict (W.contents output.old) (W.contents output.new) result }
+{
+    let Ok(line) = line_of(alloc, verdict) else {
+        return Err(Fault::NoMemory);
+    };
+    let Ok(()) = send(output, line.as_bytes()) else {
+        return Err(Fault::Write);
+    };
+    flush(output)?;
+    Ok(status_of(verdict))
+}
+
+/// The line that shows a verdict.
+fn line_of(alloc: Global, verdict: Verdict) -> Result<String, AllocError>
+    ensures { IfOk result (λ line. string_bytes line ≡ verdict_text verdict) }
+{
+    match verdict {
+        Verdict::Fewest(rounds) => format!(in alloc; "yes {rounds}\n"),
+        Verdict::No { row, reason } => format!(in alloc; "no {row} {}\n", reason.name()),
+    }
+}
+
+/// The exit status that goes with a verdict.
+fn status_of(verdict: Verdict) -> u8
+    ensures { result ≡ verdict_status verdict }
+{
+    match verdict {
+        Verdict::Fewest(_) => DONE,
+        Verdict::No { .. } => NOT_VALID,
+    }
+}
+
+/// Flushes what was printed.
+fn flush<W: Write>(output: &mut W) -> Result<(), Fault>
+    ensures kept { Keeps (W.contents output.old) (W.contents output.new) }
+    ensures fault { IfErr result (λ e. e ≡ Fault.Write) }
+{
+    match output.flush() {
+        Ok(()) => Ok(()),
+        Err(_) => Err(Fault::Write),
+    }
+}

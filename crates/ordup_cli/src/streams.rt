@@ -1,0 +1,129 @@
+//! The program over a reader and two writers in memory.
+ghost use Rattle.std.specs.Prelude.{Some};
+
+use crate::act::act;
+use std::alloc::Global;
+use std::io::{self, ErrorKind, Read, Write};
+
+/// More bytes than a test reads or writes.
+const ALL: usize = 1_000_000;
+
+/// How the reader and the writer of a run behave.
+#[derive(Clone, Copy)]
+pub(crate) struct Streams {
+    /// The most bytes that a read gives.
+    pub(crate) at_once: usize,
+    /// How many bytes the reader gives before it fails.
+    pub(crate) given: usize,
+    /// How many bytes the writer takes before it fails.
+    pub(crate) room: usize,
+    /// Whether a flush succeeds.
+    pub(crate) can_flush: bool,
+}
+
+/// A reader that gives all, and a writer that takes all.
+pub(crate) const SOUND: Streams = Streams {
+    at_once: ALL,
+    given: ALL,
+    room: ALL,
+    can_flush: true,
+};
+
+/// What is left of a run of the program.
+#[derive(Drop)]
+pub(crate) struct Ended {
+    pub(crate) status: u8,
+    pub(crate) output: Vec<u8>,
+    pub(crate) faults: Vec<u8>,
+}
+
+impl Ended {
+    /// Whether the run ended with this status, and wrote this.
+    pub(crate) fn is(&self, status: u8, output: &[u8], faults: &[u8]) -> bool {
+        self.status == status
+            && self.output.as_slice() == output
+            && self.faults.as_slice() == faults
+    }
+}
+
+/// Gives at most so many bytes a call, and fails once so many were given.
+#[derive(Drop)]
+struct ShortReader<'a> {
+    left: &'a [u8],
+    at_once: usize,
+    before_failure: usize,
+}
+
+impl<'a> Read for ShortReader<'a> {
+    fn read(&mut self, buffer: &mut [u8]) -> io::Result<usize> {
+        if self.before_failure == 0 {
+            return Err(io::Error::from(ErrorKind::Other));
+        }
+        let count = buffer
+            .len()
+            .min(self.at_once)
+            .min(self.left.len())
+            .min(self.before_failure);
+        let (front, rest) = self.left.split_at(count);
+        buffer[..count].copy_from_slice(front);
+        self.left = rest;
+        self.before_failure -= count;
+        Ok(count)
+    }
+}
+
+/// Takes so many bytes, and then fails.
+#[derive(Drop)]
+struct ShortWriter {
+    taken: Vec<u8>,
+    room: usize,
+    can_flush: bool,
+}
+
+impl Write for ShortWriter {
+    ghost contents = { λ w. Some w.taken.items };
+
+    fn write(&mut self, bytes: &[u8]) -> io::Result<usize> {
+        if self.room == 0 {
+            return Err(io::Error::from(ErrorKind::Other));
+        }
+        let count = bytes.len().min(self.room);
+        self.taken.extend_from_slice(&bytes[..count])?;
+        self.room -= count;
+        Ok(count)
+    }
+
+    fn flush(&mut self) -> io::Result<()> {
+        if self.can_flush {
+            Ok(())
+        } else {
+            Err(io::Error::from(ErrorKind::Other))
+        }
+    }
+}
+
+/// Runs the program on words and an input, over streams that behave so.
+pub(crate) fn run_over(alloc: Global, words: &[&str], given: &[u8], streams: Streams) -> Ended {
+    let mut input = ShortReader {
+        left: given,
+        at_once: streams.at_once,
+        before_failure: streams.given,
+    };
+    let mut output = ShortWriter {
+        taken: Vec::new(alloc),
+        room: streams.room,
+        can_flush: streams.can_flush,
+    };
+    let mut faults: Vec<u8> = Vec::new(alloc);
+    let status = act(alloc, words, &mut input, &mut output, &mut faults);
+    Ended {
+        status,
+        output: output.taken,
+        faults,
+    }
+}
+
+/// Runs the program on words and an input.
+pub(crate) fn run_on(alloc: Global, words: &[&str], given: &[u8]) -> Ended {
+    run_over(alloc, words, given, SOUND)
+}

@@ -14,6 +14,7 @@ use Rattle.ordup_log.specs.declared.scope.Scope.TheVariants.{Object, Group, All 
 use Rattle.ordup_log.proofs.SpanLemmas.{span-longer, span-inner}
 use Rattle.ordup_limits.specs.declared.limit.Limit.{Limit}
 use Rattle.ordup_limits.specs.Limits.{Limits, keeps}
+use Rattle.ordup_limits.specs.Sizes.{most_limits}
 use Rattle.ordup_limits.specs.Totals.{weighed, AreTotals, AreMasks, has_bit, weight_where}
 use Rattle.ordup_limits.specs.Ledgers.{LedgerState, StandsFor, LongerHistoriesKeepLedgers}
 use Rattle.ordup_limits.proofs.TotalLemmas.{span-from_start, AreTotals-raised}
@@ -63,12 +64,13 @@ StandsFor-prepared l q h groups is same masks = rw same (record {
 -- at a later extended place
 pub StandsFor-extended : (l q : LedgerState) (h : History) (groups : GroupList) (to : ℕ) (added : List ℕ) → IsLegalHistory h
     → All (λ g. IsGroup g.1) groups → StandsFor l h groups → q ≡ record l { masks = q.masks; has_masks = true }
-    → AreMasks groups q.limits q.masks → length q.added ≡ length q.limits → l.extended ≤ to → to ≤ length h.sets
+    → length q.limits ≤ most_limits → AreMasks groups q.limits q.masks → length q.added ≡ length q.limits
+    → l.extended ≤ to → to ≤ length h.sets
     → ((i : ℕ) → get_or added i 0 ≤ greatest_weight * to)
     → ((i : ℕ) → i < length q.added
     → get_or added i 0 ≡ get_or q.added i 0 + sum_from (weight_where (has_bit q.masks i) h) q.extended (to - q.extended))
     → StandsFor (record q { extended = to; added = added }) h groups
-StandsFor-extended l q h groups to added legal are is same masks count le last few raised =
+StandsFor-extended l q h groups to added legal are is same limits masks count le last few raised =
     let now : StandsFor q h groups = StandsFor-prepared l q h groups is same masks in
     record {
       objects = now.objects;
@@ -76,7 +78,7 @@ StandsFor-extended l q h groups to added legal are is same masks count le last f
       reported = now.reported;
       extended = last;
       taken = now.taken;
-      added = AreTotals-raised h groups q.limits q.masks q.added added q.extended to legal are now.known now.objects masks
+      added = AreTotals-raised h groups q.limits q.masks q.added added q.extended to legal are now.known now.objects limits masks
           (omega (arith, le, ap (λ (k : LedgerState). k.extended) same)) last count now.added few raised;
       masks = now.masks;
     }
@@ -84,19 +86,20 @@ StandsFor-extended l q h groups to added legal are is same masks count le last f
 -- and at a later reported place
 pub StandsFor-reported : (l q : LedgerState) (h : History) (groups : GroupList) (to : ℕ) (taken : List ℕ) → IsLegalHistory h
     → All (λ g. IsGroup g.1) groups → StandsFor l h groups → q ≡ record l { masks = q.masks; has_masks = true }
-    → AreMasks groups q.limits q.masks → length q.taken ≡ length q.limits → l.reported ≤ to → to ≤ length h.sets
+    → length q.limits ≤ most_limits → AreMasks groups q.limits q.masks → length q.taken ≡ length q.limits
+    → l.reported ≤ to → to ≤ length h.sets
     → ((i : ℕ) → get_or taken i 0 ≤ greatest_weight * to)
     → ((i : ℕ) → i < length q.taken
     → get_or taken i 0 ≡ get_or q.taken i 0 + sum_from (weight_where (has_bit q.masks i) h) q.reported (to - q.reported))
     → StandsFor (record q { reported = to; taken = taken }) h groups
-StandsFor-reported l q h groups to taken legal are is same masks count le last few raised =
+StandsFor-reported l q h groups to taken legal are is same limits masks count le last few raised =
     let now : StandsFor q h groups = StandsFor-prepared l q h groups is same masks in
     record {
       objects = now.objects;
       known = now.known;
       reported = last;
       extended = now.extended;
-      taken = AreTotals-raised h groups q.limits q.masks q.taken taken q.reported to legal are now.known now.objects masks
+      taken = AreTotals-raised h groups q.limits q.masks q.taken taken q.reported to legal are now.known now.objects limits masks
           (omega (arith, le, ap (λ (k : LedgerState). k.reported) same)) last count now.taken few raised;
       added = now.added;
       masks = now.masks;

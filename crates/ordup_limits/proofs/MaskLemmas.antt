@@ -1,15 +1,20 @@
 -- Masks, and the bits that are put into them.
-use Rattle.std.proofs.Common.{◌≡◌, ℕ, ◌+◌, ◌*◌, ◌<◌, ◌^◌, ◌%◌, Bool, true, false, List, length, get_or, arith, sym, refl, ap, ◌∙◌, inl, inr}
+use Rattle.std.proofs.Common.{◌≡◌, ℕ, ◌+◌, ◌*◌, ◌<◌, ◌≤◌, ◌^◌, ◌%◌, Bool, true, false}
+use Rattle.std.proofs.Common.{List, length, get_or, arith, sym, refl, ap, ◌∙◌, inl, inr}
 use Rattle.std.specs.Prelude.{◌==◌, ◌&&◌, ◌||◌, nat_lt}
-use Rattle.std.specs.Int.{bit_at}
+use Rattle.std.specs.Prelude.{bit_and}
+use Rattle.std.specs.Int.{bit_at, bit_not}
+use Rattle.std.proofs.Common.{w64}
+use mir.Val.{bits}
+use Rattle.std.proofs.lemmas.Nat.{and_le_l}
 use Rattle.std.specs.Int.RustNames.{bit_or}
 use Rattle.std.proofs.Math.ListN.{set}
 use Rattle.std.proofs.Math.Pow.{pow-lt}
-use Rattle.std.proofs.lemmas.Bool.{cases_eq, cases_lt, eq-eqb, ne_eqb, lt-ltb, le-ltb}
+use Rattle.std.proofs.lemmas.Bool.{cases_eq, cases_lt, eq-eqb, ne_eqb, lt-ltb, le-ltb, false≢true}
 use Rattle.std.proofs.lemmas.Grind.{get_or-set_at, get_or_default_zero}
 use Rattle.std.proofs.lemmas.List.{get_or-set_other}
-use Rattle.std.proofs.lemmas.Nat.Bits.{bit_at_or, bit_at-lt, bit_at-pow_same, bit_at-pow_other}
-use Rattle.ordup_limits.specs.Totals.{has_bit}
+use Rattle.std.proofs.lemmas.Nat.Bits.{bit_at_or, bit_at-lt, bit_at-pow_same, bit_at-pow_other, bit_at_clear_same, bit_at_clear_other}
+use Rattle.ordup_limits.specs.Totals.{has_bit, share}
 
 shifted : (limit : ℕ) → limit < 64 → 1 * 2 ^ limit % 18446744073709551616 ≡ 2 ^ limit
 shifted limit lt = let small : 2 ^ limit < 18446744073709551616 = pow-lt lt in omega (arith, small)
@@ -62,4 +67,52 @@ bits-next counts old new i place put before = elim (cases_lt i place) [
     | inr other ↦
         put ∙ rw (before, ne_eqb i place other, le-ltb i place le, le-ltb i (place + 1) (omega arith), and_false (counts place)) refl
   ]
+]
+
+-- ---- the lowest bit that is left
+
+-- a number without one of its bits
+abbrev pub cleared : ℕ → ℕ → ℕ
+cleared rest z = bit_and rest (bit_not w64 (1 * 2 ^ z % 2 ^ bits w64))
+
+-- it is less
+pub cleared-less : (rest z : ℕ) → z < 64 → bit_at rest z ≡ 1 → cleared rest z < rest
+cleared-less rest z few one = elim (cases_lt (cleared rest z) rest) [
+  | inl lt ↦ lt
+  | inr le ↦ absurd (let same : cleared rest z ≡ rest = omega (arith, le, and_le_l rest (bit_not w64 (1 * 2 ^ z % 2 ^ bits w64))) in
+      omega (arith, bit_at_clear_same w64 rest z few, ap (λ n. bit_at n z) same, one))
+]
+
+-- where all bits are below n, so is each of them
+pub bit-below : (rest z n : ℕ) → bit_at rest z ≡ 1 → z < 64
+    → ((k : ℕ) → n ≤ k → k < 64 → (bit_at rest k == 1) ≡ false) → z < n
+bit-below rest z n one few below = elim (cases_lt z n) [
+  | inl lt ↦ lt
+  | inr past ↦ absurd (false≢true (sym (below z past few) ∙ eq-eqb (bit_at rest z) 1 one))
+]
+
+pub share-most : (b : Bool) (weight : ℕ) → share b weight ≤ weight
+share-most true weight = omega arith
+share-most false weight = omega arith
+
+-- a total with the weight of one bit more, which is left no longer
+pub share-next : (totals : List ℕ) (rest z k value weight total : ℕ) → z < 64 → k < 64 → z < length totals → bit_at rest z ≡ 1
+    → value ≡ get_or totals z 0 → get_or totals k 0 + share (bit_at rest k == 1) weight ≡ total
+    → get_or (set totals z (value + weight)) k 0 + share (bit_at (cleared rest z) k == 1) weight ≡ total
+share-next totals rest z k value weight total few below lt one is before = elim (cases_eq k z) [
+  | inl same ↦ omega (
+    arith,
+    get_or-set_at totals z k (value + weight) 0 same lt,
+    ap (λ n. share (n == 1) weight) (ap (bit_at (cleared rest z)) same ∙ bit_at_clear_same w64 rest z few),
+    ap (λ n. share (n == 1) weight) (ap (bit_at rest) same ∙ one),
+    ap (λ i. get_or totals i 0) same,
+    is,
+    before,
+  )
+  | inr other ↦ omega (
+    arith,
+    get_or-set_other totals z k (value + weight) 0 other,
+    ap (λ n. share (n == 1) weight) (bit_at_clear_other w64 rest z few k below other),
+    before,
+  )
 ]

@@ -3,7 +3,7 @@ use Rattle.std.proofs.Common.{◌≡◌, ℕ, zero, suc, ◌+◌, ◌-◌, ◌*�
 use Rattle.std.proofs.Common.{length, get_or, replicate, sum, sum_by, drop, drop-cons, add-one, arith, refl, sym, ap, ◌∙◌, inl, inr}
 use Rattle.std.specs.Prelude.{◌==◌, All}
 use Rattle.std.specs.List.{list_any}
-use Rattle.std.proofs.lemmas.Bool.{cases_Bool, cases_eq, or_parts, eq-eqb, ne_eqb, eqb-true}
+use Rattle.std.proofs.lemmas.Bool.{cases_Bool, cases_eq, or_parts, eq-eqb, ne_eqb, eqb-true, lt-ltb, le-ltb}
 use Rattle.std.proofs.lemmas.List.{length-map}
 use Rattle.std.proofs.lemmas.List.Sums.{sum_by-cons}
 use Rattle.ordup_objects.specs.declared.change.Change.{Change}
@@ -21,8 +21,10 @@ use Rattle.ordup_log.specs.Spans.{weight, span, IsScopeKnown}
 use Rattle.ordup_log.specs.declared.scope.Scope.{Scope}
 use Rattle.ordup_log.specs.declared.scope.Scope.TheVariants.{Object, Group, All as Everything, Count}
 use Rattle.ordup_log.proofs.WeightLemmas.{distance_beside-at, distances-few, sum-at, sum-few}
+use Rattle.ordup_limits.specs.declared.limit.Limit.{Limit}
 use Rattle.ordup_limits.specs.Limits.{Limits, AreScopesKnown}
-use Rattle.ordup_limits.specs.Totals.{counts_on, weighed, AreTotals, has_bit, AreMasks, share, weight_of, weight_where}
+use Rattle.ordup_limits.specs.Sizes.{most_limits}
+use Rattle.ordup_limits.specs.Totals.{counts_on, weighed, AreTotals, has_bit, HasBitsBelow, AreMasks, share, weight_of, weight_where}
 
 -- ---- changes that pass a test
 
@@ -230,21 +232,35 @@ weighed-more h legal groups are Count known a b le last =
       sum_from-constant 0 a (b - a),
     )
 
+-- a mask tells whether an object's changes count on a limit
+counts_at : (groups : GroupList) (limits : Limits) (masks : List ℕ) → length limits ≤ most_limits → AreMasks groups limits masks
+    → (x i : ℕ) (d : Limit) → x < most_objects → i < length limits
+    → has_bit masks i x ≡ counts_on groups (get_or limits i d).scope x
+counts_at groups limits masks few masked x i d below lt =
+    masked x i d below (omega arith) ∙ rw (lt-ltb i (length limits) lt) refl
+
+-- it has no bit for more limits
+pub HasBitsBelow-masks : (groups : GroupList) (limits : Limits) (masks : List ℕ) (n : ℕ) → n ≡ length limits
+    → AreMasks groups limits masks → HasBitsBelow n masks
+HasBitsBelow-masks groups limits masks n same masked x i below past few =
+    masked x i (record { scope = Count; amount = 0 }) below few ∙ rw (le-ltb i (length limits) (omega arith)) refl
+
 -- totals that are raised by the changes that have the bits of the masks
 pub AreTotals-raised : (h : History) (groups : GroupList) (limits : Limits) (masks old new : List ℕ) (a b : ℕ) → IsLegalHistory h
     → All (λ g. IsGroup g.1) groups → AreScopesKnown (length h.start) groups limits → length h.start ≤ most_objects
-    → AreMasks groups limits masks → a ≤ b → b ≤ length h.sets → length old ≡ length limits → AreTotals h groups limits a old
+    → length limits ≤ most_limits → AreMasks groups limits masks → a ≤ b → b ≤ length h.sets → length old ≡ length limits
+    → AreTotals h groups limits a old
     → ((i : ℕ) → get_or new i 0 ≤ greatest_weight * b)
     → ((i : ℕ) → i < length old → get_or new i 0 ≡ get_or old i 0 + sum_from (weight_where (has_bit masks i) h) a (b - a))
     → AreTotals h groups limits b new
-AreTotals-raised h groups limits masks old new a b legal are known few_objects masked le last count before few raised = record {
+AreTotals-raised h groups limits masks old new a b legal are known few_objects few_limits masked le last count before few raised = record {
   few = few;
   each = λ i d lt. (let s = (get_or limits i d).scope in
       let same : sum_from (weight_where (has_bit masks i) h) a (b - a) ≡ sum_from (weight_where (counts_on groups s) h) a (b - a) =
       sum_from-same _ _ a (b - a)
       (λ j below. weight_of-same (has_bit masks i) (counts_on groups s) (get_or h.sets j [])
       (distances_of (serial h j) (get_or h.sets j []))
-      (λ k c at. masked (get_or (get_or h.sets j []) k c).object i d
+      (λ k c at. counts_at groups limits masks few_limits masked (get_or (get_or h.sets j []) k c).object i d
       (let there = (legal.known j [] (omega arith) k c at).0 in omega (arith, there)) lt)) in
       raised i (omega arith)
       ∙ (let first = before.each i d lt in let more = weighed-more h legal groups are s (known i d lt) a b le last in
@@ -256,16 +272,3 @@ pub none_at : (n x : ℕ) → get_or (replicate {A = ℕ} n 0) x 0 ≡ 0
 none_at zero x = refl
 none_at (suc n) zero = refl
 none_at (suc n) (suc x) = none_at n x
-
-weighed-none : (h : History) (groups : GroupList) (s : Scope) → weighed h groups s 0 ≡ 0
-weighed-none h groups (Object x) = refl
-weighed-none h groups (Group g) = refl
-weighed-none h groups Everything = refl
-weighed-none h groups Count = refl
-
--- no update weighs anything
-pub AreTotals-none : (h : History) (groups : GroupList) (limits : Limits) (n : ℕ) → AreTotals h groups limits 0 (replicate {A = ℕ} n 0)
-AreTotals-none h groups limits n = record {
-  few = λ i. omega (arith, none_at n i);
-  each = λ i d lt. none_at n i ∙ sym (weighed-none h groups (get_or limits i d).scope);
-}

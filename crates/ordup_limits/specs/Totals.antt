@@ -1,6 +1,6 @@
 -- Totals: for each limit of a site what the updates up to a place weigh on its scope.
-use Rattle.std.specs.Prelude.{◌≡◌, ℕ, ◌+◌, ◌*◌, ◌<◌, ◌≤◌, ◌==◌, if◌then◌else◌, Bool, true, false, List, [], ◌∷◌}
-use Rattle.std.specs.Prelude.{length, slice_index, slice_index_or}
+use Rattle.std.specs.Prelude.{◌≡◌, ℕ, ◌+◌, ◌*◌, ◌<◌, ◌≤◌, ◌==◌, ◌&&◌, if◌then◌else◌, Bool, true, false, List, [], ◌∷◌}
+use Rattle.std.specs.Prelude.{length, nat_lt, slice_index, slice_index_or}
 use Rattle.std.specs.Int.{bit_at}
 use Rattle.std.specs.List.{list_any}
 use Rattle.ordup_objects.specs.declared.change.Change.{Change}
@@ -13,6 +13,7 @@ use Rattle.ordup_log.specs.declared.scope.Scope.{Scope}
 use Rattle.ordup_log.specs.declared.scope.Scope.TheVariants.{Object, Group, All as Everything, Count}
 use Rattle.ordup_limits.specs.declared.limit.Limit.{Limit}
 use Rattle.ordup_limits.specs.Limits.{Limits}
+use Rattle.ordup_limits.specs.Sizes.{most_limits}
 
 -- a change of object x counts on a scope, by its distance; none does on the count of updates
 abbrev pub counts_on : GroupList → Scope → ℕ → Bool
@@ -38,11 +39,15 @@ pub record AreTotals (h : History) (groups : GroupList) (limits : Limits) (place
 abbrev pub has_bit : List ℕ → ℕ → ℕ → Bool
 has_bit masks i x = bit_at (slice_index masks x) i == 1
 
+-- no mask has a bit from n on
+abbrev pub HasBitsBelow : ℕ → List ℕ → Type 0
+HasBitsBelow n masks = (x i : ℕ) → x < most_objects → n ≤ i → i < most_limits → has_bit masks i x ≡ false
+
 -- for each object the limits on whose scopes its changes count, a bit for each
 abbrev pub AreMasks : GroupList → Limits → List ℕ → Type 0
 AreMasks groups limits masks =
-    (x i : ℕ) (d : Limit) → x < most_objects → i < length limits
-    → has_bit masks i x ≡ counts_on groups (slice_index_or limits i d).scope x
+    (x i : ℕ) (d : Limit) → x < most_objects → i < most_limits
+    → has_bit masks i x ≡ (nat_lt i (length limits) && counts_on groups (slice_index_or limits i d).scope x)
 
 -- a weight where it counts, and else nothing
 abbrev pub share : Bool → ℕ → ℕ

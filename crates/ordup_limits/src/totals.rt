@@ -1,9 +1,9 @@
-ghost use Rattle.std.specs.Prelude.{◌≡◌, ◌==◌, ◌≤◌, ◌<◌, ◌+◌, ◌-◌, ◌*◌, ℕ, IfOk, IfErr, length, replicate, slice_index};
+ghost use Rattle.std.specs.Prelude.{false, ◌≡◌, ◌==◌, ◌≤◌, ◌<◌, ◌+◌, ◌-◌, ◌*◌, ℕ, IfOk, IfErr, length, replicate, slice_index};
 ghost use Rattle.std.specs.Int.{bit_at};
-ghost use Rattle.ordup_objects.specs.Sizes.{greatest_weight, greatest_distance, most_updates};
+ghost use Rattle.ordup_objects.specs.Sizes.{greatest_weight, greatest_distance, most_objects, most_updates};
 ghost use Rattle.ordup_objects.specs.Sums.{sum_from};
 ghost use Rattle.ordup_limits.specs.Sizes.{most_limits};
-ghost use Rattle.ordup_limits.specs.Totals.{has_bit, share, weight_where};
+ghost use Rattle.ordup_limits.specs.Totals.{has_bit, HasBitsBelow, share, weight_where};
 
 use ordup_log::Log;
 use ordup_objects::Refusal;
@@ -30,8 +30,10 @@ pub(crate) fn raise_to<A: Allocator + Copy>(
 )
     requires forward { from ≤ to }
     requires last { to ≤ length log.now.sets }
-    requires objects { length log.now.start ≤ length masks.now }
+    requires objects { length log.now.start ≤ most_objects }
+    requires masks { length masks.now ≡ most_objects }
     requires count { length totals.old.items ≤ most_limits }
+    requires bits { HasBitsBelow (length totals.old.items) masks.now }
     requires few { (i : ℕ) → slice_index totals.old.items i ≤ greatest_weight * from }
     ensures count { length totals.new.items ≡ length totals.old.items }
     ensures few { (i : ℕ) → slice_index totals.new.items i ≤ greatest_weight * to }
@@ -50,8 +52,10 @@ pub(crate) fn raise_to<A: Allocator + Copy>(
 fn raise<A: Allocator + Copy>(totals: &mut Vec<u64, A>, log: &Log<A>, masks: &[u64], place: u64)
     requires first { 0 < place }
     requires last { place ≤ length log.now.sets }
-    requires objects { length log.now.start ≤ length masks.now }
+    requires objects { length log.now.start ≤ most_objects }
+    requires masks { length masks.now ≡ most_objects }
     requires count { length totals.old.items ≤ most_limits }
+    requires bits { HasBitsBelow (length totals.old.items) masks.now }
     requires few { (i : ℕ) → slice_index totals.old.items i ≤ greatest_weight * (place - 1) }
     ensures count { length totals.new.items ≡ length totals.old.items }
     ensures few { (i : ℕ) → slice_index totals.new.items i ≤ greatest_weight * place }
@@ -67,29 +71,20 @@ fn raise<A: Allocator + Copy>(totals: &mut Vec<u64, A>, log: &Log<A>, masks: &[u
     }
 }
 
-/// Adds a weight to the totals whose bit is set in the mask.
+/// Adds a weight to the totals whose bits are set in the mask, from the lowest on.
 fn add<A: Allocator + Copy>(totals: &mut Vec<u64, A>, mask: u64, weight: u64)
     requires count { length totals.old.items ≤ most_limits }
+    requires mask { (i : ℕ) → length totals.old.items ≤ i → i < most_limits → (bit_at mask i == 1) ≡ false }
     requires weight { weight ≤ greatest_distance }
     requires few { (i : ℕ) → slice_index totals.old.items i ≤ greatest_weight * most_updates }
     ensures count { length totals.new.items ≡ length totals.old.items }
-    ensures most { (i : ℕ) → slice_index totals.new.items i ≤ slice_index totals.old.items i + weight }
     ensures totals { (i : ℕ) → i < length totals.old.items →
         slice_index totals.new.items i ≡ slice_index totals.old.items i + share (bit_at mask i == 1) weight }
 {
-    for place in 0..totals.len() {
-        totals[place] += share(mask, place, weight);
+    let mut rest = mask;
+    while rest != 0 {
+        let place = rest.trailing_zeros();
+        totals[place as usize] += weight;
+        rest &= !(1 << place);
     }
-}
-
-/// The weight where the mask has the bit, and else nothing.
-fn share(mask: u64, bit: usize, weight: u64) -> u64
-    requires { bit < most_limits }
-    ensures share { result ≡ share (bit_at mask bit == 1) weight }
-    ensures most { result ≤ weight }
-{
-    if (mask >> bit) % 2 == 1 {
-        return weight;
-    }
-    0
 }

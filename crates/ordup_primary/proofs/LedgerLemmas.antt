@@ -112,7 +112,8 @@ AreLedgers-proposed p m ledgers are = record {
 
 -- a site that reported
 pub AreLedgers-reported : (p : PrimaryState) (ledgers : List LedgerState) (s place : ℕ) (l : LedgerState) (site : SiteProgress)
-    (sites : List SiteProgress) → sites ≡ set p.sites s site → AreLedgers p ledgers → s < length p.sites → StandsFor l p.log p.setup.groups → l.limits ≡ (get_or ledgers s l).limits
+    (sites : List SiteProgress) → sites ≡ set p.sites s site → AreLedgers p ledgers → s < length p.sites → StandsFor l p.log p.setup.groups
+    → l.limits ≡ (get_or ledgers s l).limits
     → (l.reported ≡ place) × (l.extended ≡ (get_or ledgers s l).extended) → site.reported ≡ place
     → AreLedgers (record p { sites = sites }) (set ledgers s l)
 AreLedgers-reported p ledgers s place l site sites e are lt stands limits places is = rw e (record {

@@ -26,8 +26,8 @@ use Rattle.ordup_limits.proofs.LimitLemmas.{within-empty, within-later, within-l
 use Rattle.ordup_primary.specs.Declarations.{Declared, AreDeclared, limits_of, is_ready, start_refusal}
 use Rattle.ordup_primary.specs.Settling.{last_place}
 use Rattle.ordup_primary.specs.Primaries.{SiteProgress, PrimaryState, first_progress, progress_at, reported_at, is_within, forced_now}
-use Rattle.ordup_primary.specs.Primaries.{waiting_now, acked_after, decided_at, send_refusal, settle_refusal, Decides, IsSiteSound, IsPrimary}
-use Rattle.ordup_primary.specs.Primaries.{HasFewestRounds, acked_or_waiting, settled_as}
+use Rattle.ordup_primary.specs.Primaries.{waiting_now, acked_after, decided_at, send_refusal, settle_refusal, Decides}
+use Rattle.ordup_primary.specs.Primaries.{IsSiteSound, IsPrimary, HasFewestRounds, acked_or_waiting, settled_as}
 use Rattle.ordup_primary.specs.PrimaryInside.{progress_of, state_of}
 use Rattle.ordup_primary.specs.declared.primary.Primary.TheInside.{Inside}
 use Rattle.ordup_primary.specs.declared.progress.Progress.{Progress}

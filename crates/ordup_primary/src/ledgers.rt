@@ -57,7 +57,8 @@ pub(crate) fn sites_over<A: Allocator + Copy>(
     ledgers: &[LagLedger<A>],
 ) -> Result<SiteList<A>, Refusal>
     requires few { length ledgers.now ≤ most_sites }
-    ensures sites { IfOk result (λ sites. (h : History) (groups : GroupList) (d : LedgerState) → All (λ l. StandsFor l h groups) ledgers.now →
+    ensures sites { IfOk result (λ sites. (h : History) (groups : GroupList) (d : LedgerState) →
+        All (λ l. StandsFor l h groups) ledgers.now →
         sites ≡ where_below (λ s. is_over h groups (slice_index_or ledgers.now s d)) (length ledgers.now)) }
     ensures refused { IfErr result (λ e. e ≡ Refusal.NoMemory) }
 {

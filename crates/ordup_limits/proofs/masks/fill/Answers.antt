@@ -1,4 +1,4 @@
-use Rattle.std.proofs.Common.{arith, ap, sym, ◌∙◌, ◌≡◌, ◌==◌, get_or}
+use Rattle.std.proofs.Common.{ap, sym, ◌∙◌, ◌≡◌, ◌==◌, get_or}
 use Rattle.std.specs.Prelude.{◌&&◌, ◌||◌}
 use Rattle.std.proofs.lemmas.Option.{get_or_from_slice_get}
 use Rattle.ordup_limits.specs.declared.limit.Limit.{Limit}
@@ -17,7 +17,7 @@ loop-place-preserved g c =
       count = c.put_scope.ensures.count;
       bits = λ x i d below lt. (let at : get_or limits place d ≡ limit = get_or_from_slice_get limits place limit d c.get.ensures in
           bits-next (λ k. counts_on groups (get_or limits k d).scope x) (has_bit c.loop-place.masks.items i x) _ i place
-          (c.put_scope.ensures.bits x i below (omega (arith, c.len-place-end.ensures.limits.few))
+          (c.put_scope.ensures.bits x i below lt
           ∙ ap (λ (l : Limit). (counts_on groups l.scope x && (i == place)) || has_bit c.loop-place.masks.items i x) (sym at))
           (before.bits x i d below lt));
     }

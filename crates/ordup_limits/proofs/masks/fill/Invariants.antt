@@ -2,6 +2,7 @@ use Rattle.std.proofs.Common.{◌≡◌, ◌<◌, ℕ, length, get_or}
 use Rattle.std.specs.Prelude.{◌&&◌, nat_lt}
 use Rattle.ordup_objects.specs.Sizes.{most_objects}
 use Rattle.ordup_limits.specs.declared.limit.Limit.{Limit}
+use Rattle.ordup_limits.specs.Sizes.{most_limits}
 use Rattle.ordup_limits.specs.Totals.{has_bit, counts_on}
 use Rattle.ordup_limits.proofs.masks.fill.Given as goal
 
@@ -9,6 +10,6 @@ use Rattle.ordup_limits.proofs.masks.fill.Given as goal
 abbrev pub invariant-loop-place : goal.invariant-loop-place
 invariant-loop-place g l = record {
   count : length l.masks.items ≡ most_objects;
-  bits : (x i : ℕ) (d : Limit) → x < most_objects → i < length l.limits
+  bits : (x i : ℕ) (d : Limit) → x < most_objects → i < most_limits
       → has_bit l.masks.items i x ≡ (nat_lt i l.place && counts_on l.groups (get_or l.limits i d).scope x);
 }

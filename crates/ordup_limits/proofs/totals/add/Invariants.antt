@@ -1,14 +1,19 @@
-use Rattle.std.proofs.Common.{◌≡◌, ◌≤◌, ◌<◌, ◌+◌, ℕ, length}
+use Rattle.std.proofs.Common.{◌≡◌, ◌≤◌, ◌<◌, ◌+◌, ℕ, false, length}
 use Rattle.std.specs.Prelude.{slice_index, ◌==◌}
 use Rattle.std.specs.Int.{bit_at}
+use Rattle.ordup_limits.specs.Sizes.{most_limits}
 use Rattle.ordup_limits.specs.Totals.{share}
 use Rattle.ordup_limits.proofs.totals.add.Given as goal
 
--- the totals so far have their share, and the others are as they were
-abbrev pub invariant-loop-place : goal.invariant-loop-place
-invariant-loop-place g l = record {
+-- with the weight where a bit is left, the totals are those with the weight where the mask has one
+abbrev pub invariant-loop-rest : goal.invariant-loop-rest
+invariant-loop-rest g l = record {
   count : length l.totals.items ≡ length l.fn.totals.items;
-  done : (k : ℕ) → k < l.place → slice_index l.totals.items k ≡ slice_index l.fn.totals.items k + share (bit_at l.mask k == 1) l.weight;
-  rest : (k : ℕ) → l.place ≤ k → slice_index l.totals.items k ≡ slice_index l.fn.totals.items k;
-  most : (k : ℕ) → slice_index l.totals.items k ≤ slice_index l.fn.totals.items k + l.weight;
+  below : (k : ℕ) → length l.fn.totals.items ≤ k → k < most_limits → (bit_at l.rest k == 1) ≡ false;
+  totals : (k : ℕ) → k < length l.fn.totals.items
+      → slice_index l.totals.items k + share (bit_at l.rest k == 1) l.weight
+      ≡ slice_index l.fn.totals.items k + share (bit_at l.mask k == 1) l.weight;
 }
+
+abbrev pub decreases-loop-rest : goal.decreases-loop-rest
+decreases-loop-rest g l = l.rest

@@ -26,7 +26,8 @@ loop-place-preserved g c = λ h groups d stands.
       | else-over-via-then-over+else-is_err w ↦
           (let pushed : c.else-over.sites ≡ c.loop-place.sites ++ place ∷ [] =
           w.sites-is
-          ∙ from_on_ok (w.push.new.self ≡ c.loop-place.sites ++ w.new.result ∷ []) w.push.result w.if-is_err.ensures.negation w.push.ensures.ok
+          ∙ from_on_ok (w.push.new.self ≡ c.loop-place.sites ++ w.new.result ∷ []) w.push.result w.if-is_err.ensures.negation
+          w.push.ensures.ok
           ∙ ap (λ s. c.loop-place.sites ++ s ∷ []) w.new.ensures in
           pushed
           ∙ (where_below-more (λ s. is_over h groups (get_or ledgers s d)) place true c.loop-place.sites

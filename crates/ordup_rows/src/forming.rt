@@ -1,20 +1,18 @@
 //! A record to rows.
-ghost use Rattle.std.specs.Prelude.{◌≡◌, ℕ, ℤ, ◌+◌, ◌<◌, ◌≤◌, ◌∷◌, [], List, IfOk, IfSome, OnOk, length, map, slice_index_or};
-ghost use Rattle.std.specs.Fmt.{signed_decimal};
-ghost use Rattle.ordup_rows.specs.Forming.{AddsRow, AddsRows, IsClean};
-ghost use Rattle.ordup_objects.specs.Ops.{source_of};
+ghost use Rattle.std.specs.Prelude.{◌≡◌, ℕ, ℤ, ◌+◌, ◌<◌, ◌≤◌, ◌∷◌, [], List, IfOk, OnOk, length, map, slice_index_or};
 ghost use Rattle.ordup_objects.specs.Sets.{AreKnown, IsKnown};
 ghost use Rattle.ordup_log.specs.Groups.{AreMembersKnown};
 ghost use Rattle.ordup_log.specs.Spans.{IsScopeKnown};
 ghost use Rattle.ordup_limits.specs.Limits.{AreScopesKnown};
-ghost use Rattle.ordup_rows.specs.Forming.{AreGroupsKnown};
-ghost use Rattle.ordup_rows.specs.Rows.{change_row, change_rows, change_word, counted, head_row, limit_row, member_row, member_rows};
-ghost use Rattle.ordup_rows.specs.Rows.{object_row, operation_text, report_row, round_row, rows_of, rows_text, scope_text, window_row};
+ghost use Rattle.ordup_rows.specs.Forming.{AddsRow, AddsRows, AreGroupsKnown, IsClean};
+ghost use Rattle.ordup_rows.specs.Rows.{change_row, change_rows, counted, head_row, limit_row, member_row, member_rows};
+ghost use Rattle.ordup_rows.specs.Rows.{object_row, report_row, round_row, rows_of, rows_text, window_row};
 
+use crate::spelling::{put_change, put_scope};
 use csv::{Writer, WriterBuilder};
 use itoa::Buffer;
-use ordup_limits::{GroupId, Groups, Limit, LimitTable, Scope};
-use ordup_objects::{Change, Name, ObjectId, ObjectTable, Op};
+use ordup_limits::{GroupId, Groups, Limit, LimitTable};
+use ordup_objects::{Change, Name, ObjectId, ObjectTable};
 use ordup_record::{Record, ReportChange};
 use ordup_rounds::Window;
 use std::alloc::{AllocError, Global};
@@ -150,31 +148,6 @@ fn push_groups(
     Ok(())
 }
 
-/// Fills a column with what a row tells a scope by.
-fn put_scope(
-    column: &mut Vec<u8>,
-    objects: &ObjectTable,
-    groups: &Groups,
-    scope: Scope,
-) -> Result<(), AllocError>
-    requires { IsScopeKnown (length objects.now) groups.now scope }
-    ensures { OnOk result (column.new.items ≡ scope_text objects.now groups.now scope) }
-{
-    column.clear();
-    match scope {
-        Scope::Object(object) => {
-            column.extend_from_slice(b"object:")?;
-            column.extend_from_slice(objects.name(object).as_bytes())
-        }
-        Scope::Group(group) => {
-            column.extend_from_slice(b"group:")?;
-            column.extend_from_slice(groups.name(group).as_bytes())
-        }
-        Scope::All => column.extend_from_slice(b"all"),
-        Scope::Count => column.extend_from_slice(b"count"),
-    }
-}
-
 /// Writes the row of a limit.
 fn push_limit(
     rows: &mut Writer<Vec<u8>>,
@@ -222,56 +195,6 @@ fn push_limits(
         push_limit(rows, column, objects, groups, place + 1, limit)?;
     }
     Ok(())
-}
-
-/// Fills a column with the word of a change, by its parts.
-fn put_word(
-    column: &mut Vec<u8>,
-    kind: &[u8],
-    object: &[u8],
-    operand: &[u8],
-) -> Result<(), AllocError>
-    ensures { OnOk result (column.new.items ≡ change_word kind.now object.now operand.now) }
-{
-    column.clear();
-    column.extend_from_slice(kind)?;
-    column.push(b':')?;
-    column.extend_from_slice(object)?;
-    column.push(b':')?;
-    column.extend_from_slice(operand)
-}
-
-/// Fills a column with the word of a change by a number.
-fn put_number_word(
-    column: &mut Vec<u8>,
-    kind: &[u8],
-    object: &[u8],
-    number: i64,
-) -> Result<(), AllocError>
-    ensures { OnOk result (column.new.items ≡ change_word kind.now object.now (signed_decimal number)) }
-{
-    let mut digits = Buffer::new();
-    put_word(column, kind, object, digits.format(number).as_bytes())
-}
-
-/// Fills a column with the word of a change of an object of this name.
-fn put_change(
-    column: &mut Vec<u8>,
-    objects: &ObjectTable,
-    object: &[u8],
-    op: Op,
-) -> Result<(), AllocError>
-    requires { IfSome (source_of op) (λ y. y < length objects.now) }
-    ensures { OnOk result (column.new.items ≡ operation_text objects.now object.now op) }
-{
-    match op {
-        Op::Add(n) => put_number_word(column, b"add", object, n),
-        Op::Set(n) => put_number_word(column, b"set", object, n),
-        Op::Mul(n) => put_number_word(column, b"mul", object, n),
-        Op::Max(n) => put_number_word(column, b"max", object, n),
-        Op::Min(n) => put_number_word(column, b"min", object, n),
-        Op::Take(source) => put_word(column, b"take", object, objects.name(source).as_bytes()),
-    }
 }
 
 /// Writes the row of a change.

@@ -7,6 +7,7 @@ mod forming;
 mod laws;
 mod row_kind;
 pub mod sizes;
+mod spelling;
 mod writing;
 
 pub use forming::form;

@@ -1,0 +1,86 @@
+//! What the columns of a row spell.
+ghost use Rattle.std.specs.Prelude.{◌≡◌, ◌<◌, IfSome, OnOk, length};
+ghost use Rattle.std.specs.Fmt.{signed_decimal};
+ghost use Rattle.ordup_objects.specs.Ops.{source_of};
+ghost use Rattle.ordup_log.specs.Spans.{IsScopeKnown};
+ghost use Rattle.ordup_rows.specs.Rows.{change_word, operation_text, scope_text};
+
+use itoa::Buffer;
+use ordup_limits::{Groups, Scope};
+use ordup_objects::{ObjectTable, Op};
+use std::alloc::AllocError;
+
+/// Fills a column with what a row tells a scope by.
+pub fn put_scope(
+    column: &mut Vec<u8>,
+    objects: &ObjectTable,
+    groups: &Groups,
+    scope: Scope,
+) -> Result<(), AllocError>
+    requires { IsScopeKnown (length objects.now) groups.now scope }
+    ensures { OnOk result (column.new.items ≡ scope_text objects.now groups.now scope) }
+{
+    column.clear();
+    match scope {
+        Scope::Object(object) => {
+            column.extend_from_slice(b"object:")?;
+            column.extend_from_slice(objects.name(object).as_bytes())
+        }
+        Scope::Group(group) => {
+            column.extend_from_slice(b"group:")?;
+            column.extend_from_slice(groups.name(group).as_bytes())
+        }
+        Scope::All => column.extend_from_slice(b"all"),
+        Scope::Count => column.extend_from_slice(b"count"),
+    }
+}
+
+/// Fills a column with the word of a change, by its parts.
+fn put_word(
+    column: &mut Vec<u8>,
+    kind: &[u8],
+    object: &[u8],
+    operand: &[u8],
+) -> Result<(), AllocError>
+    ensures { OnOk result (column.new.items ≡ change_word kind.now object.now operand.now) }
+{
+    column.clear();
+    column.extend_from_slice(kind)?;
+    column.push(b':')?;
+    column.extend_from_slice(object)?;
+    column.push(b':')?;
+    column.extend_from_slice(operand)
+}
+
+/// Fills a column with the word of a change by a number.
+fn put_number_word(
+    column: &mut Vec<u8>,
+    kind: &[u8],
+    object: &[u8],
+    number: i64,
+) -> Result<(), AllocError>
+    ensures { OnOk result (column.new.items ≡ change_word kind.now object.now (signed_decimal number)) }
+{
+    let mut digits = Buffer::new();
+    put_word(column, kind, object, digits.format(number).as_bytes())
+}
+
+/// Fills a column with the word of a change of an object of this name.
+pub fn put_change(
+    column: &mut Vec<u8>,
+    objects: &ObjectTable,
+    object: &[u8],
+    op: Op,
+) -> Result<(), AllocError>
+    requires { IfSome (source_of op) (λ y. y < length objects.now) }
+    ensures { OnOk result (column.new.items ≡ operation_text objects.now object.now op) }
+{
+    match op {
+        Op::Add(n) => put_number_word(column, b"add", object, n),
+        Op::Set(n) => put_number_word(column, b"set", object, n),
+        Op::Mul(n) => put_number_word(column, b"mul", object, n),
+        Op::Max(n) => put_number_word(column, b"max", object, n),
+        Op::Min(n) => put_number_word(column, b"min", object, n),
+        Op::Take(source) => put_word(column, b"take", object, objects.name(source).as_bytes()),
+    }
+}

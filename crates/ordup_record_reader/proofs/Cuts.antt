@@ -24,7 +24,8 @@ cut_rest : (n : ℕ) (bytes text : List ℕ) → length bytes ≤ n → cut_at n
 cut_rest n bytes text few =
     let long = length-append bytes text in
     elim (cases_lt (length text) (n - length bytes)) [
-      | inl short ↦ short_is n (bytes ++ text) (omega (arith, long, short, few)) ∙ ap (λ t. bytes ++ t) (sym (short_is (n - length bytes) text short))
+      | inl short ↦ short_is n (bytes ++ text) (omega (arith, long, short, few))
+          ∙ ap (λ t. bytes ++ t) (sym (short_is (n - length bytes) text short))
       | inr rest ↦ (let count : length bytes + (n - length bytes) ≡ n = omega (arith, few) in
           long_is n (bytes ++ text) (omega (arith, long, rest, few))
           ∙ ap (λ k. take k (bytes ++ text) ++ 0 ∷ []) (sym count)
@@ -46,7 +47,8 @@ end_cut n (Some xs) some h = ap (cut_at n) h ∙ short_is n [] (omega arith)
 
 -- one read of at most n bytes, into the front of a buffer
 pub reads_cut : (n count : ℕ) (old new : Option (List ℕ)) (buffer more : List ℕ) → 0 < n → count ≤ n → count ≤ length buffer
-    → (0 < length (buffer ++ more) → 0 < length buffer) → Consumes old new (take count buffer) × (count ≡ 0 → 0 < length buffer → IsAtEnd new)
+    → (0 < length (buffer ++ more) → 0 < length buffer)
+    → Consumes old new (take count buffer) × (count ≡ 0 → 0 < length buffer → IsAtEnd new)
     → Consumes (option_map (cut_at n) old) (option_map (cut_at (n - count)) new) (take count (buffer ++ more))
     × (count ≡ 0 → 0 < length (buffer ++ more) → IsAtEnd (option_map (cut_at (n - count)) new))
 reads_cut n count old new buffer more some few fits room h =
@@ -58,12 +60,14 @@ reads_cut n count old new buffer more some few fits room h =
 
 -- ---- a text that is read within a limit
 
-pub tells_whole : (limit : ℕ) (o : Option (List ℕ)) (r : RecordState) → IfSome (option_map (within limit) o) (λ text. TextTells (strip_bom text) r)
+pub tells_whole : (limit : ℕ) (o : Option (List ℕ)) (r : RecordState)
+    → IfSome (option_map (within limit) o) (λ text. TextTells (strip_bom text) r)
     → IfSome o (λ text. TextTells (strip_bom text) r)
 tells_whole limit None r h = tt
 tells_whole limit (Some text) r h = (told_whole (limit + 1) text r h).1
 
-pub tells_within : (limit : ℕ) (o : Option (List ℕ)) (r : RecordState) → IfSome (option_map (within limit) o) (λ text. TextTells (strip_bom text) r)
+pub tells_within : (limit : ℕ) (o : Option (List ℕ)) (r : RecordState)
+    → IfSome (option_map (within limit) o) (λ text. TextTells (strip_bom text) r)
     → IfSome o (λ text. length text ≤ limit)
 tells_within limit None r h = tt
 tells_within limit (Some text) r h = let few = (told_whole (limit + 1) text r h).0 in omega (arith, few)

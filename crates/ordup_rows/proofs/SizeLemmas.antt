@@ -66,7 +66,8 @@ places_within d (c ∷ changes) are =
 
 reports_few : (d : ℕ) (changes : List ReportChange) → AreReportChanges d changes → length changes ≤ d
 reports_few d changes are =
-    let few = rounds_few d (map (λ (c : ReportChange). c.place) changes) (record { ascending = are.places; each = places_within d changes are.each }) in
+    let few = rounds_few d (map (λ (c : ReportChange). c.place) changes)
+        (record { ascending = are.places; each = places_within d changes are.each }) in
     omega (arith, few, length-map changes (λ (c : ReportChange). c.place))
 
 seven_lengths : (a b c d e f g : List Row) → length (a ++ b ++ c ++ d ++ e ++ f ++ g)
@@ -97,7 +98,8 @@ module _ (r : RecordState) (is : IsRecord r) where
         limits,
         sets,
         windows,
-        seven_lengths (counted object_row 1 r.objects) (member_rows r.objects 1 r.groups) (counted (limit_row r.objects r.groups) 1 r.limits)
+        seven_lengths (counted object_row 1 r.objects) (member_rows r.objects 1 r.groups)
+            (counted (limit_row r.objects r.groups) 1 r.limits)
             (change_rows r.objects 1 r.sets) (map report_row r.reports) (counted round_row 1 r.rounds) (counted window_row 1 r.windows),
         length-counted object_row 1 r.objects,
         length-member_rows r.objects 1 r.groups,

@@ -6,4 +6,6 @@ mod fixtures;
 #[cfg(test)]
 mod one_thread;
 #[cfg(test)]
+mod through_a_primary;
+#[cfg(test)]
 mod two_threads;

@@ -1,0 +1,101 @@
+//! What a primary has next for a site goes into its feed.
+ghost use Rattle.std.specs.Prelude.{IfOk};
+ghost use Rattle.ordup_feed_tests.specs.Following.{HasPushed};
+
+use ordup_feed::{Feed, SendEnd, TakeEnd};
+use ordup_objects::{Change, MessageSet, ObjectId, Op, Refusal, SiteId};
+use ordup_primary::{Primary, Setup, next_updates_may_follow};
+use std::alloc::Global;
+use std::process::Abort;
+use std::sync::Wait;
+use std::test::Fail;
+
+/// Proposes the update that adds a number to the first object.
+fn add(alloc: Global, primary: &mut Primary, n: i64) -> Result<u64, Refusal> {
+    let change = Change {
+        object: ObjectId::new(0),
+        op: Op::Add(n),
+    };
+    let Ok(changes) = Vec::from_slice(alloc, &[change]) else {
+        return Err(Refusal::NoMemory);
+    };
+    let set = MessageSet::new(primary.setup().objects(), changes)?;
+    if !set.are_known(primary.log().objects()) {
+        return Err(Refusal::UnknownObject);
+    }
+    primary.propose(set)
+}
+
+/// A primary with x at 0 and the site a, and with two updates: 3 is added to x, and then 4.
+fn two_updates(alloc: Global) -> Result<Primary, Refusal> {
+    let mut setup = Setup::new(alloc);
+    setup.object(b"x", 0)?;
+    setup.site(b"a", 1)?;
+    if !setup.is_ready() {
+        return Err(Refusal::Empty);
+    }
+    let mut primary = Primary::new(alloc, setup)?;
+    add(alloc, &mut primary, 3)?;
+    add(alloc, &mut primary, 4)?;
+    Ok(primary)
+}
+
+/// A feed of one parcel for the first site of a primary, to which nothing was sent yet.
+fn feed_of(rt: &impl Abort, alloc: Global, primary: &Primary) -> Result<(SendEnd, TakeEnd), Refusal>
+    ensures { IfOk result (λ ends. HasPushed primary.now ends.0) }
+{
+    let _acked = primary.acked();
+    assert!(rt; primary.setup().sites() > 0);
+    assert!(rt; primary.sent(SiteId::new(0)) == 0);
+    Feed::new(alloc, primary.setup().objects(), 1)
+}
+
+/// Pushes the next update for the first site behind those that were sent to it.
+fn send<R: Wait>(rt: &R, primary: &mut Primary, end: &mut SendEnd) -> Result<u64, Refusal>
+    requires { HasPushed primary.old end.old }
+    ensures { HasPushed primary.new end.new }
+{
+    next_updates_may_follow();
+    let site = SiteId::new(0);
+    let _acked = primary.acked();
+    let parcel = primary.next_for(site)?;
+    let number = parcel.number;
+    match end.push(rt, parcel) {
+        Ok(()) => {
+            primary.mark_sent(site);
+            Ok(number)
+        }
+        Err(back) => Err(back.refusal),
+    }
+}
+
+/// Sends, and sees that this is the answer.
+fn expect_sent<R: Wait + Abort>(
+    rt: &R,
+    primary: &mut Primary,
+    end: &mut SendEnd,
+    answer: Result<u64, Refusal>,
+)
+    requires { HasPushed primary.old end.old }
+    ensures { HasPushed primary.new end.new }
+{
+    assert_eq!(rt; send(rt, primary, end), answer);
+}
+
+/// Pops, and sees that the parcel has this number.
+fn expect_taken<R: Wait + Abort>(rt: &R, end: &mut TakeEnd, number: u64) {
+    assert_eq!(rt; end.pop(rt).map(|p| p.number), Some(number));
+}
+
+#[test]
+fn the_updates_of_a_primary_go_through_a_feed(rt: HostRuntime) -> Result<(), Fail> {
+    let mut primary = two_updates(rt.alloc())?;
+    let (mut sender, mut taker) = feed_of(&rt, rt.alloc(), &primary)?;
+    expect_sent(&rt, &mut primary, &mut sender, Ok(1));
+    expect_sent(&rt, &mut primary, &mut sender, Err(Refusal::FeedFull));
+    expect_taken(&rt, &mut taker, 1);
+    expect_sent(&rt, &mut primary, &mut sender, Ok(2));
+    expect_taken(&rt, &mut taker, 2);
+    expect_sent(&rt, &mut primary, &mut sender, Err(Refusal::NothingToSend));
+    Ok(())
+}

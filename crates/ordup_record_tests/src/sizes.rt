@@ -1,0 +1,160 @@
+//! Sizes at their edges, and long records.
+use crate::told::said;
+use std::alloc::{AllocError, Global};
+use std::test::Fail;
+
+/// All rows of a record but its windows.
+const FORCED: &str = "\
+ordup,1,a,2
+object,1,x,0
+limit,1,object:x,5
+change,1,1,add:x:5
+change,2,1,add:x:1
+round,1,2,-
+";
+
+/// The first rows; a row that stands there so many times, with its number from 1 on in the place of `#`; another one; and what
+/// is said.
+const SIZES: [(&str, &str, usize, &str, usize, &str); 16] = [
+    ("ordup,1,a,0\n", "object,#,o#,0\n", 256, "", 0, "yes 0"),
+    (
+        "ordup,1,a,0\n",
+        "object,#,o#,0\n",
+        257,
+        "",
+        0,
+        "malformed 258",
+    ),
+    (
+        "ordup,1,a,0\n",
+        "object,#,o#,0\n",
+        1,
+        "member,#,g#,o1\n",
+        32,
+        "yes 0",
+    ),
+    (
+        "ordup,1,a,0\n",
+        "object,#,o#,0\n",
+        1,
+        "member,#,g#,o1\n",
+        33,
+        "malformed 35",
+    ),
+    (
+        "ordup,1,a,0\n",
+        "object,#,o#,0\n",
+        65,
+        "member,#,g,o#\n",
+        64,
+        "yes 0",
+    ),
+    (
+        "ordup,1,a,0\n",
+        "object,#,o#,0\n",
+        65,
+        "member,#,g,o#\n",
+        65,
+        "malformed 131",
+    ),
+    (
+        "ordup,1,a,0\n",
+        "object,#,o#,0\n",
+        65,
+        "limit,#,object:o#,5\n",
+        64,
+        "yes 0",
+    ),
+    (
+        "ordup,1,a,0\n",
+        "object,#,o#,0\n",
+        65,
+        "limit,#,object:o#,5\n",
+        65,
+        "malformed 131",
+    ),
+    (
+        "ordup,1,a,1\n",
+        "object,#,o#,0\n",
+        65,
+        "change,1,#,add:o#:1\n",
+        64,
+        "yes 0",
+    ),
+    (
+        "ordup,1,a,1\n",
+        "object,#,o#,0\n",
+        65,
+        "change,1,#,add:o#:1\n",
+        65,
+        "malformed 131",
+    ),
+    (
+        "ordup,1,a,10000\n",
+        "object,#,o#,0\n",
+        1,
+        "change,#,1,add:o1:1\n",
+        9999,
+        "malformed 10002",
+    ),
+    (
+        "ordup,1,a,10000\n",
+        "object,#,o#,0\n",
+        1,
+        "change,#,1,add:o1:1\n",
+        10000,
+        "yes 0",
+    ),
+    (
+        "ordup,1,a,10000\n",
+        "object,#,o#,0\n",
+        1,
+        "change,#,1,add:o1:1\n",
+        10001,
+        "malformed 10003",
+    ),
+    (FORCED, "window,#,0,2\n", 10000, "", 0, "no 8 WindowsMeet"),
+    (
+        FORCED,
+        "window,#,0,2\n",
+        10000,
+        "round,#,1,-\n",
+        1,
+        "malformed 10007",
+    ),
+    (
+        FORCED,
+        "window,#,0,2\n",
+        1,
+        "window,1,0,2\n",
+        10000,
+        "malformed 8",
+    ),
+];
+
+/// Adds a row to a text so many times, with its number from 1 on in the place of `#`.
+fn push_times(alloc: Global, text: &mut String, row: &str, count: usize) -> Result<(), AllocError> {
+    for number in 1..=count {
+        let number = number.to_string(alloc)?;
+        let row = row.replace(alloc, "#", number.as_str())?;
+        text.push_str(row.as_str())?;
+    }
+    Ok(())
+}
+
+#[test]
+fn as_many_rows_of_a_kind_as_may_be_are_read_and_no_more(rt: HostRuntime) -> Result<(), Fail> {
+    for (first, row, count, other, other_count, wanted) in SIZES {
+        let mut text = String::new(rt.alloc());
+        text.push_str(first)?;
+        push_times(rt.alloc(), &mut text, row, count)?;
+        push_times(rt.alloc(), &mut text, other, other_count)?;
+        let told = said(rt.alloc(), text.as_str())?;
+        assert_eq!(rt;
+            told.as_str(),
+            wanted,
+            "{count} of {row:?}, {other_count} of {other:?}"
+        );
+    }
+    Ok(())
+}

@@ -67,7 +67,7 @@ places_within d (c ∷ changes) are =
 reports_few : (d : ℕ) (changes : List ReportChange) → AreReportChanges d changes → length changes ≤ d
 reports_few d changes are =
     let few = rounds_few d (map (λ (c : ReportChange). c.place) changes)
-        (record { ascending = are.places; each = places_within d changes are.each }) in
+    (record { ascending = are.places; each = places_within d changes are.each }) in
     omega (arith, few, length-map changes (λ (c : ReportChange). c.place))
 
 seven_lengths : (a b c d e f g : List Row) → length (a ++ b ++ c ++ d ++ e ++ f ++ g)

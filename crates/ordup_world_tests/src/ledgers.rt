@@ -55,6 +55,9 @@ fn what_is_reported_is_taken_off(rt: HostRuntime) -> Result<(), Fail> {
     let extended_to_3 = ledger.over();
     // 0, 3, 7 and 4; then what was reported passes what was added, and weighs 0.
     assert_eq!(rt; [new, extended_to_1, extended_to_2], [false, false, true]);
-    assert_eq!(rt; [reported_1, reported_3, extended_to_3], [false, false, false]);
+    assert_eq!(rt;
+        [reported_1, reported_3, extended_to_3],
+        [false, false, false]
+    );
     Ok(())
 }

@@ -1,10 +1,8 @@
-//! Tests of limits, of ledgers, of the primary and of the world, by calls: those that no script makes.
+//! Tests of limits, of the primary and of the world, by calls: those that no script makes.
 #![tactic(auto)]
 
 #[cfg(test)]
 mod fixtures;
-#[cfg(test)]
-mod ledgers;
 #[cfg(test)]
 mod limits;
 #[cfg(test)]

@@ -2,9 +2,9 @@
 use Rattle.std.proofs.Common.{◌≡◌, ℕ, List, Option, Ok, Err, length}
 use Rattle.ordup_record.specs.Records.{RecordState}
 use Rattle.ordup_record.specs.Validity.{IsValid}
-use Rattle.ordup_check.specs.Verdicts.{IfFewest, IsVerdict}
-use Rattle.ordup_check.specs.declared.verdict.Verdict.{Verdict}
-use Rattle.ordup_check.specs.declared.verdict.Verdict.TheVariants.{Fewest, No}
+use Rattle.ordup_verdict.specs.Verdicts.{IfFewest, IsVerdict}
+use Rattle.ordup_verdict.specs.declared.verdict.Verdict.{Verdict}
+use Rattle.ordup_verdict.specs.declared.verdict.Verdict.TheVariants.{Fewest, No}
 use Rattle.ordup_cli.specs.Faults.{Outcome}
 use Rattle.ordup_cli.specs.Jobs.{Checks, Judges, PrintsJudgement}
 use Rattle.ordup_cli.specs.declared.fault.Fault.TheVariants as fault

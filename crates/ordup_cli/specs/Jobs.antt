@@ -10,10 +10,10 @@ use Rattle.ordup_primary.specs.Primaries.{PrimaryState}
 use Rattle.ordup_record.specs.Records.{RecordState}
 use Rattle.ordup_record.specs.RecordsOf.{record_of}
 use Rattle.ordup_record.specs.Validity.{IsValid}
-use Rattle.ordup_check.specs.Reasons.{reason_name}
-use Rattle.ordup_check.specs.Verdicts.{IsVerdict}
-use Rattle.ordup_check.specs.declared.verdict.Verdict.{Verdict}
-use Rattle.ordup_check.specs.declared.verdict.Verdict.TheVariants.{Fewest, No}
+use Rattle.ordup_verdict.specs.Reasons.{reason_name}
+use Rattle.ordup_verdict.specs.Verdicts.{IsVerdict}
+use Rattle.ordup_verdict.specs.declared.verdict.Verdict.{Verdict}
+use Rattle.ordup_verdict.specs.declared.verdict.Verdict.TheVariants.{Fewest, No}
 use Rattle.ordup_rows.specs.Texts.{IsMalformedAt, TextTells}
 use Rattle.ordup_record_reader.specs.Limits.{within}
 use Rattle.ordup_rows.specs.Rows.{rows_of, rows_text}

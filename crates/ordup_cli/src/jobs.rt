@@ -6,13 +6,13 @@ ghost use Rattle.ordup_cli.specs.Jobs.{Answers, Checks, Does, PrintsRecord, Prin
 ghost use Rattle.ordup_cli.specs.Jobs.{verdict_status, verdict_text};
 
 use crate::fault::Fault;
-use ordup_check::{Verdict, check};
 use ordup_output::send;
 use ordup_primary::Primary;
 use ordup_record::{Record, record_of};
 use ordup_record_reader::read_record;
 use ordup_rows::write_record;
 use ordup_script::{ScriptEnd, run_script};
+use ordup_verdict::{Verdict, check};
 use ordup_words::Job;
 use std::alloc::{AllocError, Global};
 use std::io::{self, Read, Write};

@@ -1,0 +1,96 @@
+-- Verdicts on small records, worked out by hand.
+use Rattle.std.proofs.Common.{◌≡◌, ℕ, pos, ◌<◌, Bool, true, false, List, [], ◌∷◌, arith, refl}
+use Rattle.std.specs.Prelude.{codes}
+use Rattle.std.proofs.lemmas.Bool.{agree_below, agree_below_at}
+use Rattle.ordup_objects.specs.declared.change.Change.{Change}
+use Rattle.ordup_objects.specs.declared.change.Op.TheVariants.{Add}
+use Rattle.ordup_log.specs.declared.scope.Scope.TheVariants.{Object}
+use Rattle.ordup_rounds.specs.declared.window.Window.{Window}
+use Rattle.ordup_record.specs.declared.report_change.ReportChange.{ReportChange}
+use Rattle.ordup_record.specs.Records.{RecordState}
+use Rattle.ordup_verdict.specs.Passing.{PassesBelow, IsFirstFailure}
+use Rattle.ordup_verdict.specs.Verdicts.{IsVerdict}
+use Rattle.ordup_verdict.specs.declared.verdict.Verdict.TheVariants.{Fewest, No}
+use Rattle.ordup_verdict.specs.declared.verdict.Reason.TheVariants.{NotLegal, LimitsBroken, WindowLight, WindowsMeet}
+use Rattle.ordup_verdict.specs.declared.verdict.Reason.TheVariants.{WindowBeforeReport, CountDiffers}
+
+-- a test that passes at each of the first numbers, as it computes
+passes : (test : ℕ → Bool) (n : ℕ) → agree_below test (λ i. true) n ≡ true → PassesBelow test n
+passes test n all k lt = agree_below_at test (λ i. true) n k all lt
+
+-- the first number at which it fails
+fails : (test : ℕ → Bool) (n k : ℕ) → k < n → test k ≡ false → agree_below test (λ i. true) k ≡ true
+    → IsFirstFailure test n k
+fails test n k there here before = record { there = there; fails = here; before = passes test k before }
+
+-- one change, which adds to object x
+abbrev adds : ℕ → List Change
+adds n = record { object = 0; op = Add (pos n) } ∷ []
+
+abbrev from_to : ℕ → ℕ → Window
+from_to a b = record { from = a; to = b }
+
+-- object x at this value and y at 10, and a limit of 5 on x
+abbrev told : ℕ → List (List Change) → List ReportChange → List ℕ → List Window → RecordState
+told value sets reports rounds windows = record {
+  site = codes "a";
+  objects = (codes "x", pos value) ∷ (codes "y", pos 10) ∷ [];
+  groups = [];
+  limits = record { scope = Object 0; amount = 5 } ∷ [];
+  sets = sets;
+  reports = reports;
+  rounds = rounds;
+  windows = windows;
+}
+
+-- the updates weigh 5 and 1, so the second needs a round, and its window is over the limit
+forced : IsVerdict (told 0 (adds 5 ∷ adds 1 ∷ []) [] (2 ∷ []) (from_to 0 2 ∷ [])) (Fewest 1)
+forced = (passes _ 2 refl, passes _ 2 refl, passes _ 1 refl, passes _ 1 refl, passes _ 1 refl, refl, refl)
+
+-- no round is needed where the site had reported the first
+reported : IsVerdict (told 0 (adds 5 ∷ adds 1 ∷ []) (record { place = 2; reported = 1 } ∷ []) [] []) (Fewest 0)
+reported = (passes _ 2 refl, passes _ 2 refl, passes _ 0 refl, passes _ 0 refl, passes _ 0 refl, refl, refl)
+
+-- the second of the changes of the second update is out of range, in row 7: the head, two objects, the limit, one change, and it
+out_of_range : IsVerdict (told 999999999 (adds 1 ∷ (record {
+  object =
+      1;
+  op = Add (pos 1);
+} ∷ record { object = 0; op = Add (pos 1) } ∷ []) ∷ []) []
+    [] []) (No 7 NotLegal)
+out_of_range = (1, 1, fails _ 2 1 (omega arith) refl refl, fails _ 2 1 (omega arith) refl refl, refl)
+
+-- without the round the second update passes the limit, in row 6
+without_round : IsVerdict (told 0 (adds 5 ∷ adds 1 ∷ []) [] [] (from_to 0 2 ∷ [])) (No 6 LimitsBroken)
+without_round = (passes _ 2 refl, (1, fails _ 2 1 (omega arith) refl refl, refl))
+
+-- the window of the second update alone weighs 1, in row 8
+light : IsVerdict (told 0 (adds 5 ∷ adds 1 ∷ []) [] (2 ∷ []) (from_to 1 2 ∷ [])) (No 8 WindowLight)
+light = (passes _ 2 refl, passes _ 2 refl, (0, fails _ 1 0 (omega arith) refl refl, refl))
+
+-- equal is not over: a window of 5 is light, and a light one is named before such that meet
+light_first : IsVerdict (told 0 (adds 3 ∷ adds 3 ∷ adds 2 ∷ []) [] (2 ∷ 3 ∷ []) (from_to 0 2 ∷ from_to 1 3 ∷ []))
+    (No 11 WindowLight)
+light_first = (passes _ 3 refl, passes _ 3 refl, (1, fails _ 2 1 (omega arith) refl refl, refl))
+
+-- two windows that share place 2
+meeting : IsVerdict (told 0 (adds 3 ∷ adds 3 ∷ adds 3 ∷ []) [] (2 ∷ 3 ∷ []) (from_to 0 2 ∷ from_to 1 3 ∷ []))
+    (No 11 WindowsMeet)
+meeting = (passes _ 3 refl, passes _ 3 refl, passes _ 2 refl, (1, fails _ 2 1 (omega arith) refl refl, refl))
+
+-- windows that touch do not meet
+touching : IsVerdict (told 0 (adds 3 ∷ adds 3 ∷ adds 3 ∷ adds 3 ∷ []) [] (2 ∷ 4 ∷ []) (from_to 0 2 ∷ from_to 2 4 ∷ []))
+    (Fewest 2)
+touching = (passes _ 4 refl, passes _ 4 refl, passes _ 2 refl, passes _ 2 refl, passes _ 2 refl, refl, refl)
+
+-- the site had reported 1 when place 2 was decided, in row 9
+early : IsVerdict (told 0 (adds 5 ∷ adds 1 ∷ []) (record {
+  place =
+      2;
+  reported = 1;
+} ∷ []) (2 ∷ []) (from_to 0 2 ∷ [])) (No 9 WindowBeforeReport)
+early = (passes _ 2 refl, passes _ 2 refl, passes _ 1 refl, passes _ 1 refl, (0, fails _ 1 0 (omega arith) refl refl, refl))
+
+-- a round without a window, and the last row
+without_window : IsVerdict (told 0 (adds 5 ∷ adds 1 ∷ []) [] (2 ∷ []) []) (No 7 CountDiffers)
+without_window = (passes _ 2 refl, passes _ 2 refl, passes _ 0 refl, passes _ 0 refl, passes _ 0 refl, λ same. absurd (omega arith), refl)

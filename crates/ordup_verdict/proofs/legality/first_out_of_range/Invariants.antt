@@ -1,0 +1,10 @@
+use Rattle.std.proofs.Common.{length, map, get_or, true}
+use Rattle.ordup_objects.specs.States.{result_at, in_range}
+use Rattle.ordup_objects.specs.Serial.{serial}
+use Rattle.ordup_verdict.specs.Passing.{PassesBelow}
+use Rattle.ordup_verdict.proofs.legality.first_out_of_range.Given as goal
+
+-- the results so far are in range
+abbrev pub invariant-loop-place : goal.invariant-loop-place
+invariant-loop-place g l =
+    PassesBelow (λ p. get_or (map (λ c. in_range (result_at (serial l.log (length l.log.sets)) c)) l.changes) p true) l.place

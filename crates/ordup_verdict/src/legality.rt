@@ -1,0 +1,78 @@
+//! Whether the updates of a record are legal one after the other.
+
+ghost use Rattle.std.specs.Prelude.{◌≡◌, ◌<◌, [], ℕ, None, IfNone, IfSome, length, map, slice_index_or, true, false};
+ghost use Rattle.ordup_objects.specs.Sets.{IsKnown, AreKnown, AreInRange};
+ghost use Rattle.ordup_objects.specs.Ops.{number_of, source_of};
+ghost use Rattle.ordup_objects.specs.States.{State, result_of, result_at, in_range, is_legal, IsInRange};
+ghost use Rattle.ordup_objects.specs.Serial.{serial};
+ghost use Rattle.ordup_verdict.specs.Passing.{IsFirstFailure};
+ghost use Rattle.ordup_verdict.specs.Verdicts.{AreUpdatesLegal, IsIllegalRow};
+
+use crate::rows::change_row;
+use ordup_log::Log;
+use ordup_objects::sizes::GREATEST_VALUE;
+use ordup_objects::{Change, Op};
+use ordup_record::Record;
+use std::alloc::Allocator;
+
+/// The row of the first change whose result is out of range, if there is one.
+pub(crate) fn first_illegal<A: Allocator + Copy>(audited: &Record<A>) -> Option<u64>
+    ensures none { IfNone result (AreUpdatesLegal audited.now) }
+    ensures some { IfSome result (λ row. IsIllegalRow audited.now row) }
+{
+    // For the proof: the objects of the updates are there.
+    let _decided = audited.decided();
+    if audited.is_legal() {
+        return None;
+    }
+    let log = audited.log();
+    let legal = log.len();
+    let changes = audited.set(legal + 1).changes();
+    Some(change_row(audited, legal, first_out_of_range(log, changes)))
+}
+
+/// The place among the changes of a set of the first whose result after all updates is out of range.
+fn first_out_of_range<A: Allocator + Copy>(log: &Log<A>, changes: &[Change]) -> usize
+    requires known { AreKnown (length log.now.start) changes.now }
+    requires numbers { AreInRange changes.now }
+    requires illegal { is_legal changes.now (serial log.now (length log.now.sets)) ≡ false }
+    ensures { IsFirstFailure (λ p. slice_index_or (map (λ c. in_range (result_at (serial log.now (length log.now.sets)) c)) changes.now) p true) (length changes.now) result }
+{
+    for (place, change) in changes.iter().enumerate() {
+        if result_at(log, *change).unsigned_abs() > GREATEST_VALUE {
+            return place;
+        }
+    }
+    unreachable!()
+}
+
+/// What a change makes of its object's value after all updates.
+fn result_at<A: Allocator + Copy>(log: &Log<A>, change: Change) -> i64
+    requires known { IsKnown (length log.now.start) change }
+    requires number { IfSome (number_of change.op) IsInRange }
+    ensures { result ≡ result_at (serial log.now (length log.now.sets)) change }
+{
+    if let Some(object) = change.op.source() {
+        return log.end_value(object);
+    }
+    // For the proof: the log is legal, so its values are in range.
+    let _updates = log.len();
+    result_of(log.end_value(change.object), change.op)
+}
+
+/// What an operation that reads no other object makes of a value.
+fn result_of(value: i64, op: Op) -> i64
+    requires value { IsInRange value }
+    requires number { IfSome (number_of op) IsInRange }
+    requires alone { source_of op ≡ None }
+    ensures { (v : State) → result ≡ result_of v value op }
+{
+    match op {
+        Op::Add(n) => value + n,
+        Op::Set(n) => n,
+        Op::Mul(n) => value * n,
+        Op::Max(n) => value.max(n),
+        Op::Min(n) => value.min(n),
+        Op::Take(_) => unreachable!(),
+    }
+}

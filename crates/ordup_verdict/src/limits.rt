@@ -1,0 +1,33 @@
+//! Whether the rounds of a record keep the limits.
+
+ghost use Rattle.std.specs.Prelude.{IfNone, IfSome};
+ghost use Rattle.ordup_objects.specs.Serial.{IsLegalHistory};
+ghost use Rattle.ordup_record.specs.Records.{history_of};
+ghost use Rattle.ordup_verdict.specs.Verdicts.{ArePlacesWithin, IsBrokenRow};
+
+use crate::cursors::{awaited, pass_reports, pass_rounds, reported};
+use crate::rows::change_row;
+use crate::windows::passes_a_limit;
+use ordup_record::Record;
+use std::alloc::Allocator;
+
+/// The row of the first change of the first place whose span from its base passes a limit, if there is one.
+pub(crate) fn first_broken<A: Allocator + Copy>(audited: &Record<A>) -> Option<u64>
+    requires { IsLegalHistory (history_of audited.now) }
+    ensures none { IfNone result (ArePlacesWithin audited.now) }
+    ensures some { IfSome result (λ row. IsBrokenRow audited.now row) }
+{
+    let mut reports_passed = 0;
+    let mut rounds_passed = 0;
+    for updates in 0..audited.decided() {
+        let place = updates + 1;
+        reports_passed = pass_reports(audited.reports(), reports_passed, place);
+        rounds_passed = pass_rounds(audited.rounds(), rounds_passed, place);
+        let reported = reported(audited.reports(), reports_passed);
+        let base = reported.max(awaited(audited.rounds(), rounds_passed));
+        if passes_a_limit(audited, base, place) {
+            return Some(change_row(audited, updates, 0));
+        }
+    }
+    None
+}

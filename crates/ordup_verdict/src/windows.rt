@@ -1,0 +1,68 @@
+//! Whether the windows of a record are over a limit alone, apart, and after what was reported.
+
+ghost use Rattle.std.specs.Prelude.{◌≡◌, ◌≤◌, IfNone, IfSome, length, not};
+ghost use Rattle.ordup_objects.specs.Serial.{IsLegalHistory};
+ghost use Rattle.ordup_record.specs.Records.{history_of, is_within};
+ghost use Rattle.ordup_verdict.specs.Verdicts.{AreWindowsOver, AreWindowsApart, AreWindowsUnreported, IsLightRow, IsMeetingRow, IsReportedRow};
+
+use crate::rows::window_row;
+use ordup_record::Record;
+use std::alloc::Allocator;
+
+/// Whether the span from a place to another passes a limit.
+pub(crate) fn passes_a_limit<A: Allocator + Copy>(audited: &Record<A>, from: u64, to: u64) -> bool
+    requires legal { IsLegalHistory (history_of audited.now) }
+    requires last { to ≤ length audited.now.sets }
+    ensures { result ≡ not (is_within audited.now from to) }
+{
+    // For the proof: the objects and groups of the limits are there.
+    let _decided = audited.decided();
+    audited
+        .limits()
+        .over(audited.log(), audited.groups(), from, to)
+        .is_some()
+}
+
+/// The row of the first window that is over no limit, if there is one.
+pub(crate) fn first_light<A: Allocator + Copy>(audited: &Record<A>) -> Option<u64>
+    requires { IsLegalHistory (history_of audited.now) }
+    ensures none { IfNone result (AreWindowsOver audited.now) }
+    ensures some { IfSome result (λ row. IsLightRow audited.now row) }
+{
+    // For the proof: each window ends at a decided place.
+    let _decided = audited.decided();
+    for (place, window) in audited.windows().iter().enumerate() {
+        if !passes_a_limit(audited, window.from, window.to) {
+            return Some(window_row(audited, place));
+        }
+    }
+    None
+}
+
+/// The row of the first window that begins before the one before it ends, if there is one.
+pub(crate) fn first_meeting<A: Allocator + Copy>(audited: &Record<A>) -> Option<u64>
+    ensures none { IfNone result (AreWindowsApart audited.now) }
+    ensures some { IfSome result (λ row. IsMeetingRow audited.now row) }
+{
+    let mut end = 0;
+    for (place, window) in audited.windows().iter().enumerate() {
+        if window.from < end {
+            return Some(window_row(audited, place));
+        }
+        end = window.to;
+    }
+    None
+}
+
+/// The row of the first window of which something was reported before its last place was decided, if there is one.
+pub(crate) fn first_reported<A: Allocator + Copy>(audited: &Record<A>) -> Option<u64>
+    ensures none { IfNone result (AreWindowsUnreported audited.now) }
+    ensures some { IfSome result (λ row. IsReportedRow audited.now row) }
+{
+    for (place, window) in audited.windows().iter().enumerate() {
+        if audited.reported_at(window.to) > window.from {
+            return Some(window_row(audited, place));
+        }
+    }
+    None
+}

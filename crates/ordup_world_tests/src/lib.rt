@@ -4,6 +4,8 @@
 #[cfg(test)]
 mod fixtures;
 #[cfg(test)]
+mod ledgers;
+#[cfg(test)]
 mod limits;
 #[cfg(test)]
 mod primary;

@@ -1,6 +1,6 @@
 -- The definitions at small numbers, worked out by hand: no definition can change its meaning unseen.
 use Rattle.std.proofs.Common.{◌≡◌, ℕ, pos, List, [], ◌∷◌, length, replicate, map, true, refl}
-use Rattle.std.specs.Prelude.{neg_ℤ, Some, None, codes}
+use Rattle.std.specs.Prelude.{neg_ℤ, Some, None, codes, slice_index_or}
 use Rattle.ordup_objects.specs.declared.change.Change.{Change}
 use Rattle.ordup_objects.specs.declared.change.Op.{Op}
 use Rattle.ordup_objects.specs.declared.change.Op.TheVariants.{Add, Take}
@@ -8,9 +8,12 @@ use Rattle.ordup_objects.specs.declared.refusal.Refusal.TheVariants.{BadName, Na
 use Rattle.ordup_objects.specs.declared.refusal.Refusal.TheVariants.{TooMany, Empty, Repeated, LogFull}
 use Rattle.ordup_objects.specs.States.{is_legal}
 use Rattle.ordup_objects.specs.Serial.{History, serial}
+use Rattle.ordup_objects.specs.Weights.{object_weight}
 use Rattle.ordup_log.specs.Groups.{GroupList, group_refusal, member_refusal, last_members, with_member}
 use Rattle.ordup_log.specs.Spans.{weight, span}
 use Rattle.ordup_log.specs.Appending.{append_refusal}
+use Rattle.ordup_log.specs.Steps.{steps_of, as_of}
+use Rattle.ordup_log.specs.Postings.{postings_of, posted}
 use Rattle.ordup_log.specs.declared.scope.Scope.TheVariants.{Object, Group, All as Everything, Count}
 
 abbrev change : ℕ → Op → Change
@@ -43,6 +46,28 @@ spans : (span swap_and_add two_groups (Object 0) 0 2 ≡ 13)
     × (span swap_and_add two_groups Count 2 2 ≡ 0)
     × (span swap_and_add two_groups Count 2 0 ≡ 0)
 spans = (refl, refl, refl, refl, refl, refl, refl)
+
+-- a number that is 0 at the places 0 and 1, 5 at 2 and 3, and 9 at 4 and 5: it changes at 2 and at 4
+abbrev steady : ℕ → ℕ
+steady k = slice_index_or (0 ∷ 0 ∷ 5 ∷ 5 ∷ 9 ∷ 9 ∷ []) k 0
+
+steps : (steps_of steady 5 ≡ (2, 5) ∷ (4, 9) ∷ [])
+    × (steps_of steady 3 ≡ (2, 5) ∷ [])
+    × (map (as_of ((2, 5) ∷ (4, 9) ∷ [])) (0 ∷ 1 ∷ 2 ∷ 3 ∷ 4 ∷ 5 ∷ []) ≡ 0 ∷ 0 ∷ 5 ∷ 5 ∷ 9 ∷ 9 ∷ [])
+steps = (refl, refl, refl)
+
+-- z is not moved by the first update, so it has no posting there
+postings : (postings_of (object_weight swap_and_add 0) 2 ≡ (1, 10) ∷ (2, 13) ∷ [])
+    × (postings_of (object_weight swap_and_add 2) 2 ≡ (2, 4) ∷ [])
+    × (postings_of (weight swap_and_add [] Everything) 2 ≡ (1, 20) ∷ (2, 27) ∷ [])
+    × (postings_of (weight swap_and_add [] Everything) 1 ≡ (1, 20) ∷ [])
+postings = (refl, refl, refl, refl)
+
+-- one update more: it adds to the running weight, where it weighs something
+postings_more : (posted [] 1 3 ≡ (1, 3) ∷ [])
+    × (posted ((1, 3) ∷ []) 2 0 ≡ (1, 3) ∷ [])
+    × (posted ((1, 3) ∷ []) 3 2 ≡ (1, 3) ∷ (3, 5) ∷ [])
+postings_more = (refl, refl, refl)
 
 -- a log at 1,000,000,000 takes no 1 more, and 1 less: what counts is the state after all updates
 abbrev at_the_edge : History

@@ -1,6 +1,8 @@
 pub mod WeightLemmas
 pub mod SpanLemmas
 pub mod GroupLemmas
+pub mod StepLemmas
+pub mod PostingLemmas
 pub mod LogLemmas
 pub mod MostLemmas
 mod Examples

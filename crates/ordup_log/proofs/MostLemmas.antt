@@ -1,5 +1,5 @@
 -- No object and no group weighs more than all objects do.
-use Rattle.std.proofs.Common.{◌≡◌, ℕ, suc, ◌-◌, ◌<◌, ◌≤◌, pos, nat_eq, false, List, [], ◌∷◌, length}
+use Rattle.std.proofs.Common.{◌≡◌, ℕ, zero, suc, ◌+◌, ◌-◌, ◌<◌, ◌≤◌, pos, nat_eq, false, List, [], ◌∷◌, length}
 use Rattle.std.proofs.Common.{sum_by, inl, inr, arith, refl}
 use Rattle.std.specs.Prelude.{◌==◌}
 use Rattle.std.specs.List.{list_any}
@@ -58,6 +58,12 @@ object_weight-past h x j past lt =
     let next : value_at (serial h (suc j)) x ≡ pos 0 =
     get_or_past (serial h (suc j)) x (pos 0) (omega (arith, length-serial h (suc j) (omega arith))) in
     rw (here, next) refl
+
+-- and no span does on it
+pub object_span-past : (h : History) (x a n : ℕ) → length h.start ≤ x → a + n ≤ length h.sets → sum_from (object_weight h x) a n ≡ 0
+object_span-past h x a zero past le = refl
+object_span-past h x a (suc n) past le =
+    omega (arith, object_span-past h x a n past (omega arith), object_weight-past h x (a + n) past (omega arith))
 
 -- an object weighs no more than all do
 object-most : (h : History) (groups : GroupList) (x j : ℕ) → x < length h.start

@@ -1,4 +1,6 @@
 pub mod Groups
 pub mod Spans
 pub mod Appending
+pub mod Steps
+pub mod Postings
 pub mod LogInside

@@ -1,15 +1,18 @@
 -- What the fields of a log keep.
 use Rattle.std.specs.Prelude.{◌≡◌, ◌≤◌, ◌<◌, ℕ, [], length, vec_len, slice_index_or, Vec}
 use Rattle.ordup_objects.specs.Sizes.{most_updates}
-use Rattle.ordup_objects.specs.Weights.{distances_of}
+use Rattle.ordup_objects.specs.Weights.{object_weight, distances_of}
 use Rattle.ordup_objects.specs.Serial.{History, serial, IsLegalHistory}
+use Rattle.ordup_log.specs.Spans.{weight}
+use Rattle.ordup_log.specs.Postings.{postings_of}
+use Rattle.ordup_log.specs.declared.scope.Scope.TheVariants.{All as Everything}
 use Rattle.ordup_log.specs.declared.log.Log.TheInside.{Inside}
 
 module _ {A : Type 0} where
   abbrev pub history_of : Inside A → History
   history_of l = record { start = l.start; sets = l.sets.items }
 
-  -- the log is legal, the distances are those of its updates, and the end has the serial result of all of it
+  -- the log is legal, the distances and the postings are those of its updates, and the end has the serial result of all of it
   pub record IsLog (l : Inside A) : Type 0 where
     pub few : vec_len l.sets ≤ most_updates
     pub legal : IsLegalHistory (history_of l)
@@ -17,4 +20,8 @@ module _ {A : Type 0} where
     pub kept : vec_len l.distances ≡ vec_len l.sets
     pub each : (k : ℕ) (d : Vec ℕ A) → k < length l.sets.items →
         (slice_index_or l.distances.items k d).items ≡ distances_of (serial (history_of l) k) (slice_index_or l.sets.items k [])
+    pub count : length l.postings.items ≡ length l.start
+    pub posted : (x : ℕ) (d : Vec (ℕ × ℕ) A) → x < length l.start →
+        (slice_index_or l.postings.items x d).items ≡ postings_of (object_weight (history_of l) x) (length l.sets.items)
+    pub all : l.all.items ≡ postings_of (weight (history_of l) [] Everything) (length l.sets.items)
     pub end : l.end ≡ serial (history_of l) (vec_len l.sets)

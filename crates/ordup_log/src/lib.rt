@@ -6,9 +6,12 @@
 mod groups;
 mod laws;
 mod log;
+mod postings;
 mod scope;
+mod steps;
 
 pub use groups::{GroupId, Groups};
 pub use laws::{inner_spans_weigh_less, longer_histories_keep_spans, values_move_by_spans};
 pub use log::Log;
 pub use scope::Scope;
+pub use steps::as_of;

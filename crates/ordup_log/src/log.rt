@@ -1,12 +1,14 @@
 ghost use Rattle.std.specs.Prelude.{◌≡◌, ◌≤◌, ◌+◌, ◌-◌, ℕ, ◌<◌, None, IfOk, IfErr, List, [], ◌∷◌, ◌++◌, length, sum, sum_by, ◌^◌, ◌*◌};
 ghost use Rattle.ordup_objects.specs.Sizes.{greatest_distance, most_members, most_updates, greatest_weight};
 ghost use Rattle.ordup_objects.specs.Tables.{initial_state};
-ghost use Rattle.ordup_objects.specs.Weights.{distance_beside, distances_of};
+ghost use Rattle.ordup_objects.specs.Weights.{distances_of, object_weight, object_span};
 
 use crate::groups::Groups;
+use crate::postings::{no_postings, post, post_all, take_room};
 use crate::scope::Scope;
+use crate::steps::as_of;
 use ordup_objects::sizes::MOST_UPDATES;
-use ordup_objects::{Change, MessageSet, ObjectId, ObjectTable, Refusal, Results, Values};
+use ordup_objects::{MessageSet, ObjectId, ObjectTable, Refusal, Results, Values};
 use std::alloc::{Allocator, Global};
 use std::marker::Model;
 
@@ -19,6 +21,10 @@ pub struct Log<A: Allocator + Copy = Global> {
     sets: Vec<MessageSet<A>, A>,
     /// How far each change of each set moved its object's value.
     distances: Vec<Vec<u64, A>, A>,
+    /// For each object the places with a weight above 0 on it, each with the running weight up to it.
+    postings: Vec<Vec<(u64, u64), A>, A>,
+    /// The same on all objects together.
+    all: Vec<(u64, u64), A>,
     end: Values<A>,
 }
 
@@ -41,6 +47,7 @@ impl<A: Allocator + Copy> Log<A> {
     ghost use Rattle.ordup_objects.specs.Refusals.{IsRefusal};
     ghost use Rattle.ordup_log.specs.Appending.{append_refusal};
     ghost use Rattle.ordup_log.specs.Spans.{weight, span, IsScopeKnown};
+    ghost use Rattle.ordup_log.specs.Postings.{postings_of};
 
     /// A log without updates, over the initial values of the objects. It is refused `NoMemory` alone.
     pub fn new(alloc: A, objects: &ObjectTable<A>) -> Result<Self, Refusal>
@@ -72,13 +79,15 @@ impl<A: Allocator + Copy> Log<A> {
         ensures empty { IfOk result (λ log. log ≡ record { start = start; sets = [] }) }
         ensures refused { IfErr result (λ e. e ≡ Refusal.NoMemory) }
     {
-        // For the proof: the values are in range.
-        let _count = start.len();
+        let count = start.len();
         let end = start.copy(alloc)?;
+        let postings = no_postings(alloc, count)?;
         Ok(Log {
             start,
             sets: Vec::new(alloc),
             distances: Vec::new(alloc),
+            postings,
+            all: Vec::new(alloc),
             end,
         })
     }
@@ -122,13 +131,27 @@ impl<A: Allocator + Copy> Log<A> {
         let Ok(distances) = self.end.distances(alloc, &set, &results) else {
             return Err(Refusal::NoMemory);
         };
-        if self.sets.reserve(1).is_err() || self.distances.reserve(1).is_err() {
+        if self.sets.reserve(1).is_err()
+            || self.distances.reserve(1).is_err()
+            || self.all.reserve(1).is_err()
+        {
             return Err(Refusal::NoMemory);
         }
+        let Ok(()) = take_room(&mut self.postings, set.changes()) else {
+            return Err(Refusal::NoMemory);
+        };
+        let number = self.sets.len() as u64 + 1;
+        post_all(
+            &mut self.postings,
+            set.changes(),
+            distances.as_slice(),
+            number,
+        );
+        post(&mut self.all, number, total(distances.as_slice()));
         self.end.put(&set, &results);
         self.sets.push_reserved(set);
         self.distances.push_reserved(distances);
-        Ok(self.sets.len() as u64)
+        Ok(number)
     }
 
     /// The set of the update with this number.
@@ -179,19 +202,15 @@ impl<A: Allocator + Copy> Log<A> {
         ensures weight { result ≡ weight self.now groups.now scope (number - 1) }
         ensures few { result ≤ greatest_weight }
     {
-        let distances = self.distances(number);
-        match scope {
-            Scope::Object(object) => distance_beside(self.set(number).changes(), distances, object),
-            Scope::Group(group) => {
-                let members = groups.members(group);
-                distance_beside_members(self.set(number).changes(), distances, members)
-            }
-            Scope::All => total(distances),
-            Scope::Count => 1,
-        }
+        // For the proof: each update is legal, and a group has few enough members for the weight to be small.
+        let _updates = self.len();
+        let _groups = groups.len();
+        self.span(scope, groups, number - 1, number)
     }
 
     /// The weight of the span from a place to another: the sum over the updates after the first, up to the second.
+    ///
+    /// It is the difference of two running weights, each found by binary search; on a group, the sum over the members.
     pub fn span(&self, scope: Scope, groups: &Groups<A>, from: u64, to: u64) -> u64
         requires forward { from ≤ to }
         requires last { to ≤ length self.now.sets }
@@ -199,43 +218,70 @@ impl<A: Allocator + Copy> Log<A> {
         ensures span { result ≡ span self.now groups.now scope from to }
         ensures few { result ≤ most_updates * greatest_weight }
     {
-        // The prover joins the turns of a loop over a borrowed scope, not over a copied one.
-        let scope = &scope;
-        // For the proof: there are few enough updates for the sum to fit.
+        // For the proof: there are few enough updates for the weight to be small.
         let _updates = self.len();
+        match scope {
+            Scope::Object(object) => self.span_on(object, from, to),
+            Scope::Group(group) => self.span_on_members(groups.members(group), from, to),
+            Scope::All => self.running_weight_on_all(to) - self.running_weight_on_all(from),
+            Scope::Count => to - from,
+        }
+    }
+
+    /// The places with a weight above 0 on an object, ascending, each with the running weight: that of the span from 0 to it.
+    pub fn postings(&self, object: ObjectId) -> &[(u64, u64)]
+        requires { object < length self.now.start }
+        ensures postings { result.now ≡ postings_of (object_weight self.now object) (length self.now.sets) }
+        ensures legal { IsLegalHistory self.now }
+    {
+        self.postings[object.index()].as_slice()
+    }
+
+    /// What the updates up to a place weigh on an object, found by binary search. An object that is not there weighs nothing.
+    pub fn running_weight(&self, object: ObjectId, place: u64) -> u64
+        requires { place ≤ length self.now.sets }
+        ensures { result ≡ object_span self.now object 0 place }
+    {
+        if object.index() < self.objects() {
+            as_of(self.postings(object), place)
+        } else {
+            0
+        }
+    }
+
+    /// What the updates up to a place weigh on all objects.
+    fn running_weight_on_all(&self, place: u64) -> u64
+        requires { place ≤ length self.now.sets }
+        ensures { result ≡ span self.now [] Scope.All 0 place }
+    {
+        as_of(self.all.as_slice(), place)
+    }
+
+    fn span_on(&self, object: ObjectId, from: u64, to: u64) -> u64
+        requires forward { from ≤ to }
+        requires last { to ≤ length self.now.sets }
+        ensures span { result ≡ object_span self.now object from to }
+        ensures few { result ≤ most_updates * greatest_distance }
+    {
+        // For the proof: there are few enough updates, each of which weighs little.
+        let _updates = self.len();
+        self.running_weight(object, to) - self.running_weight(object, from)
+    }
+
+    /// The weights of a span on several objects, added up.
+    fn span_on_members(&self, members: &[ObjectId], from: u64, to: u64) -> u64
+        requires forward { from ≤ to }
+        requires last { to ≤ length self.now.sets }
+        requires members { length members.now ≤ most_members }
+        ensures span { result ≡ sum_by (λ x. object_span self.now x from to) members.now }
+        ensures few { result ≤ most_updates * greatest_weight }
+    {
         let mut total = 0;
-        for place in from..to {
-            total += self.weight(place + 1, *scope, groups);
+        for member in members {
+            total += self.span_on(*member, from, to);
         }
         total
     }
-}
-
-/// The number beside the change of an object, 0 where it has none.
-fn distance_beside(changes: &[Change], distances: &[u64], object: ObjectId) -> u64
-    requires { length distances.now ≡ length changes.now }
-    ensures { result ≡ distance_beside changes.now distances.now object }
-{
-    for (i, change) in changes.iter().enumerate() {
-        if change.object == object {
-            return distances[i];
-        }
-    }
-    0
-}
-
-/// The numbers beside the changes of several objects, added up.
-fn distance_beside_members(changes: &[Change], distances: &[u64], members: &[ObjectId]) -> u64
-    requires len { length distances.now ≡ length changes.now }
-    requires few { (x : ℕ) → distance_beside changes.now distances.now x ≤ greatest_distance }
-    requires members { length members.now ≤ most_members }
-    ensures { result ≡ sum_by (λ x. distance_beside changes.now distances.now x) members.now }
-{
-    let mut total = 0;
-    for member in members {
-        total += distance_beside(changes, distances, *member);
-    }
-    total
 }
 
 fn total(distances: &[u64]) -> u64

@@ -1,0 +1,178 @@
+-- Steps of numbers, and the search among them.
+use Rattle.std.proofs.Common.{◌≡◌, ℕ, zero, suc, ◌+◌, ◌-◌, ◌<◌, ◌≤◌, true, false, List, [], ◌∷◌, ◌++◌, length, get_or}
+use Rattle.std.proofs.Common.{arith, refl, sym, ap, ◌∙◌, inl, inr}
+use Rattle.std.specs.Prelude.{◌==◌, All, nat_le, if◌then◌else◌}
+use Rattle.std.specs.List.{fold}
+use Rattle.std.specs.List.Sorted.{IsNonDecreasingBy, IsPartitionPoint}
+use Rattle.std.proofs.lemmas.Bool.{cases_Bool, cases_lt, eqb-true, eqb-false, eq-eqb, ne_eqb}
+use Rattle.std.proofs.lemmas.Bool.Decides.{nat_tests}
+use Rattle.std.proofs.lemmas.List.{length_push, get_or_push}
+use Rattle.std.proofs.lemmas.List.Elements.{All-nil, All-push, All-weaker}
+use Rattle.std.proofs.lemmas.List.Sums.{fold-append}
+use Rattle.std.proofs.lemmas.List.Sorted.{IsNonDecreasingBy-short, IsNonDecreasingBy-push}
+use Rattle.ordup_objects.specs.Sums.{sum_from}
+use Rattle.ordup_log.specs.Steps.{steps_of, as_of}
+use Rattle.ordup_log.specs.Postings.{postings_of, last_weight, posted}
+
+-- ---- one step more
+
+as_of-push : (steps : List (ℕ × ℕ)) (p v k : ℕ) → as_of (steps ++ (p, v) ∷ []) k ≡ (if nat_le p k then v else as_of steps k)
+as_of-push steps p v k = fold-append _ 0 steps ((p, v) ∷ [])
+
+as_of-push_before : (steps : List (ℕ × ℕ)) (p v k : ℕ) → p ≤ k → as_of (steps ++ (p, v) ∷ []) k ≡ v
+as_of-push_before steps p v k le = let is : nat_le p k ≡ true = grind (arith, nat_tests) in as_of-push steps p v k ∙ rw is refl
+
+as_of-push_after : (steps : List (ℕ × ℕ)) (p v k : ℕ) → k < p → as_of (steps ++ (p, v) ∷ []) k ≡ as_of steps k
+as_of-push_after steps p v k lt = let is : nat_le p k ≡ false = grind (arith, nat_tests) in as_of-push steps p v k ∙ rw is refl
+
+-- ---- the steps of a number tell it
+
+-- as of a place after them all
+as_of-all : (v : ℕ → ℕ) (n k : ℕ) → v 0 ≡ 0 → n ≤ k → as_of (steps_of v n) k ≡ v n
+as_of-all v zero k none le = sym none
+as_of-all v (suc n) k none le = elim (cases_Bool (v (suc n) == v n)) [
+  | inl same ↦ rw same (as_of-all v n k none (omega arith) ∙ sym (eqb-true (v (suc n)) (v n) same))
+  | inr other ↦ rw other (as_of-push_before (steps_of v n) (suc n) (v (suc n)) k le)
+]
+
+-- and as of one among them
+pub as_of-steps : (v : ℕ → ℕ) (n k : ℕ) → v 0 ≡ 0 → k ≤ n → as_of (steps_of v n) k ≡ v k
+as_of-steps v zero k none le = let at : k ≡ 0 = omega arith in rw at (sym none)
+as_of-steps v (suc n) k none le = elim (cases_lt k (suc n)) [
+  | inl lt ↦ elim (cases_Bool (v (suc n) == v n)) [
+    | inl same ↦ rw same (as_of-steps v n k none (omega arith))
+    | inr other ↦ rw other (as_of-push_after (steps_of v n) (suc n) (v (suc n)) k lt ∙ as_of-steps v n k none (omega arith))
+  ]
+  | inr past ↦ (let at : k ≡ suc n = omega arith in rw at (as_of-all v (suc n) (suc n) none (omega arith)))
+]
+
+-- ---- their places rise
+
+steps-within : (v : ℕ → ℕ) (n : ℕ) → All (λ step. step.0 ≤ n) (steps_of v n)
+steps-within v zero = All-nil (λ (step : ℕ × ℕ). step.0 ≤ 0)
+steps-within v (suc n) =
+    let before =
+    All-weaker (λ (step : ℕ × ℕ). step.0 ≤ n) (λ step. step.0 ≤ suc n) (λ step le. omega arith) (steps_of v n) (steps-within v n) in
+    elim (cases_Bool (v (suc n) == v n)) [
+      | inl same ↦ rw same before
+      | inr other ↦ rw other (All-push (λ (step : ℕ × ℕ). step.0 ≤ suc n) (steps_of v n) (suc n, v (suc n)) before (omega arith))
+    ]
+
+pub steps-rise : (v : ℕ → ℕ) (n : ℕ) → IsNonDecreasingBy (λ step. step.0) (steps_of v n)
+steps-rise v zero = IsNonDecreasingBy-short (λ (step : ℕ × ℕ). step.0) [] (omega arith)
+steps-rise v (suc n) = elim (cases_Bool (v (suc n) == v n)) [
+  | inl same ↦ rw same (steps-rise v n)
+  | inr other ↦ rw other (IsNonDecreasingBy-push (λ (step : ℕ × ℕ). step.0) (steps_of v n) (suc n, v (suc n)) (steps-rise v n)
+      (λ d some.
+      let le : (get_or (steps_of v n) (length (steps_of v n) - 1) d).0 ≤ n =
+      steps-within v n (length (steps_of v n) - 1) d (omega arith) in
+      omega arith))
+]
+
+-- ---- the search
+
+-- a number at the front of steps that all come after a place
+found_none : (steps : List (ℕ × ℕ)) (k v : ℕ) → All (λ step. nat_le step.0 k ≡ false) steps
+    → fold (λ w step. if nat_le step.0 k then step.1 else w) v steps ≡ v
+found_none [] k v after = refl
+found_none (step ∷ steps) k v after =
+    rw (after 0 step (omega arith)) (found_none steps k v (λ j e lt. after (suc j) e (omega arith)))
+
+-- the first i steps are at or before a place, and the others after it
+abbrev pub AreSplit : List (ℕ × ℕ) → ℕ → ℕ → Type 0
+AreSplit steps k i = IsPartitionPoint (λ step. nat_le step.0 k ≡ true) (λ step. nat_le step.0 k ≡ false) steps i
+
+-- a number that the first i + 1 steps changed, and no later one
+found_some : (steps : List (ℕ × ℕ)) (k i v : ℕ) (d : ℕ × ℕ) → i < length steps → AreSplit steps k (suc i)
+    → fold (λ w step. if nat_le step.0 k then step.1 else w) v steps ≡ (get_or steps i d).1
+found_some [] k i v d lt point = absurd (omega (arith, lt))
+found_some (step ∷ steps) k zero v d lt point =
+    rw (point.0 0 step (omega arith) (omega arith))
+    (found_none steps k step.1 (λ j e below. point.1 (suc j) e (omega arith) (omega arith)))
+found_some (step ∷ steps) k (suc i) v d lt point =
+    let rest : AreSplit steps k (suc i) = (
+      λ j e low high. point.0 (suc j) e (omega arith) (omega arith),
+      λ j e low high. point.1 (suc j) e (omega arith) (omega arith),
+    ) in
+    rw (point.0 0 step (omega arith) (omega arith)) (found_some steps k i step.1 d (omega arith) rest)
+
+-- what a search found: no step, or the last of some
+pub as_of-none : (steps : List (ℕ × ℕ)) (k : ℕ) → AreSplit steps k 0 → as_of steps k ≡ 0
+as_of-none steps k point = found_none steps k 0 (λ j e lt. point.1 j e (omega arith) lt)
+
+pub as_of-some : (steps : List (ℕ × ℕ)) (k i : ℕ) (d : ℕ × ℕ) → 0 < i → i ≤ length steps → AreSplit steps k i
+    → as_of steps k ≡ (get_or steps (i - 1) d).1
+as_of-some steps k zero d some le point = absurd (omega (arith, some))
+as_of-some steps k (suc i) d some le point =
+    let e : suc i - 1 ≡ i = omega arith in
+    rw e (found_some steps k i 0 d (omega arith) point)
+
+-- ---- postings are the steps of the running weight
+
+postings-steps : (f : ℕ → ℕ) (n : ℕ) → postings_of f n ≡ steps_of (sum_from f 0) n
+postings-steps f zero = refl
+postings-steps f (suc n) =
+    let e : 0 + n ≡ n = omega arith in
+    let next : ℕ = sum_from f 0 (suc n) in
+    let here : ℕ = sum_from f 0 n in
+    elim (cases_Bool (f n == 0)) [
+      | inl none ↦ (let same : (next == here) ≡ true = eq-eqb next here (omega (arith, ap f e, eqb-true (f n) 0 none)) in
+          rw (none, same) (postings-steps f n))
+      | inr some ↦ (let other : (next == here) ≡ false =
+          ne_eqb next here (λ h. eqb-false (f n) 0 some (omega (arith, h, ap f e))) in
+          rw (some, other) (ap (λ l. l ++ (suc n, next) ∷ []) (postings-steps f n)))
+    ]
+
+-- as of a place they tell the running weight
+as_of-postings : (f : ℕ → ℕ) (n k : ℕ) → k ≤ n → as_of (postings_of f n) k ≡ sum_from f 0 k
+as_of-postings f n k le = ap (λ l. as_of l k) (postings-steps f n) ∙ as_of-steps (sum_from f 0) n k refl le
+
+postings-rise : (f : ℕ → ℕ) (n : ℕ) → IsNonDecreasingBy (λ posting. posting.0) (postings_of f n)
+postings-rise f n = rw (postings-steps f n) (steps-rise (sum_from f 0) n)
+
+-- the last of them tells the running weight through all
+last_weight-push : (steps : List (ℕ × ℕ)) (p v : ℕ) → last_weight (steps ++ (p, v) ∷ []) ≡ v
+last_weight-push steps p v =
+    ap (λ s. s.1)
+    (get_or_push steps (p, v) (0, 0) (length (steps ++ (p, v) ∷ []) - 1) (omega (arith, length_push steps (p, v))))
+
+pub last_weight-postings : (f : ℕ → ℕ) (n : ℕ) → last_weight (postings_of f n) ≡ sum_from f 0 n
+last_weight-postings f zero = refl
+last_weight-postings f (suc n) = elim (cases_Bool (f n == 0)) [
+  | inl none ↦ (let e : 0 + n ≡ n = omega arith in rw none (omega (arith, last_weight-postings f n, eqb-true (f n) 0 none, ap f e)))
+  | inr some ↦ rw some (last_weight-push (postings_of f n) (suc n) (sum_from f 0 (suc n)))
+]
+
+-- the postings of one place more
+postings-more : (f : ℕ → ℕ) (n : ℕ) → postings_of f (suc n) ≡ posted (postings_of f n) (suc n) (f n)
+postings-more f n =
+    let e : 0 + n ≡ n = omega arith in
+    let sum : sum_from f 0 (suc n) ≡ last_weight (postings_of f n) + f n = omega (arith, last_weight-postings f n, ap f e) in
+    rw sum refl
+
+-- weights that are the same have the same postings
+postings-same : (f g : ℕ → ℕ) (n : ℕ) → ((j : ℕ) → j < n → f j ≡ g j) → postings_of f n ≡ postings_of g n
+postings-same f g zero same = refl
+postings-same f g (suc n) same =
+    postings-more f n
+    ∙ rw (postings-same f g n (λ j lt. same j (omega arith)), same n (omega arith)) (sym (postings-more g n))
+
+-- postings that one place more was posted on
+pub postings-grown : (f g : ℕ → ℕ) (n number w : ℕ) (old new : List (ℕ × ℕ)) → old ≡ postings_of f n → new ≡ posted old number w
+    → ((j : ℕ) → j < n → f j ≡ g j) → w ≡ g n → number ≡ suc n
+    → new ≡ postings_of g (suc n)
+postings-grown f g n number w old new is more same weight at =
+    more ∙ rw (is, at, weight, postings-same f g n same) (sym (postings-more g n))
+
+-- ---- postings that a caller has
+
+module _ (f : ℕ → ℕ) (n : ℕ) (postings : List (ℕ × ℕ)) (are : postings ≡ postings_of f n) where
+  -- they can be searched
+  pub sorted-in : IsNonDecreasingBy (λ posting. posting.0) postings
+  sorted-in = rw are (postings-rise f n)
+
+  -- and tell the weight of each span from the start
+  pub as_of-in : (k : ℕ) → k ≤ n → as_of postings k ≡ sum_from f 0 (k - 0)
+  as_of-in k le =
+      let e : k - 0 ≡ k = omega arith in
+      rw (are, e) (as_of-postings f n k le)

@@ -1,0 +1,10 @@
+use Rattle.std.proofs.Common.{◌≡◌, [], length}
+use Rattle.std.specs.Prelude.{All}
+use Rattle.ordup_log.proofs.postings.no_postings.Given as goal
+
+-- no postings of the objects so far
+abbrev pub invariant-loop-object : goal.invariant-loop-object
+invariant-loop-object g l = record {
+  count : length l.postings.items ≡ l._object;
+  none : All (λ list. list.items ≡ []) l.postings.items;
+}

@@ -6,4 +6,6 @@ mod log;
 #[cfg(test)]
 mod names;
 #[cfg(test)]
+mod postings;
+#[cfg(test)]
 mod sizes;

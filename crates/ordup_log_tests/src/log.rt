@@ -6,7 +6,7 @@ use std::process::Abort;
 use std::test::Fail;
 
 /// The objects x at 0 and y at 10.
-fn x_and_y(alloc: Global) -> Result<ObjectTable, Refusal> {
+pub(crate) fn x_and_y(alloc: Global) -> Result<ObjectTable, Refusal> {
     let mut objects = ObjectTable::new(alloc);
     objects.declare(b"x", 0)?;
     objects.declare(b"y", 10)?;
@@ -30,7 +30,12 @@ fn append(log: &mut Log, set: MessageSet) -> Result<u64, Refusal> {
 }
 
 /// Appends the update that adds a number to x.
-fn add(alloc: Global, objects: &ObjectTable, log: &mut Log, n: i64) -> Result<u64, Refusal> {
+pub(crate) fn add(
+    alloc: Global,
+    objects: &ObjectTable,
+    log: &mut Log,
+    n: i64,
+) -> Result<u64, Refusal> {
     let change = Change {
         object: ObjectId::new(0),
         op: Op::Add(n),
@@ -49,7 +54,7 @@ fn up_and_down(alloc: Global) -> Result<Log, Refusal> {
 }
 
 /// What the span between two places weighs on x, on y, on all and on the count.
-fn span(rt: &impl Abort, log: &Log, groups: &Groups, from: u64, to: u64) -> [u64; 4] {
+pub(crate) fn span(rt: &impl Abort, log: &Log, groups: &Groups, from: u64, to: u64) -> [u64; 4] {
     assert!(rt; log.objects() == 2 && from <= to && to <= log.len());
     let (x, y) = (ObjectId::new(0), ObjectId::new(1));
     [

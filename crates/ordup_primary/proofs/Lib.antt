@@ -1,6 +1,5 @@
 pub mod DecisionLemmas
 pub mod SettlingLemmas
-pub mod MarkLemmas
 mod LedgerLemmas
 pub mod PrimaryLemmas
 pub mod SetupLemmas

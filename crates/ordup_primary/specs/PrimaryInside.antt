@@ -1,6 +1,5 @@
 -- A primary in the fields of a `Primary`.
 use Rattle.std.specs.Prelude.{◌≡◌, ℕ, ◌+◌, map, length, replicate, List, [], ◌<◌, ◌≤◌, Bool, not, vec_len, vec_capacity, slice_index_or}
-use Rattle.ordup_objects.specs.Marks.{AreMarks}
 use Rattle.ordup_objects.specs.Serial.{History}
 use Rattle.ordup_objects.specs.Tables.{initial_state}
 use Rattle.ordup_log.specs.Groups.{GroupList}
@@ -69,10 +68,7 @@ module _ {A : Type 0} where
       × (vec_len site.rounds < vec_capacity site.rounds)
       × (vec_len site.windows < vec_capacity site.windows)
 
-  -- what the fields keep: they stand for a primary, there is a mark for each object, by the acknowledged updates, and a ledger for
-  -- each site
+  -- what the fields keep: they stand for a primary, and there is a ledger for each site
   pub record KeepsSums (p : Inside A) : Type 0 where
     pub primary : IsPrimary (state_of p)
-    pub count : length p.marks.items ≡ length p.log.start
-    pub marks : AreMarks p.log p.acked p.marks.items
     pub ledgers : AreLedgers (state_of p) p.ledgers.items

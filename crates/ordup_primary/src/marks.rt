@@ -1,46 +1,34 @@
-ghost use Rattle.std.specs.Prelude.{◌≡◌, ◌≤◌, ◌<◌, ◌-◌, ℕ, [], length, IfOk, IfErr};
+ghost use Rattle.std.specs.Prelude.{◌≡◌, ◌≤◌, ℕ, length, IfOk, IfErr};
 ghost use Rattle.ordup_objects.specs.Marks.{AreMarks};
+ghost use Rattle.ordup_objects.specs.Sizes.{most_objects};
 
-use ordup_log::{Groups, Log, Scope};
-use ordup_objects::Refusal;
+use ordup_log::Log;
+use ordup_objects::{ObjectId, Refusal};
 use std::alloc::Allocator;
 
-/// The marks of no update over a log's objects: 0 for each.
-pub(crate) fn first_marks<A: Allocator + Copy>(
+/// The marks of a place: for each object of a log, how much the updates up to the place weigh on it.
+///
+/// It is refused `NoMemory` alone.
+pub(crate) fn marks_of<A: Allocator + Copy>(
     alloc: A,
     log: &Log<A>,
+    place: u64,
 ) -> Result<Vec<u64, A>, Refusal>
+    requires objects { length log.now.start ≤ most_objects }
+    requires last { place ≤ length log.now.sets }
     ensures count { IfOk result (λ marks. length marks.items ≡ length log.now.start) }
-    ensures marks { IfOk result (λ marks. AreMarks log.now 0 marks.items) }
+    ensures marks { IfOk result (λ marks. AreMarks log.now place marks.items) }
     ensures refused { IfErr result (λ e. e ≡ Refusal.NoMemory) }
 {
-    match Vec::from_elem(alloc, 0, log.objects()) {
-        Ok(marks) => Ok(marks),
-        Err(_) => Err(Refusal::NoMemory),
+    let count = log.objects();
+    let Ok(mut marks) = Vec::with_capacity(alloc, count) else {
+        return Err(Refusal::NoMemory);
+    };
+    for index in 0..count {
+        let object = ObjectId::new(index as u16);
+        if marks.push(log.running_weight(object, place)).is_err() {
+            return Err(Refusal::NoMemory);
+        }
     }
-}
-
-/// Raises the marks of the updates before a place to those of the updates up to it.
-///
-/// It weighs the objects that the update at the place changes, and looks at no other.
-pub(crate) fn raise<A: Allocator + Copy>(
-    marks: &mut Vec<u64, A>,
-    log: &Log<A>,
-    groups: &Groups<A>,
-    place: u64,
-)
-    requires first { 0 < place }
-    requires last { place ≤ length log.now.sets }
-    requires count { length marks.old.items ≡ length log.now.start }
-    requires before { AreMarks log.now (place - 1) marks.old.items }
-    ensures count { length marks.new.items ≡ length log.now.start }
-    ensures marks { AreMarks log.now place marks.new.items }
-{
-    // For the proof: there are few enough updates for the marks to fit.
-    let _updates = log.len();
-    let changes = log.set(place).changes();
-    for change in changes {
-        let object = change.object;
-        marks[object.index()] += log.weight(place, Scope::Object(object), groups);
-    }
+    Ok(marks)
 }

@@ -5,7 +5,7 @@ ghost use Rattle.ordup_primary.specs.Primaries.{first_progress};
 
 use crate::decisions::{last_place, put_down, take_room};
 use crate::ledgers::{extend_to, first_ledgers, sites_over};
-use crate::marks::raise;
+use crate::marks::marks_of;
 use crate::parcel::Parcel;
 use crate::progress::Progress;
 use crate::settled::Settled;
@@ -29,8 +29,6 @@ pub struct Primary<A: Allocator + Copy = Global> {
     acked: u64,
     decided: u64,
     sites: Vec<Progress<A>, A>,
-    /// For each object how much the acknowledged updates weigh on it.
-    marks: Vec<u64, A>,
     /// For each site what the updates up to the head weigh that it has not reported.
     ledgers: Vec<LagLedger<A>, A>,
 }
@@ -68,7 +66,7 @@ impl<A: Allocator + Copy> Primary<A> {
         ensures sound { IfOk result (λ p. IsPrimary p) }
         ensures refused { IfErr result (λ e. e ≡ Refusal.NoMemory) }
     {
-        let (log, sites, marks) = first_parts(alloc, &setup)?;
+        let (log, sites) = first_parts(alloc, &setup)?;
         let ledgers = first_ledgers(alloc, &setup)?;
         Ok(Primary {
             setup,
@@ -76,7 +74,6 @@ impl<A: Allocator + Copy> Primary<A> {
             acked: 0,
             decided: 0,
             sites,
-            marks,
             ledgers,
         })
     }
@@ -252,10 +249,9 @@ impl<A: Allocator + Copy> Primary<A> {
         ensures marks { IfOk result (λ marks. AreMarks self.now.log self.now.acked marks.items) }
         ensures refused { IfErr result (λ e. e ≡ Refusal.NoMemory) }
     {
-        match Vec::from_slice(*self.marks.allocator(), self.marks.as_slice()) {
-            Ok(marks) => Ok(marks),
-            Err(_) => Err(Refusal::NoMemory),
-        }
+        // For the proof: there are few enough objects.
+        let _objects = self.setup.objects().len();
+        marks_of(*self.sites.allocator(), &self.log, self.acked)
     }
 
     /// The first settlement of the head, which decides it.
@@ -274,7 +270,6 @@ impl<A: Allocator + Copy> Primary<A> {
         put_down(&mut self.sites, forced.as_slice(), head);
         self.decided = head;
         if forced.as_slice().is_empty() {
-            raise(&mut self.marks, &self.log, self.setup.groups(), head);
             self.acked = head;
             return Ok(Settled::Acked(head));
         }
@@ -297,7 +292,6 @@ impl<A: Allocator + Copy> Primary<A> {
     {
         let waiting = self.waiting_now(head)?;
         if waiting.as_slice().is_empty() {
-            raise(&mut self.marks, &self.log, self.setup.groups(), head);
             self.acked = head;
             return Ok(Settled::Acked(head));
         }

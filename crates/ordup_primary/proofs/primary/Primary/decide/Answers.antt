@@ -1,4 +1,4 @@
-use Rattle.std.proofs.Common.{arith, ap, sym, ◌∙◌, ◌≡◌, ◌-◌, length, ◌==◌}
+use Rattle.std.proofs.Common.{arith, ap, sym, ◌∙◌, length, ◌==◌}
 use Rattle.ordup_primary.specs.PrimaryInside.{state_of}
 use Rattle.ordup_primary.proofs.PrimaryLemmas.{IsPrimary-decided, Decides-at, acked-none, acked-some}
 use Rattle.ordup_primary.proofs.LedgerLemmas.{AreLedgers-decided}
@@ -10,16 +10,8 @@ invariant_of-self g c =
     let same = c.in_err-take_room.ensures.same in
     record {
       primary = rw same before.primary;
-      count = before.count;
-      marks = before.marks;
       ledgers = rw same before.ledgers;
     }
-
-pub raise-requires-clause-before : goal.raise-requires-clause-before
-raise-requires-clause-before g c =
-    let is = c.self.view_is ∙ c.in_ok-forced.ensures.same in
-    let before : c.args.head - 1 ≡ c.self.inside.acked = omega (arith, rw (← is) at c.requires.head) in
-    rw before c.self.invariant.marks
 
 pub invariant_of-self-then-is_empty : goal.invariant_of-self-then-is_empty
 invariant_of-self-then-is_empty g c =
@@ -36,8 +28,6 @@ invariant_of-self-then-is_empty g c =
           IsPrimary-decided (state_of c.self.inside) _ c.self.invariant.primary (rw (← is) at c.requires.first)
           (omega (arith, here, rw (← is) at c.requires.some))
           decides;
-      count = c.raise.ensures.count;
-      marks = c.raise.ensures.marks;
       ledgers = AreLedgers-decided (state_of c.self.inside) _ c.self.inside.ledgers.items c.self.invariant.ledgers
           (omega (arith, here)) decides;
     }
@@ -67,8 +57,6 @@ invariant_of-self-else-is_empty g c =
           IsPrimary-decided (state_of c.self.inside) _ c.self.invariant.primary (rw (← is) at c.requires.first)
           (omega (arith, here, rw (← is) at c.requires.some))
           decides;
-      count = c.self.invariant.count;
-      marks = c.self.invariant.marks;
       ledgers = AreLedgers-decided (state_of c.self.inside) _ c.self.inside.ledgers.items c.self.invariant.ledgers
           (omega (arith, here)) decides;
     }

@@ -19,8 +19,6 @@ invariant_of-self g c =
     let before = c.self.invariant in
     record {
       primary = before.primary;
-      count = before.count;
-      marks = before.marks;
       ledgers =
           AreLedgers-extended (state_of c.self.inside) c.self.inside.ledgers.items c.extend_to.new.ledgers.items c.args.head before.ledgers
           c.extend_to.ensures.count (rw (← c.self.view_is) at c.requires.head)

@@ -20,8 +20,6 @@ invariant_of-self g c =
     sent_more c.index.ensures lt c.index_mut.ensures.value refl in
     record {
       primary = IsPrimary-sent c.self.inside _ c.args.site c.self.invariant.primary lt (rw (← c.self.view_is) at c.requires.unsent) e;
-      count = c.self.invariant.count;
-      marks = c.self.invariant.marks;
       ledgers =
           AreLedgers-with_site (state_of c.self.inside) c.self.inside.ledgers.items c.args.site _ _ c.self.invariant.ledgers lt refl e;
     }

@@ -16,13 +16,10 @@ invariant_of-result g c =
             acked = 0;
             decided = 0;
             sites = c.in_ok-log.sites;
-            marks = c.in_ok-log.marks;
             ledgers = c.in_ok-ledgers.ledgers;
           }))
           (rw c.setup.view_is at c.setup.invariant) c.requires c.in_ok-log.ensures.log c.in_ok-log.ensures.legal
           refl refl c.in_ok-log.ensures.sites;
-      count = c.in_ok-log.ensures.count;
-      marks = c.in_ok-log.ensures.marks;
       ledgers = AreLedgers-kept (first_state c.args.setup) _ c.in_ok-ledgers.ledgers.items c.in_ok-ledgers.ensures.ledgers refl
           c.in_ok-log.ensures.log (omega arith) (ap length c.in_ok-log.ensures.sites)
           (λ s lt. ap (λ (sites : List SiteProgress). (get_or sites s first_progress).reported) c.in_ok-log.ensures.sites);
@@ -38,7 +35,6 @@ returns-clause-sound g c =
       acked = 0;
       decided = 0;
       sites = c.in_ok-log.sites;
-      marks = c.in_ok-log.marks;
       ledgers = c.in_ok-ledgers.ledgers;
     }))
     (rw c.setup.view_is at c.setup.invariant) c.requires c.in_ok-log.ensures.log c.in_ok-log.ensures.legal

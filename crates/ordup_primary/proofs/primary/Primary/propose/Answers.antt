@@ -1,7 +1,6 @@
-use Rattle.std.proofs.Common.{arith, rules, ◌∷◌, []}
+use Rattle.std.proofs.Common.{rules}
 use Rattle.ordup_objects.specs.Sets.{IsSet}
 use Rattle.ordup_primary.specs.PrimaryInside.{state_of}
-use Rattle.ordup_objects.proofs.SpanLemmas.{AreMarks-longer}
 use Rattle.ordup_primary.proofs.PrimaryLemmas.{IsPrimary-proposed}
 use Rattle.ordup_primary.proofs.LedgerLemmas.{AreLedgers-proposed}
 use Rattle.ordup_primary.proofs.primary.Primary.propose.Goals as goal
@@ -14,10 +13,6 @@ invariant_of-self-2 g c =
       primary =
           IsPrimary-proposed (state_of c.self.inside) c.args.set before.primary set (rw (← c.self.view_is) at c.requires)
           c.in_ok-number.ensures.allowed;
-      count = before.count;
-      marks =
-          AreMarks-longer c.self.inside.log c.self.inside.acked c.self.inside.marks.items (c.args.set ∷ [])
-          (omega (arith, before.primary.acked, before.primary.decided)) before.marks;
       ledgers = AreLedgers-proposed (state_of c.self.inside) c.args.set c.self.inside.ledgers.items before.ledgers;
     })
 

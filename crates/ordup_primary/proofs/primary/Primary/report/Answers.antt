@@ -18,8 +18,6 @@ invariant_of-self g c =
       primary =
           IsPrimary-reported c.self.inside _ c.args.site c.args.place c.self.invariant.primary lt
           (rw (← c.self.view_is) at c.requires.risen) (rw (← c.self.view_is) at c.requires.sent) e;
-      count = c.self.invariant.count;
-      marks = c.self.invariant.marks;
       ledgers =
           (let x = c.index_mut-2.result.now in
           let l = c.reported.new.self in

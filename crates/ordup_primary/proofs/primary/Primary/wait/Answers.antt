@@ -1,4 +1,4 @@
-use Rattle.std.proofs.Common.{arith, ◌∙◌, ◌≡◌, ◌-◌, ap, refl}
+use Rattle.std.proofs.Common.{arith, ◌∙◌, ◌≡◌, ap, refl}
 use Rattle.ordup_primary.specs.Primaries.{PrimaryState, acked_after, waiting_now}
 use Rattle.ordup_primary.specs.PrimaryInside.{state_of}
 use Rattle.ordup_primary.proofs.PrimaryLemmas.{IsPrimary-acked, nil-from_empty, acked-none}
@@ -13,8 +13,6 @@ invariant_of-self g c =
           IsPrimary-acked (state_of c.self.inside) c.as_slice.result.now c.args.head c.self.invariant.primary
           (rw (← c.self.view_is) at c.requires.later) (rw (← c.self.view_is) at c.requires.head) waiting
           (nil-from_empty c.as_slice.result.now c.if-is_empty.ensures);
-      count = c.raise.ensures.count;
-      marks = c.raise.ensures.marks;
       ledgers =
           AreLedgers-kept (state_of c.self.inside) (record (state_of c.self.inside) { acked = c.args.head }) c.self.inside.ledgers.items
           c.self.invariant.ledgers refl refl (omega (arith, rw (← c.self.view_is) at c.requires.head)) refl (λ s lt. refl);
@@ -26,11 +24,6 @@ returns-then-is_empty-clause-sound g c =
     IsPrimary-acked (state_of c.self.inside) c.as_slice.result.now c.args.head c.self.invariant.primary
     (rw (← c.self.view_is) at c.requires.later) (rw (← c.self.view_is) at c.requires.head) waiting
     (nil-from_empty c.as_slice.result.now c.if-is_empty.ensures)
-
-pub raise-requires-clause-before : goal.raise-requires-clause-before
-raise-requires-clause-before g c =
-    let before : c.args.head - 1 ≡ c.self.inside.acked = omega (arith, rw (← c.self.view_is) at c.requires.head) in
-    rw before c.self.invariant.marks
 
 pub returns-then-is_empty-clause-later : goal.returns-then-is_empty-clause-later
 returns-then-is_empty-clause-later g c =

@@ -1,0 +1,67 @@
+//! The postings of a log, and spans by them.
+use crate::log::{add, span, x_and_y};
+use ordup_log::{Groups, Log, as_of};
+use ordup_objects::{ObjectId, ObjectTable, Refusal};
+use std::alloc::Global;
+use std::process::Abort;
+use std::test::Fail;
+
+/// The log over x and y in which 1 is added to x at each odd place and taken from it at each even one, 10,000 updates in all.
+fn to_and_fro(alloc: Global, objects: &ObjectTable) -> Result<Log, Refusal> {
+    let mut log = Log::new(alloc, objects)?;
+    for _pair in 0..5_000 {
+        add(alloc, objects, &mut log, 1)?;
+        add(alloc, objects, &mut log, -1)?;
+    }
+    Ok(log)
+}
+
+/// How many postings an object has, and the last of them.
+fn postings_of(rt: &impl Abort, log: &Log, object: ObjectId) -> (usize, Option<(u64, u64)>) {
+    assert!(rt; object.index() < log.objects());
+    let postings = log.postings(object);
+    (postings.len(), postings.last().copied())
+}
+
+#[test]
+fn each_update_that_moves_an_object_has_a_posting(rt: HostRuntime) -> Result<(), Fail> {
+    let objects = x_and_y(rt.alloc())?;
+    let log = to_and_fro(rt.alloc(), &objects)?;
+    let groups = Groups::new(rt.alloc());
+    assert_eq!(rt;
+        span(&rt, &log, &groups, 0, 10_000),
+        [10_000, 0, 10_000, 10_000]
+    );
+    assert_eq!(rt;
+        span(&rt, &log, &groups, 2_500, 7_500),
+        [5_000, 0, 5_000, 5_000]
+    );
+    let (x, y) = (ObjectId::new(0), ObjectId::new(1));
+    assert_eq!(rt; postings_of(&rt, &log, x), (10_000, Some((10_000, 10_000))));
+    assert_eq!(rt; postings_of(&rt, &log, y), (0, None));
+    assert!(rt; log.objects() == 2);
+    assert_eq!(rt; log.end_value(x), 0);
+    Ok(())
+}
+
+#[test]
+fn running_weights_are_those_as_of_a_place(rt: HostRuntime) -> Result<(), Fail> {
+    let objects = x_and_y(rt.alloc())?;
+    let mut log = Log::new(rt.alloc(), &objects)?;
+    // 3 up, no way, and 2 down.
+    add(rt.alloc(), &objects, &mut log, 3)?;
+    add(rt.alloc(), &objects, &mut log, 0)?;
+    add(rt.alloc(), &objects, &mut log, -2)?;
+    assert!(rt; log.len() == 3);
+    let (x, z) = (ObjectId::new(0), ObjectId::new(2));
+    assert_eq!(rt; log.running_weight(x, 0), 0);
+    assert_eq!(rt; log.running_weight(x, 2), 3);
+    assert_eq!(rt; log.running_weight(x, 3), 5);
+    assert_eq!(rt; log.running_weight(z, 3), 0);
+    // The postings of x.
+    let steps = [(1, 3), (3, 5)];
+    assert_eq!(rt; as_of(&steps, 0), 0);
+    assert_eq!(rt; as_of(&steps, 2), 3);
+    assert_eq!(rt; as_of(&steps, 4), 5);
+    Ok(())
+}

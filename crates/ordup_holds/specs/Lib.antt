@@ -1,0 +1,7 @@
+pub mod Books
+pub mod BookInside
+pub mod Cells
+pub mod CellInside
+pub mod Turning
+pub mod Waiting
+pub mod Agreement

@@ -1,6 +1,6 @@
 -- The ends of the feeds stay those of the primary's sites.
-use Rattle.std.proofs.Common.{◌≡◌, ◌≢◌, ◌⊎◌, ℕ, zero, suc, ◌+◌, ◌-◌, ◌<◌, ◌≤◌, List, [], ◌∷◌, ◌++◌, length, take, Some, refl, sym, ap, ◌∙◌, subst}
-use Rattle.std.proofs.Common.{arith, add-one, inl, inr, ⊎_elim}
+use Rattle.std.proofs.Common.{◌≡◌, ◌≢◌, ◌⊎◌, ℕ, zero, suc, ◌+◌, ◌-◌, ◌<◌, ◌≤◌, List, [], ◌∷◌, ◌++◌, length, take, Some}
+use Rattle.std.proofs.Common.{refl, sym, ap, ◌∙◌, subst, arith, add-one, inl, inr, ⊎_elim}
 use Rattle.std.specs.Prelude.{slice_get, slice_set, slice_index_or, if◌then◌else◌, ◌&&◌, not, nat_lt}
 use Rattle.std.proofs.Math.Seq.{take-suc}
 use Rattle.std.proofs.Math.ListN.{length-set}
@@ -81,7 +81,8 @@ keeps-settled p q ends same kept = record {
 -- one site changes, and its end
 pub progress-other : (p q : PrimaryState) (s t : ℕ) (site : SiteProgress) → q ≡ with_progress p s site → t ≢ s
     → progress_at q t ≡ progress_at p t
-progress-other p q s t site is other = ap (λ (r : PrimaryState). progress_at r t) is ∙ get_or-set_other p.sites s t site first_progress other
+progress-other p q s t site is other =
+    ap (λ (r : PrimaryState). progress_at r t) is ∙ get_or-set_other p.sites s t site first_progress other
 
 pub keeps-at : (p q : PrimaryState) (ends : List Sending) (s : ℕ) (site : SiteProgress) (f : Sending) → KeepsBook p ends
     → q ≡ with_progress p s site → IsTied q s f → KeepsBook q (slice_set ends s f)

@@ -6,4 +6,5 @@ pub apply-requires : goal.apply-requires
 apply-requires c =
     rw c.set.ensures.set
     (known-at _ c.loop-number.values c.loop-number.number c.set.ensures.legal
-    (let there = c.requires.there in let end = c.loop-number.auto.number-end in let at = c.loop-number-test.true in omega arith) c.loop-number.invariant)
+    (let there = c.requires.there in let end = c.loop-number.auto.number-end in let at = c.loop-number-test.true in omega arith)
+    c.loop-number.invariant)

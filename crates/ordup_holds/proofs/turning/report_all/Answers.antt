@@ -9,7 +9,9 @@ pub loop-place-init : goal.loop-place-init
 loop-place-init g c = record {
   kept = c.requires.kept;
   upto = upto-none Reported _;
-  sites = let count = c.acked-acked.ensures.sound.count in omega (arith, count, c.sites-place-end.ensures.sites, ap (λ (d : Declared). length d.sites) c.setup.ensures);
+  sites =
+      let count = c.acked-acked.ensures.sound.count in
+      omega (arith, count, c.sites-place-end.ensures.sites, ap (λ (d : Declared). length d.sites) c.setup.ensures);
 }
 
 pub report-requires-clause-tied : goal.report-requires-clause-tied

@@ -1,10 +1,10 @@
 -- Sites that apply what was taken, and logs that are applied again.
-use Rattle.std.proofs.Common.{◌≡◌, ℕ, ◌+◌, ◌-◌, ◌<◌, List, [], ◌∷◌, ◌++◌, length, true, sym, ap, ◌∙◌, arith, add-one}
+use Rattle.std.proofs.Common.{◌≡◌, ℕ, ◌+◌, ◌-◌, ◌<◌, List, [], ◌∷◌, ◌++◌, length, sym, ap, ◌∙◌, arith}
 use Rattle.std.proofs.lemmas.List.{length-map, length_push, map-append}
-use Rattle.ordup_objects.specs.States.{State, is_legal, after}
+use Rattle.ordup_objects.specs.States.{State}
 use Rattle.ordup_objects.specs.Sets.{AreKnown}
 use Rattle.ordup_objects.specs.Serial.{History, serial, set_at, with_update, IsLegalHistory}
-use Rattle.ordup_objects.proofs.SerialLemmas.{length-serial, serial-suc}
+use Rattle.ordup_objects.proofs.SerialLemmas.{length-serial}
 use Rattle.ordup_site.specs.Sites.{SiteState, HasApplied}
 use Rattle.ordup_feed.specs.Parcels.{PlainParcel, history_of}
 
@@ -27,19 +27,10 @@ taken-more s t start ps p held last =
     let next : length (history_of start ps).sets + 1 ≡ length (ps ++ p ∷ []) = omega (arith, count, length_push ps p) in
     rw (map-append (λ (q : PlainParcel). q.set) ps (p ∷ []), ← next) (last (history_of start ps) (rw (← all) held))
 
--- an update of a legal log changes and reads objects that are there, and is legal on the values after those before it
+-- an update of a legal log changes and reads objects that are there
 pub known-at : (h : History) (v : State) (k : ℕ) → IsLegalHistory h → k < length h.sets → v ≡ serial h k
     → AreKnown (length v) (set_at h (k + 1))
 known-at h v k is lt at =
     let count : length h.start ≡ length v = sym (ap length at ∙ length-serial h k (omega arith)) in
     let place : k ≡ k + 1 - 1 = omega arith in
     rw (← place, ← count) (is.known k [] lt)
-
-pub legal-at : (h : History) (v : State) (k : ℕ) → IsLegalHistory h → k < length h.sets → v ≡ serial h k
-    → is_legal (set_at h (k + 1)) v ≡ true
-legal-at h v k is lt at = let place : k ≡ k + 1 - 1 = omega arith in rw (← place, at) (is.legal k lt)
-
--- the values after it
-pub serial-at : (h : History) (v : State) (k : ℕ) → k < length h.sets → v ≡ serial h k → after (set_at h (k + 1)) v ≡ serial h (k + 1)
-serial-at h v k lt at =
-    let place : k ≡ k + 1 - 1 = omega arith in rw (← place, at, add-one k) (sym (serial-suc h k lt))

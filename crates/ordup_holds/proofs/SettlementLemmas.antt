@@ -1,7 +1,7 @@
 -- What an answered settlement did.
 use Rattle.std.proofs.Common.{◌≡◌, ℕ, ◌+◌, List, [], ◌∷◌, length, refl, sym, ap, ◌∙◌, arith, inl, inr}
 use Rattle.std.proofs.lemmas.Bool.{cases_eq, eq-eqb, ne_eqb}
-use Rattle.ordup_primary.specs.declared.settled.Settled.TheVariants.{Acked, Round, Waiting}
+use Rattle.ordup_primary.specs.declared.settled.Settled.TheVariants.{Acked}
 use Rattle.ordup_primary.specs.Primaries.{PrimaryState, SiteProgress, IsPrimary, first_progress, progress_at, settled_as, forced_now}
 use Rattle.ordup_primary.specs.Primaries.{waiting_now, acked_after, acked_or_round, acked_or_waiting}
 use Rattle.ordup_holds.specs.Turning.{Settles, SameFeeds}
@@ -29,49 +29,6 @@ module _ {A : Type 0} where
         let le = is.acked in
         ap (λ (r : PrimaryState). r.acked) (settles.later (omega arith))
         ∙ waiting-acked p.acked (p.acked + 1) n (waiting_now p) answer)
-  ]
-
-module _ {A : Type 0} where
-  round-held : (a k n : ℕ) (held sites : List ℕ) → acked_or_round {A = A} k sites ≡ Round n held → acked_after a sites ≡ a
-  round-held a k n held [] e = absurd cc
-  round-held a k n held (s ∷ sites) e = refl
-
-  waiting-held : (a k n : ℕ) (held sites : List ℕ) → acked_or_waiting {A = A} k sites ≡ Waiting n held → acked_after a sites ≡ a
-  waiting-held a k n held [] e = absurd cc
-  waiting-held a k n held (s ∷ sites) e = refl
-
-  round-not_waiting : (k n : ℕ) (held sites : List ℕ) → acked_or_waiting {A = A} k sites ≡ Round n held → ⊥
-  round-not_waiting k n held [] e = cc
-  round-not_waiting k n held (s ∷ sites) e = cc
-
-  waiting-not_round : (k n : ℕ) (held sites : List ℕ) → acked_or_round {A = A} k sites ≡ Waiting n held → ⊥
-  waiting-not_round k n held [] e = cc
-  waiting-not_round k n held (s ∷ sites) e = cc
-
-  pub settled-round : (p q : PrimaryState) (n : ℕ) (held : List ℕ) → IsPrimary p → Settles p q → Round n held ≡ settled_as {A = A} p
-      → q.acked ≡ p.acked
-  settled-round p q n held is settles e = elim (cases_eq p.acked p.decided) [
-    | inl first ↦
-        (let answer : acked_or_round {A = A} (p.acked + 1) (forced_now p) ≡ Round n held =
-        sym (rw (eq-eqb p.acked p.decided first) at e) in
-        (settles.first first).acked ∙ round-held p.acked (p.acked + 1) n held (forced_now p) answer)
-    | inr other ↦
-        absurd
-        (round-not_waiting (p.acked + 1) n held (waiting_now p) (sym (rw (ne_eqb p.acked p.decided other) at e)))
-  ]
-
-  pub settled-waiting : (p q : PrimaryState) (n : ℕ) (held : List ℕ) → IsPrimary p → Settles p q → Waiting n held ≡ settled_as {A = A} p
-      → q.acked ≡ p.acked
-  settled-waiting p q n held is settles e = elim (cases_eq p.acked p.decided) [
-    | inl first ↦
-        absurd
-        (waiting-not_round (p.acked + 1) n held (forced_now p) (sym (rw (eq-eqb p.acked p.decided first) at e)))
-    | inr other ↦
-        (let answer : acked_or_waiting {A = A} (p.acked + 1) (waiting_now p) ≡ Waiting n held =
-        sym (rw (ne_eqb p.acked p.decided other) at e) in
-        let le = is.acked in
-        ap (λ (r : PrimaryState). r.acked) (settles.later (omega arith))
-        ∙ waiting-held p.acked (p.acked + 1) n held (waiting_now p) answer)
   ]
 
 -- what is sent and reported is as it was

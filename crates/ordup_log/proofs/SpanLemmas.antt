@@ -33,14 +33,6 @@ span-longer h more groups s a b le = elim (cases_lt a b) [
 pub span-count : (h : History) (groups : GroupList) (a b : ℕ) → span h groups Count a b ≡ b - a
 span-count h groups a b = omega (arith, sum_from-constant 1 a (b - a))
 
--- one place more
-pub span-more : (h : History) (groups : GroupList) (s : Scope) (a b : ℕ) → a ≤ b
-    → span h groups s a (b + 1) ≡ span h groups s a b + weight h groups s b
-span-more h groups s a b le =
-    let e : b + 1 - a ≡ suc (b - a) = omega arith in
-    let f : a + (b - a) ≡ b = omega arith in
-    rw (e, f) refl
-
 -- a span inside another weighs no more
 pub span-inner : InnerSpansWeighLess
 span-inner h groups s a b c d below above =

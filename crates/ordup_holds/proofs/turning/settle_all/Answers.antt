@@ -12,7 +12,13 @@ loop-primary-preserved c =
     let settles : Settles c.loop-primary.primary c.settle.new.self =
     record { allowed = ok.allowed; first = ok.first; later = ok.later } in (
       same-feeds-more _ _ _ before.0 (same-feeds _ _ sound settles),
-      (suc before.1.0,
-        (c.loop-primary.primary, before.1.1, settles,
-          settled-acked {A = Global} _ _ _ sound settles (sym c.in-Acked.is ∙ ok.answer))),
+      (
+        suc before.1.0,
+        (
+          c.loop-primary.primary,
+          before.1.1,
+          settles,
+          settled-acked {A = Global} _ _ _ sound settles (sym c.in-Acked.is ∙ ok.answer),
+        ),
+      ),
     )

@@ -18,7 +18,7 @@ const GREATEST_CAPACITY: u64 = 1_024;
 const MOST_UPDATES: u64 = 1_000_000;
 
 /// How often a side tries before it gives up, since the other one has.
-const TRIES: u64 = 1_000_000_000;
+const TRIES: u64 = 10_000_000;
 
 #[allow(dead_code)]
 #[derive(Clone, Copy)]

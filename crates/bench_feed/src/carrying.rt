@@ -15,7 +15,7 @@ use std::thread;
 use std::thread::Threads;
 
 /// How often a side tries before it gives up, since the other one has.
-const TRIES: u64 = 1_000_000_000;
+const TRIES: u64 = 10_000_000;
 
 /// Sends so many parcels through a feed of this capacity, from one thread to another, and answers the number of the last one.
 pub(crate) fn carry<R: Threads + Wait + Sync>(

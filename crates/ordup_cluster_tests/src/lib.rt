@@ -1,0 +1,9 @@
+//! Tests of the work of one hold of a lock, on one thread.
+#![tactic(auto)]
+
+#[cfg(test)]
+mod agreement;
+#[cfg(test)]
+mod fixtures;
+#[cfg(test)]
+mod waiting;

@@ -1,5 +1,6 @@
 //! What a primary has next for a site goes into its feed.
-ghost use Rattle.std.specs.Prelude.{IfOk};
+ghost use Rattle.std.specs.Prelude.{◌≡◌, IfOk, None};
+ghost use Rattle.ordup_primary.specs.Declarations.{start_refusal};
 ghost use Rattle.ordup_feed_tests.specs.Following.{HasPushed};
 
 use ordup_feed::{Feed, SendEnd, TakeEnd};
@@ -26,17 +27,37 @@ fn add(alloc: Global, primary: &mut Primary, n: i64) -> Result<u64, Refusal> {
     primary.propose(set)
 }
 
-/// A primary with x at 0 and the site a, and with two updates: 3 is added to x, and then 4.
-fn two_updates(alloc: Global) -> Result<Primary, Refusal> {
-    let mut setup = Setup::new(alloc);
+/// Declares x at 0 and the site a.
+fn declare(setup: &mut Setup) -> Result<(), Refusal>
+    ensures { IfOk result (λ _. start_refusal setup.new ≡ None) }
+{
     setup.object(b"x", 0)?;
     setup.site(b"a", 1)?;
-    if !setup.is_ready() {
-        return Err(Refusal::Empty);
+    if setup.is_ready() {
+        Ok(())
+    } else {
+        Err(Refusal::Empty)
     }
-    let mut primary = Primary::new(alloc, setup)?;
-    add(alloc, &mut primary, 3)?;
-    add(alloc, &mut primary, 4)?;
+}
+
+/// A primary with x and a.
+fn x_and_a(alloc: Global) -> Result<Primary, Refusal> {
+    let mut setup = Setup::new(alloc);
+    declare(&mut setup)?;
+    Primary::new(alloc, setup)
+}
+
+/// Adds 3 to x, and then 4.
+fn add_twice(alloc: Global, primary: &mut Primary) -> Result<(), Refusal> {
+    add(alloc, primary, 3)?;
+    add(alloc, primary, 4)?;
+    Ok(())
+}
+
+/// The primary with the two updates.
+fn two_updates(alloc: Global) -> Result<Primary, Refusal> {
+    let mut primary = x_and_a(alloc)?;
+    add_twice(alloc, &mut primary)?;
     Ok(primary)
 }
 

@@ -1,26 +1,44 @@
 //! Whether a site agrees with a primary.
-use crate::fixtures::{add, primary};
+use crate::fixtures::{add, declare};
 use ordup_holds::agree;
 use ordup_objects::{MessageSet, Refusal, SiteId, Values};
-use ordup_primary::Primary;
+use ordup_primary::{Primary, Setup};
 use ordup_site::Site;
 use std::alloc::Global;
 use std::process::Abort;
 use std::test::Fail;
 
-/// Proposes an update, and notes that it was sent to the first site.
-fn send(rt: &impl Abort, primary: &mut Primary, set: MessageSet) -> Result<(), Refusal> {
-    let site = SiteId::new(0);
+/// A primary of what the fixture declares.
+fn first_primary(alloc: Global) -> Result<Primary, Refusal> {
+    let mut setup = Setup::new(alloc);
+    declare(&mut setup)?;
+    Primary::new(alloc, setup)
+}
+
+/// Proposes the update that adds a number to x, and notes that it was sent to the first site.
+fn send(rt: &impl Abort, alloc: Global, primary: &mut Primary, n: i64) {
+    let set = add(rt, alloc, primary.setup().objects(), n);
     assert!(rt; set.are_known(primary.log().objects()));
-    primary.propose(set)?;
+    assert!(rt; primary.propose(set).is_ok());
+    mark_sent(rt, primary);
+}
+
+/// Notes that the next update was sent to the first site.
+fn mark_sent(rt: &impl Abort, primary: &mut Primary) {
+    let site = SiteId::new(0);
+    let _acked = primary.acked();
     assert!(rt; primary.setup().sites() > 0);
     assert!(rt; primary.sent(site) < primary.log().len());
     primary.mark_sent(site);
-    Ok(())
 }
 
-/// Applies a set at a site.
-fn apply(rt: &impl Abort, site: &mut Site, set: &MessageSet) {
+/// Applies the set that adds a number to x at a site.
+fn apply(rt: &impl Abort, alloc: Global, primary: &Primary, site: &mut Site, n: i64) {
+    let set = add(rt, alloc, primary.setup().objects(), n);
+    apply_set(rt, site, &set);
+}
+
+fn apply_set(rt: &impl Abort, site: &mut Site, set: &MessageSet) {
     assert!(rt; set.are_known(site.len()));
     assert!(rt; site.values().allows(set));
     assert!(rt; site.applied() < 1_000_000);
@@ -28,43 +46,36 @@ fn apply(rt: &impl Abort, site: &mut Site, set: &MessageSet) {
 }
 
 /// Whether a site agrees, as the first site of a primary.
-fn agrees(
-    rt: &impl Abort,
-    alloc: Global,
-    primary: &Primary,
-    replica: &Site,
-) -> Result<bool, Refusal> {
-    let values = Values::initial(alloc, primary.setup().objects())?;
+fn agrees(rt: &impl Abort, alloc: Global, primary: &Primary, replica: &Site) -> bool {
     let _acked = primary.acked();
     assert!(rt; primary.setup().sites() > 0);
-    Ok(agree(primary, SiteId::new(0), replica, values))
+    let Ok(values) = Values::initial(alloc, primary.setup().objects()) else {
+        panic!(rt; "there is no memory for values")
+    };
+    agree(primary, SiteId::new(0), replica, values)
 }
 
 #[test]
 fn a_site_agrees_where_it_holds_what_it_applied(rt: HostRuntime) -> Result<(), Fail> {
     let alloc = rt.alloc();
-    let mut primary = primary(alloc)?;
-    let set = add(alloc, primary.setup().objects(), 3)?;
-    let other = add(alloc, primary.setup().objects(), 4)?;
+    let mut primary = first_primary(alloc)?;
     let mut replica = Site::new(alloc, primary.setup().objects())?;
-    send(&rt, &mut primary, set)?;
-    assert!(rt; agrees(&rt, alloc, &primary, &replica)?);
-    apply(&rt, &mut replica, &other);
-    assert!(rt; !agrees(&rt, alloc, &primary, &replica)?);
+    send(&rt, alloc, &mut primary, 3);
+    assert!(rt; agrees(&rt, alloc, &primary, &replica));
+    apply(&rt, alloc, &primary, &mut replica, 4);
+    assert!(rt; !agrees(&rt, alloc, &primary, &replica));
     Ok(())
 }
 
 #[test]
 fn a_site_agrees_only_up_to_what_it_was_sent(rt: HostRuntime) -> Result<(), Fail> {
     let alloc = rt.alloc();
-    let mut primary = primary(alloc)?;
-    let set = add(alloc, primary.setup().objects(), 3)?;
-    let same = add(alloc, primary.setup().objects(), 3)?;
+    let mut primary = first_primary(alloc)?;
     let mut replica = Site::new(alloc, primary.setup().objects())?;
-    send(&rt, &mut primary, set)?;
-    apply(&rt, &mut replica, &same);
-    assert!(rt; agrees(&rt, alloc, &primary, &replica)?);
-    apply(&rt, &mut replica, &same);
-    assert!(rt; !agrees(&rt, alloc, &primary, &replica)?);
+    send(&rt, alloc, &mut primary, 3);
+    apply(&rt, alloc, &primary, &mut replica, 3);
+    assert!(rt; agrees(&rt, alloc, &primary, &replica));
+    apply(&rt, alloc, &primary, &mut replica, 3);
+    assert!(rt; !agrees(&rt, alloc, &primary, &replica));
     Ok(())
 }

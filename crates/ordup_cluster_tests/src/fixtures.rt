@@ -1,29 +1,38 @@
 //! A store with the objects x at 0 and y at 10, and one site.
+ghost use Rattle.std.specs.Prelude.{◌≡◌, None, OnOk};
+ghost use Rattle.ordup_primary.specs.Declarations.{start_refusal};
+
 use ordup_objects::{Change, MessageSet, ObjectId, ObjectTable, Op, Refusal};
-use ordup_primary::{Primary, Scope, Setup};
+use ordup_primary::{Scope, Setup};
 use std::alloc::Global;
+use std::process::Abort;
 
 /// The set that adds a number to x.
-pub fn add(alloc: Global, objects: &ObjectTable, n: i64) -> Result<MessageSet, Refusal> {
+pub fn add(rt: &impl Abort, alloc: Global, objects: &ObjectTable, n: i64) -> MessageSet {
     let change = Change {
         object: ObjectId::new(0),
         op: Op::Add(n),
     };
-    match Vec::from_slice(alloc, &[change]) {
-        Ok(changes) => MessageSet::new(objects, changes),
-        Err(_) => Err(Refusal::NoMemory),
-    }
+    let Ok(changes) = Vec::from_slice(alloc, &[change]) else {
+        panic!(rt; "there is no memory for a change")
+    };
+    let Ok(set) = MessageSet::new(objects, changes) else {
+        panic!(rt; "the set is refused")
+    };
+    set
 }
 
-/// A primary of the site a, whose feed has room for 4 updates and whose limit on x is 5.
-pub fn primary(alloc: Global) -> Result<Primary, Refusal> {
-    let mut setup = Setup::new(alloc);
+/// Declares x and y, and the site a, whose feed has room for 4 updates and whose limit on x is 5.
+pub fn declare(setup: &mut Setup) -> Result<(), Refusal>
+    ensures { OnOk result (start_refusal setup.new ≡ None) }
+{
     let x = setup.object(b"x", 0)?;
     setup.object(b"y", 10)?;
     let a = setup.site(b"a", 4)?;
     setup.limit(a, Scope::Object(x), 5)?;
-    if !setup.is_ready() {
-        return Err(Refusal::Empty);
+    if setup.is_ready() {
+        Ok(())
+    } else {
+        Err(Refusal::Empty)
     }
-    Primary::new(alloc, setup)
 }

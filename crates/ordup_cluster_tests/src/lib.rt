@@ -6,4 +6,6 @@ mod agreement;
 #[cfg(test)]
 mod fixtures;
 #[cfg(test)]
+mod one_update;
+#[cfg(test)]
 mod waiting;

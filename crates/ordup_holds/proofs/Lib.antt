@@ -1,3 +1,4 @@
 pub mod CellLemmas
 pub mod BookLemmas
 pub mod SettlementLemmas
+mod OpeningLemmas

@@ -1,3 +1,4 @@
+pub mod Opening
 pub mod Books
 pub mod BookInside
 pub mod Cells

@@ -7,6 +7,7 @@
 mod agreement;
 mod book;
 mod numbering;
+mod opening;
 mod site_cell;
 mod turning;
 mod waiting;
@@ -14,6 +15,7 @@ mod waiting;
 pub use agreement::agree;
 pub use book::Book;
 pub use numbering::{begin, number};
+pub use opening::open;
 pub use site_cell::{SeenValue, SiteCell, take, view};
 pub use turning::turn;
 pub use waiting::{Turns, until};

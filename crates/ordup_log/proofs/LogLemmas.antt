@@ -1,12 +1,13 @@
 -- The fields of a log that grows.
 use Rattle.std.proofs.Common.{◌≡◌, ℕ, suc, ◌+◌, ◌-◌, ◌<◌, ◌≤◌, ◌^◌, true, sum}
-use Rattle.std.proofs.Common.{List, [], ◌∷◌, ◌++◌, length, take, get_or}
+use Rattle.std.proofs.Common.{List, [], ◌∷◌, ◌++◌, length, take, drop, get_or}
 use Rattle.std.proofs.Common.{arith, refl, sym, ap, ◌∙◌, inl, inr, Vec, vec_len}
 use Rattle.std.specs.Prelude.{◌==◌, false, None}
 use Rattle.std.proofs.Math.ListN.{get_or-append}
-use Rattle.std.proofs.Math.Seq.{get_or-append_seam}
+use Rattle.std.proofs.Math.Seq.{get_or-append_seam, drop-append_seam, take-length}
 use Rattle.std.proofs.lemmas.Bool.{cases_lt, ne_eqb}
-use Rattle.std.proofs.lemmas.List.{length_push, length-map, get_or_push, length-take-le, take-take, take_more}
+use Rattle.std.proofs.lemmas.List.{length_push, length-map, length-drop, get_or_push, length-take-le, take-take, take_more}
+use Rattle.std.proofs.lemmas.List.{take-append-le, drop-append-le, length-append}
 use Rattle.std.proofs.lemmas.List.Sums.{sum_by-le}
 use Rattle.ordup_objects.specs.declared.change.Change.{Change}
 use Rattle.ordup_objects.specs.Sizes.{most_updates, greatest_distance, greatest_weight}
@@ -19,7 +20,7 @@ use Rattle.ordup_log.specs.declared.scope.Scope.TheVariants.{All as Everything}
 use Rattle.ordup_log.specs.Appending.{append_refusal}
 use Rattle.ordup_log.specs.Spans.{weight}
 use Rattle.ordup_log.specs.Postings.{last_weight, posted}
-use Rattle.ordup_log.specs.LogInside.{IsLog, history_of}
+use Rattle.ordup_log.specs.LogInside.{IsLog, IsKept, history_of}
 use Rattle.ordup_objects.proofs.SumLemmas.{sum_from-few}
 use Rattle.ordup_objects.proofs.SetLemmas.{distances_of-few, distance_beside-few}
 use Rattle.ordup_objects.proofs.SpanLemmas.{object_weight-longer}
@@ -28,26 +29,37 @@ use Rattle.ordup_log.proofs.SpanLemmas.{weight-longer}
 use Rattle.ordup_log.proofs.StepLemmas.{postings-grown, last_weight-postings}
 use Rattle.ordup_log.proofs.WeightLemmas.{distance_beside-at, sum-at, object_weight-few, all_weight-few}
 
+-- a part of a list stays where more comes after the list
+take-drop-more : (n b : ℕ) (xs ys : List ℕ) → b + n ≤ length xs → take n (drop b (xs ++ ys)) ≡ take n (drop b xs)
+take-drop-more n b xs ys le =
+    rw (drop-append-le b xs ys (omega arith)) (take-append-le n (drop b xs) ys (omega (arith, length-drop b xs)))
+
+-- what comes after a list is the part from its end on
+pub take-drop-last : (n b : ℕ) (xs ys : List ℕ) → b ≡ length xs → n ≡ length ys → take n (drop b (xs ++ ys)) ≡ ys
+take-drop-last n b xs ys at len = rw (at, len, drop-append_seam xs ys) (take-length ys)
+
 -- the distances of a log that grows are those of its updates
-distances-longer : {A : Type 0} (h : History) (m : List Change) (kept : List (Vec ℕ A)) (ds : Vec ℕ A)
-    → length kept ≡ length h.sets
-    → ((k : ℕ) (d : Vec ℕ A) → k < length h.sets → (get_or kept k d).items ≡ distances_of (serial h k) (get_or h.sets k []))
-    → ds.items ≡ distances_of (serial h (length h.sets)) m
-    → (k : ℕ) (d : Vec ℕ A) → k < length (h.sets ++ m ∷ [])
-    → (get_or (kept ++ ds ∷ []) k d).items ≡ distances_of (serial (with_update h m) k) (get_or (h.sets ++ m ∷ []) k [])
-distances-longer h m kept ds same each last k d lt = elim (cases_lt k (length h.sets)) [
-  | inl before ↦ rw (
-    get_or-append kept (ds ∷ []) d k (omega arith),
-    get_or-append h.sets (m ∷ []) [] k before,
-    serial-longer h (m ∷ []) k (omega arith),
-  ) (each k d before)
+kept-longer : (h : History) (m : List Change) (distances begins ds : List ℕ) → length begins ≡ length h.sets
+    → ((k : ℕ) → k < length h.sets → IsKept h distances begins k) → ds ≡ distances_of (serial h (length h.sets)) m
+    → (k : ℕ) → k < length (h.sets ++ m ∷ []) → IsKept (with_update h m) (distances ++ ds) (begins ++ length distances ∷ []) k
+kept-longer h m distances begins ds same each last k lt = elim (cases_lt k (length h.sets)) [
+  | inl before ↦ (let was = each k before in
+      let set = get_or-append h.sets (m ∷ []) [] k before in
+      let begin = get_or-append begins (length distances ∷ []) 0 k (omega (arith, same)) in
+      record {
+        within = rw (set, begin) (omega (arith, was.within, length-append distances ds));
+        are = rw (set, begin, serial-longer h (m ∷ []) k (omega arith)) (take-drop-more (length (get_or h.sets k []))
+            (get_or begins k 0) distances ds was.within ∙ was.are);
+      })
   | inr past ↦ (let at : k ≡ length h.sets = omega (arith, length_push h.sets m) in
-      rw (
-        get_or_push kept ds d k (omega arith),
-        get_or_push h.sets m [] k (sym at),
-        at,
-        serial-longer h (m ∷ []) (length h.sets) (omega arith),
-      ) last)
+      let set = get_or_push h.sets m [] k (sym at) in
+      let begin = get_or_push begins (length distances) 0 k (omega (arith, at, same)) in
+      let len : length ds ≡ length m = ap length last ∙ length-map m (distance_by (serial h (length h.sets))) in
+      record {
+        within = rw (set, begin) (omega (arith, len, length-append distances ds));
+        are = rw (set, begin, at, serial-longer h (m ∷ []) (length h.sets) (omega arith))
+            (take-drop-last (length m) (length distances) distances ds refl (sym len) ∙ last);
+      })
 ]
 
 module _ {A : Type 0} (l : Inside A) (is : IsLog l) where
@@ -65,30 +77,38 @@ module _ {A : Type 0} (l : Inside A) (is : IsLog l) where
       rw (← view, other, now) refl
 
   -- a log keeps its invariant where its lists only get room
-  pub IsLog-same : (sets : Vec (List Change) A) (distances : Vec (Vec ℕ A) A) (postings : Vec (Vec (ℕ × ℕ) A) A)
-      (all : Vec (ℕ × ℕ) A) → sets.items ≡ l.sets.items → distances.items ≡ l.distances.items
+  pub IsLog-same : (sets : Vec (List Change) A) (distances begins : Vec ℕ A) (postings : Vec (Vec (ℕ × ℕ) A) A)
+      (all : Vec (ℕ × ℕ) A) → sets.items ≡ l.sets.items → distances.items ≡ l.distances.items → begins.items ≡ l.begins.items
       → length postings.items ≡ length l.postings.items
       → ((x : ℕ) (d : Vec (ℕ × ℕ) A) → (get_or postings.items x d).items ≡ (get_or l.postings.items x d).items)
       → all.items ≡ l.all.items
-      → IsLog (record { start = l.start; sets = sets; distances = distances; postings = postings; all = all; end = l.end })
-  IsLog-same sets distances postings all e f count each g =
+      → IsLog (record {
+        start = l.start;
+        sets = sets;
+        distances = distances;
+        begins = begins;
+        postings = postings;
+        all = all;
+        end = l.end;
+      })
+  IsLog-same sets distances begins postings all e f b count each g =
       let len : vec_len sets ≡ vec_len l.sets = omega (arith, sets.ok.0, l.sets.ok.0, ap length e) in
       record {
         few = omega (arith, len, is.few);
         legal = rw e is.legal;
         same = is.same;
-        kept = omega (arith, len, distances.ok.0, l.distances.ok.0, ap length f, is.kept);
-        each = λ k d lt. rw (e, f) (is.each k d (rw e at lt));
+        kept = omega (arith, len, begins.ok.0, l.begins.ok.0, ap length b, is.kept);
+        each = λ k lt. rw (e, f, b) (is.each k (rw e at lt));
         count = count ∙ is.count;
         posted = λ x d lt. rw e (each x d ∙ is.posted x d lt);
         all = rw e (g ∙ is.all);
         end = rw (len, e) is.end;
       }
 
-  module _ (m : List Change) (ds : Vec ℕ A) (set : IsSet m) (legal : is_legal m l.end ≡ true)
-      (are : ds.items ≡ distances_of l.end m) where
+  module _ (m : List Change) (ds : List ℕ) (set : IsSet m) (legal : is_legal m l.end ≡ true)
+      (are : ds ≡ distances_of l.end m) where
     -- what a legal set weighs on all objects is small
-    pub total-few : sum ds.items ≤ greatest_weight
+    pub total-few : sum ds ≤ greatest_weight
     total-few =
         omega (
           arith,
@@ -100,7 +120,7 @@ module _ {A : Type 0} (l : Inside A) (is : IsLog l) where
 
     -- a running weight on an object fits, with what a legal set weighs on it
     pub posted-fits : (x : ℕ) (d old : Vec (ℕ × ℕ) A) → x < length l.start → old.items ≡ (get_or l.postings.items x d).items
-        → last_weight old.items + distance_beside m ds.items x < 2 ^ 64
+        → last_weight old.items + distance_beside m ds x < 2 ^ 64
     posted-fits x d old lt e =
         let h : History = history_of l in
         omega (
@@ -116,7 +136,7 @@ module _ {A : Type 0} (l : Inside A) (is : IsLog l) where
         )
 
     -- and so on all objects
-    pub all-fits : (all : List (ℕ × ℕ)) → all ≡ l.all.items → last_weight all + sum ds.items < 2 ^ 64
+    pub all-fits : (all : List (ℕ × ℕ)) → all ≡ l.all.items → last_weight all + sum ds < 2 ^ 64
     all-fits all e =
         let h : History = history_of l in
         omega (
@@ -131,16 +151,25 @@ module _ {A : Type 0} (l : Inside A) (is : IsLog l) where
         )
 
     -- a log keeps its invariant by one legal set more, with its distances and postings and the values after it
-    pub IsLog-longer : (sets : Vec (List Change) A) (distances : Vec (Vec ℕ A) A) (postings : Vec (Vec (ℕ × ℕ) A) A)
+    pub IsLog-longer : (sets : Vec (List Change) A) (distances begins : Vec ℕ A) (postings : Vec (Vec (ℕ × ℕ) A) A)
         (all : Vec (ℕ × ℕ) A) (end : State) (number : ℕ)
         → AreKnown (length l.start) m → vec_len l.sets < most_updates → number ≡ vec_len l.sets + 1
-        → sets.items ≡ l.sets.items ++ m ∷ [] → distances.items ≡ l.distances.items ++ ds ∷ []
+        → sets.items ≡ l.sets.items ++ m ∷ [] → distances.items ≡ l.distances.items ++ ds
+        → begins.items ≡ l.begins.items ++ length l.distances.items ∷ []
         → length postings.items ≡ length l.postings.items
         → ((x : ℕ) (d : Vec (ℕ × ℕ) A) → x < length l.postings.items →
-        (get_or postings.items x d).items ≡ posted (get_or l.postings.items x d).items number (distance_beside m ds.items x))
-        → all.items ≡ posted l.all.items number (sum ds.items) → end ≡ after m l.end
-        → IsLog (record { start = l.start; sets = sets; distances = distances; postings = postings; all = all; end = end })
-    IsLog-longer sets distances postings all end number known few at e f same each g k =
+        (get_or postings.items x d).items ≡ posted (get_or l.postings.items x d).items number (distance_beside m ds x))
+        → all.items ≡ posted l.all.items number (sum ds) → end ≡ after m l.end
+        → IsLog (record {
+          start = l.start;
+          sets = sets;
+          distances = distances;
+          begins = begins;
+          postings = postings;
+          all = all;
+          end = end;
+        })
+    IsLog-longer sets distances begins postings all end number known few at e f b same each g k =
         let h : History = history_of l in
         let longer : History = with_update h m in
         let n : ℕ = length h.sets in
@@ -163,18 +192,17 @@ module _ {A : Type 0} (l : Inside A) (is : IsLog l) where
           kept = omega (
             arith,
             sets.ok.0,
-            distances.ok.0,
+            begins.ok.0,
             l.sets.ok.0,
-            l.distances.ok.0,
+            l.begins.ok.0,
             ap length e,
             more,
-            ap length f,
-            length_push l.distances.items ds,
+            ap length b,
+            length_push l.begins.items (length l.distances.items),
             is.kept,
           );
-          each =
-              λ j d lt. rw (e, f) (distances-longer h m l.distances.items ds
-              (omega (arith, l.sets.ok.0, l.distances.ok.0, is.kept)) is.each (are ∙ ap (λ v. distances_of v m) now) j d
+          each = λ j lt. rw (e, f, b) (kept-longer h m l.distances.items l.begins.items ds
+              (omega (arith, l.sets.ok.0, l.begins.ok.0, is.kept)) is.each (are ∙ ap (λ v. distances_of v m) now) j
               (omega (arith, ap length e)));
           count = same ∙ is.count;
           posted = λ x d lt. rw (e, more) (postings-grown (object_weight h x) (object_weight longer x) n number _ _ _
@@ -182,7 +210,7 @@ module _ {A : Type 0} (l : Inside A) (is : IsLog l) where
               (λ j below. sym (object_weight-longer h (m ∷ []) x j below))
               (ap (λ w. distance_beside m w x) are ∙ beside x ∙ distance_beside-at longer legal_now x n (omega (arith, more)))
               number_is);
-          all = rw (e, more) (postings-grown (weight h [] Everything) (weight longer [] Everything) n number (sum ds.items) _ _
+          all = rw (e, more) (postings-grown (weight h [] Everything) (weight longer [] Everything) n number (sum ds) _ _
               is.all g (λ j below. sym (weight-longer h (m ∷ []) [] Everything j below))
               (ap sum are ∙ added ∙ sum-at longer legal_now n (omega (arith, more))) number_is);
           end = rw (sets.ok.0, e, length_push h.sets m, serial-last h m, ← now) k;

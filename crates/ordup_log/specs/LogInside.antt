@@ -1,5 +1,5 @@
 -- What the fields of a log keep.
-use Rattle.std.specs.Prelude.{◌≡◌, ◌≤◌, ◌<◌, ℕ, [], length, vec_len, slice_index_or, Vec}
+use Rattle.std.specs.Prelude.{◌≡◌, ◌≤◌, ◌<◌, ◌+◌, ℕ, List, [], length, take, drop, vec_len, slice_index_or, Vec}
 use Rattle.ordup_objects.specs.Sizes.{most_updates}
 use Rattle.ordup_objects.specs.Weights.{object_weight, distances_of}
 use Rattle.ordup_objects.specs.Serial.{History, serial, IsLegalHistory}
@@ -7,6 +7,12 @@ use Rattle.ordup_log.specs.Spans.{weight}
 use Rattle.ordup_log.specs.Postings.{postings_of}
 use Rattle.ordup_log.specs.declared.scope.Scope.TheVariants.{All as Everything}
 use Rattle.ordup_log.specs.declared.log.Log.TheInside.{Inside}
+
+-- the distances of the update after the first k stand in a list from where they begin
+pub record IsKept (h : History) (distances begins : List ℕ) (k : ℕ) : Type 0 where
+  pub within : slice_index_or begins k 0 + length (slice_index_or h.sets k []) ≤ length distances
+  pub are : take (length (slice_index_or h.sets k [])) (drop (slice_index_or begins k 0) distances)
+      ≡ distances_of (serial h k) (slice_index_or h.sets k [])
 
 module _ {A : Type 0} where
   abbrev pub history_of : Inside A → History
@@ -17,9 +23,8 @@ module _ {A : Type 0} where
     pub few : vec_len l.sets ≤ most_updates
     pub legal : IsLegalHistory (history_of l)
     pub same : length l.end ≡ length l.start
-    pub kept : vec_len l.distances ≡ vec_len l.sets
-    pub each : (k : ℕ) (d : Vec ℕ A) → k < length l.sets.items →
-        (slice_index_or l.distances.items k d).items ≡ distances_of (serial (history_of l) k) (slice_index_or l.sets.items k [])
+    pub kept : vec_len l.begins ≡ vec_len l.sets
+    pub each : (k : ℕ) → k < length l.sets.items → IsKept (history_of l) l.distances.items l.begins.items k
     pub count : length l.postings.items ≡ length l.start
     pub posted : (x : ℕ) (d : Vec (ℕ × ℕ) A) → x < length l.start →
         (slice_index_or l.postings.items x d).items ≡ postings_of (object_weight (history_of l) x) (length l.sets.items)

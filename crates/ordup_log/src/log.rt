@@ -1,4 +1,4 @@
-ghost use Rattle.std.specs.Prelude.{◌≡◌, ◌≤◌, ◌+◌, ◌-◌, ℕ, ◌<◌, None, IfOk, IfErr, List, [], ◌∷◌, ◌++◌, length, sum, sum_by, ◌^◌, ◌*◌};
+ghost use Rattle.std.specs.Prelude.{◌≡◌, ◌≤◌, ◌+◌, ◌-◌, ℕ, ◌<◌, None, IfOk, IfErr, List, [], ◌∷◌, ◌++◌, length, take, drop, sum, sum_by, ◌^◌, ◌*◌};
 ghost use Rattle.ordup_objects.specs.Sizes.{greatest_distance, most_members, most_updates, greatest_weight};
 ghost use Rattle.ordup_objects.specs.Tables.{initial_state};
 ghost use Rattle.ordup_objects.specs.Weights.{distances_of, object_weight, object_span};
@@ -19,8 +19,10 @@ use std::marker::Model;
 pub struct Log<A: Allocator + Copy = Global> {
     start: Values<A>,
     sets: Vec<MessageSet<A>, A>,
-    /// How far each change of each set moved its object's value.
-    distances: Vec<Vec<u64, A>, A>,
+    /// How far each change of each set moved its object's value, set after set.
+    distances: Vec<u64, A>,
+    /// Where the distances of each set begin.
+    begins: Vec<usize, A>,
     /// For each object the places with a weight above 0 on it, each with the running weight up to it.
     postings: Vec<Vec<(u64, u64), A>, A>,
     /// The same on all objects together.
@@ -86,6 +88,7 @@ impl<A: Allocator + Copy> Log<A> {
             start,
             sets: Vec::new(alloc),
             distances: Vec::new(alloc),
+            begins: Vec::new(alloc),
             postings,
             all: Vec::new(alloc),
             end,
@@ -127,12 +130,10 @@ impl<A: Allocator + Copy> Log<A> {
         let Ok(()) = self.end.results(&set, &mut results) else {
             return Err(Refusal::OutOfRange);
         };
-        let alloc = *self.sets.allocator();
-        let Ok(distances) = self.end.distances(alloc, &set, &results) else {
-            return Err(Refusal::NoMemory);
-        };
+        let count = set.changes().len();
         if self.sets.reserve(1).is_err()
-            || self.distances.reserve(1).is_err()
+            || self.distances.reserve(count).is_err()
+            || self.begins.reserve(1).is_err()
             || self.all.reserve(1).is_err()
         {
             return Err(Refusal::NoMemory);
@@ -141,16 +142,14 @@ impl<A: Allocator + Copy> Log<A> {
             return Err(Refusal::NoMemory);
         };
         let number = self.sets.len() as u64 + 1;
-        post_all(
-            &mut self.postings,
-            set.changes(),
-            distances.as_slice(),
-            number,
-        );
-        post(&mut self.all, number, total(distances.as_slice()));
+        let begin = self.distances.len();
+        self.end.push_distances(&set, &results, &mut self.distances);
+        let distances = part(self.distances.as_slice(), begin, count);
+        post_all(&mut self.postings, set.changes(), distances, number);
+        post(&mut self.all, number, total(distances));
         self.end.put(&set, &results);
         self.sets.push_reserved(set);
-        self.distances.push_reserved(distances);
+        self.begins.push_reserved(begin);
         Ok(number)
     }
 
@@ -191,7 +190,9 @@ impl<A: Allocator + Copy> Log<A> {
         ensures distances { result.now ≡ distances_of (serial self.now (number - 1)) (set_at self.now number) }
         ensures legal { IsLegalHistory self.now }
     {
-        &self.distances[number as usize - 1]
+        let begin = self.begins[number as usize - 1];
+        let count = self.set(number).changes().len();
+        part(self.distances.as_slice(), begin, count)
     }
 
     /// The weight of an update on a scope: the distance that values travelled, or 1 on `Count`.
@@ -282,6 +283,14 @@ impl<A: Allocator + Copy> Log<A> {
         }
         total
     }
+}
+
+/// So many numbers of a list from a place on.
+fn part(numbers: &[u64], begin: usize, count: usize) -> &[u64]
+    requires { begin + count ≤ length numbers.now }
+    ensures { result.now ≡ take count (drop begin numbers.now) }
+{
+    &numbers[begin..begin + count]
 }
 
 fn total(distances: &[u64]) -> u64

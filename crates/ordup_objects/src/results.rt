@@ -3,7 +3,7 @@ use std::marker::Model;
 
 /// What each change of a message set makes of its object's value, in the order of the changes.
 ///
-/// `Values::results` computes them in place, once; `Values::distances` and `Values::put` go by them.
+/// `Values::results` computes them in place, once; `Values::push_distances` and `Values::put` go by them.
 #[derive(Debug, Drop)]
 pub struct Results {
     pub(crate) results: [i64; MOST_CHANGES],

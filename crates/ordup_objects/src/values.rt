@@ -1,4 +1,4 @@
-ghost use Rattle.std.specs.Prelude.{◌≡◌, ◌≤◌, ℕ, ◌<◌, ◌↔◌, IsTrue, IfSome, IsOk, is_ok, IfOk, IfErr, OnOk, OnErr, length, All};
+ghost use Rattle.std.specs.Prelude.{◌≡◌, ◌≤◌, ℕ, ◌<◌, ◌↔◌, IsTrue, IfSome, IsOk, is_ok, IfOk, IfErr, OnOk, OnErr, length, All, ◌+◌, ◌++◌, vec_len, vec_capacity};
 ghost use Rattle.ordup_objects.specs.States.{value_at, result_of, result_at, in_range, is_legal, AreResults, after, IsInRange, IsState};
 ghost use Rattle.ordup_objects.specs.Ops.{number_of, source_of};
 ghost use Rattle.ordup_objects.specs.Sets.{AreKnown, AreInRange};
@@ -114,19 +114,20 @@ impl<A: Allocator + Copy> Values<A> {
         results_of(self.values.as_slice(), set.changes(), &mut results.results)
     }
 
-    /// How far each change of a set would move its object's value, by its results on these values. It is refused memory alone.
-    pub fn distances(
+    /// Adds to a list that has room how far each change of a set would move its object's value, by its results on these values.
+    pub fn push_distances(
         &self,
-        alloc: A,
         set: &MessageSet<A>,
         results: &Results,
-    ) -> Result<Vec<u64, A>, AllocError>
+        distances: &mut Vec<u64, A>,
+    )
         requires known { AreKnown (length self.now) set.now }
         requires results { AreResults self.now set.now results.now }
-        ensures { IfOk result (λ r. r.items ≡ distances_of self.now set.now) }
+        requires room { vec_len distances.old + length set.now ≤ vec_capacity distances.old }
+        ensures { distances.new.items ≡ distances.old.items ++ distances_of self.now set.now }
     {
         let values = self.values.as_slice();
-        distances_in(alloc, values, set.changes(), &results.results)
+        put_distances(distances, values, set.changes(), &results.results);
     }
 
     /// Applies a legal set by its results on these values. It computes nothing again.
@@ -216,21 +217,20 @@ fn put_results(values: &mut [i64], changes: &[Change], results: &[i64])
     }
 }
 
-/// How far each change moves its object's value, from the one that it has to its result.
-fn distances_in<A: Allocator + Copy>(
-    alloc: A,
+/// Adds how far each change moves its object's value, from the one that it has to its result.
+fn put_distances<A: Allocator + Copy>(
+    distances: &mut Vec<u64, A>,
     values: &[i64],
     changes: &[Change],
     results: &[i64],
-) -> Result<Vec<u64, A>, AllocError>
+)
     requires objects { All (λ c. c.object < length values.now) changes.now }
     requires results { AreResults values.now changes.now results.now }
-    requires room { length changes.now ≤ length results.now }
-    ensures { IfOk result (λ r. r.items ≡ distances_of values.now changes.now) }
+    requires length { length changes.now ≤ length results.now }
+    requires room { vec_len distances.old + length changes.now ≤ vec_capacity distances.old }
+    ensures { distances.new.items ≡ distances.old.items ++ distances_of values.now changes.now }
 {
-    let mut distances = Vec::with_capacity(alloc, changes.len())?;
     for (i, change) in changes.iter().enumerate() {
-        distances.push(results[i].abs_diff(values[change.object.index()]))?;
+        distances.push_reserved(results[i].abs_diff(values[change.object.index()]));
     }
-    Ok(distances)
 }

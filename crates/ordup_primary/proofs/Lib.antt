@@ -1,6 +1,7 @@
 pub mod DecisionLemmas
 pub mod SettlingLemmas
 mod LedgerLemmas
+pub mod ReportLemmas
 pub mod PrimaryLemmas
 pub mod SetupLemmas
 pub mod ParcelLemmas

@@ -1,8 +1,8 @@
 -- What a call does to a primary.
 use Rattle.std.proofs.Common.{◌≡◌, ℕ, zero, suc, ◌+◌, ◌-◌, ◌<◌, ◌≤◌, ◌==◌}
 use Rattle.std.proofs.Common.{Bool, true, false, not, List, [], ◌∷◌, ◌++◌, length, map, get_or}
-use Rattle.std.proofs.Common.{replicate, arith, refl, sym, ap, ◌∙◌, inl, inr, ◌⊎◌, vec_len}
-use Rattle.std.specs.Prelude.{Some, None, nat_lt, ◌&&◌}
+use Rattle.std.proofs.Common.{replicate, arith, refl, sym, ap, ◌∙◌, inl, inr, ◌⊎◌}
+use Rattle.std.specs.Prelude.{Some, None, All, nat_lt, ◌&&◌}
 use Rattle.std.specs.List.{list_any}
 use Rattle.std.proofs.Math.Bool.{and-true}
 use Rattle.std.proofs.Math.ListN.{set, length-set, get_or-append}
@@ -488,11 +488,20 @@ module _ {A : Type 0} where
   -- how many reports were put down for it
   pub reports-count : (l : Inside A) (i s : ℕ) (x : Progress A) → IsPrimary (state_of l) → i ≡ s → s < length (state_of l).sites
       → x ≡ get_or l.sites.items i x
-      → vec_len x.reports ≡ l.decided
+      → length x.reports.reports ≡ l.decided
   reports-count l i s x is same lt at =
-      x.reports.ok.0
-      ∙ ap (λ (site : SiteProgress). length site.reports) (sym (view_at l i s x same lt at))
+      ap (λ (site : SiteProgress). length site.reports) (sym (view_at l i s x same lt at))
       ∙ (is.sites s first_progress lt).count
+
+  -- the head is the next place for which a report is put down
+  pub reports-next : (l : Inside A) (roomed : List (Progress A)) (head : ℕ) → IsPrimary (state_of l)
+      → map progress_of roomed ≡ map progress_of l.sites.items → l.acked ≡ l.decided → head ≡ l.acked + 1
+      → All (λ site. head ≡ length site.reports.reports + 1) roomed
+  reports-next l roomed head is same first here i d lt =
+      let there : i < length (state_of l).sites = omega (arith, ap length same, length-map roomed (progress_of {A = A})) in
+      let at : get_or (state_of l).sites i first_progress ≡ progress_of (get_or roomed i d) =
+      ap (λ sites. get_or sites i first_progress) (sym same) ∙ get_or-map progress_of roomed i d first_progress lt in
+      omega (arith, here, first, ap (λ (site : SiteProgress). length site.reports) at, (is.sites i first_progress there).count)
 
   -- a site that changes, as callers see it
   pub view-set : (l : Inside A) (i s : ℕ) (x y : Progress A) (f : SiteProgress → SiteProgress) → i ≡ s

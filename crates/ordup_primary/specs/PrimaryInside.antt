@@ -53,7 +53,7 @@ module _ {A : Type 0} where
   progress_of site = record {
     sent = site.sent;
     reported = site.reported;
-    reports = site.reports.items;
+    reports = site.reports.reports;
     rounds = site.rounds.items;
     windows = site.windows.items;
   }
@@ -64,7 +64,7 @@ module _ {A : Type 0} where
   -- room for one report, one round and one window more
   abbrev pub HasRoom : Progress A → Type 0
   HasRoom site =
-      (vec_len site.reports < vec_capacity site.reports)
+      (0 < site.reports.room)
       × (vec_len site.rounds < vec_capacity site.rounds)
       × (vec_len site.windows < vec_capacity site.windows)
 

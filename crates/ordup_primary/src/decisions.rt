@@ -1,4 +1,4 @@
-ghost use Rattle.std.specs.Prelude.{◌≡◌, ◌<◌, ◌==◌, ℕ, not, All, OnOk, IfErr, length, map, replicate, slice_index_or, IfOk};
+ghost use Rattle.std.specs.Prelude.{◌≡◌, ◌<◌, ◌+◌, ◌==◌, ℕ, not, All, OnOk, IfErr, length, map, replicate, slice_index_or, IfOk};
 ghost use Rattle.std.specs.List.{list_any};
 ghost use Rattle.ordup_primary.specs.Primaries.{first_progress, decided_at};
 ghost use Rattle.ordup_primary.specs.PrimaryInside.{progress_of, HasRoom};
@@ -6,6 +6,7 @@ ghost use Rattle.ordup_primary.specs.Settling.{last_place};
 ghost use Rattle.ordup_primary.specs.declared.progress.Progress.{Progress};
 
 use crate::progress::Progress;
+use crate::reports::Reports;
 use ordup_objects::{Refusal, SiteId};
 use ordup_rounds::Window;
 use std::alloc::Allocator;
@@ -25,7 +26,7 @@ pub(crate) fn first_sites<A: Allocator + Copy>(
         let site = Progress {
             sent: 0,
             reported: 0,
-            reports: Vec::new(alloc),
+            reports: Reports::new(alloc),
             rounds: Vec::new(alloc),
             windows: Vec::new(alloc),
         };
@@ -53,7 +54,7 @@ fn take_room_at<A: Allocator + Copy>(site: &mut Progress<A>) -> Result<(), Refus
     ensures room { OnOk result (HasRoom site.new) }
     ensures refused { IfErr result (λ e. e ≡ Refusal.NoMemory) }
 {
-    if site.reports.reserve(1).is_err()
+    if site.reports.reserve().is_err()
         || site.rounds.reserve(1).is_err()
         || site.windows.reserve(1).is_err()
     {
@@ -69,6 +70,7 @@ pub(crate) fn put_down<A: Allocator + Copy>(
     number: u64,
 )
     requires room { All HasRoom sites.old.items }
+    requires next { All (λ site. number ≡ length site.reports.reports + 1) sites.old.items }
     ensures count { length sites.new.items ≡ length sites.old.items }
     ensures sites { (s : ℕ) (d : Progress A) → s < length sites.old.items →
         progress_of (slice_index_or sites.new.items s d) ≡ decided_at (not (list_any (λ t. t == s) forced.now)) number (progress_of (slice_index_or sites.old.items s d)) }
@@ -76,7 +78,7 @@ pub(crate) fn put_down<A: Allocator + Copy>(
     for place in 0..sites.len() {
         let is_forced = is_among(place, forced);
         let site = &mut sites[place];
-        site.reports.push_reserved(site.reported);
+        site.reports.push_reserved(number, site.reported);
         if is_forced {
             let window = Window {
                 from: site.reported,

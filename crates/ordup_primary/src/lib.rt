@@ -12,6 +12,7 @@ mod marks;
 mod parcel;
 mod primary;
 mod progress;
+mod reports;
 mod settled;
 mod setup;
 mod site_list;

@@ -53,6 +53,7 @@ impl<A: Allocator + Copy> Primary<A> {
     ghost use Rattle.ordup_log.specs.Appending.{append_refusal};
     ghost use Rattle.ordup_primary.specs.Primaries.{PrimaryState, IsPrimary, progress_at, reported_at, is_within, send_refusal, settle_refusal, forced_now, waiting_now, settled_as, acked_or_round, acked_or_waiting, acked_after, Decides};
     ghost use Rattle.ordup_primary.specs.Primaries.{HasFewestRounds};
+    ghost use Rattle.ordup_primary.specs.Reports.{changes_of};
 
     /// A primary with an empty log, to which no site has reported.
     ///
@@ -217,7 +218,17 @@ impl<A: Allocator + Copy> Primary<A> {
         requires decided { place ≤ self.now.decided }
         ensures { result ≡ reported_at (progress_at self.now site) place }
     {
-        self.sites[site.index()].reports[place as usize - 1]
+        self.sites[site.index()].reports.at(place)
+    }
+
+    /// The decided places at whose decision a site had reported another number than at the decision before, 0 before the first,
+    /// each with this number, in order.
+    pub fn report_changes(&self, site: SiteId) -> &[(u64, u64)]
+        requires { site < length self.now.sites }
+        ensures changes { result.now ≡ changes_of (progress_at self.now site).reports }
+        ensures decided { length (progress_at self.now site).reports ≡ self.now.decided }
+    {
+        self.sites[site.index()].reports.changes()
     }
 
     /// The places at which a site was forced, in order.

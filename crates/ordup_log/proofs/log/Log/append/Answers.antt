@@ -1,69 +1,100 @@
-use Rattle.std.proofs.Common.{arith, rules, ◌∙◌, ◌≡◌, ◌∷◌, [], ◌++◌, ◌+◌, ap, refl, true, length, sum}
-use Rattle.std.proofs.lemmas.Grind.{common_steps}
+use Rattle.std.proofs.Common.{arith, rules, ◌∙◌, ◌≡◌, ◌∷◌, [], ◌++◌, ◌+◌, ap, refl, true, length, take, drop, sum, sym}
 use Rattle.std.specs.Prelude.{slice_index_or}
+use Rattle.std.proofs.lemmas.List.{length-append, length-map}
 use Rattle.ordup_objects.specs.States.{is_legal}
 use Rattle.ordup_objects.specs.Sets.{IsSet, AreKnown}
-use Rattle.ordup_objects.specs.Weights.{distance_beside}
+use Rattle.ordup_objects.specs.Weights.{distance_by, distance_beside, distances_of}
 use Rattle.ordup_log.specs.Postings.{posted}
-use Rattle.ordup_log.proofs.LogLemmas.{allowed, IsLog-same, IsLog-longer, total-few, posted-fits, all-fits}
+use Rattle.ordup_log.proofs.LogLemmas.{allowed, IsLog-same, IsLog-longer, total-few, posted-fits, all-fits, take-drop-last}
 use Rattle.ordup_log.proofs.log.Log.append.Goals as goal
 
 pub invariant_of-self : goal.invariant_of-self
 invariant_of-self g c =
-    IsLog-same c.self.inside c.self.invariant c.reserve.new.self c.self.inside.distances c.self.inside.postings c.self.inside.all
-    c.reserve.ensures.items refl refl (λ x d. refl) refl
+    IsLog-same c.self.inside c.self.invariant c.reserve.new.self c.self.inside.distances c.self.inside.begins
+    c.self.inside.postings c.self.inside.all c.reserve.ensures.items refl refl refl (λ x d. refl) refl
 
 pub invariant_of-self-then-is_err-2 : goal.invariant_of-self-then-is_err-2
 invariant_of-self-then-is_err-2 g c =
-    IsLog-same c.self.inside c.self.invariant c.reserve.new.self c.reserve-else-is_err.new.self c.self.inside.postings
-    c.self.inside.all c.reserve.ensures.items c.reserve-else-is_err.ensures.items refl (λ x d. refl) refl
+    IsLog-same c.self.inside c.self.invariant c.reserve.new.self c.reserve-else-is_err.new.self c.self.inside.begins
+    c.self.inside.postings c.self.inside.all c.reserve.ensures.items c.reserve-else-is_err.ensures.items refl refl (λ x d. refl)
+    refl
 
 pub invariant_of-self-then-is_err-3 : goal.invariant_of-self-then-is_err-3
 invariant_of-self-then-is_err-3 g c =
-    IsLog-same c.self.inside c.self.invariant c.reserve.new.self c.reserve-else-is_err.new.self c.self.inside.postings
-    c.reserve-else-is_err-2.new.self c.reserve.ensures.items c.reserve-else-is_err.ensures.items refl (λ x d. refl)
-    c.reserve-else-is_err-2.ensures.items
+    IsLog-same c.self.inside c.self.invariant c.reserve.new.self c.reserve-else-is_err.new.self c.reserve-else-is_err-2.new.self
+    c.self.inside.postings c.self.inside.all c.reserve.ensures.items c.reserve-else-is_err.ensures.items
+    c.reserve-else-is_err-2.ensures.items refl (λ x d. refl) refl
+
+pub invariant_of-self-then-is_err-4 : goal.invariant_of-self-then-is_err-4
+invariant_of-self-then-is_err-4 g c =
+    IsLog-same c.self.inside c.self.invariant c.reserve.new.self c.reserve-else-is_err.new.self c.reserve-else-is_err-2.new.self
+    c.self.inside.postings c.reserve-else-is_err-3.new.self c.reserve.ensures.items c.reserve-else-is_err.ensures.items
+    c.reserve-else-is_err-2.ensures.items refl (λ x d. refl) c.reserve-else-is_err-3.ensures.items
 
 pub invariant_of-self-in_default-take_room : goal.invariant_of-self-in_default-take_room
 invariant_of-self-in_default-take_room g c =
-    IsLog-same c.self.inside c.self.invariant c.reserve.new.self c.reserve-else-is_err.new.self c.take_room.new.postings
-    c.reserve-else-is_err-2.new.self c.reserve.ensures.items c.reserve-else-is_err.ensures.items c.take_room.ensures.count
-    c.take_room.ensures.same c.reserve-else-is_err-2.ensures.items
+    IsLog-same c.self.inside c.self.invariant c.reserve.new.self c.reserve-else-is_err.new.self c.reserve-else-is_err-2.new.self
+    c.take_room.new.postings c.reserve-else-is_err-3.new.self c.reserve.ensures.items c.reserve-else-is_err.ensures.items
+    c.reserve-else-is_err-2.ensures.items c.take_room.ensures.count c.take_room.ensures.same c.reserve-else-is_err-3.ensures.items
 
 pub returns-in_default-take_room-clause-refused : goal.returns-in_default-take_room-clause-refused
 returns-in_default-take_room-clause-refused g c =
     let legal : is_legal c.args.set c.self.inside.end ≡ true = search rules in
     rw (allowed c.self.inside c.self.invariant c.args.self.now c.args.set c.self.view_is (omega arith) legal) refl
 
+pub part-distances-requires : goal.part-distances-requires
+part-distances-requires g c =
+    omega (
+      arith,
+      ap length (c.as_slice.ensures.value ∙ c.push_distances.ensures),
+      length-append c.reserve-else-is_err.new.self.items (distances_of c.self.inside.end c.args.set),
+      length-map c.args.set (distance_by c.self.inside.end),
+      ap length c.changes-count.ensures.changes,
+      c.reserve-else-is_err.new.self.ok.0,
+    )
+
 pub post_all-requires-clause-few : goal.post_all-requires-clause-few
 post_all-requires-clause-few g c =
     let legal : is_legal c.args.set c.self.inside.end ≡ true = search rules in
     let set : IsSet c.args.set = rw c.set.view_is at c.set.invariant in
+    let ds = c.part-distances.result.now in
+    let are : ds ≡ distances_of c.self.inside.end c.args.set = c.part-distances.ensures
+    ∙ ap (λ xs. take (length c.changes-count.result.now) (drop c.len-begin.result xs)) (c.as_slice.ensures.value ∙ c.push_distances.ensures)
+    ∙ take-drop-last (length c.changes-count.result.now) c.len-begin.result c.reserve-else-is_err.new.self.items
+    (distances_of c.self.inside.end c.args.set) (omega (arith, c.reserve-else-is_err.new.self.ok.0))
+    (omega (arith, ap length c.changes-count.ensures.changes, length-map c.args.set (distance_by c.self.inside.end))) in
     λ x d lt.
-    rw (c.changes-2.ensures.changes, c.as_slice.ensures.value) (posted-fits c.self.inside c.self.invariant c.args.set
-    c.in-Ok-distances.distances set legal c.in-Ok-distances.ensures x d (slice_index_or c.take_room.new.postings.items x d)
+    rw c.changes-2.ensures.changes (posted-fits c.self.inside c.self.invariant c.args.set ds set legal are x d
+    (slice_index_or c.take_room.new.postings.items x d)
     (omega (arith, lt, c.take_room.ensures.count, c.self.invariant.count)) (c.take_room.ensures.same x d))
 
 pub total-requires : goal.total-requires
 total-requires g c =
     let legal : is_legal c.args.set c.self.inside.end ≡ true = search rules in
     let set : IsSet c.args.set = rw c.set.view_is at c.set.invariant in
-    omega (
-      arith,
-      ap sum c.as_slice-2.ensures.value,
-      total-few c.self.inside c.self.invariant c.args.set c.in-Ok-distances.distances set legal c.in-Ok-distances.ensures,
-    )
+    let ds = c.part-distances.result.now in
+    let are : ds ≡ distances_of c.self.inside.end c.args.set = c.part-distances.ensures
+    ∙ ap (λ xs. take (length c.changes-count.result.now) (drop c.len-begin.result xs)) (c.as_slice.ensures.value ∙ c.push_distances.ensures)
+    ∙ take-drop-last (length c.changes-count.result.now) c.len-begin.result c.reserve-else-is_err.new.self.items
+    (distances_of c.self.inside.end c.args.set) (omega (arith, c.reserve-else-is_err.new.self.ok.0))
+    (omega (arith, ap length c.changes-count.ensures.changes, length-map c.args.set (distance_by c.self.inside.end))) in
+    omega (arith, total-few c.self.inside c.self.invariant c.args.set ds set legal are)
 
 pub post-requires-clause-few : goal.post-requires-clause-few
 post-requires-clause-few g c =
     let legal : is_legal c.args.set c.self.inside.end ≡ true = search rules in
     let set : IsSet c.args.set = rw c.set.view_is at c.set.invariant in
+    let ds = c.part-distances.result.now in
+    let are : ds ≡ distances_of c.self.inside.end c.args.set = c.part-distances.ensures
+    ∙ ap (λ xs. take (length c.changes-count.result.now) (drop c.len-begin.result xs)) (c.as_slice.ensures.value ∙ c.push_distances.ensures)
+    ∙ take-drop-last (length c.changes-count.result.now) c.len-begin.result c.reserve-else-is_err.new.self.items
+    (distances_of c.self.inside.end c.args.set) (omega (arith, c.reserve-else-is_err.new.self.ok.0))
+    (omega (arith, ap length c.changes-count.ensures.changes, length-map c.args.set (distance_by c.self.inside.end))) in
     omega (
       arith,
       c.total.ensures,
-      ap sum c.as_slice-2.ensures.value,
-      all-fits c.self.inside c.self.invariant c.args.set c.in-Ok-distances.distances set legal c.in-Ok-distances.ensures
-          c.reserve-else-is_err-2.new.self.items c.reserve-else-is_err-2.ensures.items,
+      all-fits c.self.inside c.self.invariant c.args.set ds set legal are c.reserve-else-is_err-3.new.self.items
+          c.reserve-else-is_err-3.ensures.items,
     )
 
 pub put-requires-clause-known : goal.put-requires-clause-known
@@ -72,7 +103,7 @@ put-requires-clause-known g c =
     rw c.self.invariant.same known
 
 pub push_reserved-requires : goal.push_reserved-requires
-push_reserved-requires g c = grind (arith, common_steps)
+push_reserved-requires g c = search rules
 
 pub push_reserved-requires-2 : goal.push_reserved-requires-2
 push_reserved-requires-2 g c = search rules
@@ -81,22 +112,32 @@ pub invariant_of-self-2 : goal.invariant_of-self-2
 invariant_of-self-2 g c =
     let legal : is_legal c.args.set c.self.inside.end ≡ true = search rules in
     let set : IsSet c.args.set = rw c.set.view_is at c.set.invariant in
-    let ds = c.in-Ok-distances.distances in
-    let posts = rw (c.changes-2.ensures.changes, c.as_slice.ensures.value) at c.post_all.ensures in
-    IsLog-longer c.self.inside c.self.invariant c.args.set ds set legal c.in-Ok-distances.ensures c.push_reserved.new.self
+    let ds = c.part-distances.result.now in
+    let are : ds ≡ distances_of c.self.inside.end c.args.set = c.part-distances.ensures
+    ∙ ap (λ xs. take (length c.changes-count.result.now) (drop c.len-begin.result xs)) (c.as_slice.ensures.value ∙ c.push_distances.ensures)
+    ∙ take-drop-last (length c.changes-count.result.now) c.len-begin.result c.reserve-else-is_err.new.self.items
+    (distances_of c.self.inside.end c.args.set) (omega (arith, c.reserve-else-is_err.new.self.ok.0))
+    (omega (arith, ap length c.changes-count.ensures.changes, length-map c.args.set (distance_by c.self.inside.end))) in
+    let posts = rw c.changes-2.ensures.changes at c.post_all.ensures in
+    IsLog-longer c.self.inside c.self.invariant c.args.set ds set legal are c.push_reserved.new.self c.push_distances.new.distances
     c.push_reserved-2.new.self c.post_all.new.postings c.post.new.postings c.put.new.self (c.len-2.result + 1)
     (rw (← c.self.view_is) at c.requires)
     (omega arith)
     (omega arith)
     (c.push_reserved.ensures.items ∙ ap (λ xs. xs ++ c.args.set ∷ []) c.reserve.ensures.items)
-    (c.push_reserved-2.ensures.items ∙ ap (λ xs. xs ++ ds ∷ []) c.reserve-else-is_err.ensures.items)
+    (c.push_distances.ensures ∙ ap (λ xs. xs ++ distances_of c.self.inside.end c.args.set) c.reserve-else-is_err.ensures.items
+    ∙ ap (λ xs. c.self.inside.distances.items ++ xs) (sym are))
+    (c.push_reserved-2.ensures.items
+    ∙ ap (λ xs. xs ++ c.len-begin.result ∷ []) c.reserve-else-is_err-2.ensures.items
+    ∙ ap (λ n. c.self.inside.begins.items ++ n ∷ [])
+    (omega (arith, c.reserve-else-is_err.new.self.ok.0, ap length c.reserve-else-is_err.ensures.items)))
     (posts.count ∙ c.take_room.ensures.count)
     (λ x d lt.
     posts.each x d (omega (arith, lt, c.take_room.ensures.count))
-    ∙ ap (λ p. posted p (c.len-2.result + 1) (distance_beside c.args.set ds.items x)) (c.take_room.ensures.same x d))
+    ∙ ap (λ p. posted p (c.len-2.result + 1) (distance_beside c.args.set ds x)) (c.take_room.ensures.same x d))
     (c.post.ensures
-    ∙ ap (λ p. posted p (c.len-2.result + 1) c.total.result) c.reserve-else-is_err-2.ensures.items
-    ∙ ap (posted c.self.inside.all.items (c.len-2.result + 1)) (c.total.ensures ∙ ap sum c.as_slice-2.ensures.value))
+    ∙ ap (λ p. posted p (c.len-2.result + 1) c.total.result) c.reserve-else-is_err-3.ensures.items
+    ∙ ap (posted c.self.inside.all.items (c.len-2.result + 1)) c.total.ensures)
     c.put.ensures.after
 
 pub returns-clause-allowed : goal.returns-clause-allowed

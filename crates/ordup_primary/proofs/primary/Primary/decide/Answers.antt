@@ -1,6 +1,6 @@
 use Rattle.std.proofs.Common.{arith, ap, sym, ◌∙◌, length, ◌==◌}
 use Rattle.ordup_primary.specs.PrimaryInside.{state_of}
-use Rattle.ordup_primary.proofs.PrimaryLemmas.{IsPrimary-decided, Decides-at, acked-none, acked-some}
+use Rattle.ordup_primary.proofs.PrimaryLemmas.{IsPrimary-decided, Decides-at, reports-next, acked-none, acked-some}
 use Rattle.ordup_primary.proofs.LedgerLemmas.{AreLedgers-decided}
 use Rattle.ordup_primary.proofs.primary.Primary.decide.Goals as goal
 
@@ -94,3 +94,9 @@ returns-clause-sound g c =
     c.in_ok-take_room.ensures.same forced c.put_down.ensures.count c.put_down.ensures.sites here
     (acked-some c.self.inside.acked c.as_slice.result.now
     (c.if-is_empty.ensures ∙ ap (λ xs. length xs == 0) (c.as_slice-2.ensures ∙ sym c.as_slice.ensures))))
+
+pub put_down-requires-clause-next : goal.put_down-requires-clause-next
+put_down-requires-clause-next g c =
+    let is = c.self.view_is ∙ c.in_ok-forced.ensures.same in
+    reports-next c.self.inside c.take_room.new.sites.items c.args.head c.self.invariant.primary c.in_ok-take_room.ensures.same
+    (rw (← is) at c.requires.first) (rw (← is) at c.requires.head)

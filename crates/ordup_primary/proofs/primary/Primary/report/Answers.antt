@@ -1,8 +1,8 @@
-use Rattle.std.proofs.Common.{arith, refl, ap, ◌≡◌, ◌∙◌, get_or}
+use Rattle.std.proofs.Common.{arith, refl, ap, ◌≡◌, ◌<◌, ◌∙◌, get_or, length}
 use Rattle.std.proofs.lemmas.List.{get_or_read}
 use Rattle.ordup_limits.specs.Ledgers.{LedgerState}
 use Rattle.std.proofs.lemmas.Grind.{common_steps}
-use Rattle.ordup_primary.specs.Primaries.{PrimaryState, progress_at}
+use Rattle.ordup_primary.specs.Primaries.{PrimaryState, first_progress, progress_at}
 use Rattle.ordup_primary.specs.PrimaryInside.{state_of}
 use Rattle.ordup_primary.proofs.PrimaryLemmas.{view-set, reported_as, IsPrimary-reported}
 use Rattle.ordup_primary.proofs.LedgerLemmas.{AreLedgers-reported}
@@ -51,3 +51,17 @@ returns-clause-sound g c =
 
 pub index_mut-requires : goal.index_mut-requires
 index_mut-requires g c = grind (arith, common_steps)
+
+pub reported-requires-clause-last : goal.reported-requires-clause-last
+reported-requires-clause-last g c =
+    let lt = rw (← c.self.view_is) at c.requires.site in
+    omega (arith, rw (← c.self.view_is) at c.requires.sent, (c.self.invariant.primary.sites c.args.site first_progress lt).sent)
+
+pub reported-requires-clause-stands : goal.reported-requires-clause-stands
+reported-requires-clause-stands g c =
+    let x = c.index_mut-2.result.now in
+    let lt = rw (← c.self.view_is) at c.requires.site in
+    let here : c.index-2.result < length c.self.inside.ledgers.items =
+    omega (arith, c.index-2.ensures, lt, c.self.invariant.ledgers.count) in
+    rw c.groups.ensures.groups
+    (rw (← c.index_mut-2.ensures.value) at (c.self.invariant.ledgers.each c.index-2.result x here).stands)

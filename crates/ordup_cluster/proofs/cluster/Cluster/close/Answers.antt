@@ -1,0 +1,16 @@
+use Rattle.ordup_cluster.proofs.ClosedLemmas.{is-closed}
+use Rattle.ordup_cluster.proofs.cluster.Cluster.close.Goals as goal
+
+pub invariant_of-result : goal.invariant_of-result
+invariant_of-result c =
+    let is = c.into_parts-primary.ensures.primary in
+    let same = c.in-None-first_mixed.ensures in
+    is-closed c.into_parts-primary.result.0 c.loop-cell.sites.items (rw is c.primary-primary.ensures.sound) same.count same.agree
+    (rw is c.primary-primary.ensures.within)
+
+pub returns-clause-closed : goal.returns-clause-closed
+returns-clause-closed c =
+    let is = c.into_parts-primary.ensures.primary in
+    let same = c.in-None-first_mixed.ensures in
+    is-closed c.into_parts-primary.result.0 c.loop-cell.sites.items (rw is c.primary-primary.ensures.sound) same.count same.agree
+    (rw is c.primary-primary.ensures.within)

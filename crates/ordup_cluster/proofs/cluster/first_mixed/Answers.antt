@@ -1,0 +1,25 @@
+use Rattle.std.proofs.Common.{◌≡◌, ◌<◌, refl, length, rules, arith}
+use Rattle.std.proofs.lemmas.Option.{slice_get_read, slice_get_within}
+use Rattle.std.proofs.lemmas.List.Elements.{All-take}
+use Rattle.ordup_cluster.proofs.ClosedLemmas.{agree-more}
+use Rattle.ordup_cluster.proofs.cluster.first_mixed.Goals as goal
+
+pub loop-place-preserved : goal.loop-place-preserved
+loop-place-preserved c =
+    let before = c.loop-place.invariant in
+    let sites = c.args.sites.now.items in
+    let here : c.loop-place.place < length c.args.sites.now.items = search rules in
+    let agrees = rw c.new-site.ensures at (c.if-not-agree.ensures.0 (search rules)) in
+    record {
+      rooms = rw c.in-Some.ensures.rest (All-take (λ v. v ≡ c.args.primary.now.log.start) _ _ before.rooms);
+      agree =
+          agree-more c.loop-place.place c.args.primary.now sites c.index.result.now before.agree
+          (slice_get_read sites _ c.loop-place.place c.index.result.now refl here c.index.ensures) agrees;
+    }
+
+pub returns-clause-agree : goal.returns-clause-agree
+returns-clause-agree c = λ s x at.
+    let inside = slice_get_within c.args.sites.now.items s x at in
+    let last = c.loop-place-test.false in
+    let all : length c.args.sites.now.items ≡ c.sites-place-end.result = search rules in
+    c.loop-place.invariant.agree s x (omega arith) at

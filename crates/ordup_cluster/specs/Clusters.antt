@@ -1,0 +1,22 @@
+-- What contracts see of a cluster, and of what is left of it.
+use Rattle.std.specs.Prelude.{◌≡◌, ℕ, Some, List, length, slice_get, true}
+use Rattle.ordup_primary.specs.Primaries.{PrimaryState, IsPrimary, is_within}
+use Rattle.ordup_site.specs.Sites.{SiteState}
+use Rattle.ordup_holds.specs.Agreement.{Agrees}
+
+-- How many objects and how many sites there are. What lies under a lock no contract sees.
+pub record ClusterState : Type 0 where
+  pub objects : ℕ
+  pub sites : ℕ
+
+-- the primary and the sites of a closed cluster
+pub record ClosedState : Type 0 where
+  pub primary : PrimaryState
+  pub sites : List SiteState
+
+-- There are the sites of the primary. Each agrees with it, and the acknowledged updates that a site has not applied keep its limits.
+pub record IsClosed (c : ClosedState) : Type 0 where
+  pub sound : IsPrimary c.primary
+  pub count : length c.sites ≡ length c.primary.sites
+  pub agrees : (s : ℕ) (x : SiteState) → slice_get c.sites s ≡ Some x → Agrees c.primary s x
+  pub within : (s : ℕ) (x : SiteState) → slice_get c.sites s ≡ Some x → is_within c.primary s x.applied c.primary.acked ≡ true

@@ -1,0 +1,5 @@
+pub mod Sessions
+pub mod Clusters
+pub mod ClosedInside
+pub mod ClusterInside
+pub mod Refusals

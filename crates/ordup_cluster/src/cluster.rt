@@ -1,0 +1,308 @@
+ghost use Rattle.std.specs.Prelude.{◌≡◌, ◌<◌, ◌≤◌, ℕ, None, Some, pos, length, max, slice_get, vec_len, IfOk, OnOk, IfErr, OnErr, IfNone};
+ghost use Rattle.ordup_objects.specs.Refusals.{IsRefusal};
+ghost use Rattle.ordup_primary.specs.Declarations.{start_refusal};
+ghost use Rattle.ordup_site.specs.Sites.{SiteState};
+ghost use Rattle.ordup_holds.specs.Books.{AreRooms};
+ghost use Rattle.ordup_holds.specs.Agreement.{Agrees};
+ghost use Rattle.ordup_cluster.specs.Clusters.{IsClosed};
+ghost use Rattle.ordup_cluster.specs.Refusals.{IsProposalRefusal, IsSettlementRefusal, IsReadRefusal, site_query_refusal};
+
+use crate::book_turns::BookTurns;
+use crate::closed::Closed;
+use crate::gate::Gate;
+use crate::session::Session;
+use crate::site_query::SiteQuery;
+use ordup_holds::{Book, SeenValue, SiteCell, agree, begin, number, open, take, turn, until, view};
+use ordup_objects::{MessageSet, ObjectId, Refusal, SiteId, Values};
+use ordup_primary::{Primary, Setup};
+use ordup_site::Site;
+use std::alloc::Global;
+use std::marker::Model;
+use std::sync::atomic::{AtomicBool, Ordering};
+use std::sync::{Mutex, Wait};
+use std::thread;
+
+/// A store that threads share.
+///
+/// The book of the primary lies under one lock, and the cell of each site under one of its own. No lock is taken while another is
+/// held. Each site has an applier in a thread of its own, and callers have sessions.
+#[derive(Drop)]
+pub struct Cluster {
+    book: Mutex<Book>,
+    cells: Vec<Mutex<SiteCell>>,
+    /// How many objects there are.
+    objects: usize,
+    /// Empty, with a place for the site of each cell.
+    room: Vec<Site>,
+    stopped: AtomicBool,
+}
+
+impl Model for Cluster {
+    ghost use Rattle.std.specs.Prelude.{vec_len};
+    ghost use Rattle.ordup_cluster.specs.Clusters.{ClusterState};
+
+    ghost Value = { ClusterState };
+
+    ghost view = { λ c. record { objects = c.objects; sites = vec_len c.cells } };
+
+    ghost use Rattle.ordup_cluster.specs.ClusterInside.{KeepsRoom};
+
+    ghost invariant = { KeepsRoom };
+}
+
+impl Cluster {
+    /// A store in which nothing has happened. It takes the room that `close` needs.
+    ///
+    /// It is refused `Empty` where the setup lacks an object or a site, and `NoMemory`. It waits for nobody.
+    pub fn new(alloc: Global, setup: Setup) -> Result<Cluster, Refusal>
+        ensures cluster { IfOk result (λ c. c ≡ record { objects = length setup.objects; sites = length setup.sites }) }
+        ensures allowed { IfOk result (λ _. start_refusal setup ≡ None) }
+        ensures refused { IfErr result (λ e. IsRefusal (start_refusal setup) e) }
+    {
+        let (book, cells) = open(alloc, setup)?;
+        let objects = book.primary().setup().objects().len();
+        let cells = locked(alloc, cells)?;
+        let Ok(room) = Vec::with_capacity(alloc, cells.len()) else {
+            return Err(Refusal::NoMemory);
+        };
+        Ok(Cluster {
+            book: Mutex::new(book),
+            cells,
+            objects,
+            room,
+            stopped: AtomicBool::new(false),
+        })
+    }
+
+    /// How many sites there are.
+    pub fn sites(&self) -> usize
+        ensures { result ≡ self.now.sites }
+    {
+        self.cells.len()
+    }
+
+    /// Numbers a message set as the next update, and waits until it is acknowledged, by so many turns of the book at most, 1 or more.
+    /// The first of them is made in the hold that numbers the update.
+    ///
+    /// It is refused `Stopped` after `stop`, `UnknownObject`, `LogFull` after 1,000,000 updates, `OutOfRange` where a result is out of
+    /// range, and `NoMemory`; then nothing was numbered. It is refused `NotYet` with the number of the update where that is not
+    /// acknowledged after the last turn, or a growth is refused in a turn: the update stands, and `settle` waits for it.
+    pub fn propose<R: Wait>(
+        &self,
+        rt: &R,
+        session: &mut Session,
+        set: MessageSet,
+        turns: u64,
+    ) -> Result<u64, Refusal>
+        requires { 1 ≤ turns }
+        ensures seen { IfOk result (λ number. session.new.seen ≡ max session.old.seen number) }
+        ensures refused { IfErr result IsProposalRefusal }
+        ensures err { OnErr result (session.new ≡ session.old) }
+    {
+        if self.stopped.load(Ordering::SeqCst) {
+            return Err(Refusal::Stopped);
+        }
+        let mut book = self.book.lock(rt);
+        if !set.are_known(book.primary().log().objects()) {
+            return Err(Refusal::UnknownObject);
+        }
+        let number = number(&mut book, set)?;
+        let first = turn(rt, &mut book);
+        drop(book);
+        let Ok(acked) = first else {
+            return Err(Refusal::NotYet { number });
+        };
+        let mut made = BookTurns {
+            book: &self.book,
+            acked,
+            made: 1,
+            refused: false,
+        };
+        if until(rt, &mut made, number, turns).is_err() {
+            return Err(Refusal::NotYet { number });
+        }
+        session.see(number);
+        Ok(number)
+    }
+
+    /// Waits until the update with this number is acknowledged, by so many turns of the book at most, 1 or more.
+    ///
+    /// It is refused `OutOfRange` where no update has this number, `NoMemory` as soon as a growth is refused in a turn, and `NotYet`
+    /// where the update is not acknowledged after the last turn.
+    pub fn settle<R: Wait>(
+        &self,
+        rt: &R,
+        session: &mut Session,
+        number: u64,
+        turns: u64,
+    ) -> Result<(), Refusal>
+        requires { 1 ≤ turns }
+        ensures seen { OnOk result (session.new.seen ≡ max session.old.seen number) }
+        ensures some { OnOk result (0 < number) }
+        ensures refused { IfErr result (IsSettlementRefusal number) }
+        ensures err { OnErr result (session.new ≡ session.old) }
+    {
+        let book = self.book.lock(rt);
+        let last = book.primary().log().len();
+        let acked = book.primary().acked();
+        drop(book);
+        if number == 0 || number > last {
+            return Err(Refusal::OutOfRange);
+        }
+        let mut made = BookTurns {
+            book: &self.book,
+            acked,
+            made: 0,
+            refused: false,
+        };
+        until(rt, &mut made, number, turns)?;
+        session.see(number);
+        Ok(())
+    }
+
+    /// The value of an object at a site, and how many updates the site applied: no fewer than the session has seen.
+    ///
+    /// It is refused `UnknownObject`, `UnknownSite`, and `Behind`, with how many updates the site applied, where those are fewer than
+    /// the session has seen.
+    pub fn read<R: Wait>(
+        &self,
+        rt: &R,
+        session: &mut Session,
+        site: SiteId,
+        object: ObjectId,
+    ) -> Result<SeenValue, Refusal>
+        ensures applied { IfOk result (λ read. session.old.seen ≤ read.applied) }
+        ensures seen { IfOk result (λ read. session.new.seen ≡ read.applied) }
+        ensures allowed { IfOk result (λ _. (object < self.now.objects) × (site < self.now.sites)) }
+        ensures refused { IfErr result (IsReadRefusal self.now.sites site session.old.seen) }
+        ensures err { OnErr result (session.new ≡ session.old) }
+    {
+        if object.index() >= self.objects {
+            return Err(Refusal::UnknownObject);
+        }
+        if site.index() >= self.cells.len() {
+            return Err(Refusal::UnknownSite);
+        }
+        let cell = self.cells[site.index()].lock(rt);
+        let read = view(&cell, object)?;
+        if read.applied < session.seen() {
+            return Err(Refusal::Behind {
+                applied: read.applied,
+            });
+        }
+        session.see(read.applied);
+        Ok(read)
+    }
+
+    /// Begins a query at a site with this import limit, 0 to 10^18, whose reference is what is acknowledged now.
+    ///
+    /// It is refused `UnknownSite`, `OutOfRange` for the limit, and `NoMemory`.
+    pub fn begin<R: Wait>(&self, rt: &R, site: SiteId, limit: u64) -> Result<SiteQuery<'_>, Refusal>
+        ensures query { IfOk result (λ q. q ≡ record { place = q.place; marks = q.marks; limit = limit; sum = pos 0; total = 0; reads = 0 }) }
+        ensures allowed { IfOk result (λ _. site_query_refusal self.now.sites site limit ≡ None) }
+        ensures refused { IfErr result (λ e. IsRefusal (site_query_refusal self.now.sites site limit) e) }
+    {
+        if site.index() >= self.cells.len() {
+            return Err(Refusal::UnknownSite);
+        }
+        let book = self.book.lock(rt);
+        let query = begin(&book, limit)?;
+        drop(book);
+        Ok(SiteQuery {
+            cell: &self.cells[site.index()],
+            query,
+        })
+    }
+
+    /// Applies what comes to a site, until a turn that began after `stop` finds nothing. It answers how many updates it applied.
+    pub fn applier<G: Gate, R: Wait>(&self, rt: &R, site: SiteId, gate: &G) -> u64
+        requires { site < self.now.sites }
+    {
+        let mut count = 0u64;
+        for _ in rt.forever() {
+            let stopping = self.stopped.load(Ordering::SeqCst);
+            let next = self.cells[site.index()].lock(rt).next();
+            gate.before_apply(rt, site, next);
+            let mut cell = self.cells[site.index()].lock(rt);
+            let next = cell.next();
+            gate.at_apply(rt, site, next);
+            let taken = take(rt, &mut cell);
+            drop(cell);
+            match taken {
+                Some(_) => count = count.saturating_add(1),
+                None if stopping => break,
+                None => thread::yield_now(),
+            }
+        }
+        count
+    }
+
+    /// Ends the appliers once their feeds are empty. Proposals are refused from now on.
+    pub fn stop(&self) {
+        self.stopped.store(true, Ordering::SeqCst);
+    }
+
+    /// What is left, once all threads are joined: the log is applied again, and each site compared with it. It takes no memory.
+    ///
+    /// It is refused `Mixed` for the first site that does not agree with the log. It waits for nobody.
+    pub fn close(self) -> Result<Closed, Refusal>
+        ensures closed { IfOk result IsClosed }
+        ensures refused { IfErr result (λ e. (s : ℕ) × (e ≡ Refusal.Mixed s)) }
+    {
+        let Cluster {
+            book,
+            cells,
+            objects: _,
+            room,
+            stopped: _,
+        } = self;
+        let mut sites = room;
+        for cell in cells {
+            sites.push_reserved(cell.into_inner().into_site());
+        }
+        let book = book.into_inner();
+        let _primary = book.primary();
+        let (primary, rooms) = book.into_parts();
+        match first_mixed(&primary, &sites, rooms) {
+            Some(site) => Err(Refusal::Mixed { site }),
+            None => Ok(Closed { primary, sites }),
+        }
+    }
+}
+
+/// Each cell under a lock of its own.
+fn locked(alloc: Global, cells: Vec<SiteCell>) -> Result<Vec<Mutex<SiteCell>>, Refusal>
+    ensures count { IfOk result (λ locked. vec_len locked ≡ length cells.items) }
+    ensures refused { IfErr result (λ e. e ≡ Refusal.NoMemory) }
+{
+    let Ok(mut locked) = Vec::with_capacity(alloc, cells.len()) else {
+        return Err(Refusal::NoMemory);
+    };
+    for cell in cells {
+        locked.push_reserved(Mutex::new(cell));
+    }
+    Ok(locked)
+}
+
+/// The first site that does not agree with the primary, given the initial values once for each site.
+fn first_mixed(primary: &Primary, sites: &Vec<Site>, mut rooms: Vec<Values>) -> Option<SiteId>
+    requires { AreRooms primary.now rooms.items }
+    ensures count { IfNone result (length sites.now.items ≡ length primary.now.sites) }
+    ensures agree { IfNone result ((s : ℕ) (x : SiteState) → slice_get sites.now.items s ≡ Some x → Agrees primary.now s x) }
+{
+    // For the proof: there are as many sites as were declared.
+    let _acked = primary.acked();
+    if sites.len() != primary.setup().sites() {
+        return Some(SiteId::new(0));
+    }
+    for place in 0..primary.setup().sites() {
+        let site = SiteId::new(place as u8);
+        let Some(values) = rooms.pop() else {
+            return Some(site);
+        };
+        if !agree(primary, site, &sites[place], values) {
+            return Some(site);
+        }
+    }
+    None
+}

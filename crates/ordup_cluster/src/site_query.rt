@@ -1,0 +1,58 @@
+ghost use Rattle.std.specs.Prelude.{◌≡◌, ◌≤◌, ◌+◌, ◌+ℤ◌, List, ◌∷◌, length, map, IfOk, IfErr, OnErr};
+ghost use Rattle.ordup_query.specs.declared.answer.ReadAnswer.{ReadAnswer};
+ghost use Rattle.ordup_query.specs.Queries.{HasRead, value_sum, import_sum};
+ghost use Rattle.ordup_cluster.specs.Refusals.{IsQueryRefusal};
+
+use ordup_holds::SiteCell;
+use ordup_objects::{ObjectId, Refusal};
+use ordup_query::{Query, QueryAnswer, ReadAnswer};
+use std::marker::Model;
+use std::sync::{Mutex, Wait};
+
+/// A query at a site of a cluster. Its reference is what was acknowledged as it began.
+#[derive(Drop)]
+pub struct SiteQuery<'a> {
+    pub(crate) cell: &'a Mutex<SiteCell>,
+    pub(crate) query: Query,
+}
+
+impl<'a> Model for SiteQuery<'a> {
+    ghost use Rattle.ordup_query.specs.Queries.{QueryState};
+
+    ghost Value = { QueryState };
+
+    ghost view = { λ s. s.query };
+}
+
+impl SiteQuery<'_> {
+    /// Reads an object at the site: its value, what the read imports, and the new total.
+    ///
+    /// It is refused `UnknownObject` where there is no such object, `TooMany` after 256 accepted reads, and `OverImport` where the
+    /// total would pass the limit. The query then stands as before.
+    pub fn read<R: Wait>(&mut self, rt: &R, object: ObjectId) -> Result<ReadAnswer, Refusal>
+        ensures total { IfOk result (λ a. a.total ≡ self.old.total + a.import) }
+        ensures query { IfOk result (λ a. self.new ≡ record self.old { sum = self.old.sum +ℤ a.value; total = a.total; reads = self.old.reads + 1 }) }
+        ensures reads { (answers : List ReadAnswer) → HasRead self.old answers → IfOk result (λ a. HasRead self.new (a ∷ answers)) }
+        ensures refused { IfErr result (IsQueryRefusal self.old) }
+        ensures err { OnErr result (self.new ≡ self.old) }
+    {
+        if object.index() >= self.query.objects() {
+            return Err(Refusal::UnknownObject);
+        }
+        let cell = self.cell.lock(rt);
+        if object.index() >= cell.site().len() {
+            return Err(Refusal::UnknownObject);
+        }
+        self.query.read(cell.site(), object)
+    }
+
+    /// Ends the query, and answers what its accepted reads added up to.
+    pub fn end(self) -> QueryAnswer
+        ensures answer { result ≡ record { place = self.entry.place; sum = self.entry.sum; total = self.entry.total; reads = self.entry.reads } }
+        ensures reads { (answers : List ReadAnswer) → HasRead self.entry answers → result ≡ record { place = self.entry.place; sum = value_sum (map (λ a. a.value) answers); total = import_sum (map (λ a. a.import) answers); reads = length answers } }
+        ensures within { result.total ≤ self.entry.limit }
+    {
+        let SiteQuery { cell: _, query } = self;
+        query.end()
+    }
+}

@@ -1,0 +1,88 @@
+ghost use Rattle.std.specs.Prelude.{◌≡◌, ◌<◌, ◌≤◌, ◌+◌, ◌-◌, ℕ, [], ◌∷◌, ◌++◌, length, slice_index_or, OnOk};
+ghost use Rattle.ordup_primary.specs.Settling.{report_at};
+ghost use Rattle.ordup_primary.specs.Reports.{changes_of};
+
+use ordup_log::as_of;
+use std::alloc::{AllocError, Allocator, Global};
+use std::marker::Model;
+
+/// What a site had reported at the decision of each place, kept as the changes of it.
+#[derive(Drop)]
+pub(crate) struct Reports<A: Allocator + Copy = Global> {
+    /// The places at which it had reported another number than at the decision before, each with it, in order.
+    changes: Vec<(u64, u64), A>,
+    /// How many places are decided.
+    decided: u64,
+}
+
+impl<A: Allocator + Copy> Model for Reports<A> {
+    ghost use Rattle.ordup_primary.specs.Reports.{ReportList};
+    ghost use Rattle.ordup_primary.specs.ReportsInside.{reports_of, KeepsChanges};
+
+    ghost Value = { ReportList };
+
+    ghost view = { reports_of };
+
+    ghost invariant = { KeepsChanges };
+}
+
+impl<A: Allocator + Copy> Reports<A> {
+    /// No place is decided. It takes no memory.
+    pub(crate) fn new(alloc: A) -> Self
+        ensures { result.reports ≡ [] }
+    {
+        Reports {
+            changes: Vec::new(alloc),
+            decided: 0,
+        }
+    }
+
+    /// Takes the room for the report at one decision more.
+    pub(crate) fn reserve(&mut self) -> Result<(), AllocError>
+        ensures same { self.new.reports ≡ self.old.reports }
+        ensures room { OnOk result (0 < self.new.room) }
+    {
+        match self.changes.reserve(1) {
+            Ok(()) => Ok(()),
+            Err(_) => Err(AllocError),
+        }
+    }
+
+    /// Puts down the report at the decision of the next place.
+    pub(crate) fn push_reserved(&mut self, place: u64, report: u64)
+        requires room { 0 < self.old.room }
+        requires next { place ≡ length self.old.reports + 1 }
+        ensures { self.new.reports ≡ self.old.reports ++ report ∷ [] }
+    {
+        if report != last_report(self.changes.as_slice()) {
+            self.changes.push_reserved((place, report));
+        }
+        self.decided = place;
+    }
+
+    /// The report at the decision of a place.
+    pub(crate) fn at(&self, place: u64) -> u64
+        requires some { 0 < place }
+        requires decided { place ≤ length self.now.reports }
+        ensures { result ≡ report_at self.now.reports place }
+    {
+        as_of(self.changes.as_slice(), place)
+    }
+
+    /// The decisions at which another number was reported than at the one before, each with it.
+    pub(crate) fn changes(&self) -> &[(u64, u64)]
+        ensures { result.now ≡ changes_of self.now.reports }
+    {
+        self.changes.as_slice()
+    }
+}
+
+/// What the last of these changes is to, 0 where there is none.
+fn last_report(changes: &[(u64, u64)]) -> u64
+    ensures { result ≡ (slice_index_or changes.now (length changes.now - 1) (0, 0)).1 }
+{
+    match changes.last() {
+        Some(change) => change.1,
+        None => 0,
+    }
+}

@@ -2,6 +2,7 @@ pub mod Sizes
 pub mod Refusals
 pub mod Names
 pub mod NameInside
+pub mod SetInside
 pub mod States
 pub mod Ops
 pub mod Repeats

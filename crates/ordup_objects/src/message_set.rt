@@ -4,6 +4,7 @@ ghost use Rattle.ordup_objects.specs.Ops.{number_of, source_of, is_none_or};
 ghost use Rattle.ordup_objects.specs.Refusals.{IsRefusal};
 ghost use Rattle.ordup_objects.specs.Repeats.{repeats};
 ghost use Rattle.ordup_objects.specs.States.{in_range};
+ghost use Rattle.ordup_objects.specs.SetInside.{changes_of};
 ghost use Rattle.ordup_objects.specs.Sets.{is_known, are_known, are_in_range, are_of_one_object, set_refusal, IsSet, AreKnown};
 
 use crate::change::{Change, ObjectId, Op};
@@ -19,19 +20,49 @@ use std::marker::Model;
 /// It is the message set of Pu and Leff, in which an update is propagated to the replicas.
 #[derive(Debug, Drop)]
 pub struct MessageSet<A: Allocator + Copy = Global> {
-    changes: Vec<Change, A>,
+    changes: Changes<A>,
+}
+
+/// A single change in place, as most sets have, or a list of changes.
+#[derive(Debug, Drop)]
+enum Changes<A: Allocator + Copy> {
+    One([Change; 1]),
+    Many(Vec<Change, A>),
+}
+
+impl<A: Allocator + Copy> Changes<A> {
+    /// The same changes with one more as the last. It is refused `NoMemory` alone.
+    fn push(&mut self, alloc: A, change: Change) -> Result<(), Refusal>
+        ensures pushed { IfOk result (λ _. changes_of self.new ≡ changes_of self.old ++ change ∷ []) }
+        ensures refused { IfErr result (λ e. e ≡ Refusal.NoMemory) }
+        ensures err { IfErr result (λ _. changes_of self.new ≡ changes_of self.old) }
+    {
+        match self {
+            Changes::One(changes) => match Vec::from_slice(alloc, &[changes[0], change]) {
+                Ok(changes) => *self = Changes::Many(changes),
+                Err(_) => return Err(Refusal::NoMemory),
+            },
+            Changes::Many(changes) => {
+                if changes.push(change).is_err() {
+                    return Err(Refusal::NoMemory);
+                }
+            }
+        }
+        Ok(())
+    }
 }
 
 impl<A: Allocator + Copy> Model for MessageSet<A> {
     ghost use Rattle.std.specs.Prelude.{List};
     ghost use Rattle.ordup_objects.specs.declared.change.Change.{Change};
     ghost use Rattle.ordup_objects.specs.Sets.{IsSet};
+    ghost use Rattle.ordup_objects.specs.SetInside.{changes_of};
 
     ghost Value = { List Change };
 
-    ghost view = { λ s. s.changes.items };
+    ghost view = { λ s. changes_of s.changes };
 
-    ghost invariant = { λ s. IsSet s.changes.items };
+    ghost invariant = { λ s. IsSet (changes_of s.changes) };
 }
 
 impl<A: Allocator + Copy> MessageSet<A> {
@@ -60,6 +91,10 @@ impl<A: Allocator + Copy> MessageSet<A> {
         if has_repeat(&changes) {
             return Err(Refusal::Repeated);
         }
+        let changes = match changes.as_slice() {
+            [change] => Changes::One([*change]),
+            _ => Changes::Many(changes),
+        };
         Ok(MessageSet { changes })
     }
 
@@ -68,10 +103,14 @@ impl<A: Allocator + Copy> MessageSet<A> {
         ensures copied { IfOk result (λ set. set ≡ self.now) }
         ensures refused { IfErr result (λ e. e ≡ Refusal.NoMemory) }
     {
-        match Vec::from_slice(alloc, self.changes.as_slice()) {
-            Ok(changes) => Ok(MessageSet { changes }),
-            Err(_) => Err(Refusal::NoMemory),
-        }
+        let changes = match self.changes() {
+            [change] => Changes::One([*change]),
+            changes => match Vec::from_slice(alloc, changes) {
+                Ok(changes) => Changes::Many(changes),
+                Err(_) => return Err(Refusal::NoMemory),
+            },
+        };
+        Ok(MessageSet { changes })
     }
 
     /// Adds a change as the last of the set.
@@ -86,7 +125,7 @@ impl<A: Allocator + Copy> MessageSet<A> {
         ensures refused { IfErr result (λ e. IsRefusal (set_refusal (length objects.now) (self.old ++ change ∷ [])) e) }
         ensures err { IfErr result (λ _. self.new ≡ self.old) }
     {
-        let changes = self.changes.as_slice();
+        let changes = self.changes();
         if !is_known(objects.len(), &change) {
             return Err(Refusal::UnknownObject);
         }
@@ -99,10 +138,7 @@ impl<A: Allocator + Copy> MessageSet<A> {
         if is_changed(change.object, changes) {
             return Err(Refusal::Repeated);
         }
-        match self.changes.push(change) {
-            Ok(()) => Ok(()),
-            Err(_) => Err(Refusal::NoMemory),
-        }
+        self.changes.push(objects.allocator(), change)
     }
 
     /// The changes, in the order given.
@@ -111,7 +147,10 @@ impl<A: Allocator + Copy> MessageSet<A> {
         // What each set keeps, for the proofs of its users.
         ensures set { IsSet self.now }
     {
-        self.changes.as_slice()
+        match &self.changes {
+            Changes::One(change) => change.as_slice(),
+            Changes::Many(changes) => changes.as_slice(),
+        }
     }
 
     /// Whether the objects of each change are among the first so many.
@@ -119,7 +158,7 @@ impl<A: Allocator + Copy> MessageSet<A> {
         ensures known { result ≡ are_known objects self.now }
         ensures fact { IsTrue result → AreKnown objects self.now }
     {
-        are_known(objects, self.changes.as_slice())
+        are_known(objects, self.changes())
     }
 }
 

@@ -42,6 +42,11 @@ impl<A: Allocator + Copy> ObjectTable<A> {
         }
     }
 
+    /// The allocator that the table takes its memory from.
+    pub(crate) fn allocator(&self) -> A {
+        *self.objects.allocator()
+    }
+
     /// The same objects once more. It is refused `NoMemory` alone.
     pub fn copy(&self, alloc: A) -> Result<Self, Refusal>
         ensures copied { IfOk result (λ table. table ≡ self.now) }

@@ -1,4 +1,4 @@
-ghost use Rattle.std.specs.Prelude.{◌≡◌, ◌<◌, ◌==◌, if◌then◌else◌, None, IfOk, IfErr, [], ◌∷◌, ◌++◌, length};
+ghost use Rattle.std.specs.Prelude.{◌≡◌, ◌<◌, None, IfOk, IfErr, length};
 ghost use Rattle.ordup_objects.specs.Refusals.{IsRefusal};
 ghost use Rattle.ordup_primary.specs.Primaries.{progress_at, reported_at};
 ghost use Rattle.ordup_record.specs.RecordInside.{state_of, AreParts};
@@ -89,31 +89,15 @@ fn report_changes<A: Allocator + Copy>(
     ensures changes { IfOk result (λ changes. changes.items ≡ report_changes (reported_at (progress_at primary.now site)) primary.now.decided) }
     ensures refused { IfErr result (λ e. e ≡ Refusal.NoMemory) }
 {
-    let mut changes = Vec::new(alloc);
-    let mut before = 0;
-    for updates in 0..primary.decided() {
-        let place = updates + 1;
-        let reported = primary.reported_at(site, place);
-        push_change(&mut changes, before, ReportChange { place, reported })?;
-        before = reported;
+    let steps = primary.report_changes(site);
+    let Ok(mut changes) = Vec::with_capacity(alloc, steps.len()) else {
+        return Err(Refusal::NoMemory);
+    };
+    for step in steps {
+        changes.push_reserved(ReportChange {
+            place: step.0,
+            reported: step.1,
+        });
     }
     Ok(changes)
-}
-
-/// Adds a change, where another number was reported before it. It is refused `NoMemory` alone.
-fn push_change<A: Allocator + Copy>(
-    changes: &mut Vec<ReportChange, A>,
-    before: u64,
-    change: ReportChange,
-) -> Result<(), Refusal>
-    ensures pushed { IfOk result (λ _. changes.new.items ≡ (if change.reported == before then changes.old.items else changes.old.items ++ change ∷ [])) }
-    ensures refused { IfErr result (λ e. e ≡ Refusal.NoMemory) }
-{
-    if change.reported == before {
-        return Ok(());
-    }
-    match changes.push(change) {
-        Ok(()) => Ok(()),
-        Err(_) => Err(Refusal::NoMemory),
-    }
 }

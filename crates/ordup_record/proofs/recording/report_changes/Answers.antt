@@ -1,15 +1,15 @@
-use Rattle.std.proofs.Common.{◌≡◌, ◌+◌, suc, arith, ap, ◌∙◌}
+use Rattle.std.proofs.Common.{◌≡◌, length, map, take, arith, ap, ◌∙◌}
+use Rattle.std.proofs.lemmas.List.{take_all}
 use Rattle.ordup_primary.specs.Primaries.{progress_at, reported_at}
+use Rattle.ordup_record.specs.RecordsOf.{report_changes}
+use Rattle.ordup_record.proofs.ChangeLemmas.{change_at, changes-copied}
 use Rattle.ordup_record.proofs.recording.report_changes.Goals as goal
 
-pub loop-updates-preserved : goal.loop-updates-preserved
-loop-updates-preserved g c =
-    let reported_at = reported_at (progress_at c.args.primary.now c.args.site) in
-    let next : c.loop-updates.updates + 1 ≡ suc c.loop-updates.updates = omega arith in
-    let here : c.reported_at-reported.result ≡ reported_at (suc c.loop-updates.updates) = c.reported_at-reported.ensures
-    ∙ ap reported_at next in
-    rw next (record {
-      changes = rw (← here, ← c.loop-updates.invariant.before, ← c.loop-updates.invariant.changes)
-          (rw next at c.in_ok-push_change.ensures.pushed);
-      before = here;
-    })
+pub returns-clause-changes : goal.returns-clause-changes
+returns-clause-changes g c =
+    let progress = progress_at c.args.primary.now c.args.site in
+    let steps = c.report_changes-steps.result.now in
+    let all : take c.loop-step.step-index steps ≡ steps = take_all c.loop-step.step-index steps (omega arith) in
+    c.loop-step.invariant.changes ∙ ap (map change_at) (all ∙ c.report_changes-steps.ensures.changes)
+    ∙ changes-copied progress.reports (length progress.reports)
+    ∙ ap (report_changes (reported_at progress)) c.report_changes-steps.ensures.decided

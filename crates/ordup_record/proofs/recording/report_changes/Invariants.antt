@@ -1,11 +1,11 @@
-use Rattle.std.proofs.Common.{◌≡◌}
-use Rattle.ordup_primary.specs.Primaries.{progress_at, reported_at}
-use Rattle.ordup_record.specs.RecordsOf.{reported_before_or_at, report_changes}
+use Rattle.std.proofs.Common.{◌≡◌, ◌≤◌, length, map, take}
+use Rattle.std.specs.Vec.{vec_capacity}
+use Rattle.ordup_record.proofs.ChangeLemmas.{change_at}
 use Rattle.ordup_record.proofs.recording.report_changes.Given as goal
 
--- the changes so far, and what was reported at the last place
-abbrev pub invariant-loop-updates : goal.invariant-loop-updates
-invariant-loop-updates g l = record {
-  changes : l.changes.items ≡ report_changes (reported_at (progress_at l.primary l.site)) l.updates;
-  before : l.before ≡ reported_before_or_at (reported_at (progress_at l.primary l.site)) l.updates;
+-- the changes so far, with room for all of them
+abbrev pub invariant-loop-step : goal.invariant-loop-step
+invariant-loop-step g l = record {
+  changes : l.changes.items ≡ map change_at (take l.step-index l.steps);
+  room : length l.steps ≤ vec_capacity l.changes;
 }

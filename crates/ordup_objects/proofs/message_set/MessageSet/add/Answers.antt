@@ -27,7 +27,7 @@ pub invariant_of-self : goal.invariant_of-self
 invariant_of-self g c =
     let before = changes_of c.self.inside.changes in
     kept c.push.result before (changes_of c.push.new.self) c.args.change c.push.ensures.pushed c.push.ensures.err c.self.invariant
-      (IsSet-push before c.args.change c.self.invariant (search rules) (search rules) (search rules))
+    (IsSet-push before c.args.change c.self.invariant (search rules) (search rules) (search rules))
 
 pub returns-clause-allowed : goal.returns-clause-allowed
 returns-clause-allowed g c = grind (arith, common_steps, set_refusal-last)

@@ -1,0 +1,11 @@
+//! Tests of a cluster by calls on one thread.
+#![tactic(auto)]
+
+#[cfg(test)]
+mod fixtures;
+#[cfg(test)]
+mod one_site;
+#[cfg(test)]
+mod refusals;
+#[cfg(test)]
+mod two_sites;

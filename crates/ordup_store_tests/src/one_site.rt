@@ -1,0 +1,165 @@
+//! Updates at the one site of a cluster, from the proposal to what is left at the end.
+use crate::fixtures::{a, add, apply_at, opened, read_x, x, x_y_and_z};
+use ordup_cluster::{Cluster, SeenValue, Session, SiteQuery};
+use ordup_limits::Scope;
+use ordup_objects::{MessageSet, Refusal};
+use ordup_primary::Window;
+use ordup_query::{QueryAnswer, ReadAnswer};
+use std::process::Abort;
+use std::sync::Wait;
+use std::test::Fail;
+
+/// Stops the cluster, so that another set is refused, and lets the site a apply the one update that it was sent.
+fn stop_and_apply<R: Wait + Abort>(
+    rt: &R,
+    cluster: &Cluster,
+    session: &mut Session,
+    set: MessageSet,
+) {
+    cluster.stop();
+    assert_eq!(rt; cluster.propose(rt, session, set, 1), Err(Refusal::Stopped));
+    assert_eq!(rt; apply_at(rt, cluster, a()), 1);
+}
+
+/// A query begun after the update reads x before the site a has applied it, and again after that.
+fn query_meanwhile<R: Wait + Abort>(
+    rt: &R,
+    cluster: &Cluster,
+    mut query: SiteQuery<'_>,
+    session: &mut Session,
+    set: MessageSet,
+) {
+    assert_eq!(rt;
+        query.read(rt, x()),
+        Ok(ReadAnswer {
+            value: 0,
+            import: 3,
+            total: 3
+        })
+    );
+    stop_and_apply(rt, cluster, session, set);
+    assert_eq!(rt;
+        query.read(rt, x()),
+        Ok(ReadAnswer {
+            value: 3,
+            import: 0,
+            total: 3
+        })
+    );
+    assert_eq!(rt;
+        query.end(),
+        QueryAnswer {
+            place: 1,
+            sum: 3,
+            total: 3,
+            reads: 2
+        }
+    );
+}
+
+/// The update that adds 3 to x is acknowledged before the site a has applied it.
+fn follow<R: Wait + Abort>(rt: &R, cluster: &Cluster, set: MessageSet, other: MessageSet) {
+    let mut session = Session::new();
+    assert_eq!(rt; cluster.propose(rt, &mut session, set, 1), Ok(1));
+    assert_eq!(rt;
+        read_x(rt, cluster, &mut session, a()),
+        Err(Refusal::Behind { applied: 0 })
+    );
+    let Ok(query) = cluster.begin(rt, a(), 4) else {
+        panic!(rt; "the query is refused")
+    };
+    query_meanwhile(rt, cluster, query, &mut session, other);
+    assert_eq!(rt;
+        read_x(rt, cluster, &mut session, a()),
+        Ok(SeenValue {
+            value: 3,
+            applied: 1
+        })
+    );
+    assert_eq!(rt;
+        cluster.settle(rt, &mut session, 2, 1),
+        Err(Refusal::OutOfRange)
+    );
+    assert_eq!(rt; cluster.settle(rt, &mut session, 1, 1), Ok(()));
+}
+
+/// The update of a cluster that takes no lag waits for the report of the site a, which nothing applies.
+fn wait_in_vain<R: Wait + Abort>(rt: &R, cluster: &Cluster, set: MessageSet) {
+    let mut session = Session::new();
+    assert_eq!(rt;
+        cluster.propose(rt, &mut session, set, 3),
+        Err(Refusal::NotYet { number: 1 })
+    );
+    assert_eq!(rt;
+        cluster.settle(rt, &mut session, 1, 2),
+        Err(Refusal::NotYet { number: 1 })
+    );
+    assert_eq!(rt;
+        read_x(rt, cluster, &mut session, a()),
+        Ok(SeenValue {
+            value: 0,
+            applied: 0
+        })
+    );
+}
+
+/// The update waits for the report, and is acknowledged in the first turn after it.
+fn wait_for_the_report<R: Wait + Abort>(rt: &R, cluster: &Cluster, set: MessageSet) {
+    let mut session = Session::new();
+    assert_eq!(rt;
+        cluster.propose(rt, &mut session, set, 1),
+        Err(Refusal::NotYet { number: 1 })
+    );
+    cluster.stop();
+    assert_eq!(rt; apply_at(rt, cluster, a()), 1);
+    assert_eq!(rt; session.seen(), 0);
+    assert_eq!(rt; cluster.settle(rt, &mut session, 1, 1), Ok(()));
+    assert_eq!(rt; session.seen(), 1);
+}
+
+/// The log of a cluster has one update at its end, of which the site a has applied so many, with these windows.
+fn close(rt: &impl Abort, cluster: Cluster, applied: u64, windows: &[Window]) {
+    let Ok(closed) = cluster.close() else {
+        panic!(rt; "a site does not agree with the log")
+    };
+    let primary = closed.primary();
+    let _acked = primary.acked();
+    assert_eq!(rt; primary.log().len(), 1);
+    assert!(rt; primary.setup().sites() > 0);
+    assert_eq!(rt; primary.windows(a()), windows);
+    assert_eq!(rt; closed.site(a()).applied(), applied);
+}
+
+#[test]
+fn an_update_is_acknowledged_and_read(rt: HostRuntime) -> Result<(), Fail> {
+    let alloc = rt.alloc();
+    let objects = x_y_and_z(&rt, alloc);
+    let set = add(&rt, alloc, &objects, x(), 3);
+    let other = add(&rt, alloc, &objects, x(), 1);
+    let cluster = opened(alloc, Scope::Object(x()), 5)?;
+    follow(&rt, &cluster, set, other);
+    close(&rt, cluster, 1, &[]);
+    Ok(())
+}
+
+#[test]
+fn a_round_waits_for_its_report(rt: HostRuntime) -> Result<(), Fail> {
+    let alloc = rt.alloc();
+    let objects = x_y_and_z(&rt, alloc);
+    let set = add(&rt, alloc, &objects, x(), 1);
+    let cluster = opened(alloc, Scope::All, 0)?;
+    wait_in_vain(&rt, &cluster, set);
+    close(&rt, cluster, 0, &[Window { from: 0, to: 1 }]);
+    Ok(())
+}
+
+#[test]
+fn a_round_ends_with_its_report(rt: HostRuntime) -> Result<(), Fail> {
+    let alloc = rt.alloc();
+    let objects = x_y_and_z(&rt, alloc);
+    let set = add(&rt, alloc, &objects, x(), 1);
+    let cluster = opened(alloc, Scope::All, 0)?;
+    wait_for_the_report(&rt, &cluster, set);
+    close(&rt, cluster, 1, &[Window { from: 0, to: 1 }]);
+    Ok(())
+}

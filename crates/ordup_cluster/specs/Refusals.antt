@@ -1,28 +1,38 @@
 -- Which refusals the calls of a cluster answer.
-use Rattle.std.specs.Prelude.{◌≡◌, ℕ, ◌<◌, ◌≤◌, ◌⊎◌, Option, Some, if◌then◌else◌, not, nat_lt}
+use Rattle.std.specs.Prelude.{◌≡◌, ℕ, ◌<◌, ◌≤◌, ◌⊎◌, Option, Some, length, if◌then◌else◌, not, nat_lt}
+use Rattle.ordup_objects.specs.Sizes.{most_updates}
 use Rattle.ordup_objects.specs.declared.refusal.Refusal.{Refusal}
 use Rattle.ordup_objects.specs.declared.refusal.Refusal.TheVariants.{UnknownObject, UnknownSite, OutOfRange, LogFull, Behind}
 use Rattle.ordup_objects.specs.declared.refusal.Refusal.TheVariants.{NotYet, Stopped, NoMemory}
 use Rattle.ordup_query.specs.Queries.{QueryState, begin_refusal, read_refusal}
 
+-- the number of an update in a log
+abbrev pub IsNumber : ℕ → Type 0
+IsNumber number = (0 < number) × (number ≤ most_updates)
+
 -- of a proposal: before an update is numbered the first five, and after that only that it is not acknowledged yet
 abbrev pub IsProposalRefusal : Refusal → Type 0
 IsProposalRefusal e =
-    (e ≡ Stopped) ⊎ (e ≡ UnknownObject) ⊎ (e ≡ LogFull) ⊎ (e ≡ OutOfRange) ⊎ (e ≡ NoMemory) ⊎ ((number : ℕ) × (e ≡ NotYet number))
+    (e ≡ Stopped) ⊎ (e ≡ UnknownObject) ⊎ (e ≡ LogFull) ⊎ (e ≡ OutOfRange) ⊎ (e ≡ NoMemory)
+    ⊎ ((number : ℕ) × (e ≡ NotYet number) × IsNumber number)
 
--- of a settlement of an update
+-- of a settlement: where the number is that of no update, only that it is out of range
 abbrev pub IsSettlementRefusal : ℕ → Refusal → Type 0
-IsSettlementRefusal number e = (e ≡ OutOfRange) ⊎ (e ≡ NoMemory) ⊎ (e ≡ NotYet number)
+IsSettlementRefusal number e = (e ≡ OutOfRange) ⊎ ((e ≡ NoMemory) × IsNumber number) ⊎ ((e ≡ NotYet number) × IsNumber number)
 
--- of a read by a session that has seen so many updates, at one of so many sites: behind it is only a site that applied fewer
-abbrev pub IsReadRefusal : ℕ → ℕ → ℕ → Refusal → Type 0
-IsReadRefusal sites site seen e =
-    (e ≡ UnknownObject) ⊎ ((e ≡ UnknownSite) × (sites ≤ site)) ⊎ ((applied : ℕ) × (e ≡ Behind applied) × (applied < seen))
+-- Of a read of an object at a site, where there are so many objects and sites, by a session that has seen so many updates. An unknown
+-- object comes before an unknown site, and behind it is only a site that applied fewer. The last: what the cell says under its lock.
+abbrev pub IsReadRefusal : ℕ → ℕ → ℕ → ℕ → ℕ → Refusal → Type 0
+IsReadRefusal objects object sites site seen e =
+    ((e ≡ UnknownObject) × (objects ≤ object)) ⊎ ((e ≡ UnknownSite) × (object < objects) × (sites ≤ site))
+    ⊎ ((applied : ℕ) × (e ≡ Behind applied) × (applied < seen) × (object < objects) × (site < sites))
+    ⊎ ((e ≡ UnknownObject) × (object < objects) × (site < sites))
 
 -- why a query with this limit is refused at one of so many sites, if it is
 abbrev pub site_query_refusal : ℕ → ℕ → ℕ → Option Refusal
 site_query_refusal sites site limit = if not (nat_lt site sites) then Some UnknownSite else begin_refusal limit
 
--- of a read of a query, which imports some weight
-abbrev pub IsQueryRefusal : QueryState → Refusal → Type 0
-IsQueryRefusal q e = (e ≡ UnknownObject) ⊎ ((import : ℕ) × (read_refusal q.reads q.limit q.total import ≡ Some e))
+-- of a read of an object by a query: what is refused for what was read before, or for some weight that it imports, has a mark
+abbrev pub IsQueryRefusal : QueryState → ℕ → Refusal → Type 0
+IsQueryRefusal q object e =
+    (e ≡ UnknownObject) ⊎ ((object < length q.marks) × (import : ℕ) × (read_refusal q.reads q.limit q.total import ≡ Some e))

@@ -5,7 +5,7 @@ ghost use Rattle.ordup_site.specs.Sites.{SiteState};
 ghost use Rattle.ordup_holds.specs.Books.{AreRooms};
 ghost use Rattle.ordup_holds.specs.Agreement.{Agrees};
 ghost use Rattle.ordup_cluster.specs.Clusters.{IsClosed};
-ghost use Rattle.ordup_cluster.specs.Refusals.{IsProposalRefusal, IsSettlementRefusal, IsReadRefusal, site_query_refusal};
+ghost use Rattle.ordup_cluster.specs.Refusals.{IsNumber, IsProposalRefusal, IsSettlementRefusal, IsReadRefusal, site_query_refusal};
 
 use crate::book_turns::BookTurns;
 use crate::closed::Closed;
@@ -96,6 +96,7 @@ impl Cluster {
     ) -> Result<u64, Refusal>
         requires { 1 ≤ turns }
         ensures seen { IfOk result (λ number. session.new.seen ≡ max session.old.seen number) }
+        ensures some { IfOk result IsNumber }
         ensures refused { IfErr result IsProposalRefusal }
         ensures err { OnErr result (session.new ≡ session.old) }
     {
@@ -138,7 +139,7 @@ impl Cluster {
     ) -> Result<(), Refusal>
         requires { 1 ≤ turns }
         ensures seen { OnOk result (session.new.seen ≡ max session.old.seen number) }
-        ensures some { OnOk result (0 < number) }
+        ensures some { OnOk result (IsNumber number) }
         ensures refused { IfErr result (IsSettlementRefusal number) }
         ensures err { OnErr result (session.new ≡ session.old) }
     {
@@ -174,7 +175,7 @@ impl Cluster {
         ensures applied { IfOk result (λ read. session.old.seen ≤ read.applied) }
         ensures seen { IfOk result (λ read. session.new.seen ≡ read.applied) }
         ensures allowed { IfOk result (λ _. (object < self.now.objects) × (site < self.now.sites)) }
-        ensures refused { IfErr result (IsReadRefusal self.now.sites site session.old.seen) }
+        ensures refused { IfErr result (IsReadRefusal self.now.objects object self.now.sites site session.old.seen) }
         ensures err { OnErr result (session.new ≡ session.old) }
     {
         if object.index() >= self.objects {
@@ -247,6 +248,7 @@ impl Cluster {
     /// It is refused `Mixed` for the first site that does not agree with the log. It waits for nobody.
     pub fn close(self) -> Result<Closed, Refusal>
         ensures closed { IfOk result IsClosed }
+        ensures count { IfOk result (λ c. length c.sites ≡ self.sites) }
         ensures refused { IfErr result (λ e. (s : ℕ) × (e ≡ Refusal.Mixed s)) }
     {
         let Cluster {

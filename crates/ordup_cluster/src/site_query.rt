@@ -1,6 +1,6 @@
-ghost use Rattle.std.specs.Prelude.{◌≡◌, ◌≤◌, ◌+◌, ◌+ℤ◌, List, ◌∷◌, length, map, IfOk, IfErr, OnErr};
+ghost use Rattle.std.specs.Prelude.{◌≡◌, ◌<◌, ◌≤◌, ◌+◌, ◌+ℤ◌, None, List, ◌∷◌, length, map, IfOk, IfErr, OnErr};
 ghost use Rattle.ordup_query.specs.declared.answer.ReadAnswer.{ReadAnswer};
-ghost use Rattle.ordup_query.specs.Queries.{HasRead, value_sum, import_sum};
+ghost use Rattle.ordup_query.specs.Queries.{HasRead, read_refusal, value_sum, import_sum};
 ghost use Rattle.ordup_cluster.specs.Refusals.{IsQueryRefusal};
 
 use ordup_holds::SiteCell;
@@ -33,7 +33,9 @@ impl SiteQuery<'_> {
         ensures total { IfOk result (λ a. a.total ≡ self.old.total + a.import) }
         ensures query { IfOk result (λ a. self.new ≡ record self.old { sum = self.old.sum +ℤ a.value; total = a.total; reads = self.old.reads + 1 }) }
         ensures reads { (answers : List ReadAnswer) → HasRead self.old answers → IfOk result (λ a. HasRead self.new (a ∷ answers)) }
-        ensures refused { IfErr result (IsQueryRefusal self.old) }
+        ensures marked { IfOk result (λ _. object < length self.old.marks) }
+        ensures allowed { IfOk result (λ a. read_refusal self.old.reads self.old.limit self.old.total a.import ≡ None) }
+        ensures refused { IfErr result (IsQueryRefusal self.old object) }
         ensures err { OnErr result (self.new ≡ self.old) }
     {
         if object.index() >= self.query.objects() {

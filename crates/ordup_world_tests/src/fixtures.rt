@@ -64,3 +64,35 @@ pub(crate) fn run_two_updates(alloc: Global) -> Result<Run, Refusal> {
     let events = two_updates(alloc, setup.objects())?;
     run(alloc, setup, events)
 }
+
+/// The setup of x at 0 and of a, with 5 allowed on x.
+fn x_within_5(alloc: Global) -> Result<Setup, Refusal> {
+    let mut setup = Setup::new(alloc);
+    declare_x_within_5(&mut setup)?;
+    Ok(setup)
+}
+
+fn declare_x_within_5(setup: &mut Setup) -> Result<(), Refusal> {
+    let x = setup.object(b"x", 0)?;
+    let a = setup.site(b"a", 4)?;
+    setup.limit(a, Scope::Object(x), 5)
+}
+
+/// The updates that add 3 to x, then -4 and then 2.
+fn there_and_back(alloc: Global, objects: &ObjectTable) -> Result<Vec<Event>, Refusal> {
+    let mut events = Vec::new(alloc);
+    for n in [3, -4, 2] {
+        let set = set_of(alloc, objects, 0, Op::Add(n))?;
+        if events.push(Event::Propose(set)).is_err() {
+            return Err(Refusal::NoMemory);
+        }
+    }
+    Ok(events)
+}
+
+/// Runs the three updates. They weigh 3, 4 and 2 on x, and are not settled.
+pub(crate) fn run_there_and_back(alloc: Global) -> Result<Run, Refusal> {
+    let setup = x_within_5(alloc)?;
+    let events = there_and_back(alloc, setup.objects())?;
+    run(alloc, setup, events)
+}

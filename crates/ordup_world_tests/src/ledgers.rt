@@ -2,7 +2,7 @@
 ghost use Rattle.std.specs.Prelude.{◌≡◌, IfOk};
 ghost use Rattle.ordup_limits.specs.Ledgers.{StandsFor};
 
-use crate::fixtures::run_two_updates;
+use crate::fixtures::{run_there_and_back, run_two_updates};
 use ordup_limits::LagLedger;
 use ordup_objects::{Refusal, SiteId};
 use ordup_world::Primary;
@@ -54,6 +54,36 @@ fn over_as_the_report_passes(
     Ok([with_the_first, passed, ledger.over()])
 }
 
+/// Whether a is over at the start, and then with one more update added or reported: the first and the second are added, the first
+/// one and then all three are reported, and the third is added.
+fn over_on_the_way(
+    rt: &impl Abort,
+    alloc: Global,
+    primary: &Primary,
+) -> Result<[bool; 6], Refusal> {
+    let (log, groups) = (primary.log(), primary.setup().groups());
+    assert!(rt; log.len() == 3);
+    let mut ledger = ledger_of_a(rt, alloc, primary)?;
+    let at_first = ledger.over();
+    ledger.extend(log, groups, 1);
+    let with_one = ledger.over();
+    ledger.extend(log, groups, 2);
+    let with_two = ledger.over();
+    ledger.reported(log, groups, 1);
+    let without_one = ledger.over();
+    ledger.reported(log, groups, 3);
+    let passed = ledger.over();
+    ledger.extend(log, groups, 3);
+    Ok([
+        at_first,
+        with_one,
+        with_two,
+        without_one,
+        passed,
+        ledger.over(),
+    ])
+}
+
 #[test]
 fn what_is_reported_is_taken_off(rt: HostRuntime) -> Result<(), Fail> {
     let outcome = run_two_updates(rt.alloc())?;
@@ -64,5 +94,16 @@ fn what_is_reported_is_taken_off(rt: HostRuntime) -> Result<(), Fail> {
     assert_eq!(rt; reported, Ok([true, true, false]));
     // 3, which equals the limit, and then 0: the second update, which weighs 4, is reported before it is added.
     assert_eq!(rt; passed, Ok([false, false, false]));
+    Ok(())
+}
+
+#[test]
+fn a_ledger_weighs_the_way_that_is_not_reported(rt: HostRuntime) -> Result<(), Fail> {
+    let outcome = run_there_and_back(rt.alloc())?;
+    let over = over_on_the_way(&rt, rt.alloc(), outcome.world.primary());
+    // x goes 0, 3, -1, 1, so the updates weigh 3, 4 and 2, and 5 is allowed.
+    // Not reported are: none, 0; the first, 3; the first two, 3 + 4 = 7, though x has moved by 1; the second, 7 - 3 = 4; none of
+    // those that were added, 0, since the report passes them; and with the third added none, 9 - 9 = 0.
+    assert_eq!(rt; over, Ok([false, false, true, false, false, false]));
     Ok(())
 }

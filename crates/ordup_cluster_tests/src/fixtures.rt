@@ -1,7 +1,8 @@
-//! A store with the objects x at 0 and y at 10, and one site.
+//! A store with the objects x at 0 and y at 10, and one site; and updates of x.
 ghost use Rattle.std.specs.Prelude.{◌≡◌, None, OnOk};
 ghost use Rattle.ordup_primary.specs.Declarations.{start_refusal};
 
+use ordup_holds::{Book, SeenValue, SiteCell, number, view};
 use ordup_objects::{Change, MessageSet, ObjectId, ObjectTable, Op, Refusal};
 use ordup_primary::{Scope, Setup};
 use std::alloc::Global;
@@ -35,4 +36,16 @@ pub fn declare(setup: &mut Setup) -> Result<(), Refusal>
     } else {
         Err(Refusal::Empty)
     }
+}
+
+/// Numbers the update that adds a number to x.
+pub fn number_add(rt: &impl Abort, alloc: Global, book: &mut Book, n: i64) -> Result<u64, Refusal> {
+    let set = add(rt, alloc, book.primary().setup().objects(), n);
+    assert!(rt; set.are_known(book.primary().log().objects()));
+    number(book, set)
+}
+
+/// The value of x in a cell.
+pub fn view_x(cell: &SiteCell) -> Result<SeenValue, Refusal> {
+    view(cell, ObjectId::new(0))
 }

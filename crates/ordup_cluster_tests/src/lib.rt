@@ -6,6 +6,8 @@ mod agreement;
 #[cfg(test)]
 mod fixtures;
 #[cfg(test)]
+mod full_feed;
+#[cfg(test)]
 mod one_update;
 #[cfg(test)]
 mod waiting;

@@ -1,6 +1,6 @@
 //! One update on its way from the book to a cell, and the report of it.
-use crate::fixtures::{add, declare};
-use ordup_holds::{Book, SeenValue, SiteCell, number, open, take, turn, view};
+use crate::fixtures::{declare, number_add, view_x};
+use ordup_holds::{Book, SeenValue, SiteCell, open, take, turn, view};
 use ordup_objects::{ObjectId, Refusal};
 use ordup_primary::Setup;
 use std::alloc::Global;
@@ -15,27 +15,27 @@ fn opened(alloc: Global) -> Result<(Book, Vec<SiteCell>), Refusal> {
     open(alloc, setup)
 }
 
-/// Numbers the update that adds a number to x.
-fn number_add(rt: &impl Abort, alloc: Global, book: &mut Book, n: i64) -> Result<u64, Refusal> {
-    let set = add(rt, alloc, book.primary().setup().objects(), n);
-    assert!(rt; set.are_known(book.primary().log().objects()));
-    number(book, set)
-}
-
-/// The value of x in a cell.
-fn view_x(cell: &SiteCell) -> Result<SeenValue, Refusal> {
-    view(cell, ObjectId::new(0))
-}
-
 /// The limit on x is 5: the update adds 6, and is acknowledged only once the site reported it.
 fn follow<R: Wait + Abort>(rt: &R, alloc: Global, book: &mut Book, cell: &mut SiteCell) {
     assert_eq!(rt; number_add(rt, alloc, book, 6), Ok(1));
     assert_eq!(rt; take(rt, cell), None);
     assert_eq!(rt; turn(rt, book), Ok(0));
-    assert_eq!(rt; view_x(cell), Ok(SeenValue { value: 0, applied: 0 }));
+    assert_eq!(rt;
+        view_x(cell),
+        Ok(SeenValue {
+            value: 0,
+            applied: 0
+        })
+    );
     assert_eq!(rt; cell.next(), 1);
     assert_eq!(rt; take(rt, cell), Some(1));
-    assert_eq!(rt; view_x(cell), Ok(SeenValue { value: 6, applied: 1 }));
+    assert_eq!(rt;
+        view_x(cell),
+        Ok(SeenValue {
+            value: 6,
+            applied: 1
+        })
+    );
     assert_eq!(rt; view(cell, ObjectId::new(2)), Err(Refusal::UnknownObject));
     assert_eq!(rt; turn(rt, book), Ok(1));
 }

@@ -1,0 +1,125 @@
+//! Two callers and a site that they wait for.
+use crate::fixtures::{adding, apply_at, propose, set_of, x, x_and_y, y};
+use ordup_cluster::{Cluster, OpenGate, Session};
+use ordup_limits::Scope;
+use ordup_log::Log;
+use ordup_objects::{ObjectId, ObjectTable, Refusal, SiteId};
+use ordup_primary::{Primary, Setup};
+use ordup_record::record_of;
+use ordup_verdict::{Verdict, check};
+use std::alloc::Global;
+use std::process::Abort;
+use std::sync::Wait;
+use std::sync::atomic::{AtomicU64, Ordering};
+use std::test::Fail;
+use std::thread;
+use std::thread::Threads;
+
+/// Declares x and y, and a site with room for one update, which may lag by three.
+fn declare(setup: &mut Setup) -> Result<(), Refusal> {
+    setup.object(b"x", 0)?;
+    setup.object(b"y", 10)?;
+    let a = setup.site(b"a", 1)?;
+    setup.limit(a, Scope::Count, 3)
+}
+
+fn opened(alloc: Global) -> Result<Cluster, Refusal> {
+    let mut setup = Setup::new(alloc);
+    declare(&mut setup)?;
+    Cluster::new(alloc, setup)
+}
+
+/// Adds 1 to an object twenty times. The caller that ends last stops the cluster.
+fn call<R: Wait + Abort>(
+    rt: &R,
+    alloc: Global,
+    objects: &ObjectTable,
+    cluster: &Cluster,
+    object: ObjectId,
+    ended: &AtomicU64,
+) {
+    let mut session = Session::new();
+    let mut last = 0;
+    for _ in 0..20 {
+        let set = set_of(rt, alloc, objects, &[adding(object, 1)]);
+        let number = propose(rt, cluster, &mut session, set);
+        assert!(rt; last < number);
+        last = number;
+    }
+    if ended.fetch_add(1, Ordering::SeqCst) == 1 {
+        cluster.stop();
+    }
+}
+
+/// The applier and the two callers, each in a thread of its own.
+fn run<R: Threads + Wait + Abort + Sync>(rt: &R, alloc: Global, cluster: &Cluster) {
+    let objects = x_and_y(rt, alloc);
+    let objects = &objects;
+    let ended = AtomicU64::new(0);
+    let ended = &ended;
+    thread::join(
+        rt,
+        move || apply_at(rt, cluster, 0, &OpenGate),
+        move || {
+            thread::join(
+                rt,
+                move || call(rt, alloc, objects, cluster, x(), ended),
+                move || call(rt, alloc, objects, cluster, y(), ended),
+            )
+        },
+    );
+}
+
+/// How many sets of the log change this object first.
+fn sets_on(log: &Log, object: ObjectId) -> u64 {
+    let mut count = 0u64;
+    for number in 1..=log.len() {
+        let changes = log.set(number).changes();
+        if changes
+            .first()
+            .is_some_and(|change| change.object == object)
+        {
+            count = count.saturating_add(1);
+        }
+    }
+    count
+}
+
+/// The log has twenty sets of each caller.
+fn expect_both(rt: &impl Abort, log: &Log) {
+    assert_eq!(rt; log.len(), 40);
+    assert_eq!(rt; (sets_on(log, x()), sets_on(log, y())), (20, 20));
+    assert!(rt; log.objects() == 2);
+    assert_eq!(rt; (log.end_value(x()), log.end_value(y())), (20, 30));
+}
+
+/// The check accepts the record of the site.
+fn expect_certified(rt: &impl Abort, alloc: Global, primary: &Primary) {
+    let Ok(record) = record_of(alloc, primary, SiteId::new(0)) else {
+        panic!(rt; "there is no memory for a record")
+    };
+    assert!(rt; matches!(check(&record), Verdict::Fewest(_)));
+}
+
+/// The log has all sets, and the site at most three fewer.
+fn close(rt: &impl Abort, alloc: Global, cluster: Cluster) {
+    let Ok(closed) = cluster.close() else {
+        panic!(rt; "the site does not agree with the log")
+    };
+    let primary = closed.primary();
+    // For the proof: there are as many sites as were declared.
+    let _acked = primary.acked();
+    expect_both(rt, primary.log());
+    assert_eq!(rt; primary.setup().sites(), 1);
+    let applied = closed.site(SiteId::new(0)).applied();
+    assert!(rt; 37 <= applied && applied <= 40);
+    expect_certified(rt, alloc, primary);
+}
+
+#[test]
+fn two_callers_wait_for_one_site(rt: HostRuntime) -> Result<(), Fail> {
+    let cluster = opened(rt.alloc())?;
+    run(&rt, rt.alloc(), &cluster);
+    close(&rt, rt.alloc(), cluster);
+    Ok(())
+}

@@ -1,4 +1,6 @@
 //! Message sets over the objects x at 0 and y at 10, and what the threads of a cluster do.
+ghost use Rattle.std.specs.Prelude.{◌≡◌};
+
 use ordup_cluster::{Cluster, Gate, Session};
 use ordup_objects::{Change, MessageSet, ObjectId, ObjectTable, Op, SiteId};
 use std::alloc::Global;
@@ -14,12 +16,16 @@ pub const TRIES: u64 = 10_000_000;
 pub const TURNS: u64 = 1_000_000;
 
 /// The object x.
-pub fn x() -> ObjectId {
+pub fn x() -> ObjectId
+    ensures { result ≡ 0 }
+{
     ObjectId::new(0)
 }
 
 /// The object y.
-pub fn y() -> ObjectId {
+pub fn y() -> ObjectId
+    ensures { result ≡ 1 }
+{
     ObjectId::new(1)
 }
 

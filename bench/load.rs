@@ -1,7 +1,8 @@
-//! Writes a script for ordup: `load KIND LINES`, or `load recorded UPDATES`.
+//! Writes a script for ordup: `load KIND LINES`, or `load recorded UPDATES`; or a plan: `load planned SETS`.
 //!
 //! The same words give the same bytes each time, and a longer script of a kind
-//! begins with the shorter one. A new kind is one more line in `main`.
+//! begins with the shorter one; so does a plan, but for the last sets of the
+//! shorter one. A new kind is one more line in `main`.
 
 mod random;
 
@@ -246,6 +247,23 @@ impl<'a, W: Write> Store<'a, W> {
         self.log.push(distances.collect());
         for (object, result) in results {
             self.values[object] = result;
+        }
+        self.script.line(format_args!("{line}"))
+    }
+
+    /// Proposes to add to so many objects, each time a number of such a size.
+    fn propose_addition(&mut self, changes: u64, least: i64, most: i64) -> io::Result<()> {
+        let mut line = String::from("propose");
+        let mut objects: Vec<usize> = Vec::new();
+        while (objects.len() as u64) < changes {
+            let object = self.any_object();
+            if objects.contains(&object) {
+                continue;
+            }
+            objects.push(object);
+            let size = least + self.random.below((most - least + 1) as u64) as i64;
+            let amount = if self.random.one_in(2) { size } else { -size };
+            line.push_str(&format!(" add:{}:{amount}", self.objects[object]));
         }
         self.script.line(format_args!("{line}"))
     }
@@ -634,11 +652,41 @@ fn recorded<W: Write>(script: &mut Script<W>) -> io::Result<()> {
     Ok(())
 }
 
+/// How many sets at the end of a plan force a round. There are at most as many callers, so the last update of the log is one of
+/// these sets, in whatever order the callers propose them.
+const LAST_SETS: u64 = 16;
+/// How many sets in a row force none.
+const MOST_LIGHT_SETS: u64 = 98;
+
+/// So many sets over the objects and sites of `mixed`, all of which add, in range in any order. A light set has one to three changes
+/// and weighs at most 9; a heavy one has one change and weighs more than 1,000, which forces a round of every site. From one
+/// heavy set up to the one before the next the sets weigh less than any limit. One set in about 40 is heavy.
+fn planned<W: Write>(script: &mut Script<W>) -> io::Result<()> {
+    let sets = std::mem::replace(&mut script.left, u64::MAX);
+    let mut store = Store::new(script, goods(), 0);
+    store.group("drinks".to_owned(), vec![9, 10, 11, 12]);
+    let limits = [(Scope::Object(10), 1_000), (Scope::Group(0), 1_000), (Scope::All, 1_000), (Scope::Count, 100)];
+    four_sites(&mut store, &limits);
+    store.start()?;
+    let mut light = 0;
+    for left in (0..sets).rev() {
+        if light == MOST_LIGHT_SETS || left < LAST_SETS || store.random.one_in(50) {
+            light = 0;
+            store.propose_addition(1, 1_001, 2_000)?;
+        } else {
+            light += 1;
+            let changes = store.random.below(3) + 1;
+            store.propose_addition(changes, 1, 3)?;
+        }
+    }
+    Ok(())
+}
+
 fn main() -> ExitCode {
     let words: Vec<String> = env::args().skip(1).collect();
     let lines = words.get(1).and_then(|word| word.parse().ok());
     let (2, Some(left)) = (words.len(), lines) else {
-        eprintln!("usage: load KIND LINES, or load recorded UPDATES");
+        eprintln!("usage: load KIND LINES, load recorded UPDATES or load planned SETS");
         return ExitCode::from(2);
     };
     let mut script = Script { to: BufWriter::new(io::stdout().lock()), left };
@@ -652,6 +700,7 @@ fn main() -> ExitCode {
         "unmoved" => unmoved(&mut script),
         "spans" => spans(&mut script),
         "recorded" => recorded(&mut script),
+        "planned" => planned(&mut script),
         kind => {
             eprintln!("load: no kind of load is named {kind}");
             return ExitCode::from(2);

@@ -82,6 +82,11 @@ impl Out {
         self.end
     }
 
+    /// Drops what is unwritten.
+    pub fn clear(&mut self) {
+        self.end = 0;
+    }
+
     pub fn write_to(&mut self, output: &mut impl Write) -> io::Result<()> {
         output.write_all(&self.bytes[..self.end])?;
         self.end = 0;

@@ -1,7 +1,7 @@
-//! What `ordup run`, `ordup record SITE` and `ordup check` do, in plain Rust, as a mark
-//! to measure them against.
+//! What `ordup run`, `ordup record SITE`, `ordup check` and `ordup threads CLIENTS` do, in
+//! plain Rust, as a mark to measure them against.
 //!
-//! Reads a script or a record on standard input, and answers on standard output, byte for
+//! Reads a script, a record or a plan on standard input, and answers on standard output, byte for
 //! byte as ordup does; but for the command `certify`, which it refuses, and for records
 //! with quotes. It is written for speed, and nothing of it is proved.
 //!
@@ -16,23 +16,29 @@
 //! - `record`: the rows of a site's record, from the store.
 //! - `rows`: a record, from its rows.
 //! - `check`: the verdict on a record.
+//! - `plan`: a plan, from its lines.
+//! - `threads`: callers and appliers in threads of their own.
+//! - `queue`, beside this folder: the queue to a site's applier.
 
 mod answers;
 mod check;
 mod lag;
 mod names;
+mod plan;
 mod queries;
+#[path = "../queue.rs"]
+mod queue;
 mod record;
 mod rows;
 mod store;
+mod threads;
 mod updates;
 mod words;
 
 use std::io::{self, Read, Write};
 use std::process::ExitCode;
 
-use answers::{answer, Out, Refusal};
-use rows::Reader;
+use answers::{answer, put, Out, Refusal};
 use store::Store;
 use words::{Word, Words, BEHIND, LONGEST_LINE};
 
@@ -54,14 +60,27 @@ fn lines(store: &mut Store, text: &[u8], end: usize, out: &mut Out, output: &mut
     Ok(())
 }
 
-/// Answers a line that was not accepted, and gives the place of the next one. What was
-/// accepted had only good bytes, since each word of it is known or is a name or a number;
-/// so only here the bytes of a line are looked at.
+/// Answers a line that was not accepted, and gives the place of the next one.
 #[cold]
 fn not_accepted(text: &[u8], start: usize, refusal: Refusal, out: &mut Out) -> usize {
+    let line = line_at(text, start);
+    if let Some(refusal) = refusal_of(line, refusal) {
+        out.refuse(refusal);
+    }
+    start + line.len() + 1
+}
+
+/// The bytes from a place up to the end of the line.
+fn line_at(text: &[u8], start: usize) -> &[u8] {
     let length = text[start..].iter().position(|&byte| byte == b'\n').expect("each line is ended");
-    let line = &text[start..start + length];
-    let refusal = if line.len() > LONGEST_LINE {
+    &text[start..start + length]
+}
+
+/// What a line that was not accepted is refused, or nothing where it is skipped. What was
+/// accepted had only good bytes, since each word of it is known or is a name or a number;
+/// so only here the bytes of a line are looked at.
+fn refusal_of(line: &[u8], refusal: Refusal) -> Option<Refusal> {
+    if line.len() > LONGEST_LINE {
         Some(Refusal::Syntax)
     } else if line.first() == Some(&b'#') {
         None
@@ -71,11 +90,7 @@ fn not_accepted(text: &[u8], start: usize, refusal: Refusal, out: &mut Out) -> u
         None
     } else {
         Some(refusal)
-    };
-    if let Some(refusal) = refusal {
-        out.refuse(refusal);
     }
-    start + length + 1
 }
 
 /// Gives what takes lines the pieces of a text, each up to a place where a line has ended. The second argument of it is
@@ -147,16 +162,9 @@ fn record(site: &str, input: &mut impl Read, output: &mut impl Write) -> io::Res
 
 /// Prints the verdict on a record.
 fn check(input: &mut impl Read, output: &mut impl Write) -> io::Result<ExitCode> {
-    let mut reader = Reader::new();
-    let read = pieces(input, |text, end| reader.lines(&text[..end]));
-    let record = match read.and_then(|()| reader.end()) {
-        Ok(record) => record,
-        Err(error) if error.kind() == io::ErrorKind::InvalidData => {
-            eprintln!("malformed {error}");
-            return Ok(ExitCode::from(3));
-        }
-        Err(error) => return Err(error),
-    };
+    let mut reader = rows::Reader::new();
+    pieces(input, |text, end| reader.lines(&text[..end]))?;
+    let record = reader.end()?;
     let mut out = Out::new(0);
     let status = match check::check(record) {
         Ok(rounds) => {
@@ -173,6 +181,50 @@ fn check(input: &mut impl Read, output: &mut impl Write) -> io::Result<ExitCode>
     Ok(status)
 }
 
+/// Proposes the sets of a plan by so many callers, and prints what has become of them.
+fn threads(callers: usize, input: &mut impl Read, output: &mut impl Write) -> io::Result<ExitCode> {
+    let mut reader = plan::Reader::new();
+    pieces(input, |text, end| reader.lines(text, end))?;
+    let (store, cells, counts) = threads::run(reader.end()?, callers);
+    if !(0..cells.len()).all(|site| threads::agrees(&store, site, &cells[site])) {
+        eprintln!("refused 27 Mixed");
+        return Ok(ExitCode::from(1));
+    }
+    let mut out = Out::new(PIECE);
+    put!(out, b"log ", store.log.len(), b"\nrefused ", counts.refused, b"\npending ", counts.pending, b"\n");
+    for (site, cell) in store.sites.iter().zip(&cells) {
+        put!(out, b"site ", site.name, b" applied ", cell.applied, b" rounds ", site.rounds.len());
+        for (&object, held) in store.objects.words().iter().zip(&cell.held) {
+            put!(out, b" ", object, b"=", held.value);
+        }
+        put!(out, b"\n");
+        out.write_from(PIECE, output)?;
+    }
+    let mut status = ExitCode::SUCCESS;
+    for (place, site) in store.sites.iter().enumerate() {
+        match check::check(store.record_of(place)) {
+            Ok(rounds) => put!(out, b"certified ", site.name, b" ", rounds, b"\n"),
+            Err(_) => {
+                put!(out, b"uncertified ", site.name, b"\n");
+                status = ExitCode::from(1);
+            }
+        }
+    }
+    out.write_to(output)?;
+    output.flush()?;
+    Ok(status)
+}
+
+/// How many callers a word asks for.
+fn callers(word: &str) -> Option<usize> {
+    word.parse().ok().filter(|callers| (1..=16).contains(callers))
+}
+
+fn wrong_words() -> ExitCode {
+    eprintln!("usage: plain run, plain record SITE, plain check or plain threads CLIENTS");
+    ExitCode::from(2)
+}
+
 fn main() -> ExitCode {
     let words: Vec<String> = std::env::args().skip(1).collect();
     let words: Vec<&str> = words.iter().map(String::as_str).collect();
@@ -181,12 +233,17 @@ fn main() -> ExitCode {
         ["run"] => run(input, output).map(|_| ExitCode::SUCCESS),
         ["record", site] => record(site, input, output),
         ["check"] => check(input, output),
-        _ => {
-            eprintln!("usage: plain run, plain record SITE or plain check");
-            return ExitCode::from(2);
-        }
+        ["threads", clients] => match callers(clients) {
+            Some(callers) => threads(callers, input, output),
+            None => return wrong_words(),
+        },
+        _ => return wrong_words(),
     };
     done.unwrap_or_else(|error| {
+        if error.kind() == io::ErrorKind::InvalidData {
+            eprintln!("malformed {error}");
+            return ExitCode::from(3);
+        }
         eprintln!("plain: {error}");
         ExitCode::FAILURE
     })

@@ -14,6 +14,7 @@ struct Slot {
 
 /// Places by words. At least three slots in four are empty, and a word stands in the first
 /// slot from its own one on that was empty.
+#[derive(Clone)]
 pub struct Table {
     slots: Vec<Slot>,
     shift: u32,
@@ -76,6 +77,7 @@ impl Table {
 }
 
 /// Names in the order in which they were declared.
+#[derive(Clone)]
 pub struct Names {
     table: Table,
     words: Vec<Word>,

@@ -93,7 +93,7 @@ impl Reader {
                 values: Vec::new(),
                 members: Vec::new(),
                 limits: Vec::new(),
-                log: Log { changes: Vec::new(), ends: vec![0] },
+                log: Log::new(),
                 reports: Vec::new(),
                 rounds: Vec::new(),
                 windows: Vec::new(),

@@ -70,7 +70,7 @@ const GROUP: u64 = key(b"group");
 const SITE: u64 = key(b"site");
 const LIMIT: u64 = key(b"limit");
 const START: u64 = key(b"start");
-const PROPOSE: u64 = key(b"propose");
+pub const PROPOSE: u64 = key(b"propose");
 const SEND: u64 = key(b"send");
 const APPLY: u64 = key(b"apply");
 const REPORT: u64 = key(b"report");
@@ -94,7 +94,7 @@ impl Store {
             sites: Vec::new(),
             first_values: Vec::new(),
             held: Vec::new(),
-            log: Log { changes: Vec::new(), ends: vec![0] },
+            log: Log::new(),
             results: [0; MOST_CHANGES],
             acknowledged: 0,
             decided: 0,

@@ -2,9 +2,11 @@
 
 use crate::answers::{answer, put, Out, Refusal};
 use crate::lag::{Lag, Limit};
+use crate::names::Names;
 use crate::store::{is_value, repeats, Store, MOST_CHANGES, MOST_UPDATES};
 use crate::words::{Kind, Operand, Word, Words};
 
+#[derive(Clone, Copy)]
 pub struct Change {
     /// A number of the change, or the place of the object that it takes from.
     pub operand: i32,
@@ -46,6 +48,10 @@ pub struct Log {
 }
 
 impl Log {
+    pub fn new() -> Log {
+        Log { changes: Vec::new(), ends: vec![0] }
+    }
+
     pub fn len(&self) -> usize {
         self.ends.len() - 1
     }
@@ -58,6 +64,7 @@ impl Log {
 }
 
 /// A forced round at the update `to`, which the site had reported up to `from`.
+#[derive(Clone, Copy)]
 pub struct Window {
     pub from: usize,
     pub to: usize,
@@ -77,6 +84,45 @@ pub struct Site {
     pub rounds: Vec<Window>,
 }
 
+/// What a settlement made of the head. Sites are one bit each.
+pub enum Settled {
+    Acked,
+    Round(u32),
+    Waiting(u32),
+}
+
+/// Reads the changes of a line to the end of a list. They belong together as a set: what is left to ask is whether there is
+/// room for one more update, and whether the results are in range.
+#[inline]
+pub fn read_set(objects: &Names, is_started: bool, words: &mut Words, to: &mut Vec<Change>) -> Result<(), Refusal> {
+    let from = to.len();
+    let (mut is_unknown, mut is_out_of_range) = (false, false);
+    let mut find = |word| {
+        let found = objects.find(word);
+        is_unknown |= found.is_none();
+        found.unwrap_or(0)
+    };
+    while let Some(change) = words.change()? {
+        let operand = match change.operand {
+            Operand::Number(number) => {
+                is_out_of_range |= !is_value(number);
+                number as i32
+            }
+            Operand::Object(source) => find(source) as i32,
+        };
+        let object = find(change.object) as u8;
+        to.push(Change { operand, distance: 0, object, kind: change.kind });
+    }
+    words.end()?;
+    Refusal::NotStarted.when(!is_started)?;
+    let changes = &to[from..];
+    Refusal::UnknownObject.when(is_unknown)?;
+    Refusal::OutOfRange.when(is_out_of_range)?;
+    Refusal::TooMany.when(changes.len() > MOST_CHANGES)?;
+    Refusal::Empty.when(changes.is_empty())?;
+    Refusal::Repeated.when(changes.len() > 1 && repeats(changes.iter().map(|change| usize::from(change.object))))
+}
+
 impl Store {
     pub fn propose(&mut self, words: &mut Words, out: &mut Out) -> Result<(), Refusal> {
         let from = self.log.changes.len();
@@ -91,31 +137,14 @@ impl Store {
     /// Reads the changes to the end of the log, where those of a refused line are left,
     /// and makes an update of them.
     pub fn append(&mut self, words: &mut Words, from: usize) -> Result<(), Refusal> {
-        let (mut is_unknown, mut is_out_of_range) = (false, false);
-        let mut find = |word| {
-            let found = self.objects.find(word);
-            is_unknown |= found.is_none();
-            found.unwrap_or(0)
-        };
-        while let Some(change) = words.change()? {
-            let operand = match change.operand {
-                Operand::Number(number) => {
-                    is_out_of_range |= !is_value(number);
-                    number as i32
-                }
-                Operand::Object(source) => find(source) as i32,
-            };
-            let object = find(change.object) as u8;
-            self.log.changes.push(Change { operand, distance: 0, object, kind: change.kind });
-        }
-        words.end()?;
-        self.after_start()?;
+        read_set(&self.objects, self.is_started, words, &mut self.log.changes)?;
+        self.number(from)
+    }
+
+    /// Makes an update of the changes at the end of the log.
+    #[inline]
+    pub fn number(&mut self, from: usize) -> Result<(), Refusal> {
         let changes = &mut self.log.changes[from..];
-        Refusal::UnknownObject.when(is_unknown)?;
-        Refusal::OutOfRange.when(is_out_of_range)?;
-        Refusal::TooMany.when(changes.len() > MOST_CHANGES)?;
-        Refusal::Empty.when(changes.is_empty())?;
-        Refusal::Repeated.when(changes.len() > 1 && repeats(changes.iter().map(|change| usize::from(change.object))))?;
         Refusal::LogFull.when(self.log.ends.len() > MOST_UPDATES)?;
         for (change, result) in changes.iter_mut().zip(&mut self.results) {
             *result = change.result(&self.held);
@@ -145,59 +174,81 @@ impl Store {
         let place = self.find_site(name)?;
         let site = &mut self.sites[place];
         Refusal::NothingToApply.when(site.applied == site.sent)?;
-        let changes = self.log.after(site.applied);
-        for (change, result) in changes.iter().zip(&mut self.results) {
-            *result = change.result(&site.held);
-        }
-        put_results(&mut site.held, changes, &self.results);
+        apply_set(&mut site.held, self.log.after(site.applied), &mut self.results);
         site.applied += 1;
         answer!(out, b"ok applied ", name, b" ", site.applied)
     }
 
-    /// The site's span begins at what is reported now: what it began with is taken off.
     pub fn report(&mut self, name: Word, out: &mut Out) -> Result<(), Refusal> {
         let place = self.find_site(name)?;
+        let applied = self.sites[place].applied;
+        self.learn(place, applied);
+        answer!(out, b"ok reported ", name, b" ", applied)
+    }
+
+    /// The site has reported so many updates. Its span begins there now: what it began with is taken off.
+    #[inline]
+    pub fn learn(&mut self, place: usize, applied: usize) {
         let site = &mut self.sites[place];
-        if site.applied >= self.decided {
+        if applied >= self.decided {
             if site.reported < self.decided {
                 site.lag.clear();
             }
         } else {
-            for place in site.reported..site.applied {
+            for place in site.reported..applied {
                 site.lag.shorten(self.log.after(place));
             }
         }
-        site.reported = site.applied;
-        answer!(out, b"ok reported ", name, b" ", site.reported)
+        site.reported = applied;
+    }
+
+    pub fn settle(&mut self, out: &mut Out) -> Result<(), Refusal> {
+        self.after_start()?;
+        let head = self.acknowledged + 1;
+        match self.settle_head()? {
+            Settled::Acked => answer!(out, b"ok acked ", head),
+            Settled::Round(sites) => {
+                put!(out, b"ok round ", head);
+                self.answer_sites(sites, out)
+            }
+            Settled::Waiting(sites) => {
+                put!(out, b"ok waiting ", head);
+                self.answer_sites(sites, out)
+            }
+        }
     }
 
     /// The head is the update after the last acknowledged one. The first settlement of
     /// it decides which sites have a forced round at it, and it is acknowledged once each
     /// of these has reported it.
-    pub fn settle(&mut self, out: &mut Out) -> Result<(), Refusal> {
-        self.after_start()?;
+    #[inline]
+    pub fn settle_head(&mut self) -> Result<Settled, Refusal> {
         Refusal::NothingToSettle.when(self.acknowledged == self.log.len())?;
         let head = self.acknowledged + 1;
         if self.decided < head {
             self.decide(head);
             if self.forced != 0 {
-                put!(out, b"ok round ", head);
-                return self.answer_sites(self.forced, out);
+                return Ok(Settled::Round(self.forced));
             }
         } else {
-            let waited_for = bits(self.forced)
-                .filter(|&place| self.sites[place].reported < head)
-                .fold(0, |sites, place| sites | 1 << place);
+            let waited_for = self.waited_for(head);
             if waited_for != 0 {
-                put!(out, b"ok waiting ", head);
-                return self.answer_sites(waited_for, out);
+                return Ok(Settled::Waiting(waited_for));
             }
         }
         for change in self.log.after(head - 1) {
             self.marks[usize::from(change.object)] += u64::from(change.distance);
         }
         self.acknowledged = head;
-        answer!(out, b"ok acked ", head)
+        Ok(Settled::Acked)
+    }
+
+    /// The sites that have a forced round at the head, which is decided, and have not reported it.
+    #[inline]
+    pub fn waited_for(&self, head: usize) -> u32 {
+        bits(self.forced)
+            .filter(|&place| self.sites[place].reported < head)
+            .fold(0, |sites, place| sites | 1 << place)
     }
 
     /// No limit of a site is passed before: where one was at the update before the head,
@@ -233,6 +284,15 @@ impl Store {
         }
         answer!(out)
     }
+}
+
+/// Applies a set.
+#[inline]
+pub fn apply_set(held: &mut [Held], changes: &[Change], results: &mut [i64]) {
+    for (change, result) in changes.iter().zip(&mut *results) {
+        *result = change.result(held);
+    }
+    put_results(held, changes, results);
 }
 
 /// Moves the objects to the results, which all were found before.

@@ -659,8 +659,8 @@ const LAST_SETS: u64 = 16;
 const MOST_LIGHT_SETS: u64 = 98;
 
 /// So many sets over the objects and sites of `mixed`, all of which add, in range in any order. A light set has one to three changes
-/// and weighs at most 9; a heavy one has one change and weighs more than 1,000, which forces a round of every site. From one
-/// heavy set up to the one before the next the sets weigh less than any limit. One set in about 40 is heavy.
+/// and weighs at most 9; a heavy one has one change and weighs more than 1,000, which forces a round of every site. Between two heavy
+/// sets the light ones weigh less than any limit, and are fewer. About one set in forty is heavy.
 fn planned<W: Write>(script: &mut Script<W>) -> io::Result<()> {
     let sets = std::mem::replace(&mut script.left, u64::MAX);
     let mut store = Store::new(script, goods(), 0);

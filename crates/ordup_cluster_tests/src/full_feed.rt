@@ -59,9 +59,9 @@ fn opened_with_two(alloc: Global) -> Result<(Book, Vec<SiteCell>), Refusal> {
 }
 
 /// Numbers the updates from the first number to the last one.
-fn number_all(rt: &impl Abort, alloc: Global, book: &mut Book, first: u64, last: u64) {
+fn number_all(rt: &impl Abort, alloc: Global, book: &mut Book, first: u32, last: u32) {
     for k in first..=last {
-        assert_eq!(rt; number_add(rt, alloc, book, k as i64), Ok(k));
+        assert_eq!(rt; number_add(rt, alloc, book, i64::from(k)), Ok(u64::from(k)));
     }
 }
 
@@ -211,9 +211,9 @@ fn wait_for_the_fourth<R: Wait + Abort>(
     book: &mut Book,
     cell: &mut SiteCell,
 ) {
-    for k in 1..=3u64 {
+    for k in 1..=3u32 {
         number_all(rt, alloc, book, k, k);
-        assert_eq!(rt; turn(rt, book), Ok(k));
+        assert_eq!(rt; turn(rt, book), Ok(u64::from(k)));
     }
     number_all(rt, alloc, book, 4, 4);
     assert_eq!(rt; turn(rt, book), Ok(3));

@@ -7,11 +7,7 @@ use Rattle.std.proofs.lemmas.Bool.{cases_eq}
 use Rattle.ordup_primary.specs.Primaries.{PrimaryState, IsPrimary, progress_at, is_within}
 use Rattle.ordup_site.specs.Sites.{SiteState}
 use Rattle.ordup_holds.specs.Agreement.{Agrees}
-use Rattle.ordup_cluster.specs.Clusters.{IsClosed}
-
--- the first n of these sites agree with a primary
-abbrev pub AgreeBelow : ℕ → PrimaryState → List SiteState → Type 0
-AgreeBelow n p sites = (s : ℕ) (x : SiteState) → s < n → slice_get sites s ≡ Some x → Agrees p s x
+use Rattle.ordup_cluster.specs.Clusters.{AgreeBelow, IsFirstMixed, IsClosed}
 
 pub agree-more : (n : ℕ) (p : PrimaryState) (sites : List SiteState) (y : SiteState) → AgreeBelow n p sites
     → slice_get sites n ≡ Some y → Agrees p n y → AgreeBelow (n + 1) p sites
@@ -21,6 +17,14 @@ agree-more n p sites y below at agrees s x less here = ⊎_elim
     let same : y ≡ x = cc in subst (λ (z : ℕ × SiteState). Agrees p z.0 z.1) (λ i. (sym e i, same i)) agrees)
     (λ (ne : s ≢ n). below s x (omega arith) here)
     (cases_eq s n)
+
+pub first-mixed : (n : ℕ) (p : PrimaryState) (sites : List SiteState) (y : SiteState) → n < length sites → AgreeBelow n p sites
+    → slice_get sites n ≡ Some y → (Agrees p n y → ⊥) → IsFirstMixed p sites n
+first-mixed n p sites y there before at differs = record {
+  there = there;
+  before = before;
+  mixed = λ x here agrees. let same : x ≡ y = cc in differs (subst (λ (z : SiteState). Agrees p n z) same agrees);
+}
 
 pub is-closed : (p : PrimaryState) (sites : List SiteState) → IsPrimary p → length sites ≡ length p.sites
     → ((s : ℕ) (x : SiteState) → slice_get sites s ≡ Some x → Agrees p s x)

@@ -1,5 +1,5 @@
 -- What contracts see of a cluster, and of what is left of it.
-use Rattle.std.specs.Prelude.{◌≡◌, ℕ, Some, List, length, slice_get, true}
+use Rattle.std.specs.Prelude.{◌≡◌, ℕ, ◌<◌, Some, List, length, slice_get, true}
 use Rattle.ordup_primary.specs.Primaries.{PrimaryState, IsPrimary, is_within}
 use Rattle.ordup_site.specs.Sites.{SiteState}
 use Rattle.ordup_holds.specs.Agreement.{Agrees}
@@ -13,6 +13,16 @@ pub record ClusterState : Type 0 where
 pub record ClosedState : Type 0 where
   pub primary : PrimaryState
   pub sites : List SiteState
+
+-- the first n of these sites agree with a primary
+abbrev pub AgreeBelow : ℕ → PrimaryState → List SiteState → Type 0
+AgreeBelow n p sites = (s : ℕ) (x : SiteState) → s < n → slice_get sites s ≡ Some x → Agrees p s x
+
+-- site s does not agree with a primary, and those before it do
+pub record IsFirstMixed (p : PrimaryState) (sites : List SiteState) (s : ℕ) : Type 0 where
+  pub there : s < length sites
+  pub before : AgreeBelow s p sites
+  pub mixed : (x : SiteState) → slice_get sites s ≡ Some x → Agrees p s x → ⊥
 
 -- There are the sites of the primary. Each agrees with it, and the acknowledged updates that a site has not applied keep its limits.
 pub record IsClosed (c : ClosedState) : Type 0 where

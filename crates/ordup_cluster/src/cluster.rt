@@ -1,10 +1,10 @@
-ghost use Rattle.std.specs.Prelude.{◌≡◌, ◌<◌, ◌≤◌, ℕ, None, Some, pos, length, max, slice_get, vec_len, IfOk, OnOk, IfErr, OnErr, IfNone};
+ghost use Rattle.std.specs.Prelude.{◌≡◌, ◌≢◌, ◌<◌, ◌≤◌, ◌⊎◌, ℕ, None, Some, pos, length, max, slice_get, vec_len, IfOk, OnOk, IfErr, OnErr, IfSome, IfNone};
 ghost use Rattle.ordup_objects.specs.Refusals.{IsRefusal};
 ghost use Rattle.ordup_primary.specs.Declarations.{start_refusal};
 ghost use Rattle.ordup_site.specs.Sites.{SiteState};
 ghost use Rattle.ordup_holds.specs.Books.{AreRooms};
 ghost use Rattle.ordup_holds.specs.Agreement.{Agrees};
-ghost use Rattle.ordup_cluster.specs.Clusters.{IsClosed};
+ghost use Rattle.ordup_cluster.specs.Clusters.{IsClosed, IsFirstMixed};
 ghost use Rattle.ordup_cluster.specs.Refusals.{IsNumber, IsProposalRefusal, IsSettlementRefusal, IsReadRefusal, site_query_refusal};
 
 use crate::book_turns::BookTurns;
@@ -249,7 +249,7 @@ impl Cluster {
     pub fn close(self) -> Result<Closed, Refusal>
         ensures closed { IfOk result IsClosed }
         ensures count { IfOk result (λ c. length c.sites ≡ self.sites) }
-        ensures refused { IfErr result (λ e. (s : ℕ) × (e ≡ Refusal.Mixed s)) }
+        ensures refused { IfErr result (λ e. (s : ℕ) × (e ≡ Refusal.Mixed s) × (s < self.sites)) }
     {
         let Cluster {
             book,
@@ -289,6 +289,7 @@ fn locked(alloc: Global, cells: Vec<SiteCell>) -> Result<Vec<Mutex<SiteCell>>, R
 /// The first site that does not agree with the primary, given the initial values once for each site.
 fn first_mixed(primary: &Primary, sites: &Vec<Site>, mut rooms: Vec<Values>) -> Option<SiteId>
     requires { AreRooms primary.now rooms.items }
+    ensures mixed { IfSome result (λ s. ((length sites.now.items ≢ length primary.now.sites) × (s ≡ 0)) ⊎ IsFirstMixed primary.now sites.now.items s) }
     ensures count { IfNone result (length sites.now.items ≡ length primary.now.sites) }
     ensures agree { IfNone result ((s : ℕ) (x : SiteState) → slice_get sites.now.items s ≡ Some x → Agrees primary.now s x) }
 {

@@ -1,7 +1,7 @@
-use Rattle.std.proofs.Common.{◌≡◌, ◌<◌, refl, length, rules, arith}
+use Rattle.std.proofs.Common.{◌≡◌, ◌<◌, refl, inr, length, rules, arith}
 use Rattle.std.proofs.lemmas.Option.{slice_get_read, slice_get_within}
 use Rattle.std.proofs.lemmas.List.Elements.{All-take}
-use Rattle.ordup_cluster.proofs.ClosedLemmas.{agree-more}
+use Rattle.ordup_cluster.proofs.ClosedLemmas.{agree-more, first-mixed}
 use Rattle.ordup_cluster.proofs.cluster.first_mixed.Goals as goal
 
 pub loop-place-preserved : goal.loop-place-preserved
@@ -12,6 +12,7 @@ loop-place-preserved c =
     let agrees = rw c.new-site.ensures at (c.if-not-agree.ensures.0 (search rules)) in
     record {
       rooms = rw c.in-Some.ensures.rest (All-take (λ v. v ≡ c.args.primary.now.log.start) _ _ before.rooms);
+      count = search rules;
       agree =
           agree-more c.loop-place.place c.args.primary.now sites c.index.result.now before.agree
           (slice_get_read sites _ c.loop-place.place c.index.result.now refl here c.index.ensures) agrees;
@@ -23,3 +24,12 @@ returns-clause-agree c = λ s x at.
     let last = c.loop-place-test.false in
     let all : length c.args.sites.now.items ≡ c.sites-place-end.result = search rules in
     c.loop-place.invariant.agree s x (omega arith) at
+
+pub returns-then-not-agree-clause-mixed : goal.returns-then-not-agree-clause-mixed
+returns-then-not-agree-clause-mixed c =
+    let sites = c.args.sites.now.items in
+    let here : c.loop-place.place < length c.args.sites.now.items = search rules in
+    inr (rw c.new-site.ensures
+    (first-mixed c.loop-place.place c.args.primary.now sites c.index.result.now here c.loop-place.invariant.agree
+    (slice_get_read sites _ c.loop-place.place c.index.result.now refl here c.index.ensures)
+    (λ agrees. let is = c.if-not-agree.ensures.1 (rw c.new-site.ensures agrees) in search rules)))

@@ -1,3 +1,4 @@
+use Rattle.std.proofs.Common.{◌≡◌, ◌<◌, refl, length, rules, arith, ⊎_elim}
 use Rattle.ordup_cluster.proofs.ClosedLemmas.{is-closed}
 use Rattle.ordup_cluster.proofs.cluster.Cluster.close.Goals as goal
 
@@ -14,3 +15,14 @@ returns-clause-closed c =
     let same = c.in-None-first_mixed.ensures in
     is-closed c.into_parts-primary.result.0 c.loop-cell.sites.items (rw is c.primary-primary.ensures.sound) same.count same.agree
     (rw is c.primary-primary.ensures.within)
+
+pub returns-in-Some-first_mixed-clause-refused : goal.returns-in-Some-first_mixed-clause-refused
+returns-in-Some-first_mixed-clause-refused c =
+    let some : 0 < c.args.self.sites = search rules in
+    let all : length c.loop-cell.sites.items ≡ c.args.self.sites = search rules in (
+      c.in-Some-first_mixed.site,
+      refl,
+      ⊎_elim (λ differ. let first = differ.1 in omega arith)
+          (λ is. let there = is.there in omega arith)
+          c.in-Some-first_mixed.ensures.mixed,
+    )

@@ -81,7 +81,7 @@ pub fn add(
 }
 
 /// Reads x at a site in a session.
-pub fn read_x<R: Wait + Abort>(
+pub fn read_x<R: Wait>(
     rt: &R,
     cluster: &Cluster,
     session: &mut Session,

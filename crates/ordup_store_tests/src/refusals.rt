@@ -1,6 +1,6 @@
 //! Which calls of a cluster are refused, and in which order.
 use crate::fixtures::{a, add, b, opened, x, x_y_and_z, y};
-use ordup_cluster::{Cluster, SeenValue, Session, SiteQuery};
+use ordup_cluster::{Cluster, SeenValue, Session};
 use ordup_limits::Scope;
 use ordup_objects::{MessageSet, ObjectId, Refusal, SiteId};
 use ordup_primary::Setup;
@@ -15,7 +15,7 @@ fn z() -> ObjectId {
 }
 
 /// Reads an object at a site in a session that has seen nothing.
-fn read<R: Wait + Abort>(
+fn read<R: Wait>(
     rt: &R,
     cluster: &Cluster,
     site: SiteId,
@@ -25,27 +25,25 @@ fn read<R: Wait + Abort>(
 }
 
 /// Why a query is refused at a site with this limit, if it is.
-fn begin_refusal<R: Wait + Abort>(
-    rt: &R,
-    cluster: &Cluster,
-    site: SiteId,
-    limit: u64,
-) -> Option<Refusal> {
+fn begin_refusal<R: Wait>(rt: &R, cluster: &Cluster, site: SiteId, limit: u64) -> Option<Refusal> {
     cluster.begin(rt, site, limit).err()
 }
 
 /// Proposes a set, with one turn, in a session that has seen nothing.
-fn propose<R: Wait + Abort>(rt: &R, cluster: &Cluster, set: MessageSet) -> Result<u64, Refusal> {
+fn propose<R: Wait>(rt: &R, cluster: &Cluster, set: MessageSet) -> Result<u64, Refusal> {
     cluster.propose(rt, &mut Session::new(), set, 1)
 }
 
 /// Waits for an update, for one turn, in a session that has seen nothing.
-fn settle<R: Wait + Abort>(rt: &R, cluster: &Cluster, number: u64) -> Result<(), Refusal> {
+fn settle<R: Wait>(rt: &R, cluster: &Cluster, number: u64) -> Result<(), Refusal> {
     cluster.settle(rt, &mut Session::new(), number, 1)
 }
 
-/// The import limit of the query is 2, and the reference is after the update that adds 3 to x.
-fn read_within_2<R: Wait + Abort>(rt: &R, mut query: SiteQuery<'_>) {
+/// A query that may import 2, where the reference is after the update that adds 3 to x, and the site a has not applied it.
+fn read_within_2<R: Wait + Abort>(rt: &R, cluster: &Cluster) {
+    let Ok(mut query) = cluster.begin(rt, a(), 2) else {
+        panic!(rt; "the query is refused")
+    };
     assert_eq!(rt; query.read(rt, z()), Err(Refusal::UnknownObject));
     assert_eq!(rt; query.read(rt, x()), Err(Refusal::OverImport));
     assert_eq!(rt;
@@ -116,11 +114,11 @@ fn an_unknown_site_comes_before_an_import_limit(rt: HostRuntime) -> Result<(), F
 #[test]
 fn what_is_refused_has_no_number(rt: HostRuntime) -> Result<(), Fail> {
     let alloc = rt.alloc();
+    let cluster = opened(alloc, Scope::Object(x()), 5)?;
     let objects = x_y_and_z(&rt, alloc);
     let unknown = add(&rt, alloc, &objects, z(), 1);
     let too_great = add(&rt, alloc, &objects, y(), 1_000_000_000);
     let set = add(&rt, alloc, &objects, x(), 3);
-    let cluster = opened(alloc, Scope::Object(x()), 5)?;
     assert_eq!(rt;
         propose(&rt, &cluster, unknown),
         Err(Refusal::UnknownObject)
@@ -136,10 +134,10 @@ fn what_is_refused_has_no_number(rt: HostRuntime) -> Result<(), Fail> {
 #[test]
 fn a_query_reads_within_its_limit(rt: HostRuntime) -> Result<(), Fail> {
     let alloc = rt.alloc();
+    let cluster = opened(alloc, Scope::Object(x()), 5)?;
     let objects = x_y_and_z(&rt, alloc);
     let set = add(&rt, alloc, &objects, x(), 3);
-    let cluster = opened(alloc, Scope::Object(x()), 5)?;
     assert_eq!(rt; propose(&rt, &cluster, set), Ok(1));
-    read_within_2(&rt, cluster.begin(&rt, a(), 2)?);
+    read_within_2(&rt, &cluster);
     Ok(())
 }

@@ -2,7 +2,8 @@
 //!
 //! Sends parcels from one thread to another through a bounded queue, and prints how many were taken. The taker tells in an
 //! atomic word how many it took, and the sender looks there after each push. A side that finds the queue full or empty lets the
-//! other thread run and tries again. A parcel is a number and a copy of a list of one change, on the heap.
+//! other thread run and tries again. A parcel is a number and a copy of a
+//! list of one change, which lies in the parcel; a longer list would lie on the heap.
 
 mod queue;
 
@@ -32,14 +33,31 @@ struct Change {
     operation: Operation,
 }
 
+/// The changes of an update. A single one is held in place.
+#[allow(dead_code)]
+#[derive(Clone)]
+enum Changes {
+    One(Change),
+    More(Vec<Change>),
+}
+
+impl Changes {
+    fn of(changes: Vec<Change>) -> Changes {
+        match changes[..] {
+            [change] => Changes::One(change),
+            _ => Changes::More(changes),
+        }
+    }
+}
+
 struct Parcel {
     number: u64,
     #[allow(dead_code)]
-    changes: Vec<Change>,
+    changes: Changes,
 }
 
 /// Pushes so many parcels of these changes, and looks after each. It answers how many of them it knows to be taken.
-fn send_all(queue: &Queue<Parcel>, told: &AtomicU64, changes: &Vec<Change>, count: u64) -> Option<u64> {
+fn send_all(queue: &Queue<Parcel>, told: &AtomicU64, changes: &Changes, count: u64) -> Option<u64> {
     let mut known = 0;
     for number in 1..=count {
         push(queue, Parcel { number, changes: changes.clone() })?;
@@ -94,7 +112,7 @@ fn main() -> ExitCode {
     }
     let queue = Queue::new(capacity as usize);
     let told = Alone(AtomicU64::new(0));
-    let changes = vec![Change { object: 0, operation: Operation::Set(1) }];
+    let changes = Changes::of(vec![Change { object: 0, operation: Operation::Set(1) }]);
     let (sent, taken) = thread::scope(|scope| {
         let sender = scope.spawn(|| send_all(&queue, &told.0, &changes, count));
         let taken = take_all(&queue, &told.0, count);

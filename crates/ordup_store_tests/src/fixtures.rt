@@ -1,4 +1,6 @@
 //! Clusters of the objects x at 0 and y at 10, and what is done with them.
+ghost use Rattle.std.specs.Prelude.{◌≡◌};
+
 use ordup_cluster::{Cluster, OpenGate, SeenValue, Session};
 use ordup_limits::Scope;
 use ordup_objects::{Change, MessageSet, ObjectId, ObjectTable, Op, Refusal, SiteId};
@@ -8,22 +10,30 @@ use std::process::Abort;
 use std::sync::Wait;
 
 /// The object x.
-pub fn x() -> ObjectId {
+pub fn x() -> ObjectId
+    ensures { result ≡ 0 }
+{
     ObjectId::new(0)
 }
 
 /// The object y.
-pub fn y() -> ObjectId {
+pub fn y() -> ObjectId
+    ensures { result ≡ 1 }
+{
     ObjectId::new(1)
 }
 
 /// The site a.
-pub fn a() -> SiteId {
+pub fn a() -> SiteId
+    ensures { result ≡ 0 }
+{
     SiteId::new(0)
 }
 
 /// The site b.
-pub fn b() -> SiteId {
+pub fn b() -> SiteId
+    ensures { result ≡ 1 }
+{
     SiteId::new(1)
 }
 

@@ -28,3 +28,4 @@ judgement_printed had old new (Err fault.TooLong) told = absurd told.5
 judgement_printed had old new (Err (fault.Malformed row)) told = absurd told.5
 judgement_printed had old new (Err fault.NotStarted) told = absurd told.5
 judgement_printed had old new (Err fault.UnknownSite) told = absurd told.5
+judgement_printed had old new (Err fault.Mixed) told = absurd told.5

@@ -2,8 +2,9 @@
 use Rattle.std.specs.Prelude.{◌≡◌, ◌⊎◌, ℕ, Ok, Err}
 use Rattle.ordup_output.specs.Fronts.{AppendsFront}
 use Rattle.ordup_words.specs.declared.command_line.Job.{Job}
+use Rattle.ordup_cli.specs.Bytes.{Bytes}
 use Rattle.ordup_cli.specs.Faults.{Outcome, fault_text, status_of}
-use Rattle.ordup_cli.specs.Jobs.{Bytes, Does}
+use Rattle.ordup_cli.specs.Jobs.{Does}
 
 -- nothing was told of a job that was done, and of any other the line of its fault, or a front of it
 abbrev pub IsTold : Bytes → Bytes → Outcome → Type 0

@@ -5,6 +5,8 @@ use Rattle.ordup_record_reader.specs.declared.reading.RecordReadFault.{RecordRea
 use Rattle.ordup_record_reader.specs.declared.reading.RecordReadFault.TheVariants as reading
 use Rattle.ordup_rows.specs.declared.writing.RecordWriteFault.{RecordWriteFault}
 use Rattle.ordup_rows.specs.declared.writing.RecordWriteFault.TheVariants as writing
+use Rattle.ordup_script.specs.declared.plan.PlanFault.{PlanFault}
+use Rattle.ordup_script.specs.declared.plan.PlanFault.TheVariants as plan
 use Rattle.ordup_script.specs.declared.stream.ScriptFault.{ScriptFault}
 use Rattle.ordup_script.specs.declared.stream.ScriptFault.TheVariants as script
 use Rattle.ordup_cli.specs.declared.fault.Fault.{Fault}
@@ -17,6 +19,13 @@ of_script script.TooLong = fault.TooLong
 of_script script.Write = fault.Write
 of_script script.NoMemory = fault.NoMemory
 
+-- the fault of reading a plan
+abbrev pub of_plan : PlanFault → Fault
+of_plan plan.Read = fault.Read
+of_plan plan.TooLong = fault.TooLong
+of_plan (plan.Malformed line) = fault.Malformed line
+of_plan plan.NoMemory = fault.NoMemory
+
 -- the fault of reading a record
 abbrev pub of_reading : RecordReadFault → Fault
 of_reading reading.Read = fault.Read
@@ -28,7 +37,8 @@ abbrev pub of_writing : RecordWriteFault → Fault
 of_writing writing.Write = fault.Write
 of_writing writing.NoMemory = fault.NoMemory
 
--- 2 where there is no such site, 3 where the input or the output failed or the script did not start, 4 where there was no memory
+-- 1 where a site does not agree with the log, 2 where there is no such site, 3 where the input or the output failed or the script
+-- did not start, 4 where there was no memory
 abbrev pub fault_status : Fault → ℕ
 fault_status fault.Read = 3
 fault_status fault.TooLong = 3
@@ -36,6 +46,7 @@ fault_status fault.Write = 3
 fault_status (fault.Malformed row) = 3
 fault_status fault.NotStarted = 3
 fault_status fault.UnknownSite = 2
+fault_status fault.Mixed = 1
 fault_status fault.NoMemory = 4
 
 -- the line that tells a fault
@@ -46,6 +57,7 @@ fault_text fault.Write = codes "write fault\n"
 fault_text (fault.Malformed row) = codes "malformed " ++ decimal row ++ codes "\n"
 fault_text fault.NotStarted = codes "refused 2 NotStarted\n"
 fault_text fault.UnknownSite = codes "refused 8 UnknownSite\n"
+fault_text fault.Mixed = codes "refused 27 Mixed\n"
 fault_text fault.NoMemory = codes "no memory\n"
 
 -- how a job ends: with an exit status, or with a fault

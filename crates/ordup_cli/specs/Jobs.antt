@@ -25,18 +25,12 @@ use Rattle.ordup_script.specs.Runs.{Runs}
 use Rattle.ordup_script.specs.declared.stream.ScriptFault.{ScriptFault}
 use Rattle.ordup_words.specs.declared.command_line.Job.{Job}
 use Rattle.ordup_words.specs.declared.command_line.Job.TheVariants as job
+use Rattle.ordup_cli.specs.Bytes.{Bytes, most_script_bytes}
 use Rattle.ordup_cli.specs.Faults.{Outcome, of_script}
+use Rattle.ordup_cli.specs.Plans.{RunsPlan}
 use Rattle.ordup_cli.specs.declared.fault.Fault.TheVariants as fault
 
--- the bytes that a reader has left, or that a writer holds, where they are known
-abbrev pub Bytes : Type 0
-Bytes = Option (List ℕ)
-
 -- ---- a script is run
-
--- the most bytes of a script
-abbrev pub most_script_bytes : ℕ
-most_script_bytes = 1073741824
 
 -- how a run ended: with the store's declarations or its world, or with a fault
 abbrev pub RunEnd : Type 0
@@ -63,6 +57,7 @@ PrintsRecord r old new (Err fault.TooLong) = ⊥
 PrintsRecord r old new (Err (fault.Malformed row)) = ⊥
 PrintsRecord r old new (Err fault.NotStarted) = ⊥
 PrintsRecord r old new (Err fault.UnknownSite) = ⊥
+PrintsRecord r old new (Err fault.Mixed) = ⊥
 
 -- the record of what the primary has of this site was printed, or nothing where it has no such site
 abbrev pub PrintsSite : PrimaryState → Option ℕ → Bytes → Bytes → Outcome → Type 0
@@ -103,6 +98,7 @@ PrintsVerdict verdict old new (Err fault.TooLong) = ⊥
 PrintsVerdict verdict old new (Err (fault.Malformed row)) = ⊥
 PrintsVerdict verdict old new (Err fault.NotStarted) = ⊥
 PrintsVerdict verdict old new (Err fault.UnknownSite) = ⊥
+PrintsVerdict verdict old new (Err fault.Mixed) = ⊥
 
 -- the verdict on a record: the number of its rounds where it is valid, and else the first reason against it and its row
 abbrev pub Judges : RecordState → Verdict → Type 0
@@ -129,6 +125,7 @@ Checks had old new (Err fault.NoMemory) = new ≡ old
 Checks had old new (Err fault.TooLong) = ⊥
 Checks had old new (Err fault.NotStarted) = ⊥
 Checks had old new (Err fault.UnknownSite) = ⊥
+Checks had old new (Err fault.Mixed) = ⊥
 
 -- ---- any of these
 
@@ -137,3 +134,4 @@ abbrev pub Does : Job → Bytes → Bytes → Bytes → Bytes → Outcome → Ty
 Does job.Run had has old new outcome = Answers had has old new outcome
 Does (job.Record site) had has old new outcome = Records (string_bytes site) had has old new outcome
 Does job.Check had has old new outcome = Checks had old new outcome
+Does (job.Threads callers) had has old new outcome = RunsPlan had has old new outcome

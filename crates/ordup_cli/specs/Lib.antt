@@ -1,3 +1,5 @@
+pub mod Bytes
 pub mod Faults
+pub mod Plans
 pub mod Jobs
 pub mod Acts

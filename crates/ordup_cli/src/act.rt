@@ -9,12 +9,15 @@ use clap::error::ErrorKind;
 use ordup_words::{FILE_TIP, job_of};
 use std::alloc::Global;
 use std::io::{Read, Write};
+use std::sync::Wait;
+use std::thread::Threads;
 
 /// Does what the words ask for, and answers the exit status.
 ///
 /// The first word is the program's name. What is asked for is read from the input and goes to the output; faults go to the
 /// third, a line each, and one that cannot be written keeps its status.
-pub fn act<R: Read, W: Write, E: Write>(
+pub fn act<T: Threads + Wait + Sync, R: Read, W: Write, E: Write>(
+    rt: &T,
     alloc: Global,
     words: &[&str],
     input: &mut R,
@@ -25,7 +28,7 @@ pub fn act<R: Read, W: Write, E: Write>(
         (E.contents faults.old) (E.contents faults.new) result }
 {
     match job_of(alloc, words) {
-        Ok(Some(job)) => end(do_job(alloc, &job, input, output), faults),
+        Ok(Some(job)) => end(do_job(rt, alloc, &job, input, output), faults),
         Ok(None) => WRONG_WORDS,
         Err(error) => show_usage(output, faults, &error),
     }

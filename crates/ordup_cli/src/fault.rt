@@ -3,15 +3,17 @@ ghost use Rattle.std.specs.Prelude.{◌≡◌, OnOk, ◌++◌};
 ghost use Rattle.std.specs.Fmt.{decimal};
 ghost use Rattle.std.specs.Io.KnownBytes.{Appends};
 ghost use Rattle.ordup_output.specs.Fronts.{AppendsFront};
-ghost use Rattle.ordup_cli.specs.Faults.{fault_status, fault_text, of_script, of_reading, of_writing};
+ghost use Rattle.ordup_cli.specs.Faults.{fault_status, fault_text, of_plan, of_script, of_reading, of_writing};
 
 use itoa::Buffer;
 use ordup_output::{WriteFault, send};
 use ordup_record_reader::RecordReadFault;
 use ordup_rows::RecordWriteFault;
-use ordup_script::ScriptFault;
+use ordup_script::{PlanFault, ScriptFault};
 use std::io::Write;
 
+/// The exit status where a record is not valid, or a site does not agree with the log.
+pub(crate) const NOT_VALID: u8 = 1;
 /// The exit status where the words ask for nothing that the program does, or name no site.
 pub(crate) const WRONG_WORDS: u8 = 2;
 /// The exit status where the input or the output failed, or the script did not start.
@@ -28,12 +30,14 @@ pub(crate) enum Fault {
     TooLong,
     /// A write or a flush failed, or a write took nothing.
     Write,
-    /// This row of a record is the first that breaks a rule of the format.
+    /// This row of a record is the first that breaks a rule of the format, or this line of a plan.
     Malformed { row: u64 },
     /// The script did not start its store.
     NotStarted,
     /// The store has no such site.
     UnknownSite,
+    /// A site does not agree with the log.
+    Mixed,
     /// An allocation was refused.
     NoMemory,
 }
@@ -48,6 +52,18 @@ impl Fault {
             ScriptFault::TooLong => Fault::TooLong,
             ScriptFault::Write => Fault::Write,
             ScriptFault::NoMemory => Fault::NoMemory,
+        }
+    }
+
+    /// The fault of reading a plan.
+    pub(crate) fn of_plan(fault: PlanFault) -> Self
+        ensures { result ≡ of_plan fault }
+    {
+        match fault {
+            PlanFault::Read => Fault::Read,
+            PlanFault::TooLong => Fault::TooLong,
+            PlanFault::Malformed { line } => Fault::Malformed { row: line },
+            PlanFault::NoMemory => Fault::NoMemory,
         }
     }
 
@@ -83,6 +99,7 @@ impl Fault {
             Fault::Malformed { .. } => INPUT_OR_OUTPUT_FAILED,
             Fault::NotStarted => INPUT_OR_OUTPUT_FAILED,
             Fault::UnknownSite => WRONG_WORDS,
+            Fault::Mixed => NOT_VALID,
             Fault::NoMemory => NO_MEMORY,
         }
     }
@@ -108,6 +125,7 @@ fn send_line<E: Write>(faults: &mut E, fault: Fault) -> Result<(), WriteFault>
         Fault::Malformed { row } => send_malformed(faults, row),
         Fault::NotStarted => send(faults, b"refused 2 NotStarted\n"),
         Fault::UnknownSite => send(faults, b"refused 8 UnknownSite\n"),
+        Fault::Mixed => send(faults, b"refused 27 Mixed\n"),
         Fault::NoMemory => send(faults, b"no memory\n"),
     }
 }

@@ -1,11 +1,12 @@
-//! What the words of the program ask for: a script is run, the record of a site is printed, a record is checked.
+//! What the words of the program ask for: a script or a plan is run, the record of a site is printed, a record is checked.
 ghost use Rattle.std.specs.Prelude.{◌≡◌, IfErr, IfOk, string_bytes};
 ghost use Rattle.ordup_objects.specs.Tables.{place_of};
 ghost use Rattle.std.specs.Io.KnownBytes.{Keeps};
 ghost use Rattle.ordup_cli.specs.Jobs.{Answers, Checks, Does, PrintsRecord, PrintsSite, PrintsVerdict, Records};
 ghost use Rattle.ordup_cli.specs.Jobs.{verdict_status, verdict_text};
 
-use crate::fault::Fault;
+use crate::fault::{Fault, NOT_VALID};
+use crate::plans::run_plan;
 use ordup_output::send;
 use ordup_primary::Primary;
 use ordup_record::{Record, record_of};
@@ -16,17 +17,18 @@ use ordup_verdict::{Verdict, check};
 use ordup_words::Job;
 use std::alloc::{AllocError, Global};
 use std::io::{self, Read, Write};
+use std::sync::Wait;
+use std::thread::Threads;
 
 /// The exit status where all was done.
 pub(crate) const DONE: u8 = 0;
-/// The exit status where a record is not valid.
-const NOT_VALID: u8 = 1;
 
 /// How a job ended: with an exit status, or with a fault.
 pub(crate) type Outcome = Result<u8, Fault>;
 
 /// Does a job: reads what it asks for from the input, and prints what comes of it on the output.
-pub(crate) fn do_job<R: Read, W: Write>(
+pub(crate) fn do_job<T: Threads + Wait + Sync, R: Read, W: Write>(
+    rt: &T,
     alloc: Global,
     job: &Job,
     input: &mut R,
@@ -38,6 +40,7 @@ pub(crate) fn do_job<R: Read, W: Write>(
         Job::Run => run(alloc, input, output),
         Job::Record { site } => print_record(alloc, site.as_bytes(), input, output),
         Job::Check => check_record(alloc, input, output),
+        Job::Threads { callers } => run_plan(rt, alloc, *callers, input, output),
     }
 }
 
@@ -136,7 +139,7 @@ fn status_of(verdict: Verdict) -> u8
 }
 
 /// Flushes what was printed.
-fn flush<W: Write>(output: &mut W) -> Result<(), Fault>
+pub(crate) fn flush<W: Write>(output: &mut W) -> Result<(), Fault>
     ensures kept { Keeps (W.contents output.old) (W.contents output.new) }
     ensures fault { IfErr result (λ e. e ≡ Fault.Write) }
 {

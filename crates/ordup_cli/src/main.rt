@@ -5,6 +5,9 @@ mod act;
 mod fault;
 mod jobs;
 #[cfg(test)]
+mod plan_tests;
+mod plans;
+#[cfg(test)]
 mod record_tests;
 #[cfg(test)]
 mod rows;
@@ -33,6 +36,7 @@ fn main(rt: HostRuntime) -> ExitCode {
         return ExitCode::from(tell(&mut faults, Fault::NoMemory));
     };
     ExitCode::from(act(
+        &rt,
         alloc,
         words.as_slice(),
         &mut input,

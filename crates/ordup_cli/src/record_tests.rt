@@ -36,11 +36,11 @@ fn records_are_printed_and_checked_as_their_transcripts_say(rt: HostRuntime) -> 
                 [b'|', b' ', row @ ..] => push_line(&mut record, row)?,
                 [b'=', b' ', verdict @ ..] => {
                     let site = site_of(&record).ok_or("no site")?;
-                    let printed = run_on(rt.alloc(), &["ordup", "record", site], &script);
+                    let printed = run_on(&rt, &["ordup", "record", site], &script);
                     assert!(rt; printed.is(0, &record, b""), "{name}: the record");
                     let mut said = Vec::new(rt.alloc());
                     push_line(&mut said, verdict)?;
-                    let checked = run_on(rt.alloc(), &["ordup", "check"], &record);
+                    let checked = run_on(&rt, &["ordup", "check"], &record);
                     assert!(rt; says(&checked, &said), "{name}: the check");
                     record.clear();
                 }
@@ -135,7 +135,7 @@ fn sample_records_are_judged(rt: HostRuntime) -> Result<(), Fail> {
         let record = record.replace(rt.alloc(), part, other)?;
         for at_once in [SOUND.at_once, 1, 2, 3] {
             let streams = Streams { at_once, ..SOUND };
-            let ended = run_over(rt.alloc(), &["ordup", "check"], record.as_bytes(), streams);
+            let ended = run_over(&rt, &["ordup", "check"], record.as_bytes(), streams);
             assert!(rt; says(&ended, said), "{other} for {part}, by {at_once}");
         }
     }
@@ -164,7 +164,7 @@ fn a_writer_that_fails_has_got_a_front_of_the_record(rt: HostRuntime) {
             can_flush: false,
             ..SOUND
         };
-        let ended = run_over(rt.alloc(), &["ordup", "record", "a"], SCRIPT, streams);
+        let ended = run_over(&rt, &["ordup", "record", "a"], SCRIPT, streams);
         let is_fault = ended.is(3, &record[..room], b"write fault\n");
         assert!(rt; is_fault, "room for {room}");
     }
@@ -179,12 +179,7 @@ fn a_writer_that_fails_has_got_a_front_of_the_verdict(rt: HostRuntime) {
             can_flush: false,
             ..SOUND
         };
-        let ended = run_over(
-            rt.alloc(),
-            &["ordup", "check"],
-            FORCED_ONCE.as_bytes(),
-            streams,
-        );
+        let ended = run_over(&rt, &["ordup", "check"], FORCED_ONCE.as_bytes(), streams);
         let is_fault = ended.is(3, &verdict[..room], b"write fault\n");
         assert!(rt; is_fault, "room for {room}");
     }
@@ -203,7 +198,7 @@ fn a_reader_that_fails_gets_no_record_and_no_verdict(rt: HostRuntime) {
                 given: count,
                 ..SOUND
             };
-            let ended = run_over(rt.alloc(), words, given, streams);
+            let ended = run_over(&rt, words, given, streams);
             assert!(rt;
                 ended.is(3, b"", b"read fault\n"),
                 "{words:?} after {count}"
@@ -226,7 +221,7 @@ fn a_record_is_printed_only_of_a_site_of_a_started_store(rt: HostRuntime) {
         ("a", b"object x 0\nsite a 4\n", not_started),
         ("a", b"object x 0\nstart\nsite a 4\n", not_started),
     ] {
-        let ended = run_on(rt.alloc(), &["ordup", "record", site], script);
+        let ended = run_on(&rt, &["ordup", "record", site], script);
         assert!(rt; ended.is(status, b"", fault), "the record of {site}");
     }
 }

@@ -2,8 +2,9 @@
 ghost use Rattle.std.specs.Prelude.{Some};
 
 use crate::act::act;
-use std::alloc::Global;
 use std::io::{self, ErrorKind, Read, Write};
+use std::sync::Wait;
+use std::thread::Threads;
 
 /// More bytes than a test reads or writes.
 const ALL: usize = 1_000_000;
@@ -103,7 +104,13 @@ impl Write for ShortWriter {
 }
 
 /// Runs the program on words and an input, over streams that behave so.
-pub(crate) fn run_over(alloc: Global, words: &[&str], given: &[u8], streams: Streams) -> Ended {
+pub(crate) fn run_over<T: Threads + Wait + Sync + AllocGlobal>(
+    rt: &T,
+    words: &[&str],
+    given: &[u8],
+    streams: Streams,
+) -> Ended {
+    let alloc = rt.alloc();
     let mut input = ShortReader {
         left: given,
         at_once: streams.at_once,
@@ -115,7 +122,7 @@ pub(crate) fn run_over(alloc: Global, words: &[&str], given: &[u8], streams: Str
         can_flush: streams.can_flush,
     };
     let mut faults: Vec<u8> = Vec::new(alloc);
-    let status = act(alloc, words, &mut input, &mut output, &mut faults);
+    let status = act(rt, alloc, words, &mut input, &mut output, &mut faults);
     Ended {
         status,
         output: output.taken,
@@ -124,6 +131,10 @@ pub(crate) fn run_over(alloc: Global, words: &[&str], given: &[u8], streams: Str
 }
 
 /// Runs the program on words and an input.
-pub(crate) fn run_on(alloc: Global, words: &[&str], given: &[u8]) -> Ended {
-    run_over(alloc, words, given, SOUND)
+pub(crate) fn run_on<T: Threads + Wait + Sync + AllocGlobal>(
+    rt: &T,
+    words: &[&str],
+    given: &[u8],
+) -> Ended {
+    run_over(rt, words, given, SOUND)
 }

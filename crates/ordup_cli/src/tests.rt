@@ -54,7 +54,7 @@ fn scripts_are_answered_as_their_transcripts_say(rt: HostRuntime) -> Result<(), 
         let (script, wanted) = parts(rt.alloc(), transcript)?;
         for at_once in [SOUND.at_once, 1, 2, 3] {
             let streams = Streams { at_once, ..SOUND };
-            let ended = run_over(rt.alloc(), &["ordup", "run"], &script, streams);
+            let ended = run_over(&rt, &["ordup", "run"], &script, streams);
             assert!(rt; ended.is(0, &wanted, b""), "{name}, by {at_once}");
         }
     }
@@ -169,7 +169,7 @@ fn one_more_than_a_size_is_refused_in_its_order(rt: HostRuntime) -> Result<(), F
         script.push_str(before)?;
         push_times(rt.alloc(), &mut script, part, count)?;
         script.push_str(rest)?;
-        let ended = run_on(rt.alloc(), &["ordup", "run"], script.as_bytes());
+        let ended = run_on(&rt, &["ordup", "run"], script.as_bytes());
         // The first refusal is the last answer.
         let answers = str::from_utf8(&ended.output)?;
         let after = answers.split_once("refused").map(|(_, after)| after);
@@ -203,7 +203,7 @@ fn many_sites_are_forced_at_once(rt: HostRuntime) -> Result<(), Fail> {
             count,
         )?;
         script.push_str("settle\n")?;
-        let ended = run_on(rt.alloc(), &["ordup", "run"], script.as_bytes());
+        let ended = run_on(&rt, &["ordup", "run"], script.as_bytes());
         let answers = str::from_utf8(&ended.output)?;
         let wanted = format!(in rt.alloc();
             "ok proposed 1\nok round 1 {sites}\nok waiting 1 {sites}\nok sent s0 1\n"
@@ -226,7 +226,7 @@ fn lines_of_4096_bytes_are_read_and_longer_ones_are_not(rt: HostRuntime) -> Resu
         script.extend_from_slice(b"\nobject x 1")?;
         for at_once in [1usize, 4_096, 4_097, SOUND.at_once] {
             let streams = Streams { at_once, ..SOUND };
-            let ended = run_over(rt.alloc(), &["ordup", "run"], &script, streams);
+            let ended = run_over(&rt, &["ordup", "run"], &script, streams);
             assert!(rt;
                 ended.output.as_slice() == wanted,
                 "{length} spaces by {at_once}"
@@ -242,19 +242,14 @@ fn a_writer_that_fails_has_got_a_front_of_the_answers(rt: HostRuntime) -> Result
     assert_eq!(rt; script.len(), 64);
     assert_eq!(rt; wanted.len(), 123);
     let seven = run_over(
-        rt.alloc(),
+        &rt,
         &["ordup", "run"],
         &script,
         Streams { room: 7, ..SOUND },
     );
     assert!(rt; seven.output.as_slice() == b"ok obje".as_slice());
     for room in 0..wanted.len() {
-        let ended = run_over(
-            rt.alloc(),
-            &["ordup", "run"],
-            &script,
-            Streams { room, ..SOUND },
-        );
+        let ended = run_over(&rt, &["ordup", "run"], &script, Streams { room, ..SOUND });
         let is_fault = ended.is(3, &wanted[..room], b"write fault\n");
         assert!(rt; is_fault, "room for {room}");
     }
@@ -267,12 +262,7 @@ fn a_reader_that_fails_leaves_the_answers_to_the_lines_that_ended(
 ) -> Result<(), Fail> {
     let (script, wanted) = parts(rt.alloc(), FIRST_RUN)?;
     for (given, written) in [(0usize, 0usize), (10, 0), (11, 12), (25, 22), (26, 31)] {
-        let ended = run_over(
-            rt.alloc(),
-            &["ordup", "run"],
-            &script,
-            Streams { given, ..SOUND },
-        );
+        let ended = run_over(&rt, &["ordup", "run"], &script, Streams { given, ..SOUND });
         assert!(rt; written <= wanted.len());
         let is_fault = ended.is(3, &wanted[..written], b"read fault\n");
         assert!(rt; is_fault, "after {given} bytes");
@@ -282,29 +272,36 @@ fn a_reader_that_fails_leaves_the_answers_to_the_lines_that_ended(
 
 #[test]
 fn wrong_words_end_with_status_2_and_help_with_status_0(rt: HostRuntime) {
-    let wrong: [&[&str]; 7] = [
+    let wrong: [&[&str]; 13] = [
         &["ordup"],
         &["ordup", "nosuch"],
         &["ordup", "run", "more"],
         &["ordup", "record"],
         &["ordup", "record", "a", "more"],
         &["ordup", "check", "more"],
+        &["ordup", "threads"],
+        &["ordup", "threads", "0"],
+        &["ordup", "threads", "17"],
+        &["ordup", "threads", "-1"],
+        &["ordup", "threads", "x"],
+        &["ordup", "threads", "1", "more"],
         &["ordup", "--nosuch"],
     ];
     for words in wrong {
-        let ended = run_on(rt.alloc(), words, b"object x 1\n");
+        let ended = run_on(&rt, words, b"object x 1\n");
         assert_eq!(rt; ended.status, 2);
         assert!(rt; ended.output.is_empty());
         assert!(rt; !ended.faults.is_empty());
     }
-    let help: [&[&str]; 4] = [
+    let help: [&[&str]; 5] = [
         &["ordup", "--help"],
         &["ordup", "run", "--help"],
         &["ordup", "record", "--help"],
         &["ordup", "check", "--help"],
+        &["ordup", "threads", "--help"],
     ];
     for words in help {
-        let ended = run_on(rt.alloc(), words, b"object x 1\n");
+        let ended = run_on(&rt, words, b"object x 1\n");
         assert_eq!(rt; ended.status, 0);
         assert!(rt; !ended.output.is_empty());
         assert!(rt; ended.faults.is_empty());
@@ -313,25 +310,20 @@ fn wrong_words_end_with_status_2_and_help_with_status_0(rt: HostRuntime) {
 
 #[test]
 fn a_file_that_is_named_is_told_where_scripts_come_from(rt: HostRuntime) {
-    let ended = run_on(rt.alloc(), &["ordup", "run", "first.ordup"], b"");
+    let ended = run_on(&rt, &["ordup", "run", "first.ordup"], b"");
     assert_eq!(rt; ended.status, 2);
     assert!(rt; ended.faults.as_slice().ends_with(FILE_TIP.as_bytes()));
 }
 
 #[test]
 fn the_version_is_shown(rt: HostRuntime) {
-    let ended = run_on(rt.alloc(), &["ordup", "--version"], b"");
+    let ended = run_on(&rt, &["ordup", "--version"], b"");
     assert!(rt; ended.is(0, b"ordup 0.1.0\n", b""));
 }
 
 #[test]
 fn help_that_cannot_be_written_is_a_write_fault(rt: HostRuntime) {
-    let ended = run_over(
-        rt.alloc(),
-        &["ordup", "--help"],
-        b"",
-        Streams { room: 7, ..SOUND },
-    );
+    let ended = run_over(&rt, &["ordup", "--help"], b"", Streams { room: 7, ..SOUND });
     assert_eq!(rt; ended.status, 3);
     assert!(rt; ended.faults.as_slice() == b"write fault\n".as_slice());
 }
@@ -351,6 +343,7 @@ fn each_fault_has_its_text_and_its_status(rt: HostRuntime) {
         ),
         (Fault::NotStarted, b"refused 2 NotStarted\n", 3),
         (Fault::UnknownSite, b"refused 8 UnknownSite\n", 2),
+        (Fault::Mixed, b"refused 27 Mixed\n", 1),
     ] {
         let mut faults: Vec<u8> = Vec::new(rt.alloc());
         assert_eq!(rt; tell(&mut faults, fault), status);

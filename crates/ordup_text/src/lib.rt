@@ -5,4 +5,7 @@
 
 mod text;
 
-pub use text::{push_answer, push_certified, push_named, push_refused, push_started};
+pub use text::{
+    push_answer, push_certified, push_done, push_named, push_numbered, push_refused, push_started,
+    push_values, push_with_number,
+};

@@ -24,7 +24,7 @@ fn push_value<A: Allocator + Copy>(out: &mut Vec<u8, A>, value: i64) -> Result<(
 }
 
 /// Adds a text and a number.
-fn push_with_number<A: Allocator + Copy>(
+pub fn push_with_number<A: Allocator + Copy>(
     out: &mut Vec<u8, A>,
     text: &[u8],
     number: u64,
@@ -91,7 +91,7 @@ pub fn push_named<A: Allocator + Copy>(
 }
 
 /// Adds an answer that ends with a name and a number.
-fn push_numbered<A: Allocator + Copy>(
+pub fn push_numbered<A: Allocator + Copy>(
     out: &mut Vec<u8, A>,
     done: &[u8],
     name: &[u8],
@@ -122,7 +122,7 @@ fn push_named_value<A: Allocator + Copy>(
 }
 
 /// Adds the names and the values of all objects.
-fn push_values<A: Allocator + Copy>(
+pub fn push_values<A: Allocator + Copy>(
     out: &mut Vec<u8, A>,
     objects: &ObjectTable<A>,
     values: &[i64],
@@ -309,7 +309,7 @@ fn push_site<A: Allocator + Copy>(
 }
 
 /// Adds an answer that ends with a number.
-fn push_done<A: Allocator + Copy>(
+pub fn push_done<A: Allocator + Copy>(
     out: &mut Vec<u8, A>,
     done: &[u8],
     number: u64,

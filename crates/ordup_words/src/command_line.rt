@@ -1,5 +1,6 @@
-use clap::{Arg, Command, Error};
+use clap::{Arg, Command, Error, value_parser};
 use std::alloc::{AllocError, Global};
+use std::num::NonZeroU8;
 
 /// What the words ask for.
 #[derive(Debug, Drop)]
@@ -13,6 +14,11 @@ pub enum Job {
     },
     /// Checks a record.
     Check,
+    /// Runs a plan in threads.
+    Threads {
+        /// How many callers there are, at most 16.
+        callers: NonZeroU8,
+    },
 }
 
 /// The job that the words name, of which the first is the program's name. None of them names no job.
@@ -29,8 +35,15 @@ pub fn job_of(alloc: Global, words: &[&str]) -> Result<Option<Job>, Error> {
             None => Ok(None),
         },
         Some(("check", _)) => Ok(Some(Job::Check)),
+        Some(("threads", words)) => Ok(callers_of(words.get_one::<u8>("CLIENTS"))),
         _ => Ok(None),
     }
+}
+
+/// The job of a plan with so many callers. None where there is none.
+fn callers_of(callers: Option<u8>) -> Option<Job> {
+    let callers = NonZeroU8::new(callers?)?;
+    Some(Job::Threads { callers })
 }
 
 /// The words that the program takes, with their help.
@@ -49,6 +62,15 @@ fn command<'a>(alloc: Global) -> Result<Command<'a>, AllocError> {
     let check = Command::new(alloc, "check")
         .about("Checks whether a record shows that the site's forced rounds are the fewest")
         .after_help(CHECK_HELP);
+    let threads = Command::new(alloc, "threads")
+        .about("Runs a plan by callers in threads, and prints what came of it")
+        .after_help(THREADS_HELP)
+        .arg(
+            Arg::new(alloc, "CLIENTS")
+                .required(true)
+                .value_parser(value_parser!(u8).range(1..=16))
+                .help("How many callers there are, 1 to 16"),
+        )?;
     Command::new(alloc, "ordup")
         .about("A replicated store of whole numbers: every site applies the updates in one order")
         .version(VERSION)
@@ -56,7 +78,8 @@ fn command<'a>(alloc: Global) -> Result<Command<'a>, AllocError> {
         .subcommand_required(true)
         .subcommand(run)?
         .subcommand(record)?
-        .subcommand(check)
+        .subcommand(check)?
+        .subcommand(threads)
 }
 
 /// What `ordup --version` shows after the program's name.
@@ -64,7 +87,7 @@ const VERSION: &str = "0.1.0";
 
 /// What is said of a word that the program does not take, such as the name of a file.
 pub const FILE_TIP: &str = "
-A script or a record comes on standard input: ordup run < FILE
+A script, a record or a plan comes on standard input: ordup run < FILE
 ";
 
 const HELP: &str = "\
@@ -80,6 +103,10 @@ answer for each command on standard output:
 `ordup record SITE` runs a script and prints the record of a site, and
 `ordup check` says whether a record shows that the site's forced rounds are the
 fewest that keep its limits: `yes N`, or `no ROW REASON`.
+
+`ordup threads CLIENTS` reads a plan, which is declarations, `start` and then
+proposals alone, and lets callers in threads of their own make the proposals,
+with a thread for each site that applies them.
 
 Exit statuses: 0 done, 1 a record that is not valid, 2 wrong words or no such
 site, 3 input or output failed or the script did not start, 4 no memory.
@@ -148,3 +175,28 @@ Exit statuses: 0 yes, 1 no; 3 with `malformed ROW` (the first row that breaks a
 rule of the format), `read fault` (also for a record that is too long) or
 `write fault` on standard error; 4 with `no memory`; 2 for wrong words.
 The rows, and each reason: docs/FORMATS.md";
+
+const THREADS_HELP: &str = "\
+Reads a plan from standard input to its end: declarations, `start`, and then
+proposals alone, in the lines of a script. Each site has a thread that applies
+what comes to it, and CLIENTS callers in threads of their own propose the sets:
+the first set goes to the first caller, the next to the next, and again from the
+first. Then it prints what came of it:
+
+    object x 0           log 2
+    site a 4             refused 0
+    limit a all 0        pending 0
+    start                site a applied 2 rounds 2 x=2
+    propose add:x:1      certified a 2
+    propose add:x:1
+
+So many proposals are in the log, so many were refused, and so many were not
+acknowledged within 1,000,000 turns of their caller. Of each site: how many
+updates it applied, its forced rounds, its values, and the number of rounds that
+no schedule that keeps its limits goes below. With several callers the order of
+the log is as the threads meet.
+
+Exit statuses: 0 done; 3 with `malformed LINE` (the first line that does not
+belong), `read fault`, `write fault` or `input too long` on standard error; 4
+with `no memory`, also where a thread cannot be started; 2 for wrong words.
+Plans and outcomes: docs/FORMATS.md";

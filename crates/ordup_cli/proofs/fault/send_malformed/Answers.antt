@@ -1,4 +1,4 @@
-use Rattle.std.proofs.Common.{◌≡◌, ◌∙◌, ◌++◌, ◌∷◌, [], codes}
+use Rattle.std.proofs.Common.{◌≡◌, ◌∙◌, ◌++◌, codes}
 use Rattle.std.specs.Fmt.{decimal}
 use Rattle.ordup_cli.proofs.Printing.{front_after, front_of_first}
 use Rattle.ordup_cli.proofs.fault.send_malformed.Goals as goal

@@ -1,0 +1,40 @@
+-- What running a plan in threads reads and prints.
+use Rattle.std.specs.Prelude.{◌≡◌, ◌⊎◌, ℕ, List, length, Result, Ok, Err}
+use Rattle.std.specs.Io.KnownBytes.{Appends}
+use Rattle.std.specs.declared.alloc.Global.{Global}
+use Rattle.ordup_output.specs.Fronts.{AppendsFront}
+use Rattle.ordup_script.specs.PlanReadings.{ReadsPlan}
+use Rattle.ordup_script.specs.declared.plan.Plan.{Plan}
+use Rattle.ordup_script.specs.declared.plan.PlanFault.{PlanFault}
+use Rattle.ordup_threads.specs.Outcomes.{IsOutcome}
+use Rattle.ordup_cli.specs.Faults.{Outcome, of_plan}
+use Rattle.ordup_cli.specs.Bytes.{Bytes, most_script_bytes}
+use Rattle.ordup_cli.specs.declared.fault.Fault.TheVariants as fault
+
+-- the text was written: all of it, or a front of it where the writer failed
+abbrev pub Prints : List ℕ → Bytes → Bytes → Outcome → Type 0
+Prints text old new (Ok status) = (status ≡ 0) × Appends old new text
+Prints text old new (Err fault.Write) = AppendsFront old new text
+Prints text old new (Err fault.Read) = ⊥
+Prints text old new (Err fault.TooLong) = ⊥
+Prints text old new (Err (fault.Malformed row)) = ⊥
+Prints text old new (Err fault.NotStarted) = ⊥
+Prints text old new (Err fault.UnknownSite) = ⊥
+Prints text old new (Err fault.Mixed) = ⊥
+Prints text old new (Err fault.NoMemory) = ⊥
+
+-- an outcome of so many sets was printed; or nothing was, for want of memory, or since a site did not agree with the log
+abbrev pub PrintsOutcome : ℕ → Bytes → Bytes → Outcome → Type 0
+PrintsOutcome sets old new outcome =
+    ((text : List ℕ) × IsOutcome sets text × Prints text old new outcome)
+    ⊎ (((outcome ≡ Err fault.NoMemory) ⊎ (outcome ≡ Err fault.Mixed)) × (new ≡ old))
+
+-- after a plan was read the outcome of its sets was printed, or nothing where there was none
+abbrev pub PrintsAfterPlan : Result (Plan Global) PlanFault → Bytes → Bytes → Outcome → Type 0
+PrintsAfterPlan (Ok plan) old new outcome = PrintsOutcome (length plan.sets.items) old new outcome
+PrintsAfterPlan (Err fault) old new outcome = (outcome ≡ Err (of_plan fault)) × (new ≡ old)
+
+-- a plan was read from these bytes, and its outcome printed
+abbrev pub RunsPlan : Bytes → Bytes → Bytes → Bytes → Outcome → Type 0
+RunsPlan had has old new outcome =
+    (read : Result (Plan Global) PlanFault) × ReadsPlan had has most_script_bytes read × PrintsAfterPlan read old new outcome

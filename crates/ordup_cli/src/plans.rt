@@ -1,0 +1,46 @@
+//! A plan is run in threads.
+ghost use Rattle.ordup_cli.specs.Plans.{Prints, RunsPlan};
+
+use crate::fault::Fault;
+use crate::jobs::{DONE, Outcome, flush};
+use ordup_objects::Refusal;
+use ordup_output::send;
+use ordup_script::{Plan, read_plan};
+use ordup_threads::run_threads;
+use std::alloc::Global;
+use std::io::{Read, Write};
+use std::num::NonZeroU8;
+use std::sync::Wait;
+use std::thread::Threads;
+
+/// Runs a plan by so many callers, and prints what came of it.
+pub(crate) fn run_plan<T: Threads + Wait + Sync, R: Read, W: Write>(
+    rt: &T,
+    alloc: Global,
+    callers: NonZeroU8,
+    input: &mut R,
+    output: &mut W,
+) -> Outcome
+    ensures { RunsPlan (R.remaining input.old) (R.remaining input.new) (W.contents output.old) (W.contents output.new) result }
+{
+    let Plan { setup, sets } = match read_plan(alloc, input) {
+        Ok(plan) => plan,
+        Err(fault) => return Err(Fault::of_plan(fault)),
+    };
+    match run_threads(rt, alloc, setup, sets, callers) {
+        Ok(text) => print(&text, output),
+        Err(Refusal::NoMemory) => Err(Fault::NoMemory),
+        Err(_) => Err(Fault::Mixed),
+    }
+}
+
+/// Prints a text.
+fn print<W: Write>(text: &[u8], output: &mut W) -> Outcome
+    ensures { Prints text.now (W.contents output.old) (W.contents output.new) result }
+{
+    let Ok(()) = send(output, text) else {
+        return Err(Fault::Write);
+    };
+    flush(output)?;
+    Ok(DONE)
+}

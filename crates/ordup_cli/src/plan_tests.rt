@@ -15,7 +15,7 @@ limit b all 0
 start
 ";
 
-/// What comes of 50 proposals of `add:x:1` to them: each waits for both sites.
+/// What comes of 50 proposals of `add:x:1` to them by one caller: each waits for both sites.
 const FIFTY: &str = "\
 log 50
 refused 0
@@ -24,6 +24,25 @@ site a applied 50 rounds 50 x=50 y=10
 site b applied 50 rounds 50 x=50 y=10
 certified a 50
 certified b 50
+";
+
+/// One site that may not lag.
+const ONE_SITE: &str = "\
+object x 0
+object y 10
+site a 4
+limit a all 0
+start
+";
+
+/// What comes of 50 proposals of `add:x:1` to it by any number of callers. It is sent no update behind one that waits for it,
+/// so it reports none before that is decided, and each has its round.
+const FIFTY_AT_ONE: &str = "\
+log 50
+refused 0
+pending 0
+site a applied 50 rounds 50 x=50 y=10
+certified a 50
 ";
 
 /// A plan of these declarations, and a proposal so many times.
@@ -38,12 +57,25 @@ fn plan(alloc: Global, declarations: &str, proposal: &str, times: usize) -> Resu
 #[test]
 fn each_of_fifty_updates_waits_for_both_sites(rt: HostRuntime) -> Result<(), Fail> {
     let fifty = plan(rt.alloc(), TWO_SITES, "propose add:x:1\n", 50)?;
+    for at_once in [SOUND.at_once, 1] {
+        let streams = Streams { at_once, ..SOUND };
+        let ended = run_over(&rt, &["ordup", "threads", "1"], &fifty, streams);
+        assert!(rt; ended.is(0, FIFTY.as_bytes(), b""), "{at_once} at once");
+    }
+    Ok(())
+}
+
+#[test]
+fn each_of_fifty_updates_waits_for_the_one_site_whoever_proposes_it(
+    rt: HostRuntime,
+) -> Result<(), Fail> {
+    let fifty = plan(rt.alloc(), ONE_SITE, "propose add:x:1\n", 50)?;
     for callers in ["1", "2", "3", "16"] {
-        for at_once in [SOUND.at_once, 1] {
-            let streams = Streams { at_once, ..SOUND };
-            let ended = run_over(&rt, &["ordup", "threads", callers], &fifty, streams);
-            assert!(rt; ended.is(0, FIFTY.as_bytes(), b""), "{callers} callers");
-        }
+        let ended = run_on(&rt, &["ordup", "threads", callers], &fifty);
+        assert!(rt;
+            ended.is(0, FIFTY_AT_ONE.as_bytes(), b""),
+            "{callers} callers"
+        );
     }
     Ok(())
 }
@@ -107,17 +139,17 @@ fn a_line_that_does_not_belong_to_a_plan_is_told(rt: HostRuntime) {
 fn a_plan_that_is_not_read_or_whose_outcome_is_not_written_is_a_fault(
     rt: HostRuntime,
 ) -> Result<(), Fail> {
-    let fifty = plan(rt.alloc(), TWO_SITES, "propose add:x:1\n", 50)?;
-    for given in [0, 1, 60, fifty.len()] {
+    let fifty = plan(rt.alloc(), ONE_SITE, "propose add:x:1\n", 50)?;
+    for given in [0, 1, 50, fifty.len()] {
         let streams = Streams { given, ..SOUND };
         let ended = run_over(&rt, &["ordup", "threads", "2"], &fifty, streams);
         assert!(rt; ended.is(3, b"", b"read fault\n"), "after {given} bytes");
     }
-    for room in [0, 1, 60, FIFTY.len() - 1] {
+    for room in [0, 1, 40, FIFTY_AT_ONE.len() - 1] {
         let streams = Streams { room, ..SOUND };
         let ended = run_over(&rt, &["ordup", "threads", "2"], &fifty, streams);
         assert!(rt;
-            ended.is(3, &FIFTY.as_bytes()[..room], b"write fault\n"),
+            ended.is(3, &FIFTY_AT_ONE.as_bytes()[..room], b"write fault\n"),
             "room for {room}"
         );
     }
@@ -126,6 +158,6 @@ fn a_plan_that_is_not_read_or_whose_outcome_is_not_written_is_a_fault(
         ..SOUND
     };
     let ended = run_over(&rt, &["ordup", "threads", "2"], &fifty, streams);
-    assert!(rt; ended.is(3, FIFTY.as_bytes(), b"write fault\n"));
+    assert!(rt; ended.is(3, FIFTY_AT_ONE.as_bytes(), b"write fault\n"));
     Ok(())
 }

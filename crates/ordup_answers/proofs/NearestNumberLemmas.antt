@@ -33,14 +33,14 @@ use Rattle.ordup_objects.specs.declared.refusal.Refusal.{Refusal}
 use Rattle.ordup_objects.specs.declared.refusal.Refusal.TheVariants.{OutOfRange, UnknownObject}
 use Rattle.ordup_objects.specs.States.{in_range}
 use Rattle.ordup_objects.specs.Sets.{set_refusal, are_known, are_in_range, are_of_one_object}
-use Rattle.ordup_objects.specs.Ops.{number_of, source_of, is_none_or}
+use Rattle.ordup_objects.specs.Ops.{number_of, op_with, source_of, is_none_or}
 use Rattle.ordup_objects.specs.Repeats.{repeats}
 use Rattle.ordup_grammar.specs.declared.change_words.ChangeWord.{ChangeWord}
-use Rattle.ordup_grammar.specs.declared.operation.NumberOp.{NumberOp}
-use Rattle.ordup_grammar.specs.declared.operation.NumberOp.TheVariants.{Add}
+use Rattle.ordup_objects.specs.declared.change.NumberOp.{NumberOp}
+use Rattle.ordup_objects.specs.declared.change.NumberOp.TheVariants.{Add}
 use Rattle.ordup_grammar.specs.declared.operation.Operation.{Operation}
 use Rattle.ordup_grammar.specs.declared.operation.Operation.TheVariants.{WithNumber, Take}
-use Rattle.ordup_answers.specs.Changes.{op_with, op_in, change_in, changes_in, set_in}
+use Rattle.ordup_answers.specs.Changes.{op_in, change_in, changes_in, set_in}
 use Rattle.ordup_answers.specs.NearestNumbers.{nearest, nearest_operation, nearest_change, nearest_changes}
 use Rattle.ordup_answers.specs.Refusals.{Gives}
 

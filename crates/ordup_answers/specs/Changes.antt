@@ -1,25 +1,16 @@
 -- The changes and the message set that change words stand for, over the objects that are declared.
 use Rattle.std.specs.Prelude.{ℕ, ℤ, List, length, map, Result}
+use Rattle.ordup_objects.specs.Ops.{op_with}
 use Rattle.ordup_objects.specs.Sets.{set_refusal}
 use Rattle.ordup_objects.specs.declared.change.Change.{Change}
 use Rattle.ordup_objects.specs.declared.change.Op.{Op}
-use Rattle.ordup_objects.specs.declared.change.Op.TheVariants.{Add, Set, Mul, Max, Min, Take}
+use Rattle.ordup_objects.specs.declared.change.Op.TheVariants.{Take}
 use Rattle.ordup_objects.specs.declared.refusal.Refusal.{Refusal}
 use Rattle.ordup_grammar.specs.declared.change_words.ChangeWord.{ChangeWord}
-use Rattle.ordup_grammar.specs.declared.operation.NumberOp.{NumberOp}
-use Rattle.ordup_grammar.specs.declared.operation.NumberOp.TheVariants as kind
 use Rattle.ordup_grammar.specs.declared.operation.Operation.{Operation}
 use Rattle.ordup_grammar.specs.declared.operation.Operation.TheVariants as word
 use Rattle.ordup_answers.specs.Places.{place_among}
 use Rattle.ordup_answers.specs.Refusals.{unless}
-
--- the operation of a kind with a number
-abbrev pub op_with : NumberOp → ℤ → Op
-op_with kind.Add n = Add n
-op_with kind.Set n = Set n
-op_with kind.Mul n = Mul n
-op_with kind.Max n = Max n
-op_with kind.Min n = Min n
 
 -- the operation over these objects
 abbrev pub op_in : List (List ℕ × ℤ) → Operation → Op

@@ -1,34 +1,21 @@
 //! Change words to message sets. The nearest number is taken in place of one that 64 bits do not hold, which is out of
 //! range too.
 ghost use Rattle.std.specs.Prelude.{◌≡◌, IfOk};
-ghost use Rattle.ordup_answers.specs.Changes.{op_with, op_in, change_in, changes_in, set_in};
+ghost use Rattle.ordup_answers.specs.Changes.{op_in, change_in, changes_in, set_in};
 ghost use Rattle.ordup_answers.specs.NearestNumbers.{nearest_operation, nearest_change, nearest_changes};
 ghost use Rattle.ordup_answers.specs.Refusals.{Gives};
 
 use crate::places::find_object;
-use ordup_grammar::{ChangeWord, ChangeWords, NumberOp, Operation};
+use ordup_grammar::{ChangeWord, ChangeWords, Operation};
 use ordup_objects::{Change, MessageSet, ObjectTable, Op, Refusal};
 use std::alloc::{AllocError, Allocator};
-
-/// The operation of a kind with a number.
-fn op_with(kind: NumberOp, number: i64) -> Op
-    ensures { result ≡ op_with kind number }
-{
-    match kind {
-        NumberOp::Add => Op::Add(number),
-        NumberOp::Set => Op::Set(number),
-        NumberOp::Mul => Op::Mul(number),
-        NumberOp::Max => Op::Max(number),
-        NumberOp::Min => Op::Min(number),
-    }
-}
 
 /// The operation that is spelled.
 fn op_in<A: Allocator + Copy>(objects: &ObjectTable<A>, operation: &Operation<'_>) -> Op
     ensures { result ≡ op_in objects.now (nearest_operation operation.now) }
 {
     match operation {
-        Operation::WithNumber(kind, number) => op_with(*kind, number.value()),
+        Operation::WithNumber(kind, number) => kind.with(number.value()),
         Operation::Take(name) => Op::Take(find_object(objects, name)),
     }
 }

@@ -2,8 +2,8 @@
 use Rattle.std.specs.Prelude.{ℕ, List, Option, Some, None, option_map, option_and_then, codes, length, ◌==◌, if◌then◌else◌}
 use Rattle.std.specs.Str.{bytes_eq}
 use Rattle.ordup_grammar.specs.Numbers.{number_of}
-use Rattle.ordup_grammar.specs.declared.operation.NumberOp.{NumberOp}
-use Rattle.ordup_grammar.specs.declared.operation.NumberOp.TheVariants.{Add, Set, Mul, Max, Min}
+use Rattle.ordup_objects.specs.declared.change.NumberOp.{NumberOp}
+use Rattle.ordup_objects.specs.declared.change.NumberOp.TheVariants.{Add, Set, Mul, Max, Min}
 use Rattle.ordup_grammar.specs.declared.operation.Operation.{Operation}
 use Rattle.ordup_grammar.specs.declared.operation.Operation.TheVariants.{WithNumber, Take}
 

@@ -21,7 +21,7 @@ pub use command::Command;
 pub use declaration::{Declaration, ScopeWord};
 pub use line_buffer::{LineBuffer, split_line};
 pub use number::{Number, decimals_read_back, numbers_are_decimals};
-pub use operation::{NumberOp, Operation};
+pub use operation::Operation;
 pub use request::Request;
 pub use word::Word;
 pub use words::Words;

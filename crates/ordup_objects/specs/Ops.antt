@@ -2,6 +2,16 @@
 use Rattle.std.specs.Prelude.{ℕ, ℤ, Bool, true, Option, Some, None}
 use Rattle.ordup_objects.specs.declared.change.Op.{Op}
 use Rattle.ordup_objects.specs.declared.change.Op.TheVariants.{Add, Set, Mul, Max, Min, Take}
+use Rattle.ordup_objects.specs.declared.change.NumberOp.{NumberOp}
+use Rattle.ordup_objects.specs.declared.change.NumberOp.TheVariants as kind
+
+-- the operation of a kind by a number
+abbrev pub op_with : NumberOp → ℤ → Op
+op_with kind.Add n = Add n
+op_with kind.Set n = Set n
+op_with kind.Mul n = Mul n
+op_with kind.Max n = Max n
+op_with kind.Min n = Min n
 
 -- the number of an operation, if it has one
 abbrev pub number_of : Op → Option ℤ

@@ -1,5 +1,6 @@
-ghost use Rattle.std.specs.Prelude.{◌≡◌, option_map};
-ghost use Rattle.ordup_objects.specs.Ops.{number_of, source_of};
+ghost use Rattle.std.specs.Prelude.{◌≡◌, IfSome, option_map};
+ghost use Rattle.ordup_objects.specs.Ops.{number_of, op_with, source_of};
+ghost use Rattle.ordup_objects.specs.States.{State, value_at, result_of, IsInRange};
 
 use std::marker::Model;
 
@@ -32,6 +33,36 @@ impl ObjectId {
         ensures { result ≡ self }
     {
         self.index as usize
+    }
+}
+
+/// What a change by a number does to its object's value.
+#[derive(Clone, Copy, Debug, PartialEq, Eq)]
+pub enum NumberOp {
+    /// `add`: the number is added to the value.
+    Add,
+    /// `set`: the value becomes the number.
+    Set,
+    /// `mul`: the value is multiplied by the number.
+    Mul,
+    /// `max`: the value becomes the greater of itself and the number.
+    Max,
+    /// `min`: the value becomes the lesser of itself and the number.
+    Min,
+}
+
+impl NumberOp {
+    /// The operation of this kind by a number.
+    pub fn with(self, number: i64) -> Op
+        ensures { result ≡ op_with self number }
+    {
+        match self {
+            NumberOp::Add => Op::Add(number),
+            NumberOp::Set => Op::Set(number),
+            NumberOp::Mul => Op::Mul(number),
+            NumberOp::Max => Op::Max(number),
+            NumberOp::Min => Op::Min(number),
+        }
     }
 }
 
@@ -74,6 +105,22 @@ impl Op {
         match self {
             Op::Take(object) => Some(object),
             _ => None,
+        }
+    }
+
+    /// What the operation makes of a value, with the value of its source before the message set where it has one.
+    pub fn result(self, value: i64, source: i64) -> i64
+        requires value { IsInRange value }
+        requires number { IfSome (number_of self) IsInRange }
+        ensures { (v : State) → IfSome (source_of self) (λ y. value_at v y ≡ source) → result ≡ result_of v value self }
+    {
+        match self {
+            Op::Add(n) => value + n,
+            Op::Set(n) => n,
+            Op::Mul(n) => value * n,
+            Op::Max(n) => value.max(n),
+            Op::Min(n) => value.min(n),
+            Op::Take(_) => source,
         }
     }
 }

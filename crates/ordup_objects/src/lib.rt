@@ -14,7 +14,7 @@ mod results;
 pub mod sizes;
 mod values;
 
-pub use change::{Change, ObjectId, Op};
+pub use change::{Change, NumberOp, ObjectId, Op};
 pub use laws::{
     longer_histories_keep_marks, longer_histories_keep_object_spans,
     longer_histories_keep_serial_results, prefixes_of_legal_histories_are_legal,

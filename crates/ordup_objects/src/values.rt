@@ -1,11 +1,11 @@
 ghost use Rattle.std.specs.Prelude.{◌≡◌, ◌≤◌, ℕ, ◌<◌, ◌↔◌, IsTrue, IfSome, IsOk, is_ok, IfOk, IfErr, OnOk, OnErr, length, All, ◌+◌, ◌++◌, vec_len, vec_capacity};
-ghost use Rattle.ordup_objects.specs.States.{value_at, result_of, result_at, in_range, is_legal, AreResults, after, IsInRange, IsState};
+ghost use Rattle.ordup_objects.specs.States.{value_at, result_at, in_range, is_legal, AreResults, after, IsInRange, IsState};
 ghost use Rattle.ordup_objects.specs.Ops.{number_of, source_of};
-ghost use Rattle.ordup_objects.specs.Sets.{AreKnown, AreInRange};
+ghost use Rattle.ordup_objects.specs.Sets.{IsKnown, AreKnown, AreInRange};
 ghost use Rattle.ordup_objects.specs.Tables.{initial_state};
 ghost use Rattle.ordup_objects.specs.Weights.{distances_of};
 
-use crate::change::{Change, ObjectId, Op};
+use crate::change::{Change, ObjectId};
 use crate::message_set::MessageSet;
 use crate::object_table::ObjectTable;
 use crate::refusal::Refusal;
@@ -164,21 +164,25 @@ fn initial_values<A: Allocator + Copy>(
     Ok(values)
 }
 
-/// What an operation makes of a value.
-fn result_of(values: &[i64], value: i64, op: Op) -> i64
+/// What a change makes of its object's value.
+fn result_at(values: &[i64], change: &Change) -> i64
     requires state { IsState values.now }
-    requires value { IsInRange value }
-    requires source { IfSome (source_of op) (λ y. y < length values.now) }
-    requires number { IfSome (number_of op) IsInRange }
-    ensures { result ≡ result_of values.now value op }
+    requires known { IsKnown (length values.now) change.now }
+    requires number { IfSome (number_of change.now.op) IsInRange }
+    ensures { result ≡ result_at values.now change.now }
 {
-    match op {
-        Op::Add(n) => value + n,
-        Op::Set(n) => n,
-        Op::Mul(n) => value * n,
-        Op::Max(n) => value.max(n),
-        Op::Min(n) => value.min(n),
-        Op::Take(object) => values[object.index()],
+    let source = source_of(values, change);
+    change.op.result(values[change.object.index()], source)
+}
+
+/// The value that a change reads besides its object's own; 0 where it reads none.
+fn source_of(values: &[i64], change: &Change) -> i64
+    requires known { IsKnown (length values.now) change.now }
+    ensures { IfSome (source_of change.now.op) (λ y. value_at values.now y ≡ result) }
+{
+    match change.op.source() {
+        Some(object) => values[object.index()],
+        None => 0,
     }
 }
 
@@ -193,7 +197,7 @@ fn results_of(values: &[i64], changes: &[Change], results: &mut [i64]) -> Result
     ensures err { IfErr result (λ e. e ≡ Refusal.OutOfRange) }
 {
     for (i, change) in changes.iter().enumerate() {
-        let value = result_of(values, values[change.object.index()], change.op);
+        let value = result_at(values, change);
         if !is_in_range(value) {
             return Err(Refusal::OutOfRange);
         }

@@ -10,11 +10,11 @@ use Rattle.std.proofs.lemmas.Bool.{cases_Bool}
 use Rattle.ordup_grammar.specs.ChangeWords.{change_of}
 use Rattle.ordup_grammar.specs.Numbers.{number_of}
 use Rattle.ordup_grammar.specs.declared.change_words.ChangeWord.{ChangeWord}
-use Rattle.ordup_grammar.specs.declared.operation.NumberOp.{NumberOp}
-use Rattle.ordup_grammar.specs.declared.operation.NumberOp.TheVariants as number
+use Rattle.ordup_objects.specs.declared.change.NumberOp.{NumberOp}
+use Rattle.ordup_objects.specs.declared.change.NumberOp.TheVariants.{Add}
 use Rattle.ordup_grammar.specs.declared.operation.Operation.{Operation}
 use Rattle.ordup_grammar.specs.declared.operation.Operation.TheVariants as word
-use Rattle.ordup_objects.specs.Ops.{is_none_or}
+use Rattle.ordup_objects.specs.Ops.{is_none_or, op_with}
 use Rattle.ordup_objects.specs.Ops as ops
 use Rattle.ordup_objects.specs.Names.{is_name}
 use Rattle.ordup_objects.specs.Sizes.{most_objects}
@@ -32,7 +32,7 @@ use Rattle.ordup_log.specs.declared.scope.Scope.{Scope}
 use Rattle.ordup_limits.specs.Limits.{limit_refusal}
 use Rattle.ordup_record.specs.Records.{RecordState}
 use Rattle.ordup_record_reader.specs.ColumnViews.{change_in_range, number_in_range, op_in_range, sound_change, value_of}
-use Rattle.ordup_rows.specs.Columns.{Columns, change_by, change_in, op_in, op_with, natural_of, scope_of, writes}
+use Rattle.ordup_rows.specs.Columns.{Columns, change_by, change_in, op_in, natural_of, scope_of, writes}
 use Rattle.ordup_rows.specs.Stages.{has_objects, is_before_changes, is_before_limits, is_last_group, member_count, membership_refusal}
 use Rattle.ordup_rows.specs.Stages.{with_limit, with_member_row, with_membership}
 use Rattle.ordup_rows.specs.Stages.{is_before_members, is_before_reports, last_set, with_any_change, with_change_row, with_object}
@@ -101,16 +101,10 @@ within c = then_some (is_none_or (ops.number_of c.op) in_range) c
 number_within : (x : ℕ) (op : NumberOp) (n : ℤ) (b : Bool) → in_range n ≡ b
     → option_and_then (λ (o : Op). Some (record { object = x; op = o })) (option_map (op_with op) (then_some b n))
     ≡ within (record { object = x; op = op_with op n })
-number_within x number.Add n true e = rw e refl
-number_within x number.Set n true e = rw e refl
-number_within x number.Mul n true e = rw e refl
-number_within x number.Max n true e = rw e refl
-number_within x number.Min n true e = rw e refl
-number_within x number.Add n false e = rw e refl
-number_within x number.Set n false e = rw e refl
-number_within x number.Mul n false e = rw e refl
-number_within x number.Max n false e = rw e refl
-number_within x number.Min n false e = rw e refl
+number_within x Add n true e = rw e refl
+number_within x _ n true e = rw e refl
+number_within x Add n false e = rw e refl
+number_within x _ n false e = rw e refl
 
 take_within : (x : ℕ) (place : Option ℕ)
     → option_and_then (λ (o : Op). Some (record { object = x; op = o })) (option_map (λ y. Take y) place)

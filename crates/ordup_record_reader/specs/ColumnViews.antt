@@ -7,12 +7,13 @@ use Rattle.ordup_grammar.specs.Numbers.{number_of}
 use Rattle.ordup_grammar.specs.declared.change_words.ChangeWord.{ChangeWord}
 use Rattle.ordup_grammar.specs.declared.operation.Operation.{Operation}
 use Rattle.ordup_grammar.specs.declared.operation.Operation.TheVariants as word
+use Rattle.ordup_objects.specs.Ops.{op_with}
 use Rattle.ordup_objects.specs.States.{in_range}
 use Rattle.ordup_objects.specs.Tables.{Objects, place_of}
 use Rattle.ordup_objects.specs.declared.change.Change.{Change}
 use Rattle.ordup_objects.specs.declared.change.Op.{Op}
 use Rattle.ordup_objects.specs.declared.change.Op.TheVariants.{Take}
-use Rattle.ordup_rows.specs.Columns.{◌>>=◌, Columns, op_with}
+use Rattle.ordup_rows.specs.Columns.{◌>>=◌, Columns}
 use Rattle.ordup_rows.specs.Rows.{Row}
 use Rattle.ordup_record_reader.specs.declared.row_columns.RowColumns.{RowColumns}
 

@@ -1,11 +1,11 @@
 //! The columns of a row, and what they spell.
 ghost use Rattle.std.specs.Prelude.{◌≡◌, option_map};
 ghost use Rattle.csv.specs.Records.{fields_of};
-ghost use Rattle.ordup_rows.specs.Columns.{columns_of, natural_of, writes, scope_of, op_with};
+ghost use Rattle.ordup_rows.specs.Columns.{columns_of, natural_of, writes, scope_of};
 ghost use Rattle.ordup_record_reader.specs.ColumnViews.{columns_at, columns_view, value_of, number_in_range, op_in_range, change_in_range};
 
 use csv::ByteRecord;
-use ordup_grammar::{ChangeWord, Number, NumberOp, Operation, Word};
+use ordup_grammar::{ChangeWord, Number, Operation, Word};
 use ordup_limits::{Groups, Scope};
 use ordup_objects::sizes::GREATEST_VALUE;
 use ordup_objects::{Change, ObjectTable, Op};
@@ -105,25 +105,12 @@ pub fn scope(objects: &ObjectTable, groups: &Groups, column: &[u8]) -> Option<Sc
     }
 }
 
-/// The operation of a kind with a number.
-fn op_with(kind: NumberOp, number: i64) -> Op
-    ensures { result ≡ op_with kind number }
-{
-    match kind {
-        NumberOp::Add => Op::Add(number),
-        NumberOp::Set => Op::Set(number),
-        NumberOp::Mul => Op::Mul(number),
-        NumberOp::Max => Op::Max(number),
-        NumberOp::Min => Op::Min(number),
-    }
-}
-
 /// The operation that is spelled, where its number is in range and its object is one.
 fn op(objects: &ObjectTable, operation: &Operation<'_>) -> Option<Op>
     ensures { result ≡ op_in_range objects.now operation.now }
 {
     match operation {
-        Operation::WithNumber(kind, number) => Some(op_with(*kind, in_range(*number)?)),
+        Operation::WithNumber(kind, number) => Some(kind.with(in_range(*number)?)),
         Operation::Take(name) => Some(Op::Take(objects.find(name.as_bytes())?)),
     }
 }

@@ -17,13 +17,13 @@ use Rattle.ordup_grammar.specs.ChangeWords.{change_of, change_of_parts}
 use Rattle.ordup_grammar.specs.Numbers.{number_of}
 use Rattle.ordup_grammar.specs.Operations.{number_op_of, operation_of}
 use Rattle.ordup_grammar.specs.declared.change_words.ChangeWord.{ChangeWord}
-use Rattle.ordup_grammar.specs.declared.operation.NumberOp.{NumberOp}
-use Rattle.ordup_grammar.specs.declared.operation.NumberOp.TheVariants as kind
+use Rattle.ordup_objects.specs.declared.change.NumberOp.{NumberOp}
+use Rattle.ordup_objects.specs.declared.change.NumberOp.TheVariants as kind
 use Rattle.ordup_grammar.specs.declared.operation.Operation.{Operation}
 use Rattle.ordup_grammar.specs.declared.operation.Operation.TheVariants as word
 use Rattle.ordup_grammar.proofs.Decimals.{numerals, number_of-signed_decimal, signed_decimal-number_of}
 use Rattle.ordup_objects.specs.Names.{is_name, is_name_byte}
-use Rattle.ordup_objects.specs.Ops.{number_of as op_number, source_of}
+use Rattle.ordup_objects.specs.Ops.{number_of as op_number, op_with, source_of}
 use Rattle.ordup_objects.specs.Sets.{IsKnown}
 use Rattle.ordup_objects.specs.States.{IsInRange}
 use Rattle.ordup_objects.specs.Tables.{AreDistinct, AreNames, Objects, place_of}
@@ -34,7 +34,7 @@ use Rattle.ordup_log.specs.Groups.{GroupList}
 use Rattle.ordup_log.specs.Spans.{IsScopeKnown}
 use Rattle.ordup_log.specs.declared.scope.Scope.{Scope}
 use Rattle.ordup_log.specs.declared.scope.Scope.TheVariants.{Object, Group, All as Everything, Count}
-use Rattle.ordup_rows.specs.Columns.{after_prefix, change_by, change_in, has_prefix, op_in, op_with, scope_of}
+use Rattle.ordup_rows.specs.Columns.{after_prefix, change_by, change_in, has_prefix, op_in, scope_of}
 use Rattle.ordup_rows.specs.Rows.{change_text, change_word, name_at, operation_text, scope_text}
 use Rattle.ordup_rows.proofs.Columns.{bound, branch, mapped, name_found, prefixed, same_bytes}
 use Rattle.ordup_rows.proofs.Names.{place_of-name}
@@ -208,13 +208,7 @@ number_read : (op : NumberOp) (x : List ℕ) (n : ℤ) → is_name x ≡ true �
     → change_of (change_word (op_text op) x (signed_decimal n)) ≡ Some (record { object = x; operation = word.WithNumber op n })
 number_read kind.Add x n name small =
     rw (two_parts x (signed_decimal n) (name_part x name) (number_part n small), named x name, number_of-signed_decimal n small) refl
-number_read kind.Set x n name small =
-    rw (two_parts x (signed_decimal n) (name_part x name) (number_part n small), named x name, number_of-signed_decimal n small) refl
-number_read kind.Mul x n name small =
-    rw (two_parts x (signed_decimal n) (name_part x name) (number_part n small), named x name, number_of-signed_decimal n small) refl
-number_read kind.Max x n name small =
-    rw (two_parts x (signed_decimal n) (name_part x name) (number_part n small), named x name, number_of-signed_decimal n small) refl
-number_read kind.Min x n name small =
+number_read _ x n name small =
     rw (two_parts x (signed_decimal n) (name_part x name) (number_part n small), named x name, number_of-signed_decimal n small) refl
 
 take_read : (x y : List ℕ) → is_name x ≡ true → is_name y ≡ true

@@ -5,14 +5,13 @@ use Rattle.std.specs.Str.{bytes_eq}
 use Rattle.ordup_grammar.specs.ChangeWords.{change_of}
 use Rattle.ordup_grammar.specs.Numbers.{number_of}
 use Rattle.ordup_grammar.specs.declared.change_words.ChangeWord.{ChangeWord}
-use Rattle.ordup_grammar.specs.declared.operation.NumberOp.{NumberOp}
-use Rattle.ordup_grammar.specs.declared.operation.NumberOp.TheVariants as kind
 use Rattle.ordup_grammar.specs.declared.operation.Operation.{Operation}
 use Rattle.ordup_grammar.specs.declared.operation.Operation.TheVariants as word
+use Rattle.ordup_objects.specs.Ops.{op_with}
 use Rattle.ordup_objects.specs.Tables.{Objects, place_of}
 use Rattle.ordup_objects.specs.declared.change.Change.{Change}
 use Rattle.ordup_objects.specs.declared.change.Op.{Op}
-use Rattle.ordup_objects.specs.declared.change.Op.TheVariants.{Add, Set, Mul, Max, Min, Take}
+use Rattle.ordup_objects.specs.declared.change.Op.TheVariants.{Take}
 use Rattle.ordup_log.specs.Groups.{GroupList}
 use Rattle.ordup_log.specs.declared.scope.Scope.{Scope}
 use Rattle.ordup_log.specs.declared.scope.Scope.TheVariants.{Object, Group, All as Everything, Count}
@@ -67,14 +66,6 @@ scope_of objects groups column =
     else if bytes_eq column (codes "all") then Some Everything
     else if bytes_eq column (codes "count") then Some Count
     else None
-
--- the operation of a kind with a number
-abbrev pub op_with : NumberOp → ℤ → Op
-op_with kind.Add n = Add n
-op_with kind.Set n = Set n
-op_with kind.Mul n = Mul n
-op_with kind.Max n = Max n
-op_with kind.Min n = Min n
 
 -- the operation over these objects, where the object that it reads is one
 abbrev pub op_in : Objects → Operation → Option Op

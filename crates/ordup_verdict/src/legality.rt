@@ -3,15 +3,15 @@
 ghost use Rattle.std.specs.Prelude.{◌≡◌, ◌<◌, [], ℕ, None, IfNone, IfSome, length, map, slice_index_or, true, false};
 ghost use Rattle.ordup_objects.specs.Sets.{IsKnown, AreKnown, AreInRange};
 ghost use Rattle.ordup_objects.specs.Ops.{number_of, source_of};
-ghost use Rattle.ordup_objects.specs.States.{State, result_of, result_at, in_range, is_legal, IsInRange};
+ghost use Rattle.ordup_objects.specs.States.{value_at, result_at, in_range, is_legal, IsInRange};
 ghost use Rattle.ordup_objects.specs.Serial.{serial};
 ghost use Rattle.ordup_verdict.specs.Passing.{IsFirstFailure};
 ghost use Rattle.ordup_verdict.specs.Verdicts.{AreUpdatesLegal, IsIllegalRow};
 
 use crate::rows::change_row;
 use ordup_log::Log;
+use ordup_objects::Change;
 use ordup_objects::sizes::GREATEST_VALUE;
-use ordup_objects::{Change, Op};
 use ordup_record::Record;
 use std::alloc::Allocator;
 
@@ -39,7 +39,7 @@ fn first_out_of_range<A: Allocator + Copy>(log: &Log<A>, changes: &[Change]) -> 
     ensures { IsFirstFailure (λ p. slice_index_or (map (λ c. in_range (result_at (serial log.now (length log.now.sets)) c)) changes.now) p true) (length changes.now) result }
 {
     for (place, change) in changes.iter().enumerate() {
-        if result_at(log, *change).unsigned_abs() > GREATEST_VALUE {
+        if result_at(log, change).unsigned_abs() > GREATEST_VALUE {
             return place;
         }
     }
@@ -47,32 +47,24 @@ fn first_out_of_range<A: Allocator + Copy>(log: &Log<A>, changes: &[Change]) -> 
 }
 
 /// What a change makes of its object's value after all updates.
-fn result_at<A: Allocator + Copy>(log: &Log<A>, change: Change) -> i64
-    requires known { IsKnown (length log.now.start) change }
-    requires number { IfSome (number_of change.op) IsInRange }
-    ensures { result ≡ result_at (serial log.now (length log.now.sets)) change }
+fn result_at<A: Allocator + Copy>(log: &Log<A>, change: &Change) -> i64
+    requires known { IsKnown (length log.now.start) change.now }
+    requires number { IfSome (number_of change.now.op) IsInRange }
+    ensures { result ≡ result_at (serial log.now (length log.now.sets)) change.now }
 {
-    if let Some(object) = change.op.source() {
-        return log.end_value(object);
-    }
     // For the proof: the log is legal, so its values are in range.
     let _updates = log.len();
-    result_of(log.end_value(change.object), change.op)
+    let source = source_of(log, change);
+    change.op.result(log.end_value(change.object), source)
 }
 
-/// What an operation that reads no other object makes of a value.
-fn result_of(value: i64, op: Op) -> i64
-    requires value { IsInRange value }
-    requires number { IfSome (number_of op) IsInRange }
-    requires alone { source_of op ≡ None }
-    ensures { (v : State) → result ≡ result_of v value op }
+/// The value after all updates that a change reads besides its object's own; 0 where it reads none.
+fn source_of<A: Allocator + Copy>(log: &Log<A>, change: &Change) -> i64
+    requires known { IsKnown (length log.now.start) change.now }
+    ensures { IfSome (source_of change.now.op) (λ y. value_at (serial log.now (length log.now.sets)) y ≡ result) }
 {
-    match op {
-        Op::Add(n) => value + n,
-        Op::Set(n) => n,
-        Op::Mul(n) => value * n,
-        Op::Max(n) => value.max(n),
-        Op::Min(n) => value.min(n),
-        Op::Take(_) => unreachable!(),
+    match change.op.source() {
+        Some(object) => log.end_value(object),
+        None => 0,
     }
 }

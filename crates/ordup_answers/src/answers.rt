@@ -15,7 +15,7 @@ use crate::script_end::ScriptEnd;
 use ordup_grammar::{Action, Command, Declaration, Request, Word};
 use ordup_objects::Refusal;
 use ordup_record::record_of;
-use ordup_text::{push_answer, push_certified, push_named, push_refused, push_started};
+use ordup_text::{TextBuffer, push_answer, push_certified, push_named, push_refused, push_started};
 use ordup_verdict::{Verdict, check};
 use ordup_world::{Event, Setup, World};
 use std::alloc::{AllocError, Allocator};
@@ -26,9 +26,9 @@ pub fn answer<A: Allocator + Copy>(
     alloc: A,
     store: &mut ScriptEnd<A>,
     request: &Request<'_>,
-    out: &mut Vec<u8, A>,
+    out: &mut TextBuffer<A>,
 ) -> Result<(), AllocError>
-    ensures { OnOk result ((s : Session A) → Stands store.old s → Leaves (Stands store.new) out.old.items out.new.items (request_reply s request.now)) }
+    ensures { OnOk result ((s : Session A) → Stands store.old s → Leaves (Stands store.new) out.old.text out.new.text (request_reply s request.now)) }
 {
     match request {
         Request::Nothing => Ok(()),
@@ -42,9 +42,9 @@ fn carry_out<A: Allocator + Copy>(
     alloc: A,
     store: &mut ScriptEnd<A>,
     command: &Command<'_>,
-    out: &mut Vec<u8, A>,
+    out: &mut TextBuffer<A>,
 ) -> Result<(), AllocError>
-    ensures { OnOk result ((s : Session A) → Stands store.old s → Leaves (Stands store.new) out.old.items out.new.items (reply_or_refusal s (command_reply s command.now))) }
+    ensures { OnOk result ((s : Session A) → Stands store.old s → Leaves (Stands store.new) out.old.text out.new.text (reply_or_refusal s (command_reply s command.now))) }
 {
     match command {
         Command::Declare(declaration) => match store {
@@ -68,9 +68,9 @@ fn answer_declaration<A: Allocator + Copy>(
     alloc: A,
     setup: &mut Setup<A>,
     declaration: &Declaration<'_>,
-    out: &mut Vec<u8, A>,
+    out: &mut TextBuffer<A>,
 ) -> Result<(), AllocError>
-    ensures { OnOk result ((s : Session A) → Declares setup.old s → Leaves (Declares setup.new) out.old.items out.new.items (reply_or_refusal s (command_reply s (Command.Declare declaration.now)))) }
+    ensures { OnOk result ((s : Session A) → Declares setup.old s → Leaves (Declares setup.new) out.old.text out.new.text (reply_or_refusal s (command_reply s (Command.Declare declaration.now)))) }
 {
     match declare(alloc, setup, declaration) {
         Ok(()) => push_declared(out, declaration),
@@ -80,10 +80,10 @@ fn answer_declaration<A: Allocator + Copy>(
 
 /// Adds the answer to a declaration.
 fn push_declared<A: Allocator + Copy>(
-    out: &mut Vec<u8, A>,
+    out: &mut TextBuffer<A>,
     declaration: &Declaration<'_>,
 ) -> Result<(), AllocError>
-    ensures { OnOk result (out.new.items ≡ out.old.items ++ declared_text declaration.now) }
+    ensures { OnOk result (out.new.text ≡ out.old.text ++ declared_text declaration.now) }
 {
     match declaration {
         Declaration::Object { name, .. } => push_named(out, b"ok object ", name.as_bytes()),
@@ -97,9 +97,9 @@ fn push_declared<A: Allocator + Copy>(
 fn answer_start<A: Allocator + Copy>(
     alloc: A,
     store: &mut ScriptEnd<A>,
-    out: &mut Vec<u8, A>,
+    out: &mut TextBuffer<A>,
 ) -> Result<(), AllocError>
-    ensures { OnOk result ((s : Session A) → Stands store.old s → Leaves (Stands store.new) out.old.items out.new.items (reply_or_refusal s (command_reply s Command.Start))) }
+    ensures { OnOk result ((s : Session A) → Stands store.old s → Leaves (Stands store.new) out.old.text out.new.text (reply_or_refusal s (command_reply s Command.Start))) }
 {
     let ScriptEnd::Declared(setup) = store else {
         return push_refused(out, Refusal::AlreadyStarted);
@@ -129,9 +129,9 @@ fn certify<A: Allocator + Copy>(
     alloc: A,
     world: &World<A>,
     site: &Word<'_>,
-    out: &mut Vec<u8, A>,
+    out: &mut TextBuffer<A>,
 ) -> Result<(), AllocError>
-    ensures { OnOk result ((s : Session A) → IsWorldOf world.now s → Leaves (IsWorldOf world.now) out.old.items out.new.items (reply_or_refusal s (command_reply s (Command.Certify site.now)))) }
+    ensures { OnOk result ((s : Session A) → IsWorldOf world.now s → Leaves (IsWorldOf world.now) out.old.text out.new.text (reply_or_refusal s (command_reply s (Command.Certify site.now)))) }
 {
     let primary = world.primary();
     let shown = match record_of(alloc, primary, find_site(primary.setup(), site)) {
@@ -150,9 +150,9 @@ fn answer_action<A: Allocator + Copy>(
     alloc: A,
     world: &mut World<A>,
     action: &Action<'_>,
-    out: &mut Vec<u8, A>,
+    out: &mut TextBuffer<A>,
 ) -> Result<(), AllocError>
-    ensures { OnOk result ((s : Session A) → IsWorldOf world.old s → Leaves (IsWorldOf world.new) out.old.items out.new.items (reply_or_refusal s (command_reply s (Command.Act action.now)))) }
+    ensures { OnOk result ((s : Session A) → IsWorldOf world.old s → Leaves (IsWorldOf world.new) out.old.text out.new.text (reply_or_refusal s (command_reply s (Command.Act action.now)))) }
 {
     match event_of(alloc, world.primary().setup(), action) {
         Ok(event) => answer_event(world, action, event, out),
@@ -165,9 +165,9 @@ fn answer_event<A: Allocator + Copy>(
     world: &mut World<A>,
     action: &Action<'_>,
     event: Event<A>,
-    out: &mut Vec<u8, A>,
+    out: &mut TextBuffer<A>,
 ) -> Result<(), AllocError>
-    ensures { OnOk result ((d : Declared) (past : Past A) → StandsFor d world.old past → Leaves (IsWorldOf world.new) out.old.items out.new.items (event_reply d past action.now event)) }
+    ensures { OnOk result ((d : Declared) (past : Past A) → StandsFor d world.old past → Leaves (IsWorldOf world.new) out.old.text out.new.text (event_reply d past action.now event)) }
 {
     let answer = world.step(event);
     let (subject, object) = names_of(action);

@@ -28,7 +28,7 @@ pub(crate) fn run_plan<T: Threads + Wait + Sync, R: Read, W: Write>(
         Err(fault) => return Err(Fault::of_plan(fault)),
     };
     match run_threads(rt, alloc, setup, sets, callers) {
-        Ok(text) => print(&text, output),
+        Ok(text) => print(text.as_slice(), output),
         Err(Refusal::NoMemory) => Err(Fault::NoMemory),
         Err(_) => Err(Fault::Mixed),
     }

@@ -26,14 +26,14 @@ module _ {W A : Type 0} (contents : W → Option (List ℕ)) where
   pub answers_line : (first before after : Answerer W A) (earlier : List Line) (request : Request) (line : Line)
       → HasAnswered contents first before earlier → request ≡ request_of line
       → ((s : Session A) → Stands before.store.now s
-      → Leaves (Stands after.store.now) before.answers.now.items after.answers.now.items (request_reply s request))
+      → Leaves (Stands after.store.now) before.answers.now.text after.answers.now.text (request_reply s request))
       → IsLater before after → after.output.now ≡ before.output.now
       → HasAnswered contents first after (earlier ++ line ∷ [])
   unfolding reply
   answers_line first before after earlier request line h is leaves later same =
       let w : Written A = written A earlier in
       let (stands, grew) = subst
-      (λ (a : Request). Leaves {A = A} (Stands after.store.now) before.answers.now.items after.answers.now.items (request_reply w.0 a)) is
+      (λ (a : Request). Leaves {A = A} (Stands after.store.now) before.answers.now.text after.answers.now.text (request_reply w.0 a)) is
       (leaves w.0 h.store) in
       let next : written A (earlier ++ line ∷ []) ≡ answered w line = after_lines-append answered _ earlier (line ∷ []) in record {
         later = IsLater-trans first before after h.later later;
@@ -43,13 +43,13 @@ module _ {W A : Type 0} (contents : W → Option (List ℕ)) where
         text =
             ap (λ (v : Written A). v.1) next
             ∙ ap (λ t. t ++ (reply w.0 line).1) h.text
-            ∙ append_assoc h.sent before.answers.now.items _
+            ∙ append_assoc h.sent before.answers.now.text _
             ∙ ap (λ t. h.sent ++ t) (sym grew);
       }
 
   -- a front of the answers that were kept is sent
   pub sends_front : (first before after : Answerer W A) (earlier : List Line) → HasAnswered contents first before earlier
-      → IsLater before after → AppendsFront (contents before.output.now) (contents after.output.now) before.answers.now.items
+      → IsLater before after → AppendsFront (contents before.output.now) (contents after.output.now) before.answers.now.text
       → (e : ScriptFault) → (e ≡ fault.Write) ⊎ (e ≡ fault.NoMemory) → (later : List Line)
       → HasStopped contents first after (earlier ++ later) e
   sends_front first before after earlier h next (front, back, is, grew) e cause later = record {
@@ -65,16 +65,16 @@ module _ {W A : Type 0} (contents : W → Option (List ℕ)) where
 
   -- all answers that were kept are sent
   pub sends_all : (first before after : Answerer W A) (earlier : List Line) → HasAnswered contents first before earlier
-      → IsLater before after → Appends (contents before.output.now) (contents after.output.now) before.answers.now.items
-      → after.store.now ≡ before.store.now → after.answers.now.items ≡ []
+      → IsLater before after → Appends (contents before.output.now) (contents after.output.now) before.answers.now.text
+      → after.store.now ≡ before.store.now → after.answers.now.text ≡ []
       → HasAnswered contents first after earlier
   sends_all first before after earlier h later grew store none = record {
     later = IsLater-trans first before after h.later later;
     store = rw store h.store;
-    sent = h.sent ++ before.answers.now.items;
-    wrote = Appends-trans _ _ _ h.sent before.answers.now.items h.wrote grew;
+    sent = h.sent ++ before.answers.now.text;
+    wrote = Appends-trans _ _ _ h.sent before.answers.now.text h.wrote grew;
     text =
         h.text
-        ∙ sym (append-nil (h.sent ++ before.answers.now.items))
-        ∙ ap (λ t. (h.sent ++ before.answers.now.items) ++ t) (sym none);
+        ∙ sym (append-nil (h.sent ++ before.answers.now.text))
+        ∙ ap (λ t. (h.sent ++ before.answers.now.text) ++ t) (sym none);
   }

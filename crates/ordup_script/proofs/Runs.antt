@@ -47,7 +47,7 @@ of_fault A had has old new limit e (inr is) front = rw is front
 
 module _ {W A : Type 0} (contents : W → Option (List ℕ)) where
   -- all that the lines gave was sent
-  pub sent_all : (first now : Answerer W A) (lines : List Line) → HasAnswered contents first now lines → now.answers.now.items ≡ []
+  pub sent_all : (first now : Answerer W A) (lines : List Line) → HasAnswered contents first now lines → now.answers.now.text ≡ []
       → Appends (contents first.output.now) (contents now.output.now) (written A lines).1
   sent_all first now lines h none = subst (Appends _ _) (sym (h.text ∙ ap (λ t. h.sent ++ t) none ∙ append-nil h.sent)) h.wrote
 

@@ -22,7 +22,7 @@ module _ {W A : Type 0} (contents : W → Option (List ℕ)) where
     pub store : Stands now.store.now (written A lines).0
     pub sent : List ℕ
     pub wrote : Appends (contents first.output.now) (contents now.output.now) sent
-    pub text : (written A lines).1 ≡ sent ++ now.answers.now.items
+    pub text : (written A lines).1 ≡ sent ++ now.answers.now.text
 
   -- it stopped for this fault, and the writer grew by a front of the answers to these lines of a script, its first
   pub record HasStopped (first now : Answerer W A) (lines : List Line) (e : ScriptFault) : Type 0 where

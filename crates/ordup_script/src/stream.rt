@@ -11,6 +11,7 @@ use crate::sizes::{MOST_SCRIPT_BYTES, PIECE};
 use ordup_answers::{ScriptEnd, answer};
 use ordup_grammar::Request;
 use ordup_output::send;
+use ordup_text::TextBuffer;
 use std::alloc::{Allocator, Global};
 use std::io::{Read, Write};
 
@@ -32,7 +33,7 @@ pub enum ScriptFault {
 #[derive(Drop)]
 struct Answerer<'a, W, A: Allocator + Copy = Global> {
     store: &'a mut ScriptEnd<A>,
-    answers: &'a mut Vec<u8, A>,
+    answers: &'a mut TextBuffer<A>,
     output: &'a mut W,
 }
 
@@ -43,7 +44,7 @@ impl<W: Write, A: Allocator + Copy> LineTaker for Answerer<'_, W, A> {
 
     ghost stopped = { HasStopped W.contents };
 
-    ghost is_clear = { λ answerer. answerer.answers.now.items ≡ [] };
+    ghost is_clear = { λ answerer. answerer.answers.now.text ≡ [] };
 
     // More than a script has bytes.
     ghost room = { λ _. 18446744073709551616 };
@@ -57,7 +58,7 @@ impl<W: Write, A: Allocator + Copy> LineTaker for Answerer<'_, W, A> {
     }
 
     fn hand_out(&mut self) -> Result<(), ScriptFault> {
-        match send(self.output, self.answers) {
+        match send(self.output, self.answers.as_slice()) {
             Ok(()) => {
                 self.answers.clear();
                 Ok(())
@@ -82,13 +83,13 @@ impl<W: Write, A: Allocator + Copy> Answerer<'_, W, A> {
 /// Runs a script of at most so many bytes, where none of its lines was answered yet.
 fn run_in<A: Allocator + Copy, R: Read, W: Write>(
     store: &mut ScriptEnd<A>,
-    answers: &mut Vec<u8, A>,
+    answers: &mut TextBuffer<A>,
     input: &mut R,
     output: &mut W,
     limit: u64,
 ) -> Result<(), ScriptFault>
     requires store { Stands store.old first_session }
-    requires answers { answers.old.items ≡ [] }
+    requires answers { answers.old.text ≡ [] }
     ensures { RunsIn (R.remaining input.old) (R.remaining input.new)
         (W.contents output.old) (W.contents output.new) limit store.new result }
 {
@@ -118,7 +119,7 @@ pub fn run_script_within<A: Allocator + Copy, R: Read, W: Write>(
         (W.contents output.old) (W.contents output.new) limit result }
 {
     let mut store = ScriptEnd::new(alloc);
-    let mut answers = Vec::new(alloc);
+    let mut answers = TextBuffer::new(alloc);
     run_in(&mut store, &mut answers, input, output, limit)?;
     Ok(store)
 }

@@ -1,1 +1,3 @@
+pub mod TextBuffers
+pub mod TextBufferInside
 pub mod Texts

@@ -4,8 +4,10 @@
 #![tactic(auto)]
 
 mod text;
+mod text_buffer;
 
 pub use text::{
     push_answer, push_certified, push_done, push_named, push_numbered, push_refused, push_started,
     push_values, push_with_number,
 };
+pub use text_buffer::TextBuffer;

@@ -3,131 +3,115 @@ ghost use Rattle.std.specs.Prelude.{◌≡◌, ◌++◌, ◌∷◌, [], OnOk, le
 ghost use Rattle.std.specs.Fmt.{decimal, signed_decimal};
 ghost use Rattle.ordup_text.specs.Texts.{refused_text, started_text, named_text, done_text, numbered_text, value_text, values_text, shown_text, sites_text, listed_text, settled_text, read_text, ended_text, window_text, windows_text, certified_text, answer_text};
 
-use itoa::Buffer;
+use crate::text_buffer::TextBuffer;
 use ordup_objects::{Name, ObjectId, ObjectTable, Refusal, SiteId};
 use ordup_primary::Window;
 use ordup_world::{Answer, QueryAnswer, ReadAnswer, Settled, Setup};
 use std::alloc::{AllocError, Allocator};
 
-/// Adds a number in digits.
-fn push_number<A: Allocator + Copy>(out: &mut Vec<u8, A>, number: u64) -> Result<(), AllocError>
-    ensures { OnOk result (out.new.items ≡ out.old.items ++ decimal number) }
-{
-    out.extend_from_slice(Buffer::new().format(number).as_bytes())
-}
-
-/// Adds a value in digits, with a minus before one below 0.
-fn push_value<A: Allocator + Copy>(out: &mut Vec<u8, A>, value: i64) -> Result<(), AllocError>
-    ensures { OnOk result (out.new.items ≡ out.old.items ++ signed_decimal value) }
-{
-    out.extend_from_slice(Buffer::new().format(value).as_bytes())
-}
-
 /// Adds a text and a number.
 pub fn push_with_number<A: Allocator + Copy>(
-    out: &mut Vec<u8, A>,
+    out: &mut TextBuffer<A>,
     text: &[u8],
     number: u64,
 ) -> Result<(), AllocError>
-    ensures { OnOk result (out.new.items ≡ out.old.items ++ (text.now ++ decimal number)) }
+    ensures { OnOk result (out.new.text ≡ out.old.text ++ (text.now ++ decimal number)) }
 {
-    out.extend_from_slice(text)?;
-    push_number(out, number)
+    out.push(text)?;
+    out.push_number(number)
 }
 
 /// Adds a text and a value.
 fn push_with_value<A: Allocator + Copy>(
-    out: &mut Vec<u8, A>,
+    out: &mut TextBuffer<A>,
     text: &[u8],
     value: i64,
 ) -> Result<(), AllocError>
-    ensures { OnOk result (out.new.items ≡ out.old.items ++ (text.now ++ signed_decimal value)) }
+    ensures { OnOk result (out.new.text ≡ out.old.text ++ (text.now ++ signed_decimal value)) }
 {
-    out.extend_from_slice(text)?;
-    push_value(out, value)
+    out.push(text)?;
+    out.push_value(value)
 }
 
 /// Adds the answer to what was refused. Want of memory is no answer: it ends the run.
 pub fn push_refused<A: Allocator + Copy>(
-    out: &mut Vec<u8, A>,
+    out: &mut TextBuffer<A>,
     refusal: Refusal,
 ) -> Result<(), AllocError>
-    ensures { OnOk result ((refusal ≡ Refusal.NoMemory → ⊥) × (out.new.items ≡ out.old.items ++ refused_text refusal)) }
+    ensures { OnOk result ((refusal ≡ Refusal.NoMemory → ⊥) × (out.new.text ≡ out.old.text ++ refused_text refusal)) }
 {
     let number = refusal.number();
     if number == NO_MEMORY {
         return Err(AllocError);
     }
-    out.extend_from_slice(b"refused ")?;
-    push_number(out, u64::from(number))?;
-    out.push(b' ')?;
-    out.extend_from_slice(refusal.name().as_bytes())?;
-    out.push(b'\n')?;
-    Ok(())
+    out.push(b"refused ")?;
+    out.push_number(u64::from(number))?;
+    out.push(b" ")?;
+    out.push(refusal.name().as_bytes())?;
+    out.push(b"\n")
 }
 
 /// The number of the refusal for want of memory.
 const NO_MEMORY: u8 = 26;
 
 /// Adds the answer to the start.
-pub fn push_started<A: Allocator + Copy>(out: &mut Vec<u8, A>) -> Result<(), AllocError>
-    ensures { OnOk result (out.new.items ≡ out.old.items ++ started_text) }
+pub fn push_started<A: Allocator + Copy>(out: &mut TextBuffer<A>) -> Result<(), AllocError>
+    ensures { OnOk result (out.new.text ≡ out.old.text ++ started_text) }
 {
-    out.extend_from_slice(b"ok start\n")
+    out.push(b"ok start\n")
 }
 
 /// Adds an answer that ends with a name.
 pub fn push_named<A: Allocator + Copy>(
-    out: &mut Vec<u8, A>,
+    out: &mut TextBuffer<A>,
     done: &[u8],
     name: &[u8],
 ) -> Result<(), AllocError>
-    ensures { OnOk result (out.new.items ≡ out.old.items ++ named_text done.now name.now) }
+    ensures { OnOk result (out.new.text ≡ out.old.text ++ named_text done.now name.now) }
 {
-    out.extend_from_slice(done)?;
-    out.extend_from_slice(name)?;
-    out.push(b'\n')?;
-    Ok(())
+    out.push(done)?;
+    out.push(name)?;
+    out.push(b"\n")
 }
 
 /// Adds an answer that ends with a name and a number.
+#[inline(always)]
 pub fn push_numbered<A: Allocator + Copy>(
-    out: &mut Vec<u8, A>,
+    out: &mut TextBuffer<A>,
     done: &[u8],
     name: &[u8],
     number: u64,
 ) -> Result<(), AllocError>
-    ensures { OnOk result (out.new.items ≡ out.old.items ++ numbered_text done.now name.now number) }
+    ensures { OnOk result (out.new.text ≡ out.old.text ++ numbered_text done.now name.now number) }
 {
-    out.extend_from_slice(done)?;
-    out.extend_from_slice(name)?;
-    out.push(b' ')?;
-    push_number(out, number)?;
-    out.push(b'\n')?;
-    Ok(())
+    out.push(done)?;
+    out.push(name)?;
+    out.push(b" ")?;
+    out.push_number(number)?;
+    out.push(b"\n")
 }
 
 /// Adds an object's name and value.
 fn push_named_value<A: Allocator + Copy>(
-    out: &mut Vec<u8, A>,
+    out: &mut TextBuffer<A>,
     name: &Name,
     value: i64,
 ) -> Result<(), AllocError>
-    ensures { OnOk result (out.new.items ≡ out.old.items ++ value_text name.now value) }
+    ensures { OnOk result (out.new.text ≡ out.old.text ++ value_text name.now value) }
 {
-    out.push(b' ')?;
-    out.extend_from_slice(name.as_bytes())?;
-    out.push(b'=')?;
-    push_value(out, value)
+    out.push(b" ")?;
+    out.push(name.as_bytes())?;
+    out.push(b"=")?;
+    out.push_value(value)
 }
 
 /// Adds the names and the values of all objects.
 pub fn push_values<A: Allocator + Copy>(
-    out: &mut Vec<u8, A>,
+    out: &mut TextBuffer<A>,
     objects: &ObjectTable<A>,
     values: &[i64],
 ) -> Result<(), AllocError>
-    ensures { OnOk result (out.new.items ≡ out.old.items ++ values_text objects.now values.now) }
+    ensures { OnOk result (out.new.text ≡ out.old.text ++ values_text objects.now values.now) }
 {
     for place in 0..objects.len().min(values.len()) {
         let name = objects.name(ObjectId::new(place as u16));
@@ -147,34 +131,33 @@ struct SiteNumbers {
 
 /// Adds the answer that shows a site.
 fn push_shown<A: Allocator + Copy>(
-    out: &mut Vec<u8, A>,
+    out: &mut TextBuffer<A>,
     site: &[u8],
     numbers: SiteNumbers,
     objects: &ObjectTable<A>,
     values: &[i64],
 ) -> Result<(), AllocError>
-    ensures { OnOk result (out.new.items ≡ out.old.items ++ shown_text site.now numbers.sent numbers.applied numbers.reported numbers.rounds objects.now values.now) }
+    ensures { OnOk result (out.new.text ≡ out.old.text ++ shown_text site.now numbers.sent numbers.applied numbers.reported numbers.rounds objects.now values.now) }
 {
-    out.extend_from_slice(b"ok show ")?;
-    out.extend_from_slice(site)?;
+    out.push(b"ok show ")?;
+    out.push(site)?;
     push_with_number(out, b" sent ", numbers.sent)?;
     push_with_number(out, b" applied ", numbers.applied)?;
     push_with_number(out, b" reported ", numbers.reported)?;
     push_with_number(out, b" rounds ", numbers.rounds)?;
     push_values(out, objects, values)?;
-    out.push(b'\n')?;
-    Ok(())
+    out.push(b"\n")
 }
 
 /// Adds the answer to an event that names this subject, a site or a query, and this object.
 pub fn push_answer<A: Allocator + Copy>(
-    out: &mut Vec<u8, A>,
+    out: &mut TextBuffer<A>,
     setup: &Setup<A>,
     subject: &[u8],
     object: &[u8],
     answer: &Answer<A>,
 ) -> Result<(), AllocError>
-    ensures { OnOk result ((answer.now ≡ Answer.Refused Refusal.NoMemory → ⊥) × (out.new.items ≡ out.old.items ++ answer_text setup.now subject.now object.now answer.now)) }
+    ensures { OnOk result ((answer.now ≡ Answer.Refused Refusal.NoMemory → ⊥) × (out.new.text ≡ out.old.text ++ answer_text setup.now subject.now object.now answer.now)) }
 {
     match answer {
         Answer::Proposed(number) => push_done(out, b"ok proposed ", *number),
@@ -209,49 +192,47 @@ pub fn push_answer<A: Allocator + Copy>(
 
 /// Adds what a read gave.
 fn push_read<A: Allocator + Copy>(
-    out: &mut Vec<u8, A>,
+    out: &mut TextBuffer<A>,
     query: &[u8],
     object: &[u8],
     answer: ReadAnswer,
 ) -> Result<(), AllocError>
-    ensures { OnOk result (out.new.items ≡ out.old.items ++ read_text query.now object.now answer) }
+    ensures { OnOk result (out.new.text ≡ out.old.text ++ read_text query.now object.now answer) }
 {
-    out.extend_from_slice(b"ok read ")?;
-    out.extend_from_slice(query)?;
-    out.push(b' ')?;
-    out.extend_from_slice(object)?;
+    out.push(b"ok read ")?;
+    out.push(query)?;
+    out.push(b" ")?;
+    out.push(object)?;
     push_with_value(out, b" value ", answer.value)?;
     push_with_number(out, b" import ", answer.import)?;
     push_with_number(out, b" total ", answer.total)?;
-    out.push(b'\n')?;
-    Ok(())
+    out.push(b"\n")
 }
 
 /// Adds what the reads of a query came to.
 fn push_ended<A: Allocator + Copy>(
-    out: &mut Vec<u8, A>,
+    out: &mut TextBuffer<A>,
     query: &[u8],
     answer: QueryAnswer,
 ) -> Result<(), AllocError>
-    ensures { OnOk result (out.new.items ≡ out.old.items ++ ended_text query.now answer) }
+    ensures { OnOk result (out.new.text ≡ out.old.text ++ ended_text query.now answer) }
 {
-    out.extend_from_slice(b"ok end ")?;
-    out.extend_from_slice(query)?;
+    out.push(b"ok end ")?;
+    out.push(query)?;
     push_with_number(out, b" place ", answer.place)?;
     push_with_value(out, b" sum ", answer.sum)?;
     push_with_number(out, b" total ", answer.total)?;
     push_with_number(out, b" reads ", answer.reads)?;
-    out.push(b'\n')?;
-    Ok(())
+    out.push(b"\n")
 }
 
 /// Adds what came of a settlement.
 fn push_settled<A: Allocator + Copy>(
-    out: &mut Vec<u8, A>,
+    out: &mut TextBuffer<A>,
     setup: &Setup<A>,
     settled: &Settled<A>,
 ) -> Result<(), AllocError>
-    ensures { OnOk result (out.new.items ≡ out.old.items ++ settled_text setup.now.sites settled.now) }
+    ensures { OnOk result (out.new.text ≡ out.old.text ++ settled_text setup.now.sites settled.now) }
 {
     match settled {
         Settled::Acked(k) => push_done(out, b"ok acked ", *k),
@@ -264,28 +245,27 @@ fn push_settled<A: Allocator + Copy>(
 
 /// Adds an answer that ends with a number and sites.
 fn push_listed<A: Allocator + Copy>(
-    out: &mut Vec<u8, A>,
+    out: &mut TextBuffer<A>,
     done: &[u8],
     number: u64,
     setup: &Setup<A>,
     sites: &[SiteId],
 ) -> Result<(), AllocError>
-    ensures { OnOk result (out.new.items ≡ out.old.items ++ listed_text done.now number setup.now.sites sites.now) }
+    ensures { OnOk result (out.new.text ≡ out.old.text ++ listed_text done.now number setup.now.sites sites.now) }
 {
-    out.extend_from_slice(done)?;
-    push_number(out, number)?;
+    out.push(done)?;
+    out.push_number(number)?;
     push_sites(out, setup, sites)?;
-    out.push(b'\n')?;
-    Ok(())
+    out.push(b"\n")
 }
 
 /// Adds ` S` for each of these sites.
 fn push_sites<A: Allocator + Copy>(
-    out: &mut Vec<u8, A>,
+    out: &mut TextBuffer<A>,
     setup: &Setup<A>,
     sites: &[SiteId],
 ) -> Result<(), AllocError>
-    ensures { OnOk result (out.new.items ≡ out.old.items ++ sites_text setup.now.sites sites.now) }
+    ensures { OnOk result (out.new.text ≡ out.old.text ++ sites_text setup.now.sites sites.now) }
 {
     for site in sites {
         push_site(out, setup, *site)?;
@@ -295,57 +275,56 @@ fn push_sites<A: Allocator + Copy>(
 
 /// Adds ` S`: a space, and the name of the site where there is one.
 fn push_site<A: Allocator + Copy>(
-    out: &mut Vec<u8, A>,
+    out: &mut TextBuffer<A>,
     setup: &Setup<A>,
     site: SiteId,
 ) -> Result<(), AllocError>
-    ensures { OnOk result (out.new.items ≡ out.old.items ++ 32 ∷ [] ++ (slice_index_or setup.now.sites site ([], 0)).0) }
+    ensures { OnOk result (out.new.text ≡ out.old.text ++ 32 ∷ [] ++ (slice_index_or setup.now.sites site ([], 0)).0) }
 {
-    out.push(b' ')?;
+    out.push(b" ")?;
     if site.index() < setup.sites() {
-        out.extend_from_slice(setup.site_name(site).as_bytes())?;
+        out.push(setup.site_name(site).as_bytes())?;
     }
     Ok(())
 }
 
 /// Adds an answer that ends with a number.
+#[inline(always)]
 pub fn push_done<A: Allocator + Copy>(
-    out: &mut Vec<u8, A>,
+    out: &mut TextBuffer<A>,
     done: &[u8],
     number: u64,
 ) -> Result<(), AllocError>
-    ensures { OnOk result (out.new.items ≡ out.old.items ++ done_text done.now number) }
+    ensures { OnOk result (out.new.text ≡ out.old.text ++ done_text done.now number) }
 {
-    out.extend_from_slice(done)?;
-    push_number(out, number)?;
-    out.push(b'\n')?;
-    Ok(())
+    out.push(done)?;
+    out.push_number(number)?;
+    out.push(b"\n")
 }
 
 /// Adds the answer that shows how many rounds a site has at least, and its windows.
 pub fn push_certified<A: Allocator + Copy>(
-    out: &mut Vec<u8, A>,
+    out: &mut TextBuffer<A>,
     site: &[u8],
     rounds: u64,
     windows: &[Window],
 ) -> Result<(), AllocError>
-    ensures { OnOk result (out.new.items ≡ out.old.items ++ certified_text site.now rounds windows.now) }
+    ensures { OnOk result (out.new.text ≡ out.old.text ++ certified_text site.now rounds windows.now) }
 {
-    out.extend_from_slice(b"ok certified ")?;
-    out.extend_from_slice(site)?;
-    out.push(b' ')?;
-    push_number(out, rounds)?;
+    out.push(b"ok certified ")?;
+    out.push(site)?;
+    out.push(b" ")?;
+    out.push_number(rounds)?;
     push_windows(out, windows)?;
-    out.push(b'\n')?;
-    Ok(())
+    out.push(b"\n")
 }
 
 /// Adds ` A-B` for each of these windows.
 fn push_windows<A: Allocator + Copy>(
-    out: &mut Vec<u8, A>,
+    out: &mut TextBuffer<A>,
     windows: &[Window],
 ) -> Result<(), AllocError>
-    ensures { OnOk result (out.new.items ≡ out.old.items ++ windows_text windows.now) }
+    ensures { OnOk result (out.new.text ≡ out.old.text ++ windows_text windows.now) }
 {
     for window in windows {
         push_window(out, *window)?;
@@ -354,8 +333,11 @@ fn push_windows<A: Allocator + Copy>(
 }
 
 /// Adds ` A-B`.
-fn push_window<A: Allocator + Copy>(out: &mut Vec<u8, A>, window: Window) -> Result<(), AllocError>
-    ensures { OnOk result (out.new.items ≡ out.old.items ++ window_text window) }
+fn push_window<A: Allocator + Copy>(
+    out: &mut TextBuffer<A>,
+    window: Window,
+) -> Result<(), AllocError>
+    ensures { OnOk result (out.new.text ≡ out.old.text ++ window_text window) }
 {
     push_with_number(out, b" ", window.from)?;
     push_with_number(out, b"-", window.to)

@@ -9,7 +9,7 @@ use ordup_objects::SiteId;
 use ordup_primary::Primary;
 use ordup_record::record_of;
 use ordup_site::Site;
-use ordup_text::{push_done, push_named, push_numbered, push_values, push_with_number};
+use ordup_text::{TextBuffer, push_done, push_named, push_numbered, push_values, push_with_number};
 use ordup_verdict::{Verdict, check};
 use std::alloc::{AllocError, Global};
 
@@ -18,13 +18,13 @@ pub(crate) fn outcome_of(
     alloc: Global,
     closed: &Closed,
     tally: Tally,
-) -> Result<Vec<u8>, AllocError>
-    ensures { IfOk result (λ text. text.items ≡ outcome_text closed.now tally.refused tally.pending) }
+) -> Result<TextBuffer, AllocError>
+    ensures { IfOk result (λ out. out.text ≡ outcome_text closed.now tally.refused tally.pending) }
 {
     let primary = closed.primary();
     // For the proof: there are as many sites as were declared.
     let _acked = primary.acked();
-    let mut out = Vec::new(alloc);
+    let mut out = TextBuffer::new(alloc);
     push_done(&mut out, b"log ", primary.log().len())?;
     push_done(&mut out, b"refused ", tally.refused)?;
     push_done(&mut out, b"pending ", tally.pending)?;
@@ -40,34 +40,34 @@ pub(crate) fn outcome_of(
 
 /// Adds what a site applied, how many rounds it had, and what it holds.
 fn push_site(
-    out: &mut Vec<u8>,
+    out: &mut TextBuffer,
     primary: &Primary,
     site: SiteId,
     held: &Site,
 ) -> Result<(), AllocError>
     requires { site < length primary.now.sites }
-    ensures { OnOk result (out.new.items ≡ out.old.items ++ site_text primary.now site held.now) }
+    ensures { OnOk result (out.new.text ≡ out.old.text ++ site_text primary.now site held.now) }
 {
     // For the proof: there are as many sites as were declared.
     let _acked = primary.acked();
-    out.extend_from_slice(b"site ")?;
-    out.extend_from_slice(primary.setup().site_name(site).as_bytes())?;
+    out.push(b"site ")?;
+    out.push(primary.setup().site_name(site).as_bytes())?;
     push_with_number(out, b" applied ", held.applied())?;
     push_with_number(out, b" rounds ", primary.rounds(site).len() as u64)?;
     push_values(out, primary.setup().objects(), held.values().as_slice())?;
-    out.push(b'\n')?;
+    out.push(b"\n")?;
     Ok(())
 }
 
 /// Adds that the rounds of a site are the fewest, which the check of its record says.
 fn push_certified(
     alloc: Global,
-    out: &mut Vec<u8>,
+    out: &mut TextBuffer,
     primary: &Primary,
     site: SiteId,
 ) -> Result<(), AllocError>
     requires { site < length primary.now.sites }
-    ensures { OnOk result (out.new.items ≡ out.old.items ++ certified_text primary.now site) }
+    ensures { OnOk result (out.new.text ≡ out.old.text ++ certified_text primary.now site) }
 {
     let Ok(shown) = record_of(alloc, primary, site) else {
         return Err(AllocError);

@@ -10,6 +10,7 @@ use crate::tally::{NONE, Tally};
 use ordup_cluster::{Cluster, OpenGate};
 use ordup_objects::{MessageSet, Refusal, SiteId};
 use ordup_primary::Setup;
+use ordup_text::TextBuffer;
 use std::alloc::Global;
 use std::num::NonZeroU8;
 use std::sync::Wait;
@@ -38,9 +39,9 @@ pub fn run_threads<R: Threads + Wait + Sync>(
     setup: Setup,
     sets: Vec<MessageSet>,
     callers: NonZeroU8,
-) -> Result<Vec<u8>, Refusal>
+) -> Result<TextBuffer, Refusal>
     requires { start_refusal setup ≡ None }
-    ensures outcome { IfOk result (λ text. IsOutcome (length sets.items) text.items) }
+    ensures outcome { IfOk result (λ out. IsOutcome (length sets.items) out.text) }
     ensures refused { IfErr result (λ e. (e ≡ Refusal.NoMemory) ⊎ ((s : ℕ) × (e ≡ Refusal.Mixed s))) }
 {
     // For the proof: there are at most 16 sites.

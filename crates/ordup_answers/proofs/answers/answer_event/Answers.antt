@@ -11,6 +11,6 @@ returns g c =
     let after = stepped.state d past is in
     left_by_event d c.step-answer.new.self past c.args.action.now c.args.event c.step-answer.result
     (stepped.answer d past is) after h.0
-    c.setup.result.now c.names_of.result.0.now c.names_of.result.1.now c.args.out.now.items c.push_answer.new.out.items
+    c.setup.result.now c.names_of.result.0.now c.names_of.result.1.now c.args.out.now.text c.push_answer.new.out.text
     (c.setup.ensures ∙ ap (λ (p : PrimaryState). p.setup) c.primary.ensures.primary ∙ after.store.declared)
     c.names_of.ensures h.1) c.push_answer.ensures

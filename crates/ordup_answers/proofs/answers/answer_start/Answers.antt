@@ -6,5 +6,5 @@ pub returns-in-Ok : goal.returns-in-Ok
 returns-in-Ok g c =
     on_ok_weaker c.push_started.result (λ h s stands.
     rw c.run.ensures
-    (left_by_start c.in-Declared.setup c.in-Ok.world c.args.out.now.items c.push_started.new.out.items c.in-Ok.ensures.started h s
+    (left_by_start c.in-Declared.setup c.in-Ok.world c.args.out.now.text c.push_started.new.out.text c.in-Ok.ensures.started h s
     (rw c.in-Declared.is at stands))) c.push_started.ensures

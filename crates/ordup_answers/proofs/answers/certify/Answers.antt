@@ -11,7 +11,7 @@ returns-in-Fewest g c =
     let setup = c.setup.ensures ∙ ap (λ p. p.setup) of_world in
     on_ok_weaker c.push_certified.result (λ text s stands.
     left_by_certificate c.args.world.now c.in-Ok.shown c.args.site.now c.find_site.result c.in-Fewest.rounds
-    c.args.out.now.items c.push_certified.new.out.items
+    c.args.out.now.text c.push_certified.new.out.text
     c.primary-primary.ensures.sound (c.find_site.ensures ∙ ap (λ d. place_among d.sites c.args.site.now) setup)
     (ap (λ p. record_refusal p c.find_site.result) (sym of_world) ∙ c.in-Ok.ensures.allowed)
     (c.in-Ok.ensures.content ∙ ap (λ p. record_of p c.find_site.result) of_world) c.in-Fewest.ensures.fewest.1

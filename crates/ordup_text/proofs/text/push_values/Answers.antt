@@ -15,8 +15,8 @@ loop-place-preserved g c =
     let next = values_text-more objects values place c.name-name.result.now (pos 0) (omega arith) (omega arith)
     (rw c.new.ensures at c.name-name.ensures) in
     rw (c.in_ok-push_named_value.ensures, to_z-of_z w64 (get_or values place (pos 0)) (search rules))
-    (append_assoc c.loop-place.out.items (value_text c.name-name.result.now (get_or values place (pos 0))) _
-    ∙ ap (λ t. c.loop-place.out.items ++ t) (sym next)
+    (append_assoc c.loop-place.out.text (value_text c.name-name.result.now (get_or values place (pos 0))) _
+    ∙ ap (λ t. c.loop-place.out.text ++ t) (sym next)
     ∙ c.loop-place.invariant)
 
 pub returns : goal.returns
@@ -28,4 +28,4 @@ returns g c =
       | inl lt ↦ values_text-end objects values place (inr (omega arith))
       | inr past ↦ values_text-end objects values place (inl past)
     ] in
-    sym (append-nil c.loop-place.out.items) ∙ ap (λ t. c.loop-place.out.items ++ t) (sym none) ∙ c.loop-place.invariant
+    sym (append-nil c.loop-place.out.text) ∙ ap (λ t. c.loop-place.out.text ++ t) (sym none) ∙ c.loop-place.invariant

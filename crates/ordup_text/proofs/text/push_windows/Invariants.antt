@@ -4,4 +4,4 @@ use Rattle.ordup_text.proofs.text.push_windows.Given as goal
 
 -- the windows so far and those that are left are all of them
 abbrev pub invariant-loop-window : goal.invariant-loop-window
-invariant-loop-window g l = l.out.items ++ windows_text (drop l.window-index l.windows) ≡ l.fn.out.items ++ windows_text l.windows
+invariant-loop-window g l = l.out.text ++ windows_text (drop l.window-index l.windows) ≡ l.fn.out.text ++ windows_text l.windows

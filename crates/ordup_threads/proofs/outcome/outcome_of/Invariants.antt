@@ -5,8 +5,8 @@ use Rattle.ordup_threads.proofs.outcome.outcome_of.Given as goal
 -- the sites so far are shown
 abbrev pub invariant-loop-place : goal.invariant-loop-place
 invariant-loop-place l =
-    l.out.items ≡ l.initial.out.items ++ texts_below (λ s. text_of_site l.primary s (slice_get l.closed.sites s)) l.place
+    l.out.text ≡ l.initial.out.text ++ texts_below (λ s. text_of_site l.primary s (slice_get l.closed.sites s)) l.place
 
 -- the sites so far are certified
 abbrev pub invariant-loop-place-2 : goal.invariant-loop-place-2
-invariant-loop-place-2 l = l.out.items ≡ l.initial.out.items ++ texts_below (certified_text l.primary) l.place
+invariant-loop-place-2 l = l.out.text ≡ l.initial.out.text ++ texts_below (certified_text l.primary) l.place

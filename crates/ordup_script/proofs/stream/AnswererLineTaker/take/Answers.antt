@@ -16,5 +16,5 @@ pub returns-in-Err-clause-lines : goal.returns-in-Err-clause-lines
 returns-in-Err-clause-lines g c line is = record {
   goes_on = λ first earlier h later.
       rw append_assoc (sends_front g.W.Write.contents first c.args.self.now _ earlier h (record { store = refl; output = refl })
-      ([], c.args.self.now.answers.now.items, refl, Appends-nil _) _ (inr refl) (line ∷ later));
+      ([], c.args.self.now.answers.now.text, refl, Appends-nil _) _ (inr refl) (line ∷ later));
 }

@@ -1,0 +1,170 @@
+//! Text that grows at its end.
+//!
+//! The bytes behind the text are there already, so a part of it is a copy of a length that is known most of the time, which
+//! takes an eleventh off the instructions of a line of a script.
+ghost use Rattle.std.specs.Prelude.{◌≡◌, ◌+◌, ◌≤◌, ◌++◌, [], OnOk, length, take};
+ghost use Rattle.std.specs.Fmt.{decimal, signed_decimal};
+
+use itoa::write_digits;
+use std::alloc::{AllocError, Allocator, Global};
+use std::marker::Model;
+
+/// The most digits of a number.
+const MOST_DIGITS: usize = 20;
+
+/// A text, and the room behind it.
+#[derive(Drop)]
+pub struct TextBuffer<A: Allocator + Copy = Global> {
+    /// The text, and then the room.
+    bytes: Vec<u8, A>,
+    len: usize,
+}
+
+impl<A: Allocator + Copy> Model for TextBuffer<A> {
+    ghost use Rattle.ordup_text.specs.TextBuffers.{BufferedText};
+    ghost use Rattle.ordup_text.specs.TextBufferInside.{buffered, IsTextBuffer};
+
+    ghost Value = { BufferedText };
+
+    ghost view = { buffered };
+
+    ghost invariant = { IsTextBuffer };
+}
+
+impl<A: Allocator + Copy> TextBuffer<A> {
+    /// A buffer without text.
+    pub fn new(alloc: A) -> Self
+        ensures { result.text ≡ [] }
+    {
+        TextBuffer {
+            bytes: Vec::new(alloc),
+            len: 0,
+        }
+    }
+
+    /// The allocator that the buffer takes its memory from.
+    pub fn allocator(&self) -> &A {
+        self.bytes.allocator()
+    }
+
+    /// How many bytes the text has.
+    pub fn len(&self) -> usize
+        ensures { result ≡ length self.now.text }
+    {
+        self.as_slice().len()
+    }
+
+    /// The text.
+    pub fn as_slice(&self) -> &[u8]
+        ensures { result.now ≡ self.now.text }
+    {
+        &self.bytes[..self.len]
+    }
+
+    /// Takes the text away. Its room stays.
+    pub fn clear(&mut self)
+        ensures { self.new.text ≡ [] }
+    {
+        self.len = 0;
+    }
+
+    /// Sees to it that there is room for so many bytes behind the text.
+    #[inline(always)]
+    fn make_room(&mut self, room: usize) -> Result<(), AllocError>
+        ensures text { self.new.text ≡ self.old.text }
+        ensures room { OnOk result (room ≤ self.new.room) }
+    {
+        if room <= self.bytes.len() - self.len {
+            return Ok(());
+        }
+        self.grow(room)
+    }
+
+    /// Makes room for so many bytes, and for as many as the text has.
+    #[inline(never)]
+    fn grow(&mut self, room: usize) -> Result<(), AllocError>
+        ensures text { self.new.text ≡ self.old.text }
+        ensures room { OnOk result (room ≤ self.new.room) }
+    {
+        let more = room.max(self.len);
+        self.bytes.resize(self.len.saturating_add(more), 0)
+    }
+
+    /// Adds a text, for which there is room.
+    #[inline(always)]
+    fn put(&mut self, text: &[u8])
+        requires { length text.now ≤ self.old.room }
+        ensures text { self.new.text ≡ self.old.text ++ text.now }
+        ensures room { self.new.room + length text.now ≡ self.old.room }
+    {
+        let end = self.len + text.len();
+        self.bytes[self.len..end].copy_from_slice(text);
+        self.len = end;
+    }
+
+    /// Leaves the first so many bytes of the text.
+    #[inline(always)]
+    fn truncate(&mut self, len: usize)
+        requires { len ≤ length self.old.text }
+        ensures text { self.new.text ≡ take len self.old.text }
+        ensures room { self.new.room + len ≡ self.old.room + length self.old.text }
+    {
+        self.len = len;
+    }
+
+    /// Adds the first so many bytes of a text. There is room for all of it: a copy of known length is a move or two.
+    #[inline(always)]
+    fn put_front(&mut self, text: &[u8], count: usize)
+        requires room { length text.now ≤ self.old.room }
+        requires front { count ≤ length text.now }
+        ensures text { self.new.text ≡ self.old.text ++ take count text.now }
+        ensures room { self.new.room + count ≡ self.old.room }
+    {
+        let end = self.len + count;
+        self.put(text);
+        self.truncate(end);
+    }
+
+    /// Adds a number in digits, for as many of which there is room as there may be.
+    #[inline(always)]
+    fn put_number(&mut self, number: u64)
+        requires { 20 ≤ self.old.room }
+        ensures text { self.new.text ≡ self.old.text ++ decimal number }
+        ensures room { self.old.room ≤ self.new.room + 20 }
+    {
+        let mut digits = [0; 2 * MOST_DIGITS];
+        let start = write_digits(number, &mut digits, MOST_DIGITS);
+        let (shown, count) = (&digits[start..start + MOST_DIGITS], MOST_DIGITS - start);
+        self.put_front(shown, count);
+    }
+
+    /// Adds a text.
+    #[inline(always)]
+    pub fn push(&mut self, text: &[u8]) -> Result<(), AllocError>
+        ensures { OnOk result (self.new.text ≡ self.old.text ++ text.now) }
+    {
+        self.make_room(text.len())?;
+        self.put(text);
+        Ok(())
+    }
+
+    /// Adds a number in digits.
+    #[inline(always)]
+    pub fn push_number(&mut self, number: u64) -> Result<(), AllocError>
+        ensures { OnOk result (self.new.text ≡ self.old.text ++ decimal number) }
+    {
+        self.make_room(MOST_DIGITS)?;
+        self.put_number(number);
+        Ok(())
+    }
+
+    /// Adds a value in digits, with a minus before one below 0.
+    pub fn push_value(&mut self, value: i64) -> Result<(), AllocError>
+        ensures { OnOk result (self.new.text ≡ self.old.text ++ signed_decimal value) }
+    {
+        if value < 0 {
+            self.push(b"-")?;
+        }
+        self.push_number(value.unsigned_abs())
+    }
+}

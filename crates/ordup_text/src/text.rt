@@ -75,6 +75,7 @@ pub fn push_named<A: Allocator + Copy>(
 }
 
 /// Adds an answer that ends with a name and a number.
+// Inlined, so that the length of the text is known where it is copied.
 #[inline(always)]
 pub fn push_numbered<A: Allocator + Copy>(
     out: &mut TextBuffer<A>,
@@ -289,6 +290,7 @@ fn push_site<A: Allocator + Copy>(
 }
 
 /// Adds an answer that ends with a number.
+// Inlined, so that the length of the text is known where it is copied.
 #[inline(always)]
 pub fn push_done<A: Allocator + Copy>(
     out: &mut TextBuffer<A>,

@@ -1,7 +1,7 @@
 //! Text that grows at its end.
 //!
 //! The bytes behind the text are there already, so a part of it is a copy of a length that is known most of the time, which
-//! takes an eleventh off the instructions of a line of a script.
+//! takes 4 to 8 in 100 off the instructions of a line of a script.
 ghost use Rattle.std.specs.Prelude.{◌≡◌, ◌+◌, ◌≤◌, ◌++◌, [], OnOk, length, take};
 ghost use Rattle.std.specs.Fmt.{decimal, signed_decimal};
 

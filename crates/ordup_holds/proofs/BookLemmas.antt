@@ -14,7 +14,7 @@ use Rattle.ordup_feed.specs.Parcels.{PlainParcel}
 use Rattle.ordup_feed.specs.Ends.{Sending}
 use Rattle.ordup_objects.specs.States.{State}
 use Rattle.ordup_holds.specs.Books.{BookState, IsTied, KeepsBook, AreRooms}
-use Rattle.ordup_holds.specs.Turning.{AtEachSite, Sent, SentOut, SameFeeds, with_progress, send_bound}
+use Rattle.ordup_holds.specs.Turning.{AtEachSite, Reported, Sent, SentOut, SameFeeds, with_progress, send_bound}
 
 -- ---- lists in which an element changed
 
@@ -78,6 +78,14 @@ keeps-settled p q ends same kept = record {
       tied-same p q s e same.setup same.log (same.sent s inside) (same.reported s inside) (kept.tied s e at);
 }
 
+pub progress-same : (p q : PrimaryState) (s : ℕ) (x : SiteProgress) → q ≡ with_progress p s x → s < length p.sites
+    → progress_at q s ≡ x
+progress-same p q s x is inside =
+    ap (λ (t : PrimaryState). progress_at t s) is ∙ get_or-set_same p.sites s x first_progress inside
+
+pub sites-count : (p q : PrimaryState) (s : ℕ) (x : SiteProgress) → q ≡ with_progress p s x → length q.sites ≡ length p.sites
+sites-count p q s x is = ap (λ (t : PrimaryState). length t.sites) is ∙ length-set p.sites s x
+
 -- one site changes, and its end
 pub progress-other : (p q : PrimaryState) (s t : ℕ) (site : SiteProgress) → q ≡ with_progress p s site → t ≢ s
     → progress_at q t ≡ progress_at p t
@@ -87,9 +95,7 @@ progress-other p q s t site is other =
 pub keeps-at : (p q : PrimaryState) (ends : List Sending) (s : ℕ) (site : SiteProgress) (f : Sending) → KeepsBook p ends
     → q ≡ with_progress p s site → IsTied q s f → KeepsBook q (slice_set ends s f)
 keeps-at p q ends s site f kept is tied = record {
-  count =
-      length-set ends s f ∙ kept.count
-      ∙ sym (ap (λ (r : PrimaryState). length r.sites) is ∙ length-set p.sites s site);
+  count = length-set ends s f ∙ kept.count ∙ sym (sites-count p q s site is);
   tied = λ t e at. ⊎_elim
       (λ (same : (t ≡ s) × (f ≡ e)). subst (λ (y : ℕ × Sending). IsTied q y.0 y.1) (λ i. (sym same.0 i, same.1 i)) tied)
       (λ (other : (t ≢ s) × (slice_get ends t ≡ Some e)).
@@ -126,8 +132,7 @@ module _ (Step : ℕ → SiteProgress → Sending → SiteProgress → Sending �
       → Upto (n + 1) Step b (record { primary = q; ends = slice_set c.ends n f })
   upto-more n b c q e f upto inside at is step = record {
     primary = is ∙ (λ i. record (upto.primary i) { sites = ap (λ (r : PrimaryState). r.sites) (sym is) i });
-    sites =
-        ap (λ (r : PrimaryState). length r.sites) is ∙ length-set c.primary.sites n (progress_at q n) ∙ upto.sites;
+    sites = sites-count c.primary q n (progress_at q n) is ∙ upto.sites;
     ends = length-set c.ends n f ∙ upto.ends;
     done = λ s d g lt before after. ⊎_elim
         (λ (same : (s ≡ n) × (f ≡ g)).
@@ -176,8 +181,7 @@ pub tied-sent : (p q : PrimaryState) (s : ℕ) (e : Sending) (x : PlainParcel) �
 tied-sent p q s e x tied inside unsent number set is =
     let k = (progress_at p s).sent in
     let site : SiteProgress = record (progress_at p s) { sent = k + 1 } in
-    let at : progress_at q s ≡ site =
-    ap (λ (r : PrimaryState). progress_at r s) is ∙ get_or-set_same p.sites s site first_progress inside in
+    let at = progress-same p q s site is inside in
     let place : x.number - 1 ≡ k = omega arith in
     let same : x.set ≡ slice_index_or p.log.sets k [] = set ∙ ap (λ i. slice_index_or p.log.sets i []) place in
     let sets = ap (λ (h : History). h.sets) tied.pushed in
@@ -208,19 +212,9 @@ pushed-count p s e is inside tied =
 pub progress-twice : (p q r : PrimaryState) (s : ℕ) (x y : SiteProgress) → q ≡ with_progress p s x → r ≡ with_progress q s y
     → s < length q.sites → r ≡ with_progress p s (progress_at r s)
 progress-twice p q r s x y first second inside =
-    let at : progress_at r s ≡ y =
-    ap (λ (t : PrimaryState). progress_at t s) second ∙ get_or-set_same q.sites s y first_progress inside in
-    rw at
+    rw (progress-same q r s y second inside)
     (second ∙ ap (λ (t : PrimaryState). with_progress t s y) first
     ∙ ap (λ (sites : List SiteProgress). let t : PrimaryState = record p { sites = sites } in t) (set-twice p.sites s x y))
-
-pub progress-same : (p q : PrimaryState) (s : ℕ) (x : SiteProgress) → q ≡ with_progress p s x → s < length p.sites
-    → progress_at q s ≡ x
-progress-same p q s x is inside =
-    ap (λ (t : PrimaryState). progress_at t s) is ∙ get_or-set_same p.sites s x first_progress inside
-
-pub sites-count : (p q : PrimaryState) (s : ℕ) (x : SiteProgress) → q ≡ with_progress p s x → length q.sites ≡ length p.sites
-sites-count p q s x is = ap (λ (t : PrimaryState). length t.sites) is ∙ length-set p.sites s x
 
 -- one push more
 pub sent-more : (bound : ℕ → ℕ) (s : ℕ) (site after next : SiteProgress) (e f g : Sending) → Sent bound s site e after f
@@ -285,3 +279,12 @@ pub rooms-kept : (p q : PrimaryState) (rooms : List State) → q.log ≡ p.log �
     → AreRooms q rooms
 rooms-kept p q rooms log count are =
     (are.0 ∙ sym count, λ k d lt. are.1 k d lt ∙ sym (ap (λ (h : History). h.start) log))
+
+-- and so after a turn
+pub rooms-turned : {Step : ℕ → SiteProgress → Sending → SiteProgress → Sending → Type 0} {b a c : BookState} {m : PrimaryState}
+    (rooms : List State) → AtEachSite Reported b a → SameFeeds a.primary m → AtEachSite Step (record { primary = m; ends = a.ends }) c
+    → AreRooms b.primary rooms → AreRooms c.primary rooms
+rooms-turned {b} {a} {c} {m} rooms reported feeds sent are =
+    let log = λ (p : PrimaryState). p.log in
+    rooms-kept b.primary c.primary rooms (ap log sent.primary ∙ feeds.log ∙ ap log reported.primary)
+    (sent.sites ∙ feeds.count ∙ reported.sites) are

@@ -1,7 +1,6 @@
 -- Limits and spans.
-use Rattle.std.proofs.Common.{◌≡◌, ℕ, zero, suc, take, get_or, ◌-◌, ◌+◌, ◌<◌}
-use Rattle.std.proofs.Common.{◌≤◌, true, false, not, [], ◌∷◌, ◌++◌, length}
-use Rattle.std.proofs.Common.{Some, None, arith, refl, sym, ◌∙◌}
+use Rattle.std.proofs.Common.{◌≡◌, ℕ, zero, suc, take, get_or, ◌-◌, ◌+◌, ◌<◌, ◌≤◌, true, false, not, [], ◌∷◌, ◌++◌, length, Some, None}
+use Rattle.std.proofs.Common.{arith, refl, sym, ◌∙◌}
 use Rattle.std.specs.Prelude.{nat_lt, nat_le, IsTrue, All}
 use Rattle.std.specs.List.{position_or_len, list_any}
 use Rattle.std.proofs.lemmas.List.{length_push}
@@ -19,8 +18,7 @@ use Rattle.ordup_log.proofs.SpanLemmas.{span-inner, span-longer, span-count}
 use Rattle.ordup_limits.specs.Sizes.{most_limits, greatest_amount}
 use Rattle.ordup_limits.specs.declared.limit.Limit.{Limit}
 use Rattle.ordup_limits.specs.Limits.{Limits, keeps, within, first_passed, is_same_scope, are_on_one_scope, AreLimits}
-use Rattle.ordup_limits.specs.Limits.{LongerHistoriesKeepLimits, LaterSpansKeepLimits, EmptySpansKeepLimits}
-use Rattle.ordup_limits.specs.Limits.{LimitsAreTests}
+use Rattle.ordup_limits.specs.Limits.{LongerHistoriesKeepLimits, LaterSpansKeepLimits, EmptySpansKeepLimits, LimitsAreTests}
 
 -- an empty span weighs nothing, so it keeps each limit
 pub within-empty : EmptySpansKeepLimits

@@ -1,13 +1,12 @@
 -- Masks, and the bits that are put into them.
-use Rattle.std.proofs.Common.{◌≡◌, ℕ, ◌+◌, ◌*◌, ◌<◌, ◌≤◌, ◌^◌, ◌%◌, Bool, true, false}
-use Rattle.std.proofs.Common.{List, length, get_or, arith, sym, refl, ap, ◌∙◌, inl, inr}
-use Rattle.std.specs.Prelude.{◌==◌, ◌&&◌, ◌||◌, nat_lt}
-use Rattle.std.specs.Prelude.{bit_and}
+use Rattle.std.proofs.Common.{◌≡◌, ℕ, ◌+◌, ◌*◌, ◌<◌, ◌≤◌, ◌^◌, ◌%◌, Bool, true, false, List, length, get_or, arith, sym, refl, ap, ◌∙◌, inl}
+use Rattle.std.proofs.Common.{inr, w64}
+use Rattle.std.specs.Prelude.{◌==◌, ◌&&◌, ◌||◌, nat_lt, bit_and}
 use Rattle.std.specs.Int.{bit_at, bit_not}
-use Rattle.std.proofs.Common.{w64}
 use mir.Val.{bits}
 use Rattle.std.proofs.lemmas.Nat.{and_le_l}
 use Rattle.std.specs.Int.RustNames.{bit_or}
+use Rattle.std.proofs.Math.Bool.{and-false, and-true, or-false}
 use Rattle.std.proofs.Math.ListN.{set}
 use Rattle.std.proofs.Math.Pow.{pow-lt}
 use Rattle.std.proofs.lemmas.Bool.{cases_eq, cases_lt, eq-eqb, ne_eqb, lt-ltb, le-ltb, false≢true}
@@ -41,31 +40,19 @@ has_bit-put masks object limit at old few same there is x i = elim (cases_eq x o
   | inr other ↦ rw (get_or-set_other masks at x _ 0 (λ e. other (e ∙ same)), ne_eqb object x (λ e. other (sym e))) refl
 ]
 
-and_false : (b : Bool) → (b && false) ≡ false
-and_false true = refl
-and_false false = refl
-
-and_true : (b : Bool) → (b && true) ≡ b
-and_true true = refl
-and_true false = refl
-
-or_false : (b : Bool) → (b || false) ≡ b
-or_false true = refl
-or_false false = refl
-
 -- with one limit more the bits of the limits so far are those that count
 pub bits-next : (counts : ℕ → Bool) (old new : Bool) (i place : ℕ) → new ≡ ((counts place && (i == place)) || old)
     → old ≡ (nat_lt i place && counts i)
     → new ≡ (nat_lt i (place + 1) && counts i)
 bits-next counts old new i place put before = elim (cases_lt i place) [
   | inl lt ↦
-      put ∙ rw (before, ne_eqb i place (omega arith), lt-ltb i place lt, lt-ltb i (place + 1) (omega arith), and_false (counts place)) refl
+      put ∙ rw (before, ne_eqb i place (omega arith), lt-ltb i place lt, lt-ltb i (place + 1) (omega arith), and-false (counts place)) refl
   | inr le ↦ elim (cases_eq i place) [
     | inl same ↦
-        put ∙ rw (before, eq-eqb i place same, le-ltb i place le, lt-ltb i (place + 1) (omega arith), and_true (counts place))
-        (or_false (counts place) ∙ ap counts (sym same))
+        put ∙ rw (before, eq-eqb i place same, le-ltb i place le, lt-ltb i (place + 1) (omega arith), and-true (counts place))
+        (or-false (counts place) ∙ ap counts (sym same))
     | inr other ↦
-        put ∙ rw (before, ne_eqb i place other, le-ltb i place le, le-ltb i (place + 1) (omega arith), and_false (counts place)) refl
+        put ∙ rw (before, ne_eqb i place other, le-ltb i place le, le-ltb i (place + 1) (omega arith), and-false (counts place)) refl
   ]
 ]
 

@@ -38,29 +38,24 @@ eqb-sym a b = elim (cases_eq a b) [
 weight_of-same : (p q : ℕ → Bool) (m : List Change) (ds : List ℕ)
     → ((k : ℕ) (c : Change) → k < length m → p (get_or m k c).object ≡ q (get_or m k c).object)
     → weight_of p m ds ≡ weight_of q m ds
-weight_of-same p q [] ds same = refl
-weight_of-same p q (c ∷ m) [] same = refl
 weight_of-same p q (c ∷ m) (d ∷ ds) same =
     omega (arith, ap (λ b. share b d) (same 0 c (omega arith)), weight_of-same p q m ds (λ k e lt. same (suc k) e (omega arith)))
+weight_of-same p q _ _ same = refl
 
 -- a test that none passes
 weight_of-none : (m : List Change) (ds : List ℕ) → weight_of (λ z. false) m ds ≡ 0
-weight_of-none [] ds = refl
-weight_of-none (c ∷ m) [] = refl
 weight_of-none (c ∷ m) (d ∷ ds) = omega (arith, weight_of-none m ds)
+weight_of-none _ _ = refl
 
 -- a test that is either of two
 weight_of-either : (p q r : ℕ → Bool) (m : List Change) (ds : List ℕ)
     → ((z d : ℕ) → share (r z) d ≡ share (p z) d + share (q z) d)
     → weight_of r m ds ≡ weight_of p m ds + weight_of q m ds
-weight_of-either p q r [] ds each = refl
-weight_of-either p q r (c ∷ m) [] each = refl
 weight_of-either p q r (c ∷ m) (d ∷ ds) each = omega (arith, each c.object d, weight_of-either p q r m ds each)
+weight_of-either p q r _ _ each = refl
 
 -- no more than all changes
 weight_of-most : (p : ℕ → Bool) (m : List Change) (ds : List ℕ) → weight_of p m ds ≤ sum ds
-weight_of-most p [] ds = omega arith
-weight_of-most p (c ∷ m) [] = omega arith
 weight_of-most p (c ∷ m) (d ∷ ds) =
     let rest : weight_of p m ds ≤ sum ds = weight_of-most p m ds in
     let more = sum_by-cons (λ (x : ℕ). x) d ds in
@@ -68,6 +63,7 @@ weight_of-most p (c ∷ m) (d ∷ ds) =
       | inl counts ↦ rw counts (omega (arith, rest, more))
       | inr other ↦ rw other (omega (arith, rest, more))
     ]
+weight_of-most p _ _ = omega arith
 
 -- ---- the changes of a message set
 
@@ -199,31 +195,29 @@ span-from_start h groups s a b le =
       ap (λ k. sum_from (weight h groups s) k (b - a)) start,
     )
 
+-- the same by the changes that count on a scope, where those of each update weigh what it weighs
+span-counted : (h : History) (groups : GroupList) (s : Scope) (a b : ℕ) → a ≤ b
+    → ((j : ℕ) → j < a + (b - a) → weight_where (counts_on groups s) h j ≡ weight h groups s j)
+    → span h groups s 0 a + sum_from (weight_where (counts_on groups s) h) a (b - a) ≡ span h groups s 0 b
+span-counted h groups s a b le same =
+    omega (
+      arith,
+      span-from_start h groups s a b le,
+      sum_from-same (weight_where (counts_on groups s) h) (weight h groups s) a (b - a) same,
+    )
+
 -- the changes of the updates after a place that count on a scope
 weighed-more : (h : History) → IsLegalHistory h → (groups : GroupList) → All (λ g. IsGroup g.1) groups → (s : Scope)
     → IsScopeKnown (length h.start) groups s → (a b : ℕ) → a ≤ b → b ≤ length h.sets
     → weighed h groups s a + sum_from (weight_where (counts_on groups s) h) a (b - a) ≡ weighed h groups s b
 weighed-more h legal groups are (Object x) known a b le last =
-    omega (
-      arith,
-      span-from_start h groups (Object x) a b le,
-      sum_from-same (weight_where (counts_on groups (Object x)) h) (weight h groups (Object x)) a (b - a)
-          (λ j lt. weight_where-object h legal x j (omega arith)),
-    )
+    span-counted h groups (Object x) a b le (λ j lt. weight_where-object h legal x j (omega arith))
 weighed-more h legal groups are (Group g) known a b le last =
-    omega (
-      arith,
-      span-from_start h groups (Group g) a b le,
-      sum_from-same (weight_where (counts_on groups (Group g)) h) (weight h groups (Group g)) a (b - a)
-          (λ j lt. weight_where-group h legal (members_at groups g) j (are g ([], []) known).distinct (omega arith)),
-    )
+    span-counted h groups (Group g) a b le
+    (λ j lt. weight_where-group h legal (members_at groups g) j (are g ([], []) known).distinct (omega arith))
 weighed-more h legal groups are Everything known a b le last =
-    omega (
-      arith,
-      span-from_start h groups Everything a b le,
-      sum_from-same (weight_where (counts_on groups Everything) h) (weight h groups Everything) a (b - a)
-          (λ j lt. weight_of-all (serial h j) (get_or h.sets j []) ∙ sum-at h legal j (omega arith)),
-    )
+    span-counted h groups Everything a b le
+    (λ j lt. weight_of-all (serial h j) (get_or h.sets j []) ∙ sum-at h legal j (omega arith))
 weighed-more h legal groups are Count known a b le last =
     omega (
       arith,
@@ -246,21 +240,21 @@ HasBitsBelow-masks groups limits masks n same masked x i below past few =
     masked x i (record { scope = Count; amount = 0 }) below few ∙ rw (le-ltb i (length limits) (omega arith)) refl
 
 -- totals that are raised by the changes that have the bits of the masks
-pub AreTotals-raised : (h : History) (groups : GroupList) (limits : Limits) (masks old new : List ℕ) (a b : ℕ) → IsLegalHistory h
-    → All (λ g. IsGroup g.1) groups → AreScopesKnown (length h.start) groups limits → length h.start ≤ most_objects
-    → length limits ≤ most_limits → AreMasks groups limits masks → a ≤ b → b ≤ length h.sets → length old ≡ length limits
-    → AreTotals h groups limits a old
+pub AreTotals-raised : {h : History} {groups : GroupList} {limits : Limits} (masks : List ℕ) {old new : List ℕ} {a b : ℕ}
+    → IsLegalHistory h → All (λ g. IsGroup g.1) groups → AreScopesKnown (length h.start) groups limits
+    → length h.start ≤ most_objects → length limits ≤ most_limits → AreMasks groups limits masks → a ≤ b → b ≤ length h.sets
+    → length old ≡ length limits → AreTotals h groups limits a old
     → ((i : ℕ) → get_or new i 0 ≤ greatest_weight * b)
     → ((i : ℕ) → i < length old → get_or new i 0 ≡ get_or old i 0 + sum_from (weight_where (has_bit masks i) h) a (b - a))
     → AreTotals h groups limits b new
-AreTotals-raised h groups limits masks old new a b legal are known few_objects few_limits masked le last count before few raised = record {
+AreTotals-raised {h} {groups} {limits} masks {a = a} {b = b} legal are known objects most masked le last count before few raised = record {
   few = few;
   each = λ i d lt. (let s = (get_or limits i d).scope in
       let same : sum_from (weight_where (has_bit masks i) h) a (b - a) ≡ sum_from (weight_where (counts_on groups s) h) a (b - a) =
       sum_from-same _ _ a (b - a)
       (λ j below. weight_of-same (has_bit masks i) (counts_on groups s) (get_or h.sets j [])
       (distances_of (serial h j) (get_or h.sets j []))
-      (λ k c at. counts_at groups limits masks few_limits masked (get_or (get_or h.sets j []) k c).object i d
+      (λ k c at. counts_at groups limits masks most masked (get_or (get_or h.sets j []) k c).object i d
       (let there = (legal.known j [] (omega arith) k c at).0 in omega (arith, there)) lt)) in
       raised i (omega arith)
       ∙ (let first = before.each i d lt in let more = weighed-more h legal groups are s (known i d lt) a b le last in

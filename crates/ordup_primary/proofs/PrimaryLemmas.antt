@@ -1,14 +1,13 @@
 -- What a call does to a primary.
-use Rattle.std.proofs.Common.{◌≡◌, ℕ, zero, suc, ◌+◌, ◌-◌, ◌<◌, ◌≤◌, ◌==◌}
-use Rattle.std.proofs.Common.{Bool, true, false, not, List, [], ◌∷◌, ◌++◌, length, map, get_or}
+use Rattle.std.proofs.Common.{◌≡◌, ℕ, zero, suc, ◌+◌, ◌-◌, ◌<◌, ◌≤◌, ◌==◌, Bool, true, false, not, List, [], ◌∷◌, ◌++◌, length, map, get_or}
 use Rattle.std.proofs.Common.{replicate, arith, refl, sym, ap, ◌∙◌, inl, inr, ◌⊎◌}
 use Rattle.std.specs.Prelude.{Some, None, All, nat_lt, ◌&&◌}
 use Rattle.std.specs.List.{list_any}
 use Rattle.std.proofs.Math.Bool.{and-true}
 use Rattle.std.proofs.Math.ListN.{set, length-set, get_or-append}
 use Rattle.std.proofs.lemmas.Bool.{cases_Bool, cases_eq, cases_lt, eq-eqb, lt-ltb, ne_eqb, false≢true}
-use Rattle.std.proofs.lemmas.List.{get_or-set_other, get_or_default, length_push, get_or_push, get_or-map}
-use Rattle.std.proofs.lemmas.List.{length-map, get_or-replicate, length-replicate, map-set}
+use Rattle.std.proofs.lemmas.List.{get_or-set_other, get_or_default, length_push, get_or_push, get_or-map, length-map, get_or-replicate}
+use Rattle.std.proofs.lemmas.List.{length-replicate, map-set}
 use Rattle.std.proofs.lemmas.Grind.{get_or-set_at}
 use Rattle.ordup_objects.specs.declared.change.Change.{Change}
 use Rattle.ordup_objects.specs.States.{is_legal}
@@ -26,8 +25,8 @@ use Rattle.ordup_limits.proofs.LimitLemmas.{within-empty, within-later, within-l
 use Rattle.ordup_primary.specs.Declarations.{Declared, AreDeclared, limits_of, is_ready, start_refusal}
 use Rattle.ordup_primary.specs.Settling.{last_place}
 use Rattle.ordup_primary.specs.Primaries.{SiteProgress, PrimaryState, first_progress, progress_at, reported_at, is_within, forced_now}
-use Rattle.ordup_primary.specs.Primaries.{waiting_now, acked_after, decided_at, send_refusal, settle_refusal, Decides}
-use Rattle.ordup_primary.specs.Primaries.{IsSiteSound, IsPrimary, HasFewestRounds, acked_or_waiting, settled_as}
+use Rattle.ordup_primary.specs.Primaries.{waiting_now, acked_after, decided_at, send_refusal, settle_refusal, Decides, IsSiteSound}
+use Rattle.ordup_primary.specs.Primaries.{IsPrimary, HasFewestRounds, acked_or_waiting, settled_as}
 use Rattle.ordup_primary.specs.PrimaryInside.{progress_of, state_of}
 use Rattle.ordup_primary.specs.declared.primary.Primary.TheInside.{Inside}
 use Rattle.ordup_primary.specs.declared.progress.Progress.{Progress}

@@ -1,9 +1,8 @@
 -- Lists of the numbers for which a test passes, and rounds.
-use Rattle.std.proofs.Common.{◌≡◌, ℕ, zero, suc, ◌<◌, ◌≤◌, ◌==◌, Bool, true, false}
-use Rattle.std.proofs.Common.{not, List, [], ◌∷◌, ◌++◌, length, ◌-◌, arith, refl, sym}
+use Rattle.std.proofs.Common.{◌≡◌, ℕ, zero, suc, ◌<◌, ◌≤◌, ◌==◌, Bool, false, not, List, [], ◌∷◌, ◌++◌, length, ◌-◌, arith, refl, sym}
 use Rattle.std.proofs.Common.{ap, ◌∙◌, inl, inr}
-use Rattle.std.specs.Prelude.{◌||◌}
 use Rattle.std.specs.List.{list_any}
+use Rattle.std.proofs.Math.Bool.{or-false}
 use Rattle.std.proofs.lemmas.Bool.{cases_Bool, cases_lt, ne_eqb, eq-eqb}
 use Rattle.std.proofs.lemmas.List.{length_push, get_or_push}
 use Rattle.std.proofs.lemmas.List.Folds.{list_any-append}
@@ -23,10 +22,6 @@ where_below-none test (suc n) s lt e = elim (cases_Bool (test n)) [
   ]
 ]
 
-or_false : (b : Bool) → (b || false) ≡ b
-or_false true = refl
-or_false false = refl
-
 -- no number from n on is listed
 not_listed : (test : ℕ → Bool) (n s : ℕ) → n ≤ s → list_any (λ t. t == s) (where_below test n) ≡ false
 not_listed test zero s le = refl
@@ -40,7 +35,7 @@ pub where_below-listed : (test : ℕ → Bool) (n s : ℕ) → s < n → list_an
 where_below-listed test zero s lt = absurd (omega arith)
 where_below-listed test (suc n) s lt = elim (cases_lt s n) [
   | inl before ↦ elim (cases_Bool (test n)) [
-    | inl passes ↦ rw (passes, list_any-append, where_below-listed test n s before, ne_eqb n s (omega arith)) (or_false (test s))
+    | inl passes ↦ rw (passes, list_any-append, where_below-listed test n s before, ne_eqb n s (omega arith)) (or-false (test s))
     | inr fails ↦ rw fails (where_below-listed test n s before)
   ]
   | inr past ↦ (let here : s ≡ n = omega arith in elim (cases_Bool (test n)) [

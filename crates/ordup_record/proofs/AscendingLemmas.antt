@@ -1,16 +1,10 @@
 -- Ascending lists of places are no longer than their greatest place.
-use Rattle.std.proofs.Common.{◌≡◌, ℕ, zero, suc, ◌+◌, ◌-◌, ◌<◌, ◌≤◌, List, length, map, get_or, arith, inl, inr}
-use Rattle.std.specs.Prelude.{All}
-use Rattle.std.specs.List.Sorted.{IsStrictlyIncreasing}
-use Rattle.std.proofs.lemmas.Bool.{cases_lt}
-use Rattle.std.proofs.lemmas.List.{length-map}
-use Rattle.std.proofs.lemmas.List.Elements.{All-map}
-use Rattle.ordup_rounds.specs.Rounds.{AreRoundPlaces}
-use Rattle.ordup_record.specs.Records.{AreReportChanges}
+use Rattle.ordup_record.proofs.Common.{◌+◌, ◌-◌, ◌<◌, ◌≡◌, ◌≤◌, All, All-map, AreReportChanges, AreRoundPlaces, arith, cases_lt, get_or}
+use Rattle.ordup_record.proofs.Common.{inl, inr, IsStrictlyIncreasing, length, length-map, List, map, suc, zero, ℕ}
 use Rattle.ordup_record.specs.declared.report_change.ReportChange.{ReportChange}
 
 -- ascending numbers are above their places
-above : (xs : List ℕ) → IsStrictlyIncreasing xs → All (λ x. 0 < x) xs → (i : ℕ) → i < length xs → i < get_or xs i 0
+pub above : (xs : List ℕ) → IsStrictlyIncreasing xs → All (λ x. 0 < x) xs → (i : ℕ) → i < length xs → i < get_or xs i 0
 above xs rise some zero there = some 0 0 there
 above xs rise some (suc i) there =
     let before : i < get_or xs i 0 = above xs rise some i (omega arith) in

@@ -1,12 +1,7 @@
 -- Certificates over tests and reports that are the same at the decided places.
-use Rattle.std.proofs.Common.{◌≡◌, ℕ, ◌<◌, ◌≤◌, Bool, List, arith, ap, ◌∙◌}
-use Rattle.std.specs.Prelude.{max}
-use Rattle.std.proofs.lemmas.List.Elements.{All-weaker}
-use Rattle.ordup_rounds.specs.Schedules.{Schedule, StaysWithin, base, awaited_place}
-use Rattle.ordup_rounds.specs.Windows.{IsWindow}
-use Rattle.ordup_rounds.specs.Rounds.{full_rounds}
-use Rattle.ordup_rounds.specs.Fewest.{IsCertificate}
-use Rattle.ordup_rounds.specs.declared.window.Window.{Window}
+use Rattle.ordup_record.proofs.Common.{◌<◌, ◌∙◌, ◌≡◌, ◌≤◌, All-weaker, ap, arith, awaited_place, base, Bool, full_rounds, IsCertificate}
+use Rattle.ordup_record.proofs.Common.{IsWindow, List, max, StaysWithin, Window, ℕ}
+use Rattle.ordup_rounds.specs.Schedules.{Schedule}
 
 module _ (v w : ℕ → ℕ → Bool) (f g : ℕ → ℕ) (d : ℕ) (tests : (a b : ℕ) → b ≤ d → w a b ≡ v a b)
     (reports : (k : ℕ) → 0 < k → k ≤ d → g k ≡ f k) where

@@ -1,20 +1,16 @@
 -- The changes of what a site had reported, and what they tell.
-use Rattle.std.proofs.Common.{◌≡◌, ℕ, zero, suc, ◌+◌, ◌-◌, ◌<◌, ◌≤◌, List}
-use Rattle.std.proofs.Common.{[], ◌∷◌, ◌++◌, length, map, get_or, inl, inr}
-use Rattle.std.proofs.Common.{arith, refl, sym, ap, ◌∙◌}
-use Rattle.std.specs.Prelude.{◌==◌, All, AllPairs}
-use Rattle.std.specs.List.Sorted.{IsStrictlyIncreasing}
-use Rattle.std.proofs.lemmas.Bool.{cases_Bool, cases_lt, le-leb, lt-leb, eqb-true, eqb-false}
-use Rattle.std.proofs.lemmas.List.{get_or-map, length-map, map_push}
-use Rattle.std.proofs.lemmas.List.Elements.{All-nil, All-push, All-weaker}
+use Rattle.ordup_record.proofs.Common.{◌++◌, ◌+◌, ◌-◌, ◌<◌, ◌∙◌, ◌∷◌, ◌≡◌, ◌≤◌, [], All, All-nil, All-push, All-weaker, AllPairs, ap}
+use Rattle.ordup_record.proofs.Common.{AreReportChanges, arith, cases_Bool, cases_lt, eqb-true, get_or, get_or-map, inl, inr}
+use Rattle.ordup_record.proofs.Common.{IsStrictlyIncreasing, le-leb, length, length-map, List, lt-leb, map, most_updates, refl, report_at}
+use Rattle.ordup_record.proofs.Common.{report_changes, reported_before_or_at, suc, sym, zero, ℕ}
+use Rattle.std.specs.Prelude.{◌==◌}
+use Rattle.std.proofs.lemmas.Bool.{eqb-false}
+use Rattle.std.proofs.lemmas.List.{map_push}
 use Rattle.std.proofs.lemmas.List.Quantifiers.{all_pairs_push}
 use Rattle.std.proofs.lemmas.List.Sums.{fold-append}
-use Rattle.ordup_objects.specs.Sizes.{most_updates}
 use Rattle.ordup_log.specs.Steps.{steps_of}
 use Rattle.ordup_primary.specs.Settling.{report_at as report_in}
 use Rattle.ordup_primary.specs.Reports.{reported_from_start}
-use Rattle.ordup_record.specs.Records.{report_at, AreReportChanges}
-use Rattle.ordup_record.specs.RecordsOf.{reported_before_or_at, report_changes}
 use Rattle.ordup_record.specs.declared.report_change.ReportChange.{ReportChange}
 
 -- a later change at the end does not count

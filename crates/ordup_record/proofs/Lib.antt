@@ -1,3 +1,4 @@
+pub mod Common
 pub mod RecordLemmas
 pub mod ReportLemmas
 pub mod SameLemmas

@@ -1,16 +1,9 @@
 -- The parts of a record.
-use Rattle.std.proofs.Common.{◌≡◌, ◌<◌, Bool, true, false, List, [], ◌∷◌, ◌++◌}
-use Rattle.std.proofs.Common.{length, get_or, length-append, arith, refl, sym, ap, ◌∙◌}
-use Rattle.std.specs.Prelude.{IsTrue, ◌==◌}
-use Rattle.std.proofs.Math.Seq.{get_or-append_seam}
-use Rattle.std.proofs.lemmas.Bool.{false≢true, eqb-true}
-use Rattle.std.proofs.lemmas.List.{append-nil, nil_from_length}
-use Rattle.ordup_objects.specs.declared.change.Change.{Change}
-use Rattle.ordup_objects.specs.States.{is_legal}
-use Rattle.ordup_objects.specs.Serial.{History, serial, with_more, IsLegalHistory}
-use Rattle.ordup_objects.proofs.SerialLemmas.{serial-longer}
-use Rattle.ordup_record.specs.Records.{history_of}
-use Rattle.ordup_record.specs.RecordInside.{state_of, AreParts}
+use Rattle.ordup_record.proofs.Common.{◌++◌, ◌<◌, ◌∙◌, ◌∷◌, ◌≡◌, [], ap, append-nil, AreParts, arith, Bool, Change, eqb-true, false}
+use Rattle.ordup_record.proofs.Common.{false≢true, get_or, get_or-append_seam, History, history_of, is_legal, IsLegalHistory, IsTrue}
+use Rattle.ordup_record.proofs.Common.{length, List, nil_from_length, refl, serial, serial-longer, state_of, sym, true, with_more}
+use Rattle.std.proofs.Common.{length-append}
+use Rattle.std.specs.Prelude.{◌==◌}
 use Rattle.ordup_record.specs.declared.record.RecordParts.{RecordParts}
 
 -- where the updates after those of a history begin with one that is not legal, a legal history has none of them

@@ -1,25 +1,16 @@
 -- The record of a site of a primary.
-use Rattle.std.proofs.Common.{◌≡◌, ℕ, ℤ, zero, suc, ◌-◌, ◌<◌, ◌≤◌, true, List, [], length, take, drop}
-use Rattle.std.proofs.Common.{arith, refl, sym, ap, ◌∙◌, length-take}
-use Rattle.std.specs.Prelude.{All, nat_lt}
-use Rattle.std.proofs.lemmas.Bool.{and_parts, ltb-true}
-use Rattle.std.proofs.lemmas.List.{take-append-drop, length-map, append-nil}
-use Rattle.ordup_objects.specs.Names.{is_name}
-use Rattle.ordup_objects.specs.Sizes.{most_objects, most_groups, most_updates}
-use Rattle.ordup_objects.specs.Serial.{History, with_more, IsLegalHistory}
-use Rattle.ordup_objects.specs.Tables.{AreDistinct, AreNames, initial_state}
-use Rattle.ordup_log.specs.Groups.{IsGroup}
-use Rattle.ordup_rounds.specs.Fewest.{IsCertificate}
-use Rattle.ordup_limits.specs.Limits.{AreLimits, AreScopesKnown, within}
+use Rattle.ordup_record.proofs.Common.{◌-◌, ◌<◌, ◌∙◌, ◌≡◌, ◌≤◌, [], All, and_parts, ap, append-nil, AreDistinct, AreLimits, AreNames}
+use Rattle.ordup_record.proofs.Common.{AreParts, AreReportChanges, AreScopesKnown, arith, drop, History, history_of, initial_state, is_name}
+use Rattle.ordup_record.proofs.Common.{is_within, IsCertificate, IsGroup, IsLegalHistory, IsRecord, IsValid, length, length-map, limits_of}
+use Rattle.ordup_record.proofs.Common.{List, ltb-true, most_groups, most_objects, most_updates, nat_lt, progress_at, record_of, RecordState}
+use Rattle.ordup_record.proofs.Common.{refl, report_at, report_changes, reported_at, reported_before_or_at, state_of, suc, sym, take}
+use Rattle.ordup_record.proofs.Common.{take-append-drop, true, with_more, zero, ℕ, ℤ}
+use Rattle.std.proofs.Common.{length-take}
+use Rattle.ordup_limits.specs.Limits.{within}
 use Rattle.ordup_limits.proofs.LimitLemmas.{within-longer}
-use Rattle.ordup_primary.specs.Declarations.{AreGroupsKnown, limits_of}
-use Rattle.ordup_primary.specs.Primaries.{PrimaryState, IsPrimary, IsSiteSound, HasFewestRounds, first_progress, progress_at, reported_at}
-use Rattle.ordup_primary.specs.Primaries.{is_within as is_within_at}
-use Rattle.ordup_record.specs.Records.{RecordState, IsRecord, AreReportChanges, history_of, is_within, report_at}
-use Rattle.ordup_record.specs.RecordInside.{state_of, AreParts}
+use Rattle.ordup_primary.specs.Declarations.{AreGroupsKnown}
+use Rattle.ordup_primary.specs.Primaries.{PrimaryState, IsPrimary, IsSiteSound, HasFewestRounds, first_progress, is_within as is_within_at}
 use Rattle.ordup_record.specs.declared.record.RecordParts.{RecordParts}
-use Rattle.ordup_record.specs.RecordsOf.{record_of, reported_before_or_at, report_changes}
-use Rattle.ordup_record.specs.Validity.{IsValid}
 use Rattle.ordup_record.proofs.AscendingLemmas.{rounds-few}
 use Rattle.ordup_record.proofs.ChangeLemmas.{AreReportsRising, changes-are, report_at-changes}
 use Rattle.ordup_record.proofs.CertificateLemmas.{certificate-same}

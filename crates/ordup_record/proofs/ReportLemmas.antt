@@ -1,14 +1,12 @@
 -- What was reported at a place, by the changes up to it.
-use Rattle.std.proofs.Common.{◌≡◌, ℕ, zero, suc, ◌-◌, ◌<◌, ◌≤◌, true, false}
-use Rattle.std.proofs.Common.{List, [], ◌∷◌, length, map, get_or, fold, inl, inr}
-use Rattle.std.proofs.Common.{leb, arith, refl, sym}
-use Rattle.std.specs.Prelude.{nat_le, if◌then◌else◌, All, AllPairs}
-use Rattle.std.specs.List.Sorted.{IsStrictlyIncreasing, IsNonDecreasingBy, IsPartitionPoint}
-use Rattle.std.proofs.lemmas.Bool.{cases_lt, le-leb, lt-leb, leb-true, leb-false}
-use Rattle.std.proofs.lemmas.List.{get_or-map, length-map}
-use Rattle.std.proofs.lemmas.List.Elements.{All-head, All-tail}
-use Rattle.std.proofs.lemmas.List.Kept.{AllPairs-from_increasing}
-use Rattle.ordup_record.specs.Records.{report_at}
+use Rattle.ordup_record.proofs.Common.{◌-◌, ◌<◌, ◌∷◌, ◌≡◌, ◌≤◌, [], All, All-tail, AllPairs, AllPairs-from_increasing, arith, cases_lt}
+use Rattle.ordup_record.proofs.Common.{false, get_or, get_or-map, inl, inr, IsStrictlyIncreasing, le-leb, leb, leb-true, length, length-map}
+use Rattle.ordup_record.proofs.Common.{List, lt-leb, map, nat_le, refl, report_at, suc, sym, true, zero, ℕ}
+use Rattle.std.proofs.Common.{fold}
+use Rattle.std.specs.Prelude.{if◌then◌else◌}
+use Rattle.std.specs.List.Sorted.{IsNonDecreasingBy, IsPartitionPoint}
+use Rattle.std.proofs.lemmas.Bool.{leb-false}
+use Rattle.std.proofs.lemmas.List.Elements.{All-head}
 use Rattle.ordup_record.specs.declared.report_change.ReportChange.{ReportChange}
 
 -- what was reported at a place, where it was this before the changes

@@ -1,9 +1,9 @@
 -- Lists that are the same, entry by entry.
-use Rattle.std.proofs.Common.{◌≡◌, ℕ, zero, suc, ◌+◌, ◌<◌, Bool, true, false}
-use Rattle.std.proofs.Common.{Some, List, [], ◌∷◌, length, get_or, Decides, inl, inr}
-use Rattle.std.proofs.Common.{arith, refl, sym, ap, ◌∙◌}
-use Rattle.std.specs.Prelude.{IsTrue, slice_get, option_map}
-use Rattle.std.proofs.lemmas.Bool.{cases_lt, false≢true}
+use Rattle.ordup_record.proofs.Common.{◌+◌, ◌<◌, ◌∙◌, ◌∷◌, ◌≡◌, [], ap, arith, Bool, bytes_eq-Decides, cases_lt, false, false≢true, get_or}
+use Rattle.ordup_record.proofs.Common.{inl, inr, IsTrue, length, List, option_map, refl, slice_get, Some, suc, sym, true, zero, ℕ}
+use Rattle.std.proofs.Common.{Decides}
+use Rattle.std.specs.Prelude.{bytes_eq}
+use Rattle.std.proofs.lemmas.Bool.Decides.{Decides-at}
 
 -- one entry more that is the same
 pub same-more : {X : Type 0} (xs ys : List X) (i : ℕ) → ((k : ℕ) (d : X) → k < i → get_or xs k d ≡ get_or ys k d)
@@ -41,3 +41,10 @@ same-pair p q first second one same two = (λ is. same-parts p.0 q.0 p.1 q.1 (on
 pub other-pair : {V : Type 0} (p q : List ℕ × V) (first : Bool) → Decides first (p.0 ≡ q.0) → first ≡ false
     → Decides first (p ≡ q)
 other-pair p q first one other = (λ is. absurd (false≢true (sym other ∙ is)), λ e. one.1 (ap (λ r. r.0) e))
+
+-- whether tables have the same name at a place
+pub named-at : {V : Type 0} (xs ys : List (List ℕ × V)) (i : ℕ) (a b : List ℕ) (same : Bool) → i < length xs → i < length ys
+    → option_map (λ (e : List ℕ × V). e.0) (slice_get xs i) ≡ Some a → option_map (λ (e : List ℕ × V). e.0) (slice_get ys i) ≡ Some b
+    → same ≡ bytes_eq a b → (d : List ℕ × V) → Decides same ((get_or xs i d).0 ≡ (get_or ys i d).0)
+named-at xs ys i a b same here there first second is d =
+    rw (first-at xs i d a here first, first-at ys i d b there second) at (Decides-at same _ is (bytes_eq-Decides a b))

@@ -1,7 +1,6 @@
 -- Columns as the code reads them.
-use Rattle.std.proofs.Common.{◌≡◌, ◌==◌, false, ap, refl, ℕ, ◌^◌, ◌<◌, List, [], ◌∷◌, length, Some, None, ℤ, pos, negsuc, arith}
-use Rattle.std.specs.Prelude.{option_and_then}
-use Rattle.std.proofs.lemmas.Bool.Decides.{nat_tests}
+use Rattle.ordup_record.proofs.Common.{◌<◌, ◌==◌, ◌^◌, ◌∷◌, ◌≡◌, [], ap, arith, false, length, List, nat_tests, negsuc, None}
+use Rattle.ordup_record.proofs.Common.{option_and_then, pos, refl, Some, ℕ, ℤ}
 use Rattle.csv.specs.Records.{field_at}
 use Rattle.ordup_grammar.specs.Numbers.{amount_of, number_of}
 use Rattle.ordup_grammar.proofs.Decimals.{signed_decimal-number_of}

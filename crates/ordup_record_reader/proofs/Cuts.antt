@@ -1,14 +1,11 @@
 -- Bytes that are let through up to a limit.
-use Rattle.std.proofs.Common.{◌≡◌, ◌∙◌, ap, sym, refl, subst, ℕ, ◌+◌, ◌-◌, ◌<◌, ◌≤◌, true, false, List, [], ◌∷◌, ◌++◌, length, take, arith}
-use Rattle.std.proofs.Common.{append_assoc, inl, inr, Some, None, Option}
-use Rattle.std.specs.Prelude.{IfSome, nat_lt, option_map}
+use Rattle.ordup_record.proofs.Common.{◌++◌, ◌+◌, ◌-◌, ◌<◌, ◌∙◌, ◌∷◌, ◌≡◌, ◌≤◌, [], ap, append_assoc, arith, cases_lt, false, IfSome, inl}
+use Rattle.ordup_record.proofs.Common.{inr, length, length-append, List, nat_lt, nat_tests, None, Option, option_map, RecordState, refl}
+use Rattle.ordup_record.proofs.Common.{Some, subst, sym, take, take-append-le, true, ℕ}
 use Rattle.std.specs.Io.KnownBytes.{Consumes, IsAtEnd}
 use Rattle.std.proofs.Math.Seq.{take-append-add}
-use Rattle.std.proofs.lemmas.Bool.{cases_lt}
-use Rattle.std.proofs.lemmas.Bool.Decides.{nat_tests}
-use Rattle.std.proofs.lemmas.List.{length-append, length-take, take-append-le}
+use Rattle.std.proofs.lemmas.List.{length-take}
 use Rattle.csv.specs.Reading.{strip_bom}
-use Rattle.ordup_record.specs.Records.{RecordState}
 use Rattle.ordup_rows.specs.Texts.{IsMalformedAt, TextTells}
 use Rattle.ordup_record_reader.specs.Limits.{cut_at, within}
 use Rattle.ordup_record_reader.proofs.LimitLemmas.{told_whole}

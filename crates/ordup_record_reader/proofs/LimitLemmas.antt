@@ -1,17 +1,12 @@
 -- A text that was cut off tells no record: it has a row with a byte that no row of a record has.
-use Rattle.std.proofs.Common.{◌≡◌, ◌∙◌, ap, sym, refl, subst, ℕ, ◌<◌, ◌==◌, true, false, Bool, List, [], ◌∷◌, ◌++◌, length, take}
-use Rattle.std.proofs.Common.{inl, inr, Some, None, Option, ◌⊎◌, if◌then◌else◌}
-use Rattle.std.specs.Prelude.{◌||◌, ◌&&◌, nat_lt}
-use Rattle.std.specs.List.{list_any}
-use Rattle.std.proofs.Math.Bool.{or-true}
-use Rattle.std.proofs.lemmas.Bool.{cases_Bool, false≢true, ltb-true}
-use Rattle.std.proofs.lemmas.List.Folds.{list_any-append}
+use Rattle.ordup_record.proofs.Common.{◌&&◌, ◌++◌, ◌<◌, ◌==◌, ◌||◌, ◌∙◌, ◌∷◌, ◌≡◌, ◌⊎◌, [], ap, Bool, cases_Bool, false, false≢true}
+use Rattle.ordup_record.proofs.Common.{if◌then◌else◌, inl, inr, length, List, list_any, list_any-append, ltb-true, nat_lt, None, Option}
+use Rattle.ordup_record.proofs.Common.{or-true, RecordState, refl, Some, subst, sym, take, true, ℕ}
 use Rattle.csv.specs.Machine.{Read, field_after, fields_after, in_field, is_end, next_record, start_field, start_record, step}
 use Rattle.csv.specs.Reading.{AreRecords, Reached, default_config, is_bom, strip_bom}
 use Rattle.csv.specs.declared.parser.Action.{Action}
 use Rattle.csv.specs.declared.parser.State.{State}
 use Rattle.csv.specs.declared.parser.State.TheVariants as st
-use Rattle.ordup_record.specs.Records.{RecordState}
 use Rattle.ordup_rows.specs.Rows.{Row}
 use Rattle.ordup_rows.specs.Texts.{TextTells}
 use Rattle.ordup_rows.proofs.PlainLemmas.{has_zero, rows_without_zero}
@@ -21,13 +16,7 @@ use Rattle.ordup_record_reader.specs.Limits.{cut_at}
 
 abbrev is_open : State → Bool
 is_open st.InComment = false
-is_open st.StartRecord = true
-is_open st.StartField = true
-is_open st.InField = true
-is_open st.InQuoted = true
-is_open st.InEscape = true
-is_open st.AfterQuote = true
-is_open st.AfterCr = true
+is_open _ = true
 
 -- a state is one or another
 open_state : (b : Bool) (s t : State) → is_open s ≡ true → is_open t ≡ true → is_open (if b then s else t) ≡ true
@@ -76,14 +65,8 @@ GoesOn (Some p) = (has_zero p.0 ≡ true) ⊎ ((is_open p.1 ≡ true) × (rest :
 at_last : (s : State) (fields : List (List ℕ)) (field : List ℕ) → is_open s ≡ true
     → GoesOn (next_record default_config s fields field (0 ∷ []))
 unfolding next_record
-at_last st.StartRecord fields field live = inl (last_zero fields field)
-at_last st.StartField fields field live = inl (last_zero fields field)
-at_last st.InField fields field live = inl (last_zero fields field)
-at_last st.InQuoted fields field live = inl (last_zero fields field)
-at_last st.InEscape fields field live = inl (last_zero fields field)
-at_last st.AfterQuote fields field live = inl (last_zero fields field)
 at_last st.InComment fields field live = absurd cc
-at_last st.AfterCr fields field live = inl (last_zero fields field)
+at_last _ fields field live = inl (last_zero fields field)
 
 -- one byte before the others
 go_on_if : (b : Bool) (p : Read) (o : Option Read) → (b ≡ true → GoesOn (Some p)) → GoesOn o → GoesOn (if b then Some p else o)

@@ -1,13 +1,10 @@
 -- How a reading of rows goes on.
-use Rattle.std.proofs.Common.{◌≡◌, ◌∙◌, ap, sym, refl, subst, ℕ, ◌+◌, List, [], ◌∷◌, ◌++◌, length, arith}
-use Rattle.std.proofs.Common.{Option, Some, None, true, false, inl, inr}
-use Rattle.std.specs.Prelude.{IfSome, option_and_then, option_map}
-use Rattle.std.proofs.lemmas.List.{length_push}
+use Rattle.ordup_record.proofs.Common.{◌++◌, ◌+◌, ◌∙◌, ◌∷◌, ◌≡◌, [], ap, arith, false, IfSome, inl, inr, length, length_push, List, None}
+use Rattle.ordup_record.proofs.Common.{Option, option_and_then, option_map, RecordState, refl, Some, subst, sym, true, ℕ}
 use Rattle.csv.specs.Reading.{Reached, ReadRecord, default_config, reader_config, reader_state, source_of, strip_bom}
 use Rattle.csv.specs.declared.parser.State.TheVariants as st
 use Rattle.csv.specs.declared.reader.Reader.{Reader}
 use Rattle.csv.proofs.ReadFacts.{rows-end, rows-more}
-use Rattle.ordup_record.specs.Records.{RecordState}
 use Rattle.ordup_record_reader.specs.Reading.{IsFresh, IsTaken}
 use Rattle.ordup_rows.specs.Texts.{BeginsWithRows, HasRows, IsMalformedAt, TextTells}
 use Rattle.ordup_rows.specs.Rows.{Row}

@@ -1,42 +1,26 @@
 -- Rows that the code does not take, or takes by what their columns mean.
-use Rattle.std.proofs.Common.{◌≡◌, ◌≢◌, ◌∙◌, ap, sym, refl, ℕ, zero, suc, ◌+◌, ◌<◌, ◌==◌, ◌&&◌, not, Bool, true, false, List, [], ◌∷◌}
-use Rattle.std.proofs.Common.{◌++◌, length, Option, Some, None, ℤ, get_or, arith}
-use Rattle.std.proofs.Common.{if◌then◌else◌, Result, Ok, Err, inl, inr}
-use Rattle.std.specs.Prelude.{option_and_then, option_map, IfOk, nat_lt, is_some}
-use Rattle.std.specs.Bool.{then_some}
-use Rattle.std.specs.Option.{is_none}
+use Rattle.ordup_record.proofs.Common.{◌++◌, ◌+◌, ◌==◌, ◌∙◌, ◌∷◌, ◌≡◌, [], ap, are_in_range, are_known, Bool, cases_Bool}
+use Rattle.ordup_record.proofs.Common.{Change, Err, false, group_refusal, GroupList, IfOk, if◌then◌else◌, in_range, inl, inr}
+use Rattle.ordup_record.proofs.Common.{is_name, is_none, is_none_or, is_some, IsRefusal, last_members, length, limit_refusal, List}
+use Rattle.ordup_record.proofs.Common.{member_refusal, most_objects, nat_lt, nil_from_length, None, not, NumberOp, object_refusal, Objects}
+use Rattle.ordup_record.proofs.Common.{Ok, Op, op_with, Option, option_and_then, option_map, place_of, RecordState, refl, Result, Scope}
+use Rattle.ordup_record.proofs.Common.{set_refusal, Some, sym, Take, then_some, true, ℕ, ℤ}
+use Rattle.std.proofs.Common.{◌≢◌, ◌&&◌}
 use Rattle.std.proofs.Math.Bool.{and-false}
-use Rattle.std.proofs.lemmas.Bool.{cases_Bool}
 use Rattle.ordup_grammar.specs.ChangeWords.{change_of}
 use Rattle.ordup_grammar.specs.Numbers.{number_of}
 use Rattle.ordup_grammar.specs.declared.change_words.ChangeWord.{ChangeWord}
-use Rattle.ordup_objects.specs.declared.change.NumberOp.{NumberOp}
 use Rattle.ordup_objects.specs.declared.change.NumberOp.TheVariants.{Add}
 use Rattle.ordup_grammar.specs.declared.operation.Operation.{Operation}
 use Rattle.ordup_grammar.specs.declared.operation.Operation.TheVariants as word
-use Rattle.ordup_objects.specs.Ops.{is_none_or, op_with}
 use Rattle.ordup_objects.specs.Ops as ops
-use Rattle.ordup_objects.specs.Names.{is_name}
-use Rattle.ordup_objects.specs.Sizes.{most_objects}
-use Rattle.ordup_objects.specs.Refusals.{IsRefusal}
-use Rattle.ordup_objects.specs.Sets.{are_in_range, are_known, set_refusal}
-use Rattle.ordup_objects.specs.States.{in_range}
-use Rattle.ordup_objects.specs.Tables.{Objects, object_refusal, place_of}
-use Rattle.ordup_objects.specs.declared.change.Change.{Change}
-use Rattle.ordup_objects.specs.declared.change.Op.{Op}
-use Rattle.ordup_objects.specs.declared.change.Op.TheVariants.{Take}
 use Rattle.ordup_objects.specs.declared.refusal.Refusal.{Refusal}
 use Rattle.ordup_objects.specs.declared.refusal.Refusal.TheVariants.{BadName, NameTaken, OutOfRange, TooMany, UnknownObject, NoMemory}
-use Rattle.ordup_log.specs.Groups.{GroupList, group_refusal, last_members, member_refusal}
-use Rattle.ordup_log.specs.declared.scope.Scope.{Scope}
-use Rattle.ordup_limits.specs.Limits.{limit_refusal}
-use Rattle.ordup_record.specs.Records.{RecordState}
-use Rattle.ordup_record_reader.specs.ColumnViews.{change_in_range, number_in_range, op_in_range, sound_change, value_of}
+use Rattle.ordup_record_reader.specs.ColumnViews.{change_in_range, op_in_range, sound_change, value_of}
 use Rattle.ordup_rows.specs.Columns.{Columns, change_by, change_in, op_in, natural_of, scope_of, writes}
 use Rattle.ordup_rows.specs.Stages.{has_objects, is_before_changes, is_before_limits, is_last_group, member_count, membership_refusal}
-use Rattle.ordup_rows.specs.Stages.{with_limit, with_member_row, with_membership}
-use Rattle.ordup_rows.specs.Stages.{is_before_members, is_before_reports, last_set, with_any_change, with_change_row, with_object}
-use Rattle.ordup_rows.specs.Stages.{with_value}
+use Rattle.ordup_rows.specs.Stages.{with_limit, with_member_row, with_membership, is_before_members, is_before_reports, last_set}
+use Rattle.ordup_rows.specs.Stages.{with_any_change, with_change_row, with_object, with_value}
 use Rattle.ordup_rows.proofs.Columns.{kept}
 
 -- what is refused is not taken
@@ -53,10 +37,6 @@ not_kept true x e = absurd cc
 
 lost : {X : Type 0} (allowed b : Bool) (x : X) → b ≡ false → then_some (allowed && b) x ≡ None
 lost allowed b x e = rw (e, and-false allowed) refl
-
-length_zero : {X : Type 0} (xs : List X) → length xs ≡ 0 → xs ≡ []
-length_zero [] e = refl
-length_zero (x ∷ xs) e = absurd cc
 
 early : {X : Type 0} (a b d : Bool) (x : X) → b ≡ false → then_some (a && b && d) x ≡ None
 early a b d x e = rw (e, and-false a) refl
@@ -76,27 +56,31 @@ far_object r c z far =
     (third_test (is_name c.second) (is_some (place_of c.second r.objects)) (in_range z) BadName NameTaken OutOfRange
     (if length r.objects == most_objects then Some TooMany else None) far)
 
-no_object_by : (r : RecordState) (c : Columns) (o : Option ℤ) → option_and_then number_in_range o ≡ None
-    → option_and_then (with_value r c) o ≡ None
-no_object_by r c None e = refl
-no_object_by r c (Some z) e = far_object r c z (not_kept (in_range z) z e)
+-- what comes of a value, where the value counts only if it passes a test
+module _ {A B : Type 0} (p : A → Bool) (f : A → Option B) where
+  none_by : ((x : A) → p x ≡ false → f x ≡ None) → (o : Option A) → option_and_then (λ x. then_some (p x) x) o ≡ None
+      → option_and_then f o ≡ None
+  none_by far None e = refl
+  none_by far (Some x) e = far x (not_kept (p x) x e)
+
+  some_by : (o : Option A) (y : A) → option_and_then (λ x. then_some (p x) x) o ≡ Some y → f y ≡ option_and_then f o
+  some_by None y e = absurd cc
+  some_by (Some x) y e = ap f (sym (kept (p x) x y e).1)
 
 pub no_object : (r : RecordState) (c : Columns) → value_of c.third ≡ None → None ≡ with_object r c
-no_object r c e = sym (no_object_by r c (number_of c.third) e)
-
-object_by : (r : RecordState) (c : Columns) (o : Option ℤ) (v : ℤ) → option_and_then number_in_range o ≡ Some v
-    → with_value r c v ≡ option_and_then (with_value r c) o
-object_by r c None v e = absurd cc
-object_by r c (Some z) v e = ap (with_value r c) (sym (kept (in_range z) z v e).1)
+no_object r c e = sym (none_by in_range (with_value r c) (far_object r c) (number_of c.third) e)
 
 pub object_with : (r : RecordState) (c : Columns) (v : ℤ) → value_of c.third ≡ Some v → with_value r c v ≡ with_object r c
-object_with r c v e = object_by r c (number_of c.third) v e
+object_with r c v e = some_by in_range (with_value r c) (number_of c.third) v e
 
 -- ---- changes
 
 -- a change, where its number is in range
+abbrev is_within : Change → Bool
+is_within c = is_none_or (ops.number_of c.op) in_range
+
 abbrev within : Change → Option Change
-within c = then_some (is_none_or (ops.number_of c.op) in_range) c
+within c = then_some (is_within c) c
 
 number_within : (x : ℕ) (op : NumberOp) (n : ℤ) (b : Bool) → in_range n ≡ b
     → option_and_then (λ (o : Op). Some (record { object = x; op = o })) (option_map (op_with op) (then_some b n))
@@ -130,11 +114,6 @@ change_within : (objects : Objects) (o : Option ChangeWord) → option_and_then 
 change_within objects None = refl
 change_within objects (Some w) = word_within objects w (place_of w.object objects)
 
-second_test : (a b : Bool) (x y : Refusal) (rest : Option Refusal) → b ≡ false
-    → is_none (if not a then Some x else if not b then Some y else rest) ≡ false
-second_test false b x y rest e = refl
-second_test true b x y rest e = rw e refl
-
 far_last : (m : List Change) (c : Change) → is_none_or (ops.number_of c.op) in_range ≡ false → are_in_range (m ++ c ∷ []) ≡ false
 far_last [] c e = rw e refl
 far_last (d ∷ m) c e = rw (far_last m c e) (and-false _)
@@ -142,7 +121,8 @@ far_last (d ∷ m) c e = rw (far_last m c e) (and-false _)
 -- a set with a change whose number is out of range is refused
 far_set : (n : ℕ) (m : List Change) (c : Change) → is_none_or (ops.number_of c.op) in_range ≡ false
     → is_none (set_refusal n (m ++ c ∷ [])) ≡ false
-far_set n m c e = second_test (are_known n (m ++ c ∷ [])) (are_in_range (m ++ c ∷ [])) UnknownObject OutOfRange _ (far_last m c e)
+far_set n m c e =
+    third_test (are_known n (m ++ c ∷ [])) false (are_in_range (m ++ c ∷ [])) UnknownObject NoMemory OutOfRange _ (far_last m c e)
 
 far_change : (d : ℕ) (r : RecordState) (c : Columns) (change : Change) → is_none_or (ops.number_of change.op) in_range ≡ false
     → with_any_change d r c change ≡ None
@@ -154,29 +134,22 @@ far_change d r c change far = elim (cases_Bool (writes c.second 1)) [
       (far_set (length r.objects) (last_set r.sets) change far)))
 ]
 
-no_change_by : (d : ℕ) (r : RecordState) (c : Columns) (o : Option Change) → option_and_then within o ≡ None
-    → option_and_then (with_any_change d r c) o ≡ None
-no_change_by d r c None e = refl
-no_change_by d r c (Some change) e = far_change d r c change (not_kept _ change e)
-
 pub no_change : (d : ℕ) (r : RecordState) (c : Columns) → change_in_range r.objects c.third ≡ None → None ≡ with_change_row d r c
-no_change d r c e = sym (no_change_by d r c (change_by r.objects c.third) (sym (change_within r.objects (change_of c.third)) ∙ e))
-
-change_from : (d : ℕ) (r : RecordState) (c : Columns) (o : Option Change) (change : Change) → option_and_then within o ≡ Some change
-    → with_any_change d r c change ≡ option_and_then (with_any_change d r c) o
-change_from d r c None change e = absurd cc
-change_from d r c (Some other) change e = ap (with_any_change d r c) (sym (kept _ other change e).1)
+no_change d r c e =
+    sym (none_by is_within (with_any_change d r c) (far_change d r c) (change_by r.objects c.third)
+    (sym (change_within r.objects (change_of c.third)) ∙ e))
 
 pub change_with : (d : ℕ) (r : RecordState) (c : Columns) (change : Change) → change_in_range r.objects c.third ≡ Some change
     → with_any_change d r c change ≡ with_change_row d r c
 change_with d r c change e =
-    change_from d r c (change_by r.objects c.third) change (sym (change_within r.objects (change_of c.third)) ∙ e)
+    some_by is_within (with_any_change d r c) (change_by r.objects c.third) change
+    (sym (change_within r.objects (change_of c.third)) ∙ e)
 
 -- without an update there is none to be gone on with
 pub no_next_change : (d : ℕ) (r : RecordState) (c : Columns) (change : Change) → writes c.second 1 ≡ false → length r.sets ≡ 0
     → None ≡ with_any_change d r c change
 no_next_change d r c change other none =
-    let empty : r.sets ≡ [] = length_zero r.sets none in
+    let empty : r.sets ≡ [] = nil_from_length r.sets none in
     let size : writes c.second (length (last_set r.sets) + 1) ≡ false = rw empty other in
     sym (rw other (early (is_before_reports r && writes c.first (length r.sets)) (writes c.second (length (last_set r.sets) + 1))
     (is_none (set_refusal (length r.objects) (last_set r.sets ++ change ∷ []))) _ size))
@@ -211,9 +184,3 @@ pub limit_by : (r : RecordState) (c : Columns) (s : Scope) (amount : ℕ) → sc
     (record r { limits = r.limits ++ (record { scope = s; amount = amount }) ∷ [] })
     ≡ with_limit r c
 limit_by r c s amount e f = rw (e, f) refl
-
--- what is read in place of an element that is missing does not matter where none is
-pub get_any : {X : Type 0} (xs : List X) (i : ℕ) (d e : X) → i < length xs → get_or xs i d ≡ get_or xs i e
-get_any [] i d e lt = absurd (omega (arith, lt))
-get_any (x ∷ xs) zero d e lt = refl
-get_any (x ∷ xs) (suc i) d e lt = get_any xs i d e (omega (arith, lt))

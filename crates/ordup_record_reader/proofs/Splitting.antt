@@ -1,13 +1,10 @@
 -- Updates that are split where the first is not legal.
-use Rattle.std.proofs.Common.{◌≡◌, ◌∙◌, ap, sym, subst, false, List, [], ◌∷◌, ◌++◌, length, arith, append_assoc, Result, Ok, Err}
-use Rattle.std.specs.Prelude.{All, IfOk}
+use Rattle.ordup_record.proofs.Common.{◌++◌, ◌∙◌, ◌∷◌, ◌≡◌, [], All, ap, append-nil, append_assoc, AreKnown, arith, Change, Err, false}
+use Rattle.ordup_record.proofs.Common.{History, IfOk, initial_state, length, length-map, length_push, List, Objects, Ok, Result, serial}
+use Rattle.ordup_record.proofs.Common.{State, subst, sym}
 use Rattle.std.specs.Result.{is_err}
-use Rattle.std.proofs.lemmas.List.{append-nil, length-map, length_push}
-use Rattle.ordup_objects.specs.Sets.{AreKnown}
-use Rattle.ordup_objects.specs.Serial.{History, serial, with_update}
-use Rattle.ordup_objects.specs.States.{State, after}
-use Rattle.ordup_objects.specs.Tables.{Objects, initial_state}
-use Rattle.ordup_objects.specs.declared.change.Change.{Change}
+use Rattle.ordup_objects.specs.Serial.{with_update}
+use Rattle.ordup_objects.specs.States.{after}
 use Rattle.ordup_objects.proofs.SerialLemmas.{length-serial, serial-last}
 use Rattle.ordup_record_reader.specs.Splits.{BeginsIllegal}
 use Rattle.ordup_rows.proofs.ToldSoFar.{all_at}

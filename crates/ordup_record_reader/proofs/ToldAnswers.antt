@@ -1,8 +1,6 @@
 -- A text that tells a record is answered by it.
-use Rattle.std.proofs.Common.{◌≡◌, refl, subst, ℕ, ◌+◌, ◌≤◌, List, length, arith, Some, Option, Ok, Err}
-use Rattle.std.specs.Prelude.{IfSome}
+use Rattle.ordup_record.proofs.Common.{◌+◌, ◌≡◌, ◌≤◌, arith, Err, IfSome, length, List, Ok, Option, RecordState, refl, Some, subst, ℕ}
 use Rattle.csv.specs.Reading.{strip_bom}
-use Rattle.ordup_record.specs.Records.{RecordState}
 use Rattle.ordup_rows.specs.Texts.{IsMalformedAt, TextTells}
 use Rattle.ordup_rows.proofs.TextLemmas.{texts_tell_one_record, told_texts_are_not_malformed}
 use Rattle.ordup_record_reader.specs.Answers.{AnswersRecord}

@@ -1,10 +1,8 @@
 -- Rows tell one record, or have one first bad row.
-use Rattle.std.proofs.Common.{◌≡◌, ◌∙◌, ap, sym, refl, subst, ℕ, ◌+◌, ◌-◌, ◌<◌, ◌≤◌, List, [], ◌∷◌, ◌++◌, length, take, drop, arith}
-use Rattle.std.proofs.Common.{append_assoc, inl, inr, Some, None, Option, ◌⊎◌}
-use Rattle.std.specs.Prelude.{option_and_then}
-use Rattle.std.proofs.lemmas.Bool.{cases_lt}
-use Rattle.std.proofs.lemmas.List.{append-nil, take-append-drop, take-take}
-use Rattle.ordup_record.specs.Records.{RecordState}
+use Rattle.ordup_record.proofs.Common.{◌++◌, ◌+◌, ◌-◌, ◌<◌, ◌∙◌, ◌∷◌, ◌≡◌, ◌≤◌, ◌⊎◌, [], ap, append-nil, append_assoc, arith, cases_lt}
+use Rattle.ordup_record.proofs.Common.{drop, inl, inr, length, List, None, Option, option_and_then, RecordState, refl, Some, subst, sym}
+use Rattle.ordup_record.proofs.Common.{take, take-append-drop, ℕ}
+use Rattle.std.proofs.lemmas.List.{take-take}
 use Rattle.ordup_rows.specs.Laws.{BadRowsAreOne, RowsTellOrAreBad, ToldRowsAreNotBad}
 use Rattle.ordup_rows.specs.Rows.{Row}
 use Rattle.ordup_rows.specs.Stages.{Stage, closed, run, step, unread}

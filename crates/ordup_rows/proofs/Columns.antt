@@ -1,19 +1,13 @@
 -- What columns spell, and that each value has one spelling.
-use Rattle.std.proofs.Common.{◌≡◌, ◌∙◌, ap, sym, refl, ℕ, ◌^◌, ◌<◌, true, false, Bool, List, [], ◌∷◌, ◌++◌, length, drop, Option, Some}
-use Rattle.std.proofs.Common.{None, option_map, if◌then◌else◌, ℤ, pos, negsuc, codes}
-use Rattle.std.specs.Prelude.{option_and_then, nat_eq}
-use Rattle.std.specs.Bool.{then_some}
-use Rattle.std.specs.Cmp.Lexicographic.{pointwise}
-use Rattle.std.specs.Fmt.{decimal}
-use Rattle.std.specs.Str.{bytes_eq}
-use Rattle.std.proofs.lemmas.Bool.{eqb-true, eq-eqb}
-use Rattle.std.proofs.lemmas.List.{length-map, take-append-drop}
+use Rattle.ordup_record.proofs.Common.{◌&&◌, ◌++◌, ◌<◌, ◌^◌, ◌∙◌, ◌∷◌, ◌≡◌, [], and_parts, ap, Bool, bytes_eq, bytes_eq-Decides, codes}
+use Rattle.ordup_record.proofs.Common.{decimal, drop, eq-eqb, eqb-true, false, if◌then◌else◌, length, length-map, List, names_of, negsuc}
+use Rattle.ordup_record.proofs.Common.{None, Option, option_and_then, place_of, pointwise, pos, refl, same_Some, Some, sym}
+use Rattle.ordup_record.proofs.Common.{take-append-drop, then_some, true, ℕ, ℤ}
+use Rattle.std.proofs.Common.{option_map}
+use Rattle.std.specs.Prelude.{nat_eq}
 use Rattle.std.proofs.lemmas.List.Quantifiers.{position-Some}
-use Rattle.std.proofs.lemmas.Option.{same_Some}
-use Rattle.std.proofs.lemmas.Slice.Eq.{bytes_eq-Decides}
 use Rattle.ordup_grammar.specs.Numbers.{number_of}
 use Rattle.ordup_grammar.proofs.Decimals.{number_of-signed_decimal, signed_decimal-number_of}
-use Rattle.ordup_objects.specs.Tables.{names_of, place_of}
 use Rattle.ordup_rows.specs.Columns.{Columns, columns_of, natural, natural_of, is_number, writes, has_prefix, after_prefix}
 use Rattle.ordup_rows.specs.RowKinds.{kind_of, kind_text}
 use Rattle.ordup_rows.specs.Rows.{Row, name_at}
@@ -35,6 +29,14 @@ module _ {A B : Type 0} where
 pub kept : {A : Type 0} (b : Bool) (x y : A) → then_some b x ≡ Some y → (b ≡ true) × (x ≡ y)
 kept true x y h = (refl, same_Some x y h)
 kept false x y h = absurd cc
+
+-- the tests of a chain
+module _ {a b c : Bool} where
+  pub parts_3 : (a && b && c) ≡ true → (a ≡ true) × (b ≡ true) × (c ≡ true)
+  parts_3 h = let (front, last) = and_parts _ _ h in let (first, second) = and_parts _ _ front in (first, second, last)
+
+  pub parts_4 : {d : Bool} → (a && b && c && d) ≡ true → (a ≡ true) × (b ≡ true) × (c ≡ true) × (d ≡ true)
+  parts_4 h = let (front, last) = and_parts _ _ h in let (first, second, third) = parts_3 front in (first, second, third, last)
 
 -- a value that comes of one of two branches
 pub branch : {A P : Type 0} (b : Bool) (o rest : Option A) (y : A) → (b ≡ true → o ≡ Some y → P) → (rest ≡ Some y → P)

@@ -1,22 +1,38 @@
 -- Rows that are written one by one.
-use Rattle.std.proofs.Common.{◌≡◌, ◌∙◌, ap, sym, refl, ℕ, ◌+◌, ◌<◌, List, [], ◌∷◌, ◌++◌, length, drop, get_or}
-use Rattle.std.proofs.Common.{append_assoc, add-one, drop-cons, Some, None, Option}
-use Rattle.std.specs.Prelude.{option_map, slice_get}
-use Rattle.std.proofs.lemmas.List.{get_or-map}
-use Rattle.std.proofs.lemmas.Option.{get_or_from_slice_get, slice_get-map}
+use Rattle.ordup_record.proofs.Common.{◌++◌, ◌+◌, ◌<◌, ◌∙◌, ◌∷◌, ◌≡◌, [], ap, append_assoc, Change, drop, get_or, get_or_from_slice_get}
+use Rattle.ordup_record.proofs.Common.{GroupList, length, List, map, names_of, None, Objects, Option, option_map, RecordState, refl}
+use Rattle.ordup_record.proofs.Common.{slice_get, Some, sym, ℕ}
+use Rattle.std.proofs.Common.{add-one, drop-cons}
+use Rattle.std.specs.Global.{Global}
+use Rattle.std.specs.Prelude.{Vec}
+use Rattle.std.proofs.lemmas.Option.{slice_get-map}
 use Rattle.csv.specs.Writing.{default_writer, row_text}
-use Rattle.ordup_objects.specs.Tables.{Objects, names_of}
-use Rattle.ordup_log.specs.Groups.{GroupList}
-use Rattle.ordup_objects.specs.declared.change.Change.{Change}
-use Rattle.ordup_rows.specs.Forming.{csv_text}
-use Rattle.ordup_rows.specs.Rows.{Row, change_row, change_rows, counted, member_row, member_rows, name_at}
+use Rattle.csv.specs.declared.writer.Writer.{Writer}
+use Rattle.ordup_rows.specs.Forming.{IsClean, csv_text, text_so_far}
+use Rattle.ordup_rows.specs.Rows.{Row, change_row, change_rows, counted, limit_row, member_row, member_rows, name_at, object_row}
+use Rattle.ordup_rows.specs.Rows.{report_row, round_row, window_row}
+use Rattle.ordup_rows.proofs.Growth.{rows_after}
+
+-- rows were written up to some rest of all of them
+abbrev pub IsUpto : Writer (Vec ℕ Global) → Writer (Vec ℕ Global) → List Row → List Row → Type 0
+IsUpto old now rest all =
+    IsClean now × (option_map (λ t. t ++ csv_text rest) (text_so_far now) ≡ option_map (λ t. t ++ csv_text all) (text_so_far old))
 
 -- a text that is written before the rest
-pub text_step : (mid new all : Option (List ℕ)) (now rest : List ℕ) → new ≡ option_map (λ t. t ++ now) mid
+text_step : (mid new all : Option (List ℕ)) (now rest : List ℕ) → new ≡ option_map (λ t. t ++ now) mid
     → option_map (λ t. t ++ (now ++ rest)) mid ≡ all
     → option_map (λ t. t ++ rest) new ≡ all
 text_step None new all now rest e h = ap (option_map (λ t. t ++ rest)) e ∙ h
 text_step (Some t) new all now rest e h = ap (option_map (λ t. t ++ rest)) e ∙ ap (λ x. Some x) (append_assoc t now rest) ∙ h
+
+-- the next of the rest was written
+pub more_written : (mid new : Writer (Vec ℕ Global)) (now rest next : List ℕ) (all : Option (List ℕ))
+    → IsClean mid × (option_map (λ t. t ++ rest) (text_so_far mid) ≡ all) → IsClean new
+    → text_so_far new ≡ option_map (λ t. t ++ now) (text_so_far mid) → rest ≡ now ++ next
+    → IsClean new × (option_map (λ t. t ++ next) (text_so_far new) ≡ all)
+more_written mid new now rest next all upto clean text more =
+    let whole = ap (λ rest. option_map (λ t. t ++ rest) (text_so_far mid)) (sym more) ∙ upto.1 in
+    (clean, text_step (text_so_far mid) (text_so_far new) all now next text whole)
 
 pub csv_text-append : (rows more : List Row) → csv_text (rows ++ more) ≡ csv_text rows ++ csv_text more
 csv_text-append [] more = refl
@@ -56,33 +72,15 @@ pub name_at-is : {V : Type 0} (table : List (List ℕ × V)) (i : ℕ) (name : L
     → name_at table i ≡ name
 name_at-is {V} table i name h = get_or_from_slice_get (names_of table) i name [] (slice_get-map (λ (e : List ℕ × V). e.0) table i ∙ h)
 
-pub name_in : {V : Type 0} (table : List (List ℕ × V)) (i : ℕ) (name : List ℕ) (d : List ℕ × V) → i < length table
-    → option_map (λ (e : List ℕ × V). e.0) (slice_get table i) ≡ Some name → (get_or table i d).0 ≡ name
-name_in {V} table i name d lt h = sym (get_or-map (λ (e : List ℕ × V). e.0) table i d [] lt) ∙ name_at-is table i name h
+-- rows that were written after a text
+abbrev Adds : Option (List ℕ) → List Row → Option (List ℕ) → Type 0
+Adds old rows new = new ≡ option_map (λ t. t ++ csv_text rows) old
 
--- eight texts, written one after the other from nothing
-pub eight_texts : (t0 t1 t2 t3 t4 t5 t6 t7 t8 : Option (List ℕ)) (a b c d e f g h : List ℕ) → t0 ≡ Some []
-    → t1 ≡ option_map (λ t. t ++ a) t0 → t2 ≡ option_map (λ t. t ++ b) t1 → t3 ≡ option_map (λ t. t ++ c) t2
-    → t4 ≡ option_map (λ t. t ++ d) t3
-    → t5 ≡ option_map (λ t. t ++ e) t4 → t6 ≡ option_map (λ t. t ++ f) t5 → t7 ≡ option_map (λ t. t ++ g) t6
-    → t8 ≡ option_map (λ t. t ++ h) t7
-    → t8 ≡ Some (a ++ b ++ c ++ d ++ e ++ f ++ g ++ h)
-eight_texts t0 t1 t2 t3 t4 t5 t6 t7 t8 a b c d e f g h e0 e1 e2 e3 e4 e5 e6 e7 e8 = rw (e8, e7, e6, e5, e4, e3, e2, e1, e0) refl
-
--- the rows of seven lists
-pub csv_text-seven : (a b c d e f g : List Row)
-    → csv_text (a ++ b ++ c ++ d ++ e ++ f ++ g) ≡ csv_text a ++ csv_text b ++ csv_text c ++ csv_text d ++ csv_text e ++ csv_text f
-    ++ csv_text g
-csv_text-seven a b c d e f g =
-    rw (
-      csv_text-append (a ++ b ++ c ++ d ++ e ++ f) g,
-      csv_text-append (a ++ b ++ c ++ d ++ e) f,
-      csv_text-append (a ++ b ++ c ++ d) e,
-      csv_text-append (a ++ b ++ c) d,
-      csv_text-append (a ++ b) c,
-      csv_text-append a b,
-    ) refl
-
--- a first text before seven others
-pub first_of_eight : (a b c d e f g h : List ℕ) → a ++ b ++ c ++ d ++ e ++ f ++ g ++ h ≡ a ++ (b ++ c ++ d ++ e ++ f ++ g ++ h)
-first_of_eight a b c d e f g h = simp append_assoc
+-- the rows of a record, written from nothing after a first row
+pub all_written : (head : Row) (r : RecordState) (t0 t1 t2 t3 t4 t5 t6 t7 t8 : Option (List ℕ)) → t0 ≡ Some []
+    → t1 ≡ option_map (λ t. t ++ row_text default_writer head) t0 → Adds t1 (counted object_row 1 r.objects) t2
+    → Adds t2 (member_rows r.objects 1 r.groups) t3 → Adds t3 (counted (limit_row r.objects r.groups) 1 r.limits) t4
+    → Adds t4 (change_rows r.objects 1 r.sets) t5 → Adds t5 (map report_row r.reports) t6 → Adds t6 (counted round_row 1 r.rounds) t7
+    → Adds t7 (counted window_row 1 r.windows) t8 → t8 ≡ Some (csv_text (head ∷ rows_after (length r.sets) r))
+all_written head r t0 t1 t2 t3 t4 t5 t6 t7 t8 e0 e1 e2 e3 e4 e5 e6 e7 e8 =
+    rw (e8, e7, e6, e5, e4, e3, e2, e1, e0) (ap (λ t. Some t) (simp (csv_text-append, append_assoc)))

@@ -1,18 +1,10 @@
 -- Rows that were taken can go on; so the first row that is not taken is the first bad one.
-use Rattle.std.proofs.Common.{◌≡◌, ◌∙◌, ap, sym, refl, subst, ℕ, zero, suc, pos, ◌+◌, ◌-◌, ◌<◌, ◌≤◌, List, [], ◌∷◌, ◌++◌, length, take}
-use Rattle.std.proofs.Common.{arith, append_assoc, inl, inr, Some, None, codes}
-use Rattle.std.specs.Prelude.{option_and_then}
-use Rattle.std.specs.Fmt.{decimal, signed_decimal}
+use Rattle.ordup_record.proofs.Common.{◌++◌, ◌+◌, ◌-◌, ◌<◌, ◌∙◌, ◌∷◌, ◌≡◌, [], Add, All-cons, All-nil, ap, append-nil, append_assoc}
+use Rattle.ordup_record.proofs.Common.{AreKnown, arith, cases_lt, Change, codes, decimal, inl, inr, IsKnown, IsRecord, IsSet, length}
+use Rattle.ordup_record.proofs.Common.{length-append, length_push, List, lt-ltb, nil_from_length, None, option_and_then, pos, RecordState}
+use Rattle.ordup_record.proofs.Common.{refl, same_Some, signed_decimal, Some, subst, suc, sym, take, zero, ℕ}
 use Rattle.std.proofs.Math.Seq.{take-append_seam}
-use Rattle.std.proofs.lemmas.Bool.{cases_lt, lt-ltb}
-use Rattle.std.proofs.lemmas.List.{append-nil, length-append, length_push}
-use Rattle.std.proofs.lemmas.List.Elements.{All-cons, All-nil}
-use Rattle.std.proofs.lemmas.Option.{same_Some}
 use Rattle.ordup_grammar.proofs.Decimals.{number_of-signed_decimal}
-use Rattle.ordup_objects.specs.Sets.{AreKnown, IsKnown, IsSet}
-use Rattle.ordup_objects.specs.declared.change.Change.{Change}
-use Rattle.ordup_objects.specs.declared.change.Op.TheVariants.{Add}
-use Rattle.ordup_record.specs.Records.{IsRecord, RecordState}
 use Rattle.ordup_rows.specs.Columns.{Columns}
 use Rattle.ordup_rows.specs.Laws.{WhatIsNotClosedIsMissing, WhatIsNotTakenIsBad, WhatIsTakenCanGoOn}
 use Rattle.ordup_rows.specs.Rows.{Row, change_text, rows_of, rows_so_far}
@@ -102,16 +94,12 @@ first_by : (q : RecordState) → q.objects ≡ [] → IsBeforeMembers q → with
 first_by q e0 (e1, (e2, (e3, (e4, (e5, e6))))) =
     rw (e0, e1, e2, e3, e4, e5, e6, number_of-signed_decimal (pos 0) (omega arith), writes-decimal 1 (omega arith)) refl
 
-no_length : {X : Type 0} (xs : List X) → length xs ≤ 0 → xs ≡ []
-no_length [] none = refl
-no_length (x ∷ xs) none = absurd (omega (arith, none))
-
 begin_told : (decided : ℕ) (q : RecordState) → IsTold decided q → Begins (rows_so_far decided q)
 begin_told decided q is = elim is.begun [
   | inl some ↦ (let count = is.sets.count in fill (decided - length q.sets) decided q is some (omega arith))
   | inr before ↦ elim (cases_lt 0 (length q.objects)) [
     | inl some ↦ (let count = is.sets.count in fill (decided - length q.sets) decided q is some (omega arith))
-    | inr none ↦ (let e : q.objects ≡ [] = no_length q.objects none in
+    | inr none ↦ (let e : q.objects ≡ [] = nil_from_length q.objects (omega arith) in
         let more = take_row decided q is first_columns kind.Object (with_x q) refl (first_by q e before) in
         let count = is.sets.count in
         one_before (rows_so_far decided q) _ _ more.rows

@@ -1,19 +1,13 @@
 -- The rows of a record that is told one row more.
-use Rattle.std.proofs.Common.{◌≡◌, ◌∙◌, ap, sym, refl, ℕ, suc, ℤ, ◌+◌, ◌-◌, ◌<◌, true, List, [], ◌∷◌, ◌++◌, length, map, arith}
-use Rattle.std.proofs.Common.{append_assoc, ◌==◌}
+use Rattle.ordup_record.proofs.Common.{◌++◌, ◌+◌, ◌-◌, ◌<◌, ◌==◌, ◌∙◌, ◌∷◌, ◌≡◌, [], and_parts, ap, append-nil, append_assoc, arith, Change}
+use Rattle.ordup_record.proofs.Common.{drop, eqb-true, get_or-append_seam, GroupList, last_members, length, length_push, Limit, List}
+use Rattle.ordup_record.proofs.Common.{map-append, nil_from_length, Objects, RecordState, refl, sym, true, Window, with_member, ℕ, ℤ}
 use Rattle.std.specs.Prelude.{slice_index_or, slice_set}
-use Rattle.std.proofs.Math.Seq.{get_or-append_seam, set-append_seam}
-use Rattle.std.proofs.lemmas.Bool.{and_parts, eqb-true}
-use Rattle.std.proofs.lemmas.List.{append-nil, length_push, map-append}
-use Rattle.ordup_objects.specs.Tables.{Objects, with_entry}
-use Rattle.ordup_objects.specs.declared.change.Change.{Change}
-use Rattle.ordup_log.specs.Groups.{GroupList, last_members, with_member}
-use Rattle.ordup_limits.specs.declared.limit.Limit.{Limit}
-use Rattle.ordup_rounds.specs.declared.window.Window.{Window}
-use Rattle.ordup_record.specs.Records.{RecordState}
+use Rattle.std.proofs.Math.Seq.{set-append_seam}
+use Rattle.ordup_objects.specs.Tables.{with_entry}
 use Rattle.ordup_record.specs.declared.report_change.ReportChange.{ReportChange}
-use Rattle.ordup_rows.specs.Rows.{Row, change_row, change_rows, counted, head_row, limit_row, member_row, member_rows, object_row}
-use Rattle.ordup_rows.specs.Rows.{report_row, round_row, rows_so_far, window_row}
+use Rattle.ordup_rows.specs.Rows.{Row, change_row, change_rows, counted, limit_row, member_row, member_rows, object_row, report_row}
+use Rattle.ordup_rows.specs.Rows.{round_row, rows_so_far, window_row}
 use Rattle.ordup_rows.specs.Stages.{is_before_changes, is_before_limits, is_before_members, is_before_reports, is_before_rounds}
 use Rattle.ordup_rows.specs.Stages.{is_before_windows, last_name, last_set, member_count, with_change}
 
@@ -38,8 +32,7 @@ abbrev pub IsBeforeMembers : RecordState → Type 0
 IsBeforeMembers r = (r.groups ≡ []) × IsBeforeLimits r
 
 empty : {X : Type 0} (xs : List X) → (length xs == 0) ≡ true → xs ≡ []
-empty [] h = refl
-empty (x ∷ xs) h = absurd (omega (arith, eqb-true (suc (length xs)) 0 h))
+empty xs h = nil_from_length xs (eqb-true (length xs) 0 h)
 
 pub before_windows : (r : RecordState) → is_before_windows r ≡ true → IsBeforeWindows r
 before_windows r h = empty r.windows h
@@ -158,95 +151,45 @@ change_rows-new objects sets c k is = change_rows-append objects 1 k sets ((c �
 
 -- ---- the rows so far, and one more
 
--- a row more in the last of seven lists that is not empty
-more_1 : (a : List Row) (x : Row) → (a ++ x ∷ []) ++ [] ++ [] ++ [] ++ [] ++ [] ++ [] ≡ (a ++ [] ++ [] ++ [] ++ [] ++ [] ++ []) ++ x ∷ []
-more_1 a x = simp append-nil
-
-more_2 : (a b : List Row) (x : Row) → a ++ (b ++ x ∷ []) ++ [] ++ [] ++ [] ++ [] ++ [] ≡ (a ++ b ++ [] ++ [] ++ [] ++ [] ++ []) ++ x ∷ []
-more_2 a b x = simp (append-nil, append_assoc)
-
-more_3 : (a b c : List Row) (x : Row) → a ++ b ++ (c ++ x ∷ []) ++ [] ++ [] ++ [] ++ [] ≡ (a ++ b ++ c ++ [] ++ [] ++ [] ++ []) ++ x ∷ []
-more_3 a b c x = simp (append-nil, append_assoc)
-
-more_4 : (a b c d : List Row) (x : Row) → a ++ b ++ c ++ (d ++ x ∷ []) ++ [] ++ [] ++ [] ≡ (a ++ b ++ c ++ d ++ [] ++ [] ++ []) ++ x ∷ []
-more_4 a b c d x = simp (append-nil, append_assoc)
-
-more_5 : (a b c d e : List Row) (x : Row) → a ++ b ++ c ++ d ++ (e ++ x ∷ []) ++ [] ++ [] ≡ (a ++ b ++ c ++ d ++ e ++ [] ++ []) ++ x ∷ []
-more_5 a b c d e x = simp (append-nil, append_assoc)
-
-more_6 : (a b c d e f : List Row) (x : Row) → a ++ b ++ c ++ d ++ e ++ (f ++ x ∷ []) ++ [] ≡ (a ++ b ++ c ++ d ++ e ++ f ++ []) ++ x ∷ []
-more_6 a b c d e f x = simp (append-nil, append_assoc)
-
-more_7 : (a b c d e f g : List Row) (x : Row) → a ++ b ++ c ++ d ++ e ++ f ++ (g ++ x ∷ []) ≡ (a ++ b ++ c ++ d ++ e ++ f ++ g) ++ x ∷ []
-more_7 a b c d e f g x = simp append_assoc
+-- the rows after the first
+abbrev pub rows_after : ℕ → RecordState → List Row
+rows_after decided r = drop 1 (rows_so_far decided r)
 
 module _ (decided : ℕ) (r : RecordState) where
-  abbrev headed : List Row → List Row
-  headed rows = head_row r.site decided ∷ rows
-
-  abbrev told_objects : List Row
-  told_objects = counted object_row 1 r.objects
-
-  abbrev told_members : List Row
-  told_members = member_rows r.objects 1 r.groups
-
-  abbrev told_limits : List Row
-  told_limits = counted (limit_row r.objects r.groups) 1 r.limits
-
-  abbrev told_changes : List Row
-  told_changes = change_rows r.objects 1 r.sets
-
-  abbrev told_reports : List Row
-  told_reports = map report_row r.reports
-
-  abbrev told_rounds : List Row
-  told_rounds = counted round_row 1 r.rounds
-
-  abbrev told_windows : List Row
-  told_windows = counted window_row 1 r.windows
-
   pub grow_object : (o : List ℕ × ℤ) → IsBeforeMembers r
-      → rows_so_far decided (record r { objects = r.objects ++ o ∷ [] }) ≡ rows_so_far decided r ++ object_row (length r.objects + 1) o ∷ []
+      → rows_after decided (record r { objects = r.objects ++ o ∷ [] }) ≡ rows_after decided r ++ object_row (length r.objects + 1) o ∷ []
   grow_object o (e1, (e2, (e3, (e4, (e5, e6))))) =
-      rw (e1, e2, e3, e4, e5, e6, counted-push object_row 1 (length r.objects + 1) r.objects o (omega arith))
-      (ap headed (more_1 told_objects (object_row (length r.objects + 1) o)))
+      rw (e1, e2, e3, e4, e5, e6, counted-push object_row 1 (length r.objects + 1) r.objects o (omega arith)) (simp append-nil)
 
   -- other groups, whose rows are one more
-  pub grow_groups : (groups : GroupList) (x : Row) → IsBeforeLimits r → member_rows r.objects 1 groups ≡ told_members ++ x ∷ []
-      → rows_so_far decided (record r { groups = groups }) ≡ rows_so_far decided r ++ x ∷ []
-  grow_groups groups x (e2, (e3, (e4, (e5, e6)))) more =
-      rw (e2, e3, e4, e5, e6, more) (ap headed (more_2 told_objects told_members x))
+  pub grow_groups : (groups : GroupList) (x : Row) → IsBeforeLimits r
+      → member_rows r.objects 1 groups ≡ member_rows r.objects 1 r.groups ++ x ∷ []
+      → rows_after decided (record r { groups = groups }) ≡ rows_after decided r ++ x ∷ []
+  grow_groups groups x (e2, (e3, (e4, (e5, e6)))) more = rw (e2, e3, e4, e5, e6, more) (simp (append-nil, append_assoc))
 
   pub grow_limit : (l : Limit) → IsBeforeChanges r
-      → rows_so_far decided (record r { limits = r.limits ++ l ∷ [] })
-      ≡ rows_so_far decided r ++ limit_row r.objects r.groups (length r.limits + 1) l ∷ []
+      → rows_after decided (record r { limits = r.limits ++ l ∷ [] })
+      ≡ rows_after decided r ++ limit_row r.objects r.groups (length r.limits + 1) l ∷ []
   grow_limit l (e3, (e4, (e5, e6))) =
       rw (e3, e4, e5, e6, counted-push (limit_row r.objects r.groups) 1 (length r.limits + 1) r.limits l (omega arith))
-      (ap headed (more_3 told_objects told_members told_limits (limit_row r.objects r.groups (length r.limits + 1) l)))
+      (simp (append-nil, append_assoc))
 
   -- other updates, whose rows are one more
-  pub grow_sets : (sets : List (List Change)) (x : Row) → IsBeforeReports r → change_rows r.objects 1 sets ≡ told_changes ++ x ∷ []
-      → rows_so_far decided (record r { sets = sets }) ≡ rows_so_far decided r ++ x ∷ []
-  grow_sets sets x (e4, (e5, e6)) more =
-      rw (e4, e5, e6, more) (ap headed (more_4 told_objects told_members told_limits told_changes x))
+  pub grow_sets : (sets : List (List Change)) (x : Row) → IsBeforeReports r
+      → change_rows r.objects 1 sets ≡ change_rows r.objects 1 r.sets ++ x ∷ []
+      → rows_after decided (record r { sets = sets }) ≡ rows_after decided r ++ x ∷ []
+  grow_sets sets x (e4, (e5, e6)) more = rw (e4, e5, e6, more) (simp (append-nil, append_assoc))
 
   pub grow_report : (c : ReportChange) → IsBeforeRounds r
-      → rows_so_far decided (record r { reports = r.reports ++ c ∷ [] }) ≡ rows_so_far decided r ++ report_row c ∷ []
-  grow_report c (e5, e6) =
-      rw (e5, e6, map-append report_row r.reports (c ∷ []))
-      (ap headed (more_5 told_objects told_members told_limits told_changes told_reports (report_row c)))
+      → rows_after decided (record r { reports = r.reports ++ c ∷ [] }) ≡ rows_after decided r ++ report_row c ∷ []
+  grow_report c (e5, e6) = rw (e5, e6, map-append report_row r.reports (c ∷ [])) (simp (append-nil, append_assoc))
 
   pub grow_round : (place : ℕ) → IsBeforeWindows r
-      → rows_so_far decided (record r { rounds = r.rounds ++ place ∷ [] }) ≡ rows_so_far decided r
+      → rows_after decided (record r { rounds = r.rounds ++ place ∷ [] }) ≡ rows_after decided r
       ++ round_row (length r.rounds + 1) place ∷ []
   grow_round place e6 =
-      rw (e6, counted-push round_row 1 (length r.rounds + 1) r.rounds place (omega arith))
-      (ap headed (more_6 told_objects told_members told_limits told_changes told_reports told_rounds
-      (round_row (length r.rounds + 1) place)))
+      rw (e6, counted-push round_row 1 (length r.rounds + 1) r.rounds place (omega arith)) (simp (append-nil, append_assoc))
 
-  pub grow_window : (w : Window) → rows_so_far decided (record r { windows = r.windows ++ w ∷ [] }) ≡ rows_so_far decided r
+  pub grow_window : (w : Window) → rows_after decided (record r { windows = r.windows ++ w ∷ [] }) ≡ rows_after decided r
       ++ window_row (length r.windows + 1) w ∷ []
-  grow_window w =
-      rw (counted-push window_row 1 (length r.windows + 1) r.windows w (omega arith))
-      (ap headed (more_7 told_objects told_members told_limits told_changes told_reports told_rounds told_windows
-      (window_row (length r.windows + 1) w)))
+  grow_window w = rw (counted-push window_row 1 (length r.windows + 1) r.windows w (omega arith)) (simp append_assoc)

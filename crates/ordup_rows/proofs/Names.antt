@@ -1,13 +1,12 @@
 -- Names in tables: which stand where, and which may be added.
-use Rattle.std.proofs.Common.{◌≡◌, ◌∙◌, refl, ℕ, zero, suc, ◌+◌, ◌<◌, ◌≤◌, false, List, [], ◌∷◌, ◌++◌, length, get_or, Some, None, arith}
-use Rattle.std.proofs.Common.{inl, inr}
+use Rattle.ordup_record.proofs.Common.{◌++◌, ◌+◌, ◌<◌, ◌∙◌, ◌∷◌, ◌≡◌, ◌≤◌, [], AreDistinct, arith, cases_Bool, false, get_or, inl, inr}
+use Rattle.ordup_record.proofs.Common.{length, length-map, List, lt-ltb, map-append, names_of, None, place_of, pointwise, refl, Some, suc}
+use Rattle.ordup_record.proofs.Common.{zero, ℕ}
 use Rattle.std.specs.Prelude.{nat_eq}
-use Rattle.std.specs.Cmp.Lexicographic.{pointwise}
 use Rattle.std.specs.List.{AllByRecursion, IsDistinct, position_or_len}
-use Rattle.std.proofs.lemmas.Bool.{cases_Bool, lt-ltb, le-ltb}
+use Rattle.std.proofs.lemmas.Bool.{le-ltb}
 use Rattle.std.proofs.lemmas.Cmp.{nat_list_eq_equiv}
-use Rattle.std.proofs.lemmas.List.{length-map, map-append}
-use Rattle.ordup_objects.specs.Tables.{names_of, place_of, AreDistinct}
+use Rattle.std.proofs.lemmas.List.Elements.{All-from_recursion}
 use Rattle.ordup_objects.proofs.TableLemmas.{absent}
 use Rattle.ordup_rows.specs.Rows.{name_at}
 use Rattle.ordup_rows.proofs.Columns.{bytes_same}
@@ -90,18 +89,14 @@ other_name name table e more none =
     other_way e.0 name (new_inside name e.0 (names_of table) (names_of more)
     (rw map-append at (new_from_place name (table ++ e ∷ more) none)))
 
-at_index : (P : List ℕ → Type 0) (names : List (List ℕ)) (i : ℕ) → AllByRecursion P names → i < length names → P (get_or names i [])
-at_index P [] i all lt = absurd (omega arith)
-at_index P (x ∷ names) zero all lt = all.0
-at_index P (x ∷ names) (suc i) all lt = at_index P names i all.1 (omega arith)
-
 distinct_place : (names : List (List ℕ)) (i : ℕ) → IsDistinct (pointwise nat_eq) names → i < length names
     → position_or_len (pointwise nat_eq (get_or names i [])) names ≡ i
 unfolding IsDistinct
 distinct_place [] i distinct lt = absurd (omega arith)
 distinct_place (x ∷ names) zero distinct lt = rw (bytes_same x) refl
 distinct_place (x ∷ names) (suc i) distinct lt =
-    let other = other_way x (get_or names i []) (at_index (λ y. pointwise nat_eq x y ≡ false) names i distinct.0 (omega arith)) in
+    let new = All-from_recursion (λ y. pointwise nat_eq x y ≡ false) names distinct.0 in
+    let other = other_way x (get_or names i []) (new i [] (omega arith)) in
     let one : position_or_len (pointwise nat_eq (get_or names i [])) (x ∷ names)
     ≡ 1 + position_or_len (pointwise nat_eq (get_or names i [])) names = rw other refl in
     omega (arith, one, distinct_place names i distinct.1 (omega arith))

@@ -1,47 +1,30 @@
 -- No column of a record's rows needs quotes: `csv` writes each row as its columns with commas between them.
-use Rattle.std.proofs.Common.{◌≡◌, ◌∙◌, ap, refl, ℕ, ℤ, pos, negsuc, suc, ◌+◌, ◌^◌, ◌<◌, ◌≤◌, ◌==◌, Bool}
-use Rattle.std.proofs.Common.{true, false, List, [], ◌∷◌, ◌++◌, length, map}
-use Rattle.std.proofs.Common.{arith, codes, unsigned_abs, lit<, lit≤}
-use Rattle.std.specs.Prelude.{All, IfSome, ◌||◌, ◌&&◌, nat_le}
-use Rattle.std.specs.Char.{is_ascii_digit}
-use Rattle.std.specs.Fmt.{decimal, signed_decimal}
-use Rattle.std.specs.List.{list_all, list_any}
-use Rattle.std.specs.Str.{all_ascii_digits}
-use Rattle.std.proofs.lemmas.Bool.{and_parts, leb-true, or_from, or_parts}
-use Rattle.std.proofs.lemmas.Bool.Decides.{nat_tests}
-use Rattle.std.proofs.lemmas.Fmt.{digits_decimal, length-decimal-le}
-use Rattle.std.proofs.lemmas.List.{append-nil, length-append}
-use Rattle.std.proofs.lemmas.List.Elements.{All-append, All-cons, All-nil}
-use Rattle.std.proofs.lemmas.List.Folds.{list_any-append, list_any_none}
+use Rattle.ordup_record.proofs.Common.{◌++◌, ◌+◌, ◌<◌, ◌==◌, ◌^◌, ◌||◌, ◌∙◌, ◌∷◌, ◌≡◌, ◌≤◌, [], Add, All, All-cons, All-map, All-nil}
+use Rattle.ordup_record.proofs.Common.{All-tail, ap, append-nil, AreKnown, AreNames, arith, Bool, Change}
+use Rattle.ordup_record.proofs.Common.{codes, Count, decimal, Everything, false, get_or-map, greatest_amount, Group}
+use Rattle.ordup_record.proofs.Common.{GroupList, IfSome, initial_state, is_ascii_digit, is_name, is_name_byte, IsInRange, IsKnown}
+use Rattle.ordup_record.proofs.Common.{IsRecord, IsScopeKnown, IsSet, IsState, leb-true, length, length-append, length-map, Limit, List}
+use Rattle.ordup_record.proofs.Common.{list_all, list_any, list_any-append, map, Max, Min, most_updates, Mul, nat_tests, negsuc}
+use Rattle.ordup_record.proofs.Common.{Object, Objects, Op, op_number, or_from, or_parts, pos, RecordState, refl, Scope, Set}
+use Rattle.ordup_record.proofs.Common.{signed_decimal, source_of, suc, Take, true, unsigned_abs, Window, ℕ, ℤ}
+use Rattle.std.proofs.Common.{lit<, lit≤}
+use Rattle.std.proofs.lemmas.Fmt.{length-decimal-le}
+use Rattle.std.proofs.lemmas.List.Elements.{All-append}
+use Rattle.std.proofs.lemmas.List.Folds.{list_any_none}
 use Rattle.csv.specs.Quoting.{needs_byte}
 use Rattle.csv.specs.Writing.{default_writer, fields_text, is_blank, needs_quotes, row_text}
-use Rattle.ordup_grammar.proofs.Decimals.{numerals}
-use Rattle.ordup_objects.specs.Names.{begins_with_letter, is_name, is_name_byte}
-use Rattle.ordup_objects.specs.Ops.{number_of as op_number, source_of}
-use Rattle.ordup_objects.specs.Sets.{AreKnown, IsKnown, IsSet}
-use Rattle.ordup_objects.specs.States.{IsInRange, IsState}
-use Rattle.ordup_objects.specs.Tables.{AreNames, Objects, initial_state}
-use Rattle.ordup_objects.specs.declared.change.Change.{Change}
-use Rattle.ordup_objects.specs.declared.change.Op.{Op}
-use Rattle.ordup_objects.specs.declared.change.Op.TheVariants.{Add, Set, Mul, Max, Min, Take}
-use Rattle.ordup_log.specs.Groups.{GroupList}
-use Rattle.ordup_log.specs.Spans.{IsScopeKnown}
-use Rattle.ordup_log.specs.declared.scope.Scope.{Scope}
-use Rattle.ordup_log.specs.declared.scope.Scope.TheVariants.{Object, Group, All as Everything, Count}
-use Rattle.ordup_limits.specs.Sizes.{greatest_amount}
-use Rattle.ordup_limits.specs.declared.limit.Limit.{Limit}
-use Rattle.ordup_rounds.specs.declared.window.Window.{Window}
-use Rattle.ordup_record.specs.Records.{IsRecord, RecordState}
 use Rattle.ordup_record.specs.declared.report_change.ReportChange.{ReportChange}
-use Rattle.ordup_objects.specs.Sizes.{most_name_bytes, most_updates}
+use Rattle.ordup_objects.specs.Sizes.{most_name_bytes}
 use Rattle.ordup_rows.specs.Forming.{csv_text}
-use Rattle.ordup_rows.specs.Rows.{Row, change_row, change_rows, change_text, change_word, counted, head_row, limit_row, member_row}
+use Rattle.ordup_rows.specs.Rows.{Row, change_row, change_rows, change_word, counted, head_row, limit_row, member_row}
 use Rattle.ordup_rows.specs.Rows.{member_rows, name_at, object_row, operation_text, report_row, round_row, row_line, rows_of, rows_text}
 use Rattle.ordup_rows.specs.Rows.{scope_text, window_row}
 use Rattle.ordup_rows.specs.Stages.{member_count}
-use Rattle.ordup_rows.proofs.ReadingBack.{HasNumber, member_count-few, rounds_few}
+use Rattle.ordup_record.proofs.AscendingLemmas.{rounds-few}
+use Rattle.ordup_rows.proofs.Columns.{parts_3}
+use Rattle.ordup_rows.proofs.ReadingBack.{HasNumber, member_count-few}
 use Rattle.ordup_rows.proofs.ToldSoFar.{HasKnown, HasName}
-use Rattle.ordup_rows.proofs.Words.{name_of}
+use Rattle.ordup_rows.proofs.Words.{decimal_bytes, name_bytes, name_of}
 
 -- a byte that calls for quotes, or is 0
 abbrev pub is_special : ℕ → Bool
@@ -83,10 +66,10 @@ line_length a b c d =
     let whole = length-append (a ++ 44 ∷ (b ++ 44 ∷ (c ++ 44 ∷ d))) (10 ∷ []) in
     omega (arith, whole, length-append a (44 ∷ (b ++ 44 ∷ (c ++ 44 ∷ d))), length-append b (44 ∷ (c ++ 44 ∷ d)), length-append c (44 ∷ d))
 
-pub IsLine-columns : {i j k l : ℕ} (a b c d : List ℕ) → IsPlain i a → IsPlain j b → IsPlain k c → IsPlain l d → i + j + k + l ≤ 96
+pub IsLine-columns : {i j k l : ℕ} {a b c d : List ℕ} → IsPlain i a → IsPlain j b → IsPlain k c → IsPlain l d → i + j + k + l ≤ 96
     → IsLine (a ∷ b ∷ c ∷ d ∷ [])
 unfolding fields_text is_blank
-IsLine-columns {i} {j} {k} {l} a b c d pa pb pc pd most = record {
+IsLine-columns {i} {j} {k} {l} {a} {b} {c} {d} pa pb pc pd most = record {
   text = rw (unquoted i a pa, unquoted j b pb, unquoted k c pc, unquoted l d pd, append-nil d) refl;
   no_zero = rw (without_zero i a pa, without_zero j b pb, without_zero k c pc, without_zero l d pd) refl;
   short = omega (arith, most, line_length a b c d, pa.few, pb.few, pc.few, pd.few);
@@ -102,15 +85,9 @@ lines (row ∷ rows) are =
 digit_plain : (b : ℕ) → is_ascii_digit b ≡ true → is_special b ≡ false
 digit_plain b h = grind (arith, nat_tests)
 
-digits_plain : (digits : List ℕ) → all_ascii_digits digits ≡ true → list_any is_special digits ≡ false
-digits_plain [] h = refl
-digits_plain (b ∷ digits) h =
-    let both = and_parts (is_ascii_digit b) (all_ascii_digits digits) h in
-    or_from _ _ (digit_plain b both.0) (digits_plain digits both.1)
-
 pub decimal_plain : (n : ℕ) → n < 10 ^ 19 → IsPlain 19 (decimal n)
 decimal_plain n small = record {
-  plain = digits_plain (decimal n) (digits_decimal numerals n (omega arith));
+  plain = list_any_none is_special (decimal n) (decimal_bytes (λ b. is_special b ≡ false) digit_plain n small);
   few = length-decimal-le 19 n (lit< tt) small (omega arith);
 }
 
@@ -123,17 +100,18 @@ number_plain (negsuc n) small =
 name_byte_plain : (b : ℕ) → is_name_byte b ≡ true → is_special b ≡ false
 name_byte_plain b h = grind (arith, nat_tests)
 
-name_bytes_plain : (name : List ℕ) → list_all is_name_byte name ≡ true → list_any is_special name ≡ false
-name_bytes_plain [] h = refl
-name_bytes_plain (b ∷ name) h =
-    let both = and_parts (is_name_byte b) (list_all is_name_byte name) h in
-    or_from _ _ (name_byte_plain b both.0) (name_bytes_plain name both.1)
-
 pub name_plain : (name : List ℕ) → is_name name ≡ true → IsPlain 16 name
 name_plain name h =
-    let first = and_parts (begins_with_letter name && nat_le (length name) most_name_bytes) (list_all is_name_byte name) h in
-    let size = (and_parts (begins_with_letter name) (nat_le (length name) most_name_bytes) first.0).1 in
-    record { plain = name_bytes_plain name first.1; few = leb-true (length name) most_name_bytes size }
+    let (letter, size, bytes) = parts_3 {c = list_all is_name_byte name} h in
+    record {
+      plain = list_any_none is_special name (name_bytes (λ b. is_special b ≡ false) name_byte_plain name h);
+      few = leb-true (length name) most_name_bytes size;
+    }
+
+-- a name that a table has
+named_plain : {V : Type 0} (table : List (List ℕ × V)) (place : ℕ) → AreNames table → place < length table
+    → IsPlain 16 (name_at table place)
+named_plain table place names lt = name_plain (name_at table place) (name_of table place names lt)
 
 pub join_plain : {m n : ℕ} (x y : List ℕ) → IsPlain m x → IsPlain n y → IsPlain (m + n) (x ++ y)
 join_plain {m} {n} x y px py = record {
@@ -180,18 +158,16 @@ operation_plain objects x (Mul n) names px known range = number_word (codes "mul
 operation_plain objects x (Max n) names px known range = number_word (codes "max") x n (code (codes "max") refl) px range
 operation_plain objects x (Min n) names px known range = number_word (codes "min") x n (code (codes "min") refl) px range
 operation_plain objects x (Take y) names px known range =
-    word_plain (codes "take") x (name_at objects y) (code (codes "take") refl)
-    (name_plain (name_at objects y) (name_of objects y names known)) px (lit≤ tt)
+    word_plain (codes "take") x (name_at objects y) (code (codes "take") refl) (named_plain objects y names known) px (lit≤ tt)
 
 scope_plain : (objects : Objects) (groups : GroupList) (s : Scope) → AreNames objects → AreNames groups
     → IsScopeKnown (length objects) groups s
     → IsPlain 23 (scope_text objects groups s)
 scope_plain objects groups (Object x) names called known =
-    join_plain (codes "object:") (name_at objects x) (code (codes "object:") refl)
-    (name_plain (name_at objects x) (name_of objects x names known))
+    join_plain (codes "object:") (name_at objects x) (code (codes "object:") refl) (named_plain objects x names known)
 scope_plain objects groups (Group g) names called known =
-    wider 23 (scope_text objects groups (Group g)) (join_plain (codes "group:") (name_at groups g) (code (codes "group:") refl)
-    (name_plain (name_at groups g) (name_of groups g called known))) (lit≤ tt)
+    wider 23 (scope_text objects groups (Group g))
+    (join_plain (codes "group:") (name_at groups g) (code (codes "group:") refl) (named_plain groups g called known)) (lit≤ tt)
 scope_plain objects groups Everything names called known = wider 23 (codes "all") (code (codes "all") refl) (lit≤ tt)
 scope_plain objects groups Count names called known = wider 23 (codes "count") (code (codes "count") refl) (lit≤ tt)
 
@@ -201,16 +177,16 @@ record IsEntry (e : List ℕ × ℤ) : Type 0 where
   range : IsInRange e.1
 
 entries : (objects : Objects) → AreNames objects → IsState (initial_state objects) → All IsEntry objects
-entries [] names values = All-nil IsEntry
-entries (e ∷ objects) names values =
-    All-cons IsEntry e objects (record { name = names 0 e (omega arith); range = values 0 e.1 (omega arith) })
-    (entries objects (λ k d lt. names (suc k) d (omega arith)) (λ k d lt. values (suc k) d (omega arith)))
+entries objects names values k e lt = record {
+  name = names k e lt;
+  range = rw (← get_or-map (λ (e : List ℕ × ℤ). e.1) objects k e e.1 lt) (values k e.1 (simp length-map lt));
+}
 
 object_line : (i : ℕ) (e : List ℕ × ℤ) → i ≤ 4096 → IsEntry e → IsLine (object_row i e)
 object_line i e few is =
     let range = is.range in
-    IsLine-columns (codes "object") (decimal i) e.0 (signed_decimal e.1) (code (codes "object") refl)
-    (decimal_plain i (omega arith)) (name_plain e.0 is.name) (number_plain e.1 (omega arith)) (lit≤ tt)
+    IsLine-columns (code (codes "object") refl) (decimal_plain i (omega arith)) (name_plain e.0 is.name)
+    (number_plain e.1 (omega arith)) (lit≤ tt)
 
 groups_lines : (objects : Objects) (i : ℕ) (groups : GroupList) → AreNames objects → All HasName groups
     → All (HasKnown (length objects)) groups
@@ -219,32 +195,22 @@ groups_lines objects i [] names called known few = All-nil IsLine
 groups_lines objects i (g ∷ groups) names called known few =
     All-append IsLine (counted (member_row objects g.0) i g.1) (member_rows objects (i + length g.1) groups)
     (counted_lines (member_row objects g.0) (λ x. x < length objects) 4096 (λ k x most lt.
-    IsLine-columns (codes "member") (decimal k) g.0 (name_at objects x) (code (codes "member") refl) (decimal_plain k (omega arith))
-    (name_plain g.0 (called 0 g (omega arith)))
-    (name_plain (name_at objects x) (name_of objects x names lt)) (lit≤ tt))
+    IsLine-columns (code (codes "member") refl) (decimal_plain k (omega arith)) (name_plain g.0 (called 0 g (omega arith)))
+    (named_plain objects x names lt) (lit≤ tt))
     i g.1 (omega arith) (known 0 g (omega arith)))
-    (groups_lines objects (i + length g.1) groups names (λ k d lt. called (suc k) d (omega arith))
-    (λ k d lt. known (suc k) d (omega arith)) (omega arith))
+    (groups_lines objects (i + length g.1) groups names (All-tail HasName g groups called)
+    (All-tail (HasKnown (length objects)) g groups known) (omega arith))
 
 -- a change of a set that is known
 record IsWritten (n : ℕ) (c : Change) : Type 0 where
   known : IsKnown n c
   range : HasNumber c
 
-written_set : (n : ℕ) (m : List Change) → AreKnown n m → All HasNumber m → All (IsWritten n) m
-written_set n [] known range = All-nil (IsWritten n)
-written_set n (c ∷ m) known range =
-    All-cons (IsWritten n) c m (record { known = known 0 c (omega arith); range = range 0 c (omega arith) })
-    (written_set n m (λ k d lt. known (suc k) d (omega arith)) (λ k d lt. range (suc k) d (omega arith)))
-
 change_line : (objects : Objects) (k i : ℕ) (c : Change) → AreNames objects → k ≤ 1000001 → i ≤ 4096 → IsWritten (length objects) c
     → IsLine (change_row objects k i c)
 change_line objects k i c names few place is =
-    IsLine-columns (codes "change") (decimal k) (decimal i) (change_text objects c) (code (codes "change") refl)
-    (decimal_plain k (omega arith))
-    (decimal_plain i (omega arith))
-    (operation_plain objects (name_at objects c.object) c.op names
-    (name_plain (name_at objects c.object) (name_of objects c.object names is.known.0)) is.known.1 is.range) (lit≤ tt)
+    IsLine-columns (code (codes "change") refl) (decimal_plain k (omega arith)) (decimal_plain i (omega arith))
+    (operation_plain objects _ c.op names (named_plain objects c.object names is.known.0) is.known.1 is.range) (lit≤ tt)
 
 sets_lines : (objects : Objects) (k : ℕ) (sets : List (List Change)) → AreNames objects → All IsSet sets
     → All (AreKnown (length objects)) sets
@@ -256,8 +222,8 @@ sets_lines objects k (m ∷ sets) names are known few =
     All-append IsLine (counted (change_row objects k) 1 m) (change_rows objects (k + 1) sets)
     (counted_lines (change_row objects k) (IsWritten (length objects)) 4096
     (λ i c most is. change_line objects k i c names (omega arith) most is)
-    1 m (omega arith) (written_set (length objects) m (known 0 m (omega arith)) set.numbers))
-    (sets_lines objects (k + 1) sets names (λ k d lt. are (suc k) d (omega arith)) (λ k d lt. known (suc k) d (omega arith)) (omega arith))
+    1 m (omega arith) (λ k c lt. record { known = known 0 m (omega arith) k c lt; range = set.numbers k c lt }))
+    (sets_lines objects (k + 1) sets names (All-tail IsSet m sets are) (All-tail (AreKnown (length objects)) m sets known) (omega arith))
 
 abbrev pub IsReportWithin : ℕ → ReportChange → Type 0
 IsReportWithin d c = (0 < c.place) × (c.place ≤ d)
@@ -281,15 +247,11 @@ seven_lines a b c d e f g ha hb hc hd he hf hg =
 reports_lines : (changes : List ReportChange) (d : ℕ) → d ≤ most_updates → All (IsReportWithin d) changes
     → All (λ (c : ReportChange). (0 < c.reported) × (c.reported ≤ most_updates)) changes
     → All IsLine (map report_row changes)
-reports_lines [] d few places reported = All-nil IsLine
-reports_lines (c ∷ changes) d few places reported =
-    let place = places 0 c (omega arith) in
-    let number = reported 0 c (omega arith) in
-    All-cons IsLine (report_row c) (map report_row changes)
-    (IsLine-columns (codes "report") (decimal c.place) (decimal c.reported) (codes "-") (code (codes "report") refl)
-    (decimal_plain c.place (omega (arith, place.1)))
-    (decimal_plain c.reported (omega (arith, number.1))) (code (codes "-") refl) (lit≤ tt))
-    (reports_lines changes d few (λ k e lt. places (suc k) e (omega arith)) (λ k e lt. reported (suc k) e (omega arith)))
+reports_lines changes d few places reported = All-map IsLine report_row changes (λ k c lt.
+    let place = places k c lt in
+    let number = reported k c lt in
+    IsLine-columns (code (codes "report") refl) (decimal_plain _ (omega (arith, place.1)))
+    (decimal_plain _ (omega (arith, number.1))) (code (codes "-") refl) (lit≤ tt))
 
 module _ (r : RecordState) (is : IsRecord r) where
   objects_lines : All IsLine (counted object_row 1 r.objects)
@@ -308,8 +270,7 @@ module _ (r : RecordState) (is : IsRecord r) where
       let few = is.limits.few in
       counted_lines (limit_row r.objects r.groups) (IsWrittenLimit (length r.objects) r.groups) 4096 (λ i l most w.
       let amount = w.amount in
-      IsLine-columns (codes "limit") (decimal i) (scope_text r.objects r.groups l.scope) (decimal l.amount) (code (codes "limit") refl)
-      (decimal_plain i (omega arith))
+      IsLine-columns (code (codes "limit") refl) (decimal_plain i (omega arith))
       (scope_plain r.objects r.groups l.scope is.objects.names is.groups.names w.known) (decimal_plain l.amount (omega arith)) (lit≤ tt))
       1 r.limits (omega arith) (λ k l lt. record { known = is.scopes k l lt; amount = is.limits.amounts k l lt })
 
@@ -319,9 +280,9 @@ module _ (r : RecordState) (is : IsRecord r) where
   rounds_lines : All IsLine (counted round_row 1 r.rounds)
   rounds_lines =
       let few = is.few in
-      let short = rounds_few (length r.sets) r.rounds is.rounds in
+      let short = rounds-few (length r.sets) r.rounds is.rounds in
       counted_lines round_row (λ k. (0 < k) × (k ≤ length r.sets)) 1000000 (λ i k most within.
-      IsLine-columns (codes "round") (decimal i) (decimal k) (codes "-") (code (codes "round") refl) (decimal_plain i (omega arith))
+      IsLine-columns (code (codes "round") refl) (decimal_plain i (omega arith))
       (decimal_plain k (omega (arith, within.1))) (code (codes "-") refl) (lit≤ tt))
       1 r.rounds (omega (arith, short)) is.rounds.each
 
@@ -330,8 +291,7 @@ module _ (r : RecordState) (is : IsRecord r) where
       let few = is.few in
       let short = is.few_windows in
       counted_lines window_row (λ (w : Window). (w.from ≤ length r.sets) × (w.to ≤ length r.sets)) 1000000 (λ i w most within.
-      IsLine-columns (codes "window") (decimal i) (decimal w.from) (decimal w.to) (code (codes "window") refl)
-      (decimal_plain i (omega arith))
+      IsLine-columns (code (codes "window") refl) (decimal_plain i (omega arith))
       (decimal_plain w.from (omega (arith, within.0))) (decimal_plain w.to (omega (arith, within.1))) (lit≤ tt))
       1 r.windows (omega arith) is.windows
 
@@ -339,8 +299,8 @@ module _ (r : RecordState) (is : IsRecord r) where
   all_lines =
       let few = is.few in
       All-cons IsLine (head_row r.site (length r.sets)) _
-      (IsLine-columns (codes "ordup") (codes "1") r.site (decimal (length r.sets)) (code (codes "ordup") refl) (code (codes "1") refl)
-      (name_plain r.site is.site) (decimal_plain (length r.sets) (omega arith)) (lit≤ tt))
+      (IsLine-columns (code (codes "ordup") refl) (code (codes "1") refl) (name_plain r.site is.site)
+      (decimal_plain (length r.sets) (omega arith)) (lit≤ tt))
       (seven_lines (counted object_row 1 r.objects) (member_rows r.objects 1 r.groups) (counted (limit_row r.objects r.groups) 1 r.limits)
       (change_rows r.objects 1 r.sets) (map report_row r.reports) (counted round_row 1 r.rounds) (counted window_row 1 r.windows)
       objects_lines members_lines limits_lines changes_lines

@@ -1,42 +1,27 @@
 -- The rows of a record are read back as it.
-use Rattle.std.proofs.Common.{◌≡◌, ◌∙◌, ap, sym, refl, subst, ℕ, ℤ, zero, suc, ◌+◌, ◌*◌, ◌^◌, ◌<◌, ◌≤◌, ◌==◌, true, false, Bool, List, []}
-use Rattle.std.proofs.Common.{◌∷◌, ◌++◌, length, map, get_or, arith, append_assoc, nat_eq, Some, None, unsigned_abs}
-use Rattle.std.specs.Prelude.{All, IfSome, nat_lt, option_and_then}
-use Rattle.std.specs.Fmt.{decimal}
-use Rattle.std.specs.List.{list_any}
-use Rattle.std.specs.Str.{bytes_eq}
-use Rattle.std.specs.List.Sorted.{IsStrictlyIncreasing}
-use Rattle.std.proofs.Math.Seq.{get_or-append_seam}
-use Rattle.std.proofs.lemmas.Bool.{and_from, and_right, eq-eqb, le-leb, lt-ltb, or_from, or_parts}
-use Rattle.std.proofs.lemmas.Bool.Decides.{nat_tests}
-use Rattle.std.proofs.lemmas.List.{append-nil, length-append, length_push, map-append}
-use Rattle.std.proofs.lemmas.List.Elements.{All-cons, All-nil}
-use Rattle.std.proofs.lemmas.List.Folds.{list_any-append}
-use Rattle.std.proofs.lemmas.Option.{same_Some}
+use Rattle.ordup_record.proofs.Common.{◌*◌, ◌++◌, ◌+◌, ◌<◌, ◌==◌, ◌^◌, ◌∙◌, ◌∷◌, ◌≡◌, ◌≤◌, [], All, All-cons, All-nil, All-tail, and_from}
+use Rattle.ordup_record.proofs.Common.{ap, append-nil, append_assoc, are_of_one_object, AreGroups, AreKnown, AreLimits, AreMembersKnown}
+use Rattle.ordup_record.proofs.Common.{AreReportChanges, AreRoundPlaces, AreScopesKnown, arith, Bool, bytes_eq, Change, decimal, eq-eqb}
+use Rattle.ordup_record.proofs.Common.{false, get_or, get_or-append_seam, greatest_amount, group_refusal, GroupList, IfSome, initial_state}
+use Rattle.ordup_record.proofs.Common.{is_name, IsGroup, IsInRange, IsKnown, IsRecord, IsScopeKnown, IsSet, IsStrictlyIncreasing, le-leb}
+use Rattle.ordup_record.proofs.Common.{length, length-append, length_push, Limit, Limits, List, list_any, list_any-append}
+use Rattle.ordup_record.proofs.Common.{lt-ltb, map, map-append, member_refusal, most_changes, most_members}
+use Rattle.ordup_record.proofs.Common.{most_updates, most_windows, nat_eq, nat_lt, nat_tests, None, Objects, op_number}
+use Rattle.ordup_record.proofs.Common.{option_and_then, or_from, or_parts, place_of, RecordState, refl, repeats, same_Some, set_refusal}
+use Rattle.ordup_record.proofs.Common.{Some, subst, suc, sym, true, Window, ℕ, ℤ}
+use Rattle.std.proofs.lemmas.Bool.{and_right}
 use Rattle.ordup_grammar.proofs.Decimals.{number_of-signed_decimal}
-use Rattle.ordup_objects.specs.Names.{is_name}
-use Rattle.ordup_objects.specs.Repeats.{repeats}
-use Rattle.ordup_objects.specs.Ops.{number_of as op_number}
-use Rattle.ordup_objects.specs.Sets.{AreInRange, AreKnown, IsKnown, IsSet, are_of_one_object, set_refusal}
-use Rattle.ordup_objects.specs.Sizes.{most_changes, most_members, most_objects, most_updates}
-use Rattle.ordup_objects.specs.States.{IsInRange}
-use Rattle.ordup_objects.specs.Tables.{Objects, initial_state, object_refusal, place_of}
-use Rattle.ordup_objects.specs.declared.change.Change.{Change}
-use Rattle.ordup_log.specs.Groups.{AreMembersKnown, GroupList, IsGroup, group_refusal, member_refusal}
-use Rattle.ordup_log.specs.Spans.{IsScopeKnown}
-use Rattle.ordup_limits.specs.Limits.{AreLimits, AreScopesKnown, Limits, are_on_one_scope, limit_refusal}
-use Rattle.ordup_limits.specs.Sizes.{greatest_amount, most_limits}
-use Rattle.ordup_limits.specs.declared.limit.Limit.{Limit}
-use Rattle.ordup_rounds.specs.declared.window.Window.{Window}
+use Rattle.ordup_objects.specs.Sets.{AreInRange}
+use Rattle.ordup_limits.specs.Limits.{are_on_one_scope}
 use Rattle.ordup_record.specs.declared.report_change.ReportChange.{ReportChange}
-use Rattle.ordup_record.specs.Records.{AreGroups, AreObjects, AreReportChanges, IsRecord, RecordState, most_windows}
-use Rattle.ordup_rows.specs.Columns.{change_by, scope_of, writes}
+use Rattle.ordup_record.specs.Records.{AreObjects}
+use Rattle.ordup_rows.specs.Columns.{change_by, writes}
 use Rattle.ordup_rows.specs.Laws.{RowsTellOneRecord, WhatIsToldIsRead}
-use Rattle.ordup_rounds.specs.Rounds.{AreRoundPlaces}
 use Rattle.ordup_rows.specs.Rows.{Row, change_row, change_rows, change_text, counted, head_row, limit_row, member_row, member_rows, name_at}
-use Rattle.ordup_rows.specs.Rows.{object_row, report_row, round_row, rows_of, scope_text, window_row}
-use Rattle.ordup_rows.specs.Stages.{Stage, closed, is_last_group, last_name, last_number, member_count, record_at, run}
-use Rattle.ordup_rows.specs.Stages.{step, told, told_by, unread}
+use Rattle.ordup_rows.specs.Rows.{object_row, report_row, round_row, rows_of, window_row}
+use Rattle.ordup_rows.specs.Stages.{Stage, closed, is_last_group, last_name, last_number, member_count, record_at, run, step, told, told_by}
+use Rattle.ordup_rows.specs.Stages.{unread}
+use Rattle.ordup_record.proofs.AscendingLemmas.{above}
 use Rattle.ordup_rows.proofs.Columns.{bound, bytes_same, natural_of-decimal, writes-decimal}
 use Rattle.ordup_rows.proofs.Growth.{ends, last_members-of, last_name-of, last_set-of, member_count-append, with_change-last}
 use Rattle.ordup_rows.proofs.Growth.{with_member-last}
@@ -94,11 +79,6 @@ module _ (d : ℕ) (r : RecordState) where
 
 -- ---- objects
 
-step_object : (d : ℕ) (r : RecordState) (xs : Objects) (o : List ℕ × ℤ) → length xs < most_objects → unsigned_abs o.1 < 10 ^ 19
-    → object_refusal xs o.0 o.1 ≡ None → step (at_objects d r xs) (object_row (length xs + 1) o) ≡ Some (at_objects d r (xs ++ o ∷ []))
-step_object d r xs o room small free =
-    rw (number_of-signed_decimal o.1 small, writes-decimal (length xs + 1) (omega (arith, room)), free) refl
-
 new_object : (xs : Objects) (o : List ℕ × ℤ) (more : Objects) → AreObjects (xs ++ o ∷ more) → IsNewObject xs o.0 o.1
 new_object xs o more are = record {
   is_a_name = all_at (λ (e : List ℕ × ℤ). is_name e.0 ≡ true) xs o more are.names;
@@ -113,7 +93,9 @@ objects_run d r is =
     counted_run object_row (at_objects d r) 1 r.objects (λ xs o more e.
     let new = new_object xs o more (subst AreObjects e is.objects) in
     let n : 1 + length xs ≡ length xs + 1 = omega arith in
-    rw n (step_object d r xs o new.room (let range = new.range in omega arith) (object_allowed xs o.0 o.1 new)))
+    let range = new.range in
+    let room = new.room in
+    rw (n, number_of-signed_decimal o.1 (omega arith), writes-decimal (length xs + 1) (omega arith), object_allowed xs o.0 o.1 new) refl)
     r.objects [] 1 refl refl
 
 -- ---- members
@@ -168,7 +150,7 @@ step_more_member d r front g x n found count small free =
 pub member_count-few : (groups : GroupList) → All HasGroup groups → member_count groups ≤ most_members * length groups
 member_count-few [] are = omega arith
 member_count-few (g ∷ groups) are =
-    omega (arith, member_count-few groups (λ k d lt. are (suc k) d (omega arith)), (are 0 g (omega arith)).few)
+    omega (arith, member_count-few groups (All-tail HasGroup g groups are), (are 0 g (omega arith)).few)
 
 module _ (d : ℕ) (r : RecordState) (is : IsRecord r) where
   new_group : (done : GroupList) (name : List ℕ) (x : ℕ) (ms : List ℕ) (more : GroupList)
@@ -180,11 +162,7 @@ module _ (d : ℕ) (r : RecordState) (is : IsRecord r) where
     known = All-cons (λ x. x < length r.objects) x []
         (all_at (HasKnown (length r.objects)) done (name, x ∷ ms) more are.known 0 x (omega arith)) (All-nil _);
     room = let few = are.few in omega (arith, length-append done ((name, x ∷ ms) ∷ more));
-    group = record {
-      some = omega arith;
-      few = omega arith;
-      distinct = refl;
-    };
+    group = record { some = omega arith; few = omega arith; distinct = refl };
   }
 
   new_member : (members : List ℕ) (x : ℕ) (more : List ℕ) → IsGroup (members ++ x ∷ more)
@@ -235,19 +213,6 @@ module _ (d : ℕ) (r : RecordState) (is : IsRecord r) where
 
 -- ---- limits
 
-step_limit : (d : ℕ) (r : RecordState) (xs : Limits) (l : Limit) → 0 < length r.objects
-    → scope_of r.objects r.groups (scope_text r.objects r.groups l.scope) ≡ Some l.scope
-    → length xs < most_limits → l.amount ≤ greatest_amount → limit_refusal (length r.objects) r.groups xs l.scope l.amount ≡ None
-    → step (at_limits d r xs) (limit_row r.objects r.groups (length xs + 1) l) ≡ Some (at_limits d r (xs ++ l ∷ []))
-step_limit d r xs l some spelled room few free =
-    rw (
-      spelled,
-      natural_of-decimal l.amount (omega (arith, few)),
-      lt-ltb 0 (length r.objects) some,
-      writes-decimal (length xs + 1) (omega (arith, room)),
-      free,
-    ) refl
-
 new_limit : (n : ℕ) (groups : GroupList) (xs : Limits) (l : Limit) (more : Limits) → AreLimits (xs ++ l ∷ more)
     → AreScopesKnown n groups (xs ++ l ∷ more)
     → IsNewLimit n groups xs l.scope l.amount
@@ -266,7 +231,15 @@ limits_run d r is =
     (subst (AreScopesKnown (length r.objects) r.groups) e is.scopes) in
     let spelled = scope_of-text r.objects r.groups l.scope is.objects.distinct is.groups.distinct new.known in
     let n : 1 + length xs ≡ length xs + 1 = omega arith in
-    rw n (step_limit d r xs l is.objects.some spelled new.room new.few (limit_allowed (length r.objects) r.groups xs l.scope l.amount new)))
+    let room = new.room in
+    rw (
+      n,
+      spelled,
+      natural_of-decimal l.amount (omega (arith, new.few)),
+      lt-ltb 0 (length r.objects) is.objects.some,
+      writes-decimal (length xs + 1) (omega arith),
+      limit_allowed (length r.objects) r.groups xs l.scope l.amount new,
+    ) refl)
     r.limits [] 1 refl refl
 
 -- ---- changes
@@ -299,23 +272,6 @@ HasNumber c = IfSome (op_number c.op) IsInRange
 
 abbrev IsWithin : ℕ → Window → Type 0
 IsWithin d w = (w.from ≤ d) × (w.to ≤ d)
-
--- ascending numbers above 0 are no fewer than their places
-climbs : (xs : List ℕ) → IsStrictlyIncreasing xs → ((k : ℕ) → k < length xs → 0 < get_or xs k 0) → (k : ℕ) → k < length xs
-    → k + 1 ≤ get_or xs k 0
-climbs xs up above zero lt = let some = above 0 lt in omega arith
-climbs xs up above (suc k) lt =
-    let e : get_or xs (k + 1) 0 ≡ get_or xs (suc k) 0 = let n : k + 1 ≡ suc k = omega arith in ap (λ i. get_or xs i 0) n in
-    omega (arith, climbs xs up above k (omega arith), up k (omega arith), e)
-
--- so there are no more than decided places
-pub rounds_few : (d : ℕ) (xs : List ℕ) → AreRoundPlaces d xs → length xs ≤ d
-rounds_few d [] are = omega arith
-rounds_few d (x ∷ xs) are =
-    let last = length xs in
-    let above = climbs (x ∷ xs) are.ascending (λ k lt. (are.each k 0 lt).0) last (omega arith) in
-    let within = (are.each last 0 (omega arith)).1 in
-    omega (arith, above, within)
 
 module _ (d : ℕ) (r : RecordState) (is : IsRecord r) (all : length r.sets ≡ d) where
   -- the front of a set is one
@@ -385,22 +341,6 @@ module _ (d : ℕ) (r : RecordState) (is : IsRecord r) (all : length r.sets ≡ 
   few_updates : d ≤ most_updates
   few_updates = let few = is.few in omega (arith, all)
 
-  step_report : (xs : List ReportChange) (c : ReportChange) → c.place ≤ d → c.reported ≤ most_updates
-      → last_number (map (λ (c : ReportChange). c.place) xs) < c.place
-      → last_number (map (λ (c : ReportChange). c.reported) xs) < c.reported
-      → step (at_reports d r xs) (report_row c) ≡ Some (at_reports d r (xs ++ c ∷ []))
-  step_report xs c within few after above =
-      rw (
-        natural_of-decimal c.place (omega (arith, few_updates)),
-        natural_of-decimal c.reported (omega arith),
-        is_updated.0,
-        is_updated.1,
-        lt-ltb (last_number (map (λ (c : ReportChange). c.place) xs)) c.place after,
-        le-leb c.place d within,
-        lt-ltb (last_number (map (λ (c : ReportChange). c.reported) xs)) c.reported above,
-        le-leb c.reported most_updates few,
-      ) refl
-
   report_read : (xs : List ReportChange) (c : ReportChange) (more : List ReportChange) → r.reports ≡ xs ++ c ∷ more
       → step (at_reports d r xs) (report_row c) ≡ Some (at_reports d r (xs ++ c ∷ []))
   report_read xs c more e =
@@ -413,7 +353,16 @@ module _ (d : ℕ) (r : RecordState) (is : IsRecord r) (all : length r.sets ≡ 
       let rising : IsStrictlyIncreasing
       (map (λ (c : ReportChange). c.reported) xs ++ c.reported ∷ map (λ (c : ReportChange). c.reported) more) =
       rw map-append at are.rising in
-      step_report xs c place.1 reported.1 (above_last _ c.place _ places place.0) (above_last _ c.reported _ rising reported.0)
+      rw (
+        natural_of-decimal c.place (omega (arith, place.1, few_updates)),
+        natural_of-decimal c.reported (omega (arith, reported.1)),
+        is_updated.0,
+        is_updated.1,
+        lt-ltb _ c.place (above_last _ c.place _ places place.0),
+        le-leb c.place d place.1,
+        lt-ltb _ c.reported (above_last _ c.reported _ rising reported.0),
+        le-leb c.reported most_updates reported.1,
+      ) refl
 
   reports_run : (more xs : List ReportChange) → r.reports ≡ xs ++ more → run (at_reports d r xs) (map report_row more)
       ≡ Some (at_reports d r r.reports)
@@ -422,47 +371,27 @@ module _ (d : ℕ) (r : RecordState) (is : IsRecord r) (all : length r.sets ≡ 
       run_one (at_reports d r xs) (at_reports d r (xs ++ c ∷ [])) (at_reports d r r.reports) (report_row c) (map report_row more)
       (report_read xs c more e) (reports_run more (xs ++ c ∷ []) (e ∙ sym (append_assoc xs (c ∷ []) more)))
 
-  step_round : (xs : List ℕ) (place n : ℕ) → n ≡ length xs + 1 → n < 10 ^ 19 → place ≤ d → last_number xs < place
-      → step (at_rounds d r xs) (round_row n place) ≡ Some (at_rounds d r (xs ++ place ∷ []))
-  step_round xs place n is_n small within after =
-      let reads : writes (decimal n) (length xs + 1) ≡ true = rw (← is_n) (writes-decimal n small) in
-      rw (
-        natural_of-decimal place (omega (arith, few_updates)),
-        is_updated.0,
-        is_updated.1,
-        reads,
-        lt-ltb (last_number xs) place after,
-        le-leb place d within,
-      ) refl
-
   round_read : (xs : List ℕ) (place : ℕ) (more : List ℕ) → r.rounds ≡ xs ++ place ∷ more
       → step (at_rounds d r xs) (round_row (1 + length xs) place) ≡ Some (at_rounds d r (xs ++ place ∷ []))
   round_read xs place more e =
       let are : AreRoundPlaces d (xs ++ place ∷ more) = subst (AreRoundPlaces d) e (subst (λ n. AreRoundPlaces n r.rounds) all is.rounds) in
       let within = all_at (λ k. (0 < k) × (k ≤ d)) xs place more are.each in
-      let above = climbs (xs ++ place ∷ more) are.ascending (λ k lt. (are.each k 0 lt).0) (length xs)
+      let up = above (xs ++ place ∷ more) are.ascending (λ k d lt. (are.each k d lt).0) (length xs)
       (omega (arith, length-append xs (place ∷ more))) in
       let at : get_or (xs ++ place ∷ more) (length xs) 0 ≡ place = get_or-append_seam xs place more 0 in
-      step_round xs place (1 + length xs) (omega arith) (omega (arith, above, at, within.1, few_updates)) within.1
-      (above_last xs place more are.ascending within.0)
+      let n : 1 + length xs ≡ length xs + 1 = omega arith in
+      rw (
+        n,
+        natural_of-decimal place (omega (arith, within.1, few_updates)),
+        is_updated.0,
+        is_updated.1,
+        writes-decimal (length xs + 1) (omega (arith, up, at, within.1, few_updates)),
+        lt-ltb (last_number xs) place (above_last xs place more are.ascending within.0),
+        le-leb place d within.1,
+      ) refl
 
   rounds_run : run (at_rounds d r []) (counted round_row 1 r.rounds) ≡ Some (at_rounds d r r.rounds)
   rounds_run = counted_run round_row (at_rounds d r) 1 r.rounds round_read r.rounds [] 1 refl refl
-
-  step_window : (xs : List Window) (w : Window) (n : ℕ) → n ≡ length xs + 1 → length xs < most_windows → w.from ≤ d → w.to ≤ d
-      → step (at_windows d r xs) (window_row n w) ≡ Some (at_windows d r (xs ++ w ∷ []))
-  step_window xs w n is_n room start end =
-      let reads : writes (decimal n) (length xs + 1) ≡ true = rw (← is_n) (writes-decimal n (omega arith)) in
-      rw (
-        natural_of-decimal w.from (omega (arith, few_updates)),
-        natural_of-decimal w.to (omega (arith, few_updates)),
-        is_updated.0,
-        is_updated.1,
-        reads,
-        lt-ltb (length xs) most_windows room,
-        le-leb w.from d start,
-        le-leb w.to d end,
-      ) refl
 
   windows_run : run (at_windows d r []) (counted window_row 1 r.windows) ≡ Some (at_windows d r r.windows)
   windows_run =
@@ -471,7 +400,18 @@ module _ (d : ℕ) (r : RecordState) (is : IsRecord r) (all : length r.sets ≡ 
       let sizes : length r.windows ≡ length xs + suc (length more) = ap length e ∙ length-append xs (w ∷ more) in
       let each : All (IsWithin (length r.sets)) (xs ++ w ∷ more) = subst (All (IsWithin (length r.sets))) e is.windows in
       let within = all_at (IsWithin (length r.sets)) xs w more each in
-      step_window xs w (1 + length xs) (omega arith) (omega arith) (omega (arith, within.0)) (omega (arith, within.1)))
+      let n : 1 + length xs ≡ length xs + 1 = omega arith in
+      rw (
+        n,
+        natural_of-decimal w.from (omega (arith, within.0, few_updates)),
+        natural_of-decimal w.to (omega (arith, within.1, few_updates)),
+        is_updated.0,
+        is_updated.1,
+        writes-decimal (length xs + 1) (omega arith),
+        lt-ltb (length xs) most_windows (omega arith),
+        le-leb w.from d (omega (arith, within.0)),
+        le-leb w.to d (omega (arith, within.1)),
+      ) refl)
       r.windows [] 1 refl refl
 
 -- ---- all rows

@@ -1,29 +1,20 @@
 -- What is not refused, by what is so of it.
-use Rattle.std.proofs.Common.{◌≡◌, ◌∙◌, refl, sym, ℕ, suc, ◌<◌, ◌≤◌, ◌==◌, true, false, not, Bool, List, [], ◌∷◌, length, Option, Some}
-use Rattle.std.proofs.Common.{None}
-use Rattle.std.proofs.Common.{if◌then◌else◌, ℤ, arith, nat_eq}
-use Rattle.std.specs.Prelude.{IfSome, nat_lt, is_some, ◌||◌}
-use Rattle.std.specs.List.{All, list_all, list_any}
-use Rattle.std.specs.Option.{is_none, option_or}
-use Rattle.std.proofs.lemmas.Bool.{and_from, and_parts, or_parts, leb-true, le-leb, lt-ltb, ltb-true}
-use Rattle.std.proofs.lemmas.Bool.Decides.{nat_tests}
+use Rattle.ordup_record.proofs.Common.{◌<◌, ◌==◌, ◌||◌, ◌∙◌, ◌∷◌, ◌≡◌, ◌≤◌, [], All-cons, All-nil, and_from, and_parts, are_in_range}
+use Rattle.ordup_record.proofs.Common.{are_known, are_of_one_object, AreKnown, AreMembersKnown, arith, Bool, Change, Count, Everything}
+use Rattle.ordup_record.proofs.Common.{false, greatest_amount, Group, group_refusal, GroupList, IfSome, if◌then◌else◌, in_range, is_name}
+use Rattle.ordup_record.proofs.Common.{is_none, is_none_or, is_some, IsGroup, IsInRange, IsKnown, IsScopeKnown, IsSet, le-leb, leb-true}
+use Rattle.ordup_record.proofs.Common.{length, limit_refusal, Limits, List, list_all, list_any, lt-ltb, ltb-true, member_refusal}
+use Rattle.ordup_record.proofs.Common.{most_changes, most_groups, most_limits, most_members, most_objects, nat_eq, nat_lt, nat_tests, None}
+use Rattle.ordup_record.proofs.Common.{not, Object, object_refusal, Objects, Option, or_parts, place_of, refl, repeats, Scope, set_refusal}
+use Rattle.ordup_record.proofs.Common.{Some, source_of, suc, sym, true, ℕ, ℤ}
+use Rattle.std.specs.List.{All}
+use Rattle.std.specs.Option.{option_or}
 use Rattle.std.proofs.lemmas.Cmp.{nat_eq_equiv}
-use Rattle.std.proofs.lemmas.List.Elements.{All-cons, All-nil}
-use Rattle.ordup_objects.specs.Names.{is_name}
-use Rattle.ordup_objects.specs.Ops.{is_none_or, number_of, source_of}
-use Rattle.ordup_objects.specs.Repeats.{repeats}
-use Rattle.ordup_objects.specs.Sets.{AreKnown, IsKnown, IsSet, are_in_range, are_known, are_of_one_object, is_known, set_refusal}
-use Rattle.ordup_objects.specs.Sizes.{most_changes, most_groups, most_members, most_objects}
-use Rattle.ordup_objects.specs.States.{IsInRange, in_range}
-use Rattle.ordup_objects.specs.Tables.{Objects, object_refusal, place_of}
-use Rattle.ordup_objects.specs.declared.change.Change.{Change}
+use Rattle.ordup_objects.specs.Ops.{number_of}
+use Rattle.ordup_objects.specs.Sets.{is_known}
 use Rattle.ordup_objects.proofs.RepeatLemmas.{list_any-alike}
-use Rattle.ordup_log.specs.Groups.{AreMembersKnown, GroupList, IsGroup, are_members_known, group_refusal, member_refusal}
-use Rattle.ordup_log.specs.Spans.{IsScopeKnown}
-use Rattle.ordup_log.specs.declared.scope.Scope.{Scope}
-use Rattle.ordup_log.specs.declared.scope.Scope.TheVariants.{Object, Group, All as Everything, Count}
-use Rattle.ordup_limits.specs.Limits.{Limits, amount_refusal, is_same_scope, limit_refusal, scope_refusal}
-use Rattle.ordup_limits.specs.Sizes.{greatest_amount, most_limits}
+use Rattle.ordup_log.specs.Groups.{are_members_known}
+use Rattle.ordup_limits.specs.Limits.{amount_refusal, is_same_scope, scope_refusal}
 
 passes : {A : Type 0} (b : Bool) (x : A) (rest : Option A) → (if not b then Some x else rest) ≡ None → (b ≡ true) × (rest ≡ None)
 passes true x rest h = (refl, h)
@@ -204,29 +195,24 @@ limit_allowed n groups limits s amount is =
 
 -- ---- sets
 
-source_known : (n : ℕ) (o : Option ℕ) → is_none_or o (λ y. nat_lt y n) ≡ true → IfSome o (λ y. y < n)
-source_known n None h = tt
-source_known n (Some y) h = ltb-true y n h
+-- a test of what may be there
+module _ {X : Type 0} (p : X → Bool) (P : X → Type 0) where
+  some_from : ((x : X) → p x ≡ true → P x) → (o : Option X) → is_none_or o p ≡ true → IfSome o P
+  some_from f None h = tt
+  some_from f (Some x) h = f x h
 
-source_test : (n : ℕ) (o : Option ℕ) → IfSome o (λ y. y < n) → is_none_or o (λ y. nat_lt y n) ≡ true
-source_test n None h = refl
-source_test n (Some y) h = lt-ltb y n h
-
-number_range : (o : Option ℤ) → is_none_or o in_range ≡ true → IfSome o IsInRange
-number_range None h = tt
-number_range (Some z) h = leb-true _ _ h
-
-number_test : (o : Option ℤ) → IfSome o IsInRange → is_none_or o in_range ≡ true
-number_test None h = refl
-number_test (Some z) h = le-leb _ _ h
+  some_back : ((x : X) → P x → p x ≡ true) → (o : Option X) → IfSome o P → is_none_or o p ≡ true
+  some_back f None h = refl
+  some_back f (Some x) h = f x h
 
 change_known : (n : ℕ) (c : Change) → is_known n c ≡ true → IsKnown n c
 change_known n c h =
     let both = and_parts (nat_lt c.object n) (is_none_or (source_of c.op) (λ y. nat_lt y n)) h in
-    (ltb-true c.object n both.0, source_known n (source_of c.op) both.1)
+    (ltb-true c.object n both.0, some_from (λ y. nat_lt y n) (λ y. y < n) (λ y. ltb-true y n) (source_of c.op) both.1)
 
 change_test : (n : ℕ) (c : Change) → IsKnown n c → is_known n c ≡ true
-change_test n c is = and_from _ _ (lt-ltb c.object n is.0) (source_test n (source_of c.op) is.1)
+change_test n c is =
+    and_from _ _ (lt-ltb c.object n is.0) (some_back (λ y. nat_lt y n) (λ y. y < n) (λ y. lt-ltb y n) (source_of c.op) is.1)
 
 -- a list of changes is not refused just where it is a set over these objects
 pub set_taken : (n : ℕ) (m : List Change) → set_refusal n m ≡ None → IsSet m × AreKnown n m
@@ -240,7 +226,7 @@ set_taken n m h =
         some = grind (arith, nat_tests);
         few = grind (arith, nat_tests);
         numbers = all_from (λ (c : Change). is_none_or (number_of c.op) in_range) (λ (c : Change). IfSome (number_of c.op) IsInRange)
-            (λ c. number_range (number_of c.op)) m range;
+            (λ c. some_from in_range IsInRange (λ z. leb-true _ _) (number_of c.op)) m range;
         distinct = distinct;
       },
       all_from (is_known n) (IsKnown n) (change_known n) m known,
@@ -253,5 +239,5 @@ set_allowed n m is known =
     let size : nat_lt most_changes (length m) ≡ false = grind (arith, nat_tests) in
     let full : (length m == 0) ≡ false = grind (arith, nat_tests) in
     let range = all_back (λ (c : Change). is_none_or (number_of c.op) in_range) (λ (c : Change). IfSome (number_of c.op) IsInRange)
-    (λ c. number_test (number_of c.op)) m is.numbers in
+    (λ c. some_back in_range IsInRange (λ z. le-leb _ _) (number_of c.op)) m is.numbers in
     rw (all_back (is_known n) (IsKnown n) (change_test n) m known, range, size, full, is.distinct) refl

@@ -1,31 +1,18 @@
 -- Rows that are read one after another: what was taken is what was told.
-use Rattle.std.proofs.Common.{◌≡◌, ◌∙◌, ap, sym, refl, subst, ℕ, ℤ, ◌<◌, ◌≤◌, ◌==◌, true, List, [], ◌∷◌, ◌++◌, length, arith, append_assoc}
-use Rattle.std.proofs.Common.{inr, Some, codes}
-use Rattle.std.specs.Prelude.{nat_le}
-use Rattle.std.specs.Str.{bytes_eq}
-use Rattle.std.proofs.lemmas.Bool.{and_parts, eqb-true, leb-true, ltb-true}
-use Rattle.std.proofs.lemmas.List.Elements.{All-nil}
-use Rattle.std.proofs.lemmas.Option.{same_Some}
-use Rattle.ordup_objects.specs.Names.{is_name}
-use Rattle.ordup_objects.specs.Sets.{AreKnown, IsSet}
-use Rattle.ordup_objects.specs.Sizes.{most_updates}
-use Rattle.ordup_objects.specs.States.{IsInRange}
-use Rattle.std.proofs.lemmas.List.{append-nil}
-use Rattle.ordup_limits.specs.Sizes.{greatest_amount}
-use Rattle.ordup_limits.specs.declared.limit.Limit.{Limit}
-use Rattle.ordup_log.specs.Spans.{IsScopeKnown}
-use Rattle.ordup_rounds.specs.declared.window.Window.{Window}
-use Rattle.ordup_record.specs.Records.{IsRecord, RecordState}
+use Rattle.ordup_record.proofs.Common.{◌++◌, ◌<◌, ◌==◌, ◌∙◌, ◌∷◌, ◌≡◌, ◌≤◌, [], All-nil, and_parts, ap, append-nil, append_assoc, AreKnown}
+use Rattle.ordup_record.proofs.Common.{arith, eqb-true, greatest_amount, inr, is_name, IsInRange, IsRecord, IsScopeKnown}
+use Rattle.ordup_record.proofs.Common.{IsSet, leb-true, length, Limit, List, ltb-true, most_updates, RecordState, refl, same_Some}
+use Rattle.ordup_record.proofs.Common.{Some, subst, sym, true, Window, ℕ, ℤ}
 use Rattle.ordup_record.specs.declared.report_change.ReportChange.{ReportChange}
 use Rattle.ordup_rows.specs.Columns.{Columns, columns_of, natural_of}
 use Rattle.ordup_rows.specs.Laws.{WhatIsReadIsTold}
 use Rattle.ordup_rows.specs.RowKinds.{kind_of}
 use Rattle.ordup_rows.specs.Rows.{Row, rows_of, rows_so_far}
 use Rattle.ordup_rows.specs.Stages.{Stage, closed, has_objects, has_updates, head_of, record_at, run, step, told, unread, with_row}
-use Rattle.ordup_rows.proofs.Columns.{bound, four_columns, kept, kind_spelled, mapped, natural_spelled, same_bytes}
+use Rattle.ordup_rows.proofs.Columns.{bound, four_columns, kept, kind_spelled, mapped, natural_spelled, parts_4, same_bytes}
 use Rattle.ordup_rows.proofs.Names.{AreDistinct-none}
 use Rattle.ordup_rows.proofs.Taking.{row_by, take_row}
-use Rattle.ordup_rows.proofs.ToldSoFar.{AreGroups-none, IsTold}
+use Rattle.ordup_rows.proofs.ToldSoFar.{AreGroups-none, IsTold, told_by_parts}
 
 -- the rows that a stage was told
 abbrev pub stage_rows : Stage → List Row
@@ -43,52 +30,28 @@ pub record Follows (stage : Stage) (more : List Row) (next : Stage) : Type 0 whe
   pub rows : stage_rows next ≡ stage_rows stage ++ more
 
 pub no_record : (site : List ℕ) (decided : ℕ) → is_name site ≡ true → decided ≤ most_updates → IsTold decided (record_at site)
-no_record site decided name few = record {
-  site = name;
-  updates = few;
-  objects = record {
-    few = omega arith;
-    values = All-nil IsInRange;
-    names = All-nil (λ (e : List ℕ × ℤ). is_name e.0 ≡ true);
-    distinct = AreDistinct-none ℤ;
-  };
-  groups = AreGroups-none 0 [] refl;
-  limits = record {
-    few = omega arith;
-    amounts = All-nil (λ (l : Limit). l.amount ≤ greatest_amount);
-    distinct = refl;
-  };
-  scopes = All-nil (λ (l : Limit). IsScopeKnown 0 [] l.scope);
-  sets = record {
-    count = omega arith;
-    each = All-nil IsSet;
-    known = All-nil (AreKnown 0);
-  };
-  reports = record {
-    places = λ k lt. absurd (omega arith);
-    each = All-nil (λ (c : ReportChange). (0 < c.place) × (c.place ≤ decided));
-    rising = λ k lt. absurd (omega arith);
-    reported = All-nil (λ (c : ReportChange). (0 < c.reported) × (c.reported ≤ most_updates));
-  };
-  rounds = record {
-    ascending = λ k lt. absurd (omega arith);
-    each = All-nil (λ k. (0 < k) × (k ≤ decided));
-  };
-  windows = record {
-    few = omega arith;
-    each = All-nil (λ (w : Window). (w.from ≤ decided) × (w.to ≤ decided));
-  };
-  begun = inr (refl, (refl, (refl, (refl, (refl, refl)))));
-  full = inr (refl, (refl, refl));
-}
+no_record site decided name few =
+    let names = All-nil (λ (e : List ℕ × ℤ). is_name e.0 ≡ true) in
+    told_by_parts name few (record { few = omega arith; values = All-nil IsInRange; names = names; distinct = AreDistinct-none ℤ })
+    (AreGroups-none 0 [] refl)
+    (record { few = omega arith; amounts = All-nil (λ (l : Limit). l.amount ≤ greatest_amount); distinct = refl })
+    (All-nil (λ (l : Limit). IsScopeKnown 0 [] l.scope))
+    (record { count = omega arith; each = All-nil IsSet; known = All-nil (AreKnown 0) })
+    (record {
+      places = λ k lt. absurd (omega arith);
+      each = All-nil (λ (c : ReportChange). (0 < c.place) × (c.place ≤ decided));
+      rising = λ k lt. absurd (omega arith);
+      reported = All-nil (λ (c : ReportChange). (0 < c.reported) × (c.reported ≤ most_updates));
+    })
+    (record { ascending = λ k lt. absurd (omega arith); each = All-nil (λ k. (0 < k) × (k ≤ decided)) })
+    (record { few = omega arith; each = All-nil (λ (w : Window). (w.from ≤ decided) × (w.to ≤ decided)) })
+    (inr (refl, (refl, (refl, (refl, (refl, refl)))))) (inr (refl, (refl, refl)))
 
 step_head : (c : Columns) (next : Stage) → head_of c ≡ Some next → Follows unread (row_by c ∷ []) next
 step_head c next h =
     let (decided, read, rest) = bound _ (natural_of c.third) next h in
     let (tests, same) = kept _ _ next rest in
-    let (t1, few) = and_parts _ (nat_le decided most_updates) tests in
-    let (t2, name) = and_parts _ (is_name c.second) t1 in
-    let (kind, version) = and_parts (bytes_eq c.kind (codes "ordup")) (bytes_eq c.first (codes "1")) t2 in
+    let (kind, version, name, few) = parts_4 tests in
     let e1 = same_bytes c.kind _ kind in
     let e2 = same_bytes c.first _ version in
     let e3 = (natural_spelled c.third decided read).1 in

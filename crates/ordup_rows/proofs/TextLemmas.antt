@@ -1,16 +1,12 @@
 -- Texts that are read as rows, one way alone; and the text of a record is read as its rows.
-use Rattle.std.proofs.Common.{◌≡◌, ◌∙◌, ap, sym, refl, subst, ℕ, suc, ◌-◌, List, [], ◌∷◌, ◌++◌, length, arith}
-use Rattle.std.proofs.Common.{inl, inr, None, ◌⊎◌}
-use Rattle.std.specs.Prelude.{All}
-use Rattle.std.proofs.lemmas.List.{append-nil, length-append, nil_from_length, take-append-le}
-use Rattle.std.proofs.lemmas.Option.{same_Some}
+use Rattle.ordup_record.proofs.Common.{◌++◌, ◌-◌, ◌∙◌, ◌∷◌, ◌≡◌, ◌⊎◌, [], All, ap, append-nil, arith, inl, inr, length, length-append, List}
+use Rattle.ordup_record.proofs.Common.{nil_from_length, None, RecordState, refl, same_Some, subst, suc, sym, take-append-le, ℕ}
 use Rattle.csv.specs.Machine.{next_record}
 use Rattle.csv.specs.Reading.{AreRecords, Reached, default_config, strip_bom}
 use Rattle.csv.specs.Writing.{is_blank, read_back}
 use Rattle.csv.specs.declared.parser.State.{State}
 use Rattle.csv.specs.declared.parser.State.TheVariants as st
 use Rattle.csv.proofs.RoundTrip.{read-write}
-use Rattle.ordup_record.specs.Records.{RecordState}
 use Rattle.ordup_rows.specs.Forming.{csv_text}
 use Rattle.ordup_rows.specs.Rows.{Row, rows_of, rows_text}
 use Rattle.ordup_rows.specs.Telling.{CanGoOn, IsBadRow, IsFirstBadRow, Tells}

@@ -1,25 +1,12 @@
 -- What is kept of a record while rows tell it, and how its lists grow.
-use Rattle.std.proofs.Common.{◌≡◌, ◌∙◌, ap, ℕ, ℤ, ◌+◌, ◌-◌, ◌<◌, ◌≤◌, true, List, [], ◌∷◌, ◌++◌, length, get_or, arith, inl, inr, nat_eq}
-use Rattle.std.proofs.Common.{◌⊎◌}
-use Rattle.std.specs.Prelude.{All}
-use Rattle.std.specs.List.Sorted.{IsStrictlyIncreasing}
+use Rattle.ordup_record.proofs.Common.{◌++◌, ◌+◌, ◌-◌, ◌<◌, ◌∙◌, ◌∷◌, ◌≡◌, ◌≤◌, ◌⊎◌, [], All, All-nil, All-push, ap, AreDistinct, AreGroups}
+use Rattle.ordup_record.proofs.Common.{AreKnown, AreLimits, AreMembersKnown, AreNames, AreReportChanges, AreRoundPlaces, AreScopesKnown}
+use Rattle.ordup_record.proofs.Common.{arith, cases_lt, Change, get_or, get_or-append_seam, GroupList, initial_state, inl, inr, is_name}
+use Rattle.ordup_record.proofs.Common.{IsGroup, IsInRange, IsSet, IsState, IsStrictlyIncreasing, length, length-append, length_push, List}
+use Rattle.ordup_record.proofs.Common.{map-append, most_objects, most_updates, most_windows, nat_eq, Objects, RecordState, true, Window, ℕ}
+use Rattle.ordup_record.proofs.Common.{ℤ}
 use Rattle.std.proofs.Math.ListN.{get_or-append}
-use Rattle.std.proofs.Math.Seq.{get_or-append_seam}
-use Rattle.std.proofs.lemmas.Bool.{cases_lt}
-use Rattle.std.proofs.lemmas.List.{length-append, length_push, map-append}
-use Rattle.std.proofs.lemmas.List.Elements.{All-nil, All-push}
-use Rattle.ordup_objects.specs.Names.{is_name}
-use Rattle.ordup_objects.specs.Sets.{AreKnown, IsSet}
-use Rattle.ordup_objects.specs.Sizes.{most_objects, most_updates}
-use Rattle.ordup_objects.specs.States.{IsInRange, IsState}
-use Rattle.ordup_objects.specs.Tables.{AreDistinct, AreNames, Objects, initial_state}
-use Rattle.ordup_objects.specs.declared.change.Change.{Change}
 use Rattle.ordup_objects.proofs.RepeatLemmas.{repeats-push}
-use Rattle.ordup_log.specs.Groups.{AreMembersKnown, GroupList, IsGroup}
-use Rattle.ordup_limits.specs.Limits.{AreLimits, AreScopesKnown}
-use Rattle.ordup_rounds.specs.Rounds.{AreRoundPlaces}
-use Rattle.ordup_rounds.specs.declared.window.Window.{Window}
-use Rattle.ordup_record.specs.Records.{AreGroups, AreReportChanges, RecordState, most_windows}
 use Rattle.ordup_rows.specs.Stages.{last_number}
 use Rattle.ordup_rows.proofs.Growth.{IsBeforeMembers, IsBeforeReports}
 use Rattle.ordup_rows.proofs.Names.{AreDistinct-none, AreDistinct-push}
@@ -56,6 +43,27 @@ pub record IsTold (decided : ℕ) (r : RecordState) : Type 0 where
   pub windows : AreWindowsSoFar decided r.windows
   pub begun : (0 < length r.objects) ⊎ IsBeforeMembers r
   pub full : (length r.sets ≡ decided) ⊎ IsBeforeReports r
+
+-- what is kept, part by part
+pub told_by_parts : {decided : ℕ} {r : RecordState} → is_name r.site ≡ true → decided ≤ most_updates → AreObjectsSoFar r.objects
+    → AreGroups (length r.objects) r.groups → AreLimits r.limits → AreScopesKnown (length r.objects) r.groups r.limits
+    → AreSetsSoFar decided (length r.objects) r.sets → AreReportChanges decided r.reports → AreRoundPlaces decided r.rounds
+    → AreWindowsSoFar decided r.windows → (0 < length r.objects) ⊎ IsBeforeMembers r → (length r.sets ≡ decided) ⊎ IsBeforeReports r
+    → IsTold decided r
+told_by_parts a b c d e f g h i j k l = record {
+  site = a;
+  updates = b;
+  objects = c;
+  groups = d;
+  limits = e;
+  scopes = f;
+  sets = g;
+  reports = h;
+  rounds = i;
+  windows = j;
+  begun = k;
+  full = l;
+}
 
 -- ---- lists and their last element
 

@@ -1,43 +1,27 @@
 -- Scopes and changes as columns spell them, and that each has one spelling.
-use Rattle.std.proofs.Common.{◌≡◌, ◌∙◌, ap, sym, refl, ℕ, suc, ◌^◌, ◌<◌, ◌==◌, true, false, List, [], ◌∷◌, ◌++◌, length, Some, None}
-use Rattle.std.proofs.Common.{option_map, if◌then◌else◌, ℤ, pos, negsuc, arith, codes, unsigned_abs}
-use Rattle.std.specs.Prelude.{option_and_then, IfSome, Bool}
-use Rattle.std.specs.Char.{is_ascii_digit}
-use Rattle.std.specs.Fmt.{decimal, signed_decimal}
-use Rattle.std.specs.List.{All, list_all, slice_split, join_with_byte}
-use Rattle.std.specs.Str.{all_ascii_digits, bytes_eq}
-use Rattle.std.proofs.lemmas.Bool.{and_parts}
-use Rattle.std.proofs.lemmas.Bool.Decides.{nat_tests}
-use Rattle.std.proofs.lemmas.Fmt.{digits_decimal}
-use Rattle.std.proofs.lemmas.List.{get_or-map}
-use Rattle.std.proofs.lemmas.List.Elements.{All-cons, All-nil}
+use Rattle.ordup_record.proofs.Common.{◌++◌, ◌<◌, ◌==◌, ◌^◌, ◌∙◌, ◌∷◌, ◌≡◌, [], Add, All-cons, All-nil, all_ascii_digits, and_parts, ap}
+use Rattle.ordup_record.proofs.Common.{AreDistinct, AreNames, arith, bytes_eq, Change, codes, Count, decimal, digits_decimal, Everything}
+use Rattle.ordup_record.proofs.Common.{false, get_or-map, Group, GroupList, IfSome, if◌then◌else◌, is_ascii_digit, is_name, is_name_byte}
+use Rattle.ordup_record.proofs.Common.{IsInRange, IsKnown, IsScopeKnown, length, List, list_all, Max, Min, Mul, nat_tests, negsuc, None}
+use Rattle.ordup_record.proofs.Common.{NumberOp, Object, Objects, Op, op_number, op_with, option_and_then, place_of, pos, refl, same_Some}
+use Rattle.ordup_record.proofs.Common.{Scope, Set, signed_decimal, slice_split, Some, source_of, suc, sym, Take, true, unsigned_abs, ℕ, ℤ}
+use Rattle.std.proofs.Common.{option_map}
+use Rattle.std.specs.Prelude.{Bool}
+use Rattle.std.specs.List.{All, join_with_byte}
 use Rattle.std.proofs.lemmas.List.Splits.{join_with_byte-slice_split, slice_split_at, slice_split_none}
-use Rattle.std.proofs.lemmas.Option.{same_Some}
 use Rattle.ordup_grammar.specs.ChangeWords.{change_of, change_of_parts}
 use Rattle.ordup_grammar.specs.Numbers.{number_of}
 use Rattle.ordup_grammar.specs.Operations.{number_op_of, operation_of}
 use Rattle.ordup_grammar.specs.declared.change_words.ChangeWord.{ChangeWord}
-use Rattle.ordup_objects.specs.declared.change.NumberOp.{NumberOp}
 use Rattle.ordup_objects.specs.declared.change.NumberOp.TheVariants as kind
 use Rattle.ordup_grammar.specs.declared.operation.Operation.{Operation}
 use Rattle.ordup_grammar.specs.declared.operation.Operation.TheVariants as word
 use Rattle.ordup_grammar.proofs.Decimals.{numerals, number_of-signed_decimal, signed_decimal-number_of}
-use Rattle.ordup_objects.specs.Names.{is_name, is_name_byte}
-use Rattle.ordup_objects.specs.Ops.{number_of as op_number, op_with, source_of}
-use Rattle.ordup_objects.specs.Sets.{IsKnown}
-use Rattle.ordup_objects.specs.States.{IsInRange}
-use Rattle.ordup_objects.specs.Tables.{AreDistinct, AreNames, Objects, place_of}
-use Rattle.ordup_objects.specs.declared.change.Change.{Change}
-use Rattle.ordup_objects.specs.declared.change.Op.{Op}
-use Rattle.ordup_objects.specs.declared.change.Op.TheVariants.{Add, Set, Mul, Max, Min, Take}
-use Rattle.ordup_log.specs.Groups.{GroupList}
-use Rattle.ordup_log.specs.Spans.{IsScopeKnown}
-use Rattle.ordup_log.specs.declared.scope.Scope.{Scope}
-use Rattle.ordup_log.specs.declared.scope.Scope.TheVariants.{Object, Group, All as Everything, Count}
 use Rattle.ordup_rows.specs.Columns.{after_prefix, change_by, change_in, has_prefix, op_in, scope_of}
 use Rattle.ordup_rows.specs.Rows.{change_text, change_word, name_at, operation_text, scope_text}
 use Rattle.ordup_rows.proofs.Columns.{bound, branch, mapped, name_found, prefixed, same_bytes}
 use Rattle.ordup_rows.proofs.Names.{place_of-name}
+use Rattle.ordup_rows.proofs.Refusals.{all_from}
 
 -- ---- scopes
 
@@ -169,30 +153,29 @@ IsPart byte = is_colon byte ≡ false
 name_byte : (b : ℕ) → is_name_byte b ≡ true → is_colon b ≡ false
 name_byte b h = grind (arith, nat_tests)
 
-name_bytes : (name : List ℕ) → list_all is_name_byte name ≡ true → All IsPart name
-name_bytes [] h = All-nil IsPart
-name_bytes (b ∷ name) h =
-    let both = and_parts (is_name_byte b) (list_all is_name_byte name) h in
-    All-cons IsPart b name (name_byte b both.0) (name_bytes name both.1)
+-- what holds of the bytes that names have holds of those of a name
+pub name_bytes : (P : ℕ → Type 0) → ((b : ℕ) → is_name_byte b ≡ true → P b) → (name : List ℕ) → is_name name ≡ true → All P name
+name_bytes P f name h = all_from is_name_byte P f name (and_parts _ (list_all is_name_byte name) h).1
 
 name_part : (name : List ℕ) → is_name name ≡ true → All IsPart name
-name_part name h = name_bytes name (and_parts _ (list_all is_name_byte name) h).1
+name_part = name_bytes IsPart name_byte
 
 digit_byte : (b : ℕ) → is_ascii_digit b ≡ true → is_colon b ≡ false
 digit_byte b h = grind (arith, nat_tests)
 
-digit_bytes : (digits : List ℕ) → all_ascii_digits digits ≡ true → All IsPart digits
-digit_bytes [] h = All-nil IsPart
-digit_bytes (b ∷ digits) h =
-    let both = and_parts (is_ascii_digit b) (all_ascii_digits digits) h in
-    All-cons IsPart b digits (digit_byte b both.0) (digit_bytes digits both.1)
+-- what holds of the digits holds of the bytes of a number
+module _ (P : ℕ → Type 0) (f : (b : ℕ) → is_ascii_digit b ≡ true → P b) where
+  digit_bytes : (digits : List ℕ) → all_ascii_digits digits ≡ true → All P digits
+  digit_bytes [] h = All-nil P
+  digit_bytes (b ∷ digits) h = let both = and_parts _ _ h in All-cons P b digits (f b both.0) (digit_bytes digits both.1)
 
-decimal_part : (n : ℕ) → n < 10 ^ 19 → All IsPart (decimal n)
-decimal_part n small = digit_bytes (decimal n) (digits_decimal numerals n (omega arith))
+  pub decimal_bytes : (n : ℕ) → n < 10 ^ 19 → All P (decimal n)
+  decimal_bytes n small = digit_bytes (decimal n) (digits_decimal numerals n (omega arith))
 
 number_part : (z : ℤ) → unsigned_abs z < 10 ^ 19 → All IsPart (signed_decimal z)
-number_part (pos n) small = decimal_part n small
-number_part (negsuc n) small = All-cons IsPart 45 (decimal (suc n)) refl (decimal_part (suc n) (omega arith))
+number_part (pos n) small = decimal_bytes IsPart digit_byte n small
+number_part (negsuc n) small =
+    All-cons IsPart 45 (decimal (suc n)) refl (decimal_bytes IsPart digit_byte (suc n) (omega arith))
 
 -- the parts of what two colons join, after the first
 two_parts : (x operand : List ℕ) → All IsPart x → All IsPart operand → slice_split is_colon (x ++ 58 ∷ operand) ≡ x ∷ operand ∷ []

@@ -1,16 +1,11 @@
 -- Places that are passed one after the other.
-use Rattle.std.proofs.Common.{◌≡◌, ℕ, zero, suc, ◌+◌, ◌-◌, ◌<◌, ◌≤◌}
-use Rattle.std.proofs.Common.{Bool, true, false, List, [], ◌∷◌, length, map, get_or}
-use Rattle.std.proofs.Common.{Some, None, inl, inr, arith, refl, sym, ap, ◌∙◌}
-use Rattle.std.specs.Prelude.{◌==◌, ◌||◌, ◌⊎◌, AllPairs, if◌then◌else◌, unwrap_or}
-use Rattle.std.specs.List.Sorted.{IsStrictlyIncreasing}
-use Rattle.std.proofs.lemmas.Bool.{cases_lt, eq-eqb, ne_eqb, le-leb, lt-leb}
-use Rattle.std.proofs.lemmas.List.{get_or_default, get_or-map, length-map}
-use Rattle.std.proofs.lemmas.List.Kept.{AllPairs-from_increasing}
-use Rattle.ordup_rounds.specs.Schedules.{awaited_place}
-use Rattle.ordup_rounds.specs.Rounds.{full_rounds}
+use Rattle.ordup_record.proofs.Common.{◌+◌, ◌-◌, ◌<◌, ◌∙◌, ◌∷◌, ◌≡◌, ◌≤◌, [], AllPairs, AllPairs-from_increasing, ap, arith, awaited_place}
+use Rattle.ordup_record.proofs.Common.{Bool, cases_lt, eq-eqb, false, full_rounds, get_or, get_or-map, get_or_default, inl, inr}
+use Rattle.ordup_record.proofs.Common.{IsStrictlyIncreasing, le-leb, length, length-map, List, lt-leb, map, None, or-true, refl, report_at}
+use Rattle.ordup_record.proofs.Common.{Some, suc, sym, true, zero, ℕ}
+use Rattle.std.specs.Prelude.{◌==◌, ◌⊎◌, if◌then◌else◌, unwrap_or}
+use Rattle.std.proofs.lemmas.Bool.{ne_eqb}
 use Rattle.ordup_rounds.proofs.PlaceLemmas.{has_place}
-use Rattle.ordup_record.specs.Records.{report_at}
 use Rattle.ordup_record.specs.declared.report_change.ReportChange.{ReportChange}
 use Rattle.ordup_record.proofs.ReportLemmas.{ArePassed, report_at-none, report_at-last}
 use Rattle.ordup_verdict.specs.Cursors.{AreUpto}
@@ -61,46 +56,45 @@ upto-same k n place places rise upto other now =
 
 -- ---- what was reported
 
-place-at : (changes : List ReportChange) (n : ℕ) (d : ReportChange) → n < length changes
-    → get_or (map (λ (c : ReportChange). c.place) changes) n 0 ≡ (get_or changes n d).place
-place-at changes n d lt = get_or-map (λ (c : ReportChange). c.place) changes n d 0 lt
+abbrev pub places_of : List ReportChange → List ℕ
+places_of changes = map (λ (c : ReportChange). c.place) changes
 
-pub reports-more : (changes : List ReportChange) (k n place : ℕ) (d : ReportChange)
-    → IsStrictlyIncreasing (map (λ (c : ReportChange). c.place) changes) → AreUpto k (map (λ (c : ReportChange). c.place) changes) n
-    → n < length changes → (get_or changes n d).place ≡ place → k + 1 ≡ place
-    → AreUpto place (map (λ (c : ReportChange). c.place) changes) (n + 1)
+place-at : (changes : List ReportChange) (n : ℕ) (d : ReportChange) (e : ℕ) → n < length changes
+    → get_or (places_of changes) n e ≡ (get_or changes n d).place
+place-at changes n d e lt = get_or-map (λ (c : ReportChange). c.place) changes n d e lt
+
+places-count : (changes : List ReportChange) → length (places_of changes) ≡ length changes
+places-count changes = length-map changes (λ (c : ReportChange). c.place)
+
+pub reports-more : (changes : List ReportChange) (k n place : ℕ) (d : ReportChange) → IsStrictlyIncreasing (places_of changes)
+    → AreUpto k (places_of changes) n → n < length changes → (get_or changes n d).place ≡ place → k + 1 ≡ place
+    → AreUpto place (places_of changes) (n + 1)
 reports-more changes k n place d rise upto there here now =
-    upto-more k n place (map (λ (c : ReportChange). c.place) changes) rise upto
-    (rw (length-map changes (λ (c : ReportChange). c.place)) there) (place-at changes n d there ∙ here) now
+    upto-more k n place (places_of changes) rise upto (rw (places-count changes) there) (place-at changes n d 0 there ∙ here) now
 
-pub reports-same : (changes : List ReportChange) (k n place : ℕ) (d : ReportChange)
-    → IsStrictlyIncreasing (map (λ (c : ReportChange). c.place) changes) → AreUpto k (map (λ (c : ReportChange). c.place) changes) n
-    → (n < length changes → (get_or changes n d).place ≡ place → ⊥) → k + 1 ≡ place
-    → AreUpto place (map (λ (c : ReportChange). c.place) changes) n
+pub reports-same : (changes : List ReportChange) (k n place : ℕ) (d : ReportChange) → IsStrictlyIncreasing (places_of changes)
+    → AreUpto k (places_of changes) n → (n < length changes → (get_or changes n d).place ≡ place → ⊥) → k + 1 ≡ place
+    → AreUpto place (places_of changes) n
 reports-same changes k n place d rise upto other now =
-    upto-same k n place (map (λ (c : ReportChange). c.place) changes) rise upto
-    (λ lt at. (let there : n < length changes = rw (length-map changes (λ (c : ReportChange). c.place)) at lt in
-    other there (sym (place-at changes n d there) ∙ at))) now
+    upto-same k n place (places_of changes) rise upto
+    (λ lt at. (let there : n < length changes = rw (places-count changes) at lt in
+    other there (sym (place-at changes n d 0 there) ∙ at))) now
 
-upto-passed : (changes : List ReportChange) (k n : ℕ) → AreUpto k (map (λ (c : ReportChange). c.place) changes) n
-    → ArePassed changes k n
+upto-passed : (changes : List ReportChange) (k n : ℕ) → AreUpto k (places_of changes) n → ArePassed changes k n
 upto-passed changes k n upto =
-    let places = map (λ (c : ReportChange). c.place) changes in
-    let same : length places ≡ length changes = length-map changes (λ (c : ReportChange). c.place) in (
-      λ j d le lt. (let at : get_or places j d.place ≡ (get_or changes j d).place =
-          get_or-map (λ (c : ReportChange). c.place) changes j d d.place (omega (arith, upto.few)) in
-          le-leb (get_or changes j d).place k (rw at at (upto.parted.0 j d.place le lt))),
-      λ j d le lt. (let at : get_or places j d.place ≡ (get_or changes j d).place =
-          get_or-map (λ (c : ReportChange). c.place) changes j d d.place lt in
-          lt-leb (get_or changes j d).place k (rw at at (upto.parted.1 j d.place le (omega arith)))),
+    let same = places-count changes in (
+      λ j d le lt. le-leb (get_or changes j d).place k
+          (rw (place-at changes j d d.place (omega (arith, upto.few))) at (upto.parted.0 j d.place le lt)),
+      λ j d le lt. lt-leb (get_or changes j d).place k
+          (rw (place-at changes j d d.place lt) at (upto.parted.1 j d.place le (omega arith))),
     )
 
-pub reported-none : (changes : List ReportChange) (k n : ℕ) → n ≡ 0 → AreUpto k (map (λ (c : ReportChange). c.place) changes) n
+pub reported-none : (changes : List ReportChange) (k n : ℕ) → n ≡ 0 → AreUpto k (places_of changes) n
     → 0 ≡ report_at changes k
 reported-none changes k n none upto = report_at-none changes k n (upto-passed changes k n upto) none
 
 pub reported-last : (changes : List ReportChange) (k n : ℕ) (d : ReportChange) → (n ≡ 0 → ⊥) → n ≤ length changes
-    → AreUpto k (map (λ (c : ReportChange). c.place) changes) n → (get_or changes (n - 1) d).reported ≡ report_at changes k
+    → AreUpto k (places_of changes) n → (get_or changes (n - 1) d).reported ≡ report_at changes k
 reported-last changes k n d some le upto = report_at-last changes k n d (upto-passed changes k n upto) (omega arith) le
 
 -- ---- what is awaited
@@ -109,10 +103,6 @@ place-absent : (k : ℕ) (xs : List ℕ) → ((i : ℕ) → i < length xs → ge
 place-absent k [] absent = refl
 place-absent k (x ∷ xs) absent =
     rw (ne_eqb x k (absent 0 (omega arith))) (place-absent k xs (λ i lt. absent (suc i) (omega arith)))
-
-or-true : (b : Bool) → (b || true) ≡ true
-or-true true = refl
-or-true false = refl
 
 place-there : (k i : ℕ) (xs : List ℕ) → i < length xs → get_or xs i 0 ≡ k → has_place k xs ≡ true
 place-there k i [] lt at = absurd (omega arith)

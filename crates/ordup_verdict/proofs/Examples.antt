@@ -1,18 +1,14 @@
 -- Verdicts on small records, worked out by hand.
-use Rattle.std.proofs.Common.{◌≡◌, ℕ, pos, ◌<◌, Bool, true, false, List, [], ◌∷◌, arith, refl}
+use Rattle.ordup_record.proofs.Common.{◌<◌, ◌∷◌, ◌≡◌, [], Add, arith, Bool, Change, false, List, Object, pos, RecordState, refl, true}
+use Rattle.ordup_record.proofs.Common.{Window, ℕ}
 use Rattle.std.specs.Prelude.{codes}
 use Rattle.std.proofs.lemmas.Bool.{agree_below, agree_below_at}
-use Rattle.ordup_objects.specs.declared.change.Change.{Change}
-use Rattle.ordup_objects.specs.declared.change.Op.TheVariants.{Add}
-use Rattle.ordup_log.specs.declared.scope.Scope.TheVariants.{Object}
-use Rattle.ordup_rounds.specs.declared.window.Window.{Window}
 use Rattle.ordup_record.specs.declared.report_change.ReportChange.{ReportChange}
-use Rattle.ordup_record.specs.Records.{RecordState}
 use Rattle.ordup_verdict.specs.Passing.{PassesBelow, IsFirstFailure}
 use Rattle.ordup_verdict.specs.Verdicts.{IsVerdict}
 use Rattle.ordup_verdict.specs.declared.verdict.Verdict.TheVariants.{Fewest, No}
-use Rattle.ordup_verdict.specs.declared.verdict.Reason.TheVariants.{NotLegal, LimitsBroken, WindowLight, WindowsMeet}
-use Rattle.ordup_verdict.specs.declared.verdict.Reason.TheVariants.{WindowBeforeReport, CountDiffers}
+use Rattle.ordup_verdict.specs.declared.verdict.Reason.TheVariants.{NotLegal, LimitsBroken, WindowLight, WindowsMeet, WindowBeforeReport}
+use Rattle.ordup_verdict.specs.declared.verdict.Reason.TheVariants.{CountDiffers}
 
 -- a test that passes at each of the first numbers, as it computes
 passes : (test : ℕ → Bool) (n : ℕ) → agree_below test (λ i. true) n ≡ true → PassesBelow test n
@@ -23,22 +19,29 @@ fails : (test : ℕ → Bool) (n k : ℕ) → k < n → test k ≡ false → agr
     → IsFirstFailure test n k
 fails test n k there here before = record { there = there; fails = here; before = passes test k before }
 
+abbrev change : ℕ → ℕ → Change
+change x n = record { object = x; op = Add (pos n) }
+
 -- one change, which adds to object x
 abbrev adds : ℕ → List Change
-adds n = record { object = 0; op = Add (pos n) } ∷ []
+adds n = change 0 n ∷ []
+
+-- one report change
+abbrev reports : ℕ → ℕ → List ReportChange
+reports place n = record { place = place; reported = n } ∷ []
 
 abbrev from_to : ℕ → ℕ → Window
 from_to a b = record { from = a; to = b }
 
 -- object x at this value and y at 10, and a limit of 5 on x
 abbrev told : ℕ → List (List Change) → List ReportChange → List ℕ → List Window → RecordState
-told value sets reports rounds windows = record {
+told value sets changes rounds windows = record {
   site = codes "a";
   objects = (codes "x", pos value) ∷ (codes "y", pos 10) ∷ [];
   groups = [];
   limits = record { scope = Object 0; amount = 5 } ∷ [];
   sets = sets;
-  reports = reports;
+  reports = changes;
   rounds = rounds;
   windows = windows;
 }
@@ -48,16 +51,11 @@ forced : IsVerdict (told 0 (adds 5 ∷ adds 1 ∷ []) [] (2 ∷ []) (from_to 0 2
 forced = (passes _ 2 refl, passes _ 2 refl, passes _ 1 refl, passes _ 1 refl, passes _ 1 refl, refl, refl)
 
 -- no round is needed where the site had reported the first
-reported : IsVerdict (told 0 (adds 5 ∷ adds 1 ∷ []) (record { place = 2; reported = 1 } ∷ []) [] []) (Fewest 0)
+reported : IsVerdict (told 0 (adds 5 ∷ adds 1 ∷ []) (reports 2 1) [] []) (Fewest 0)
 reported = (passes _ 2 refl, passes _ 2 refl, passes _ 0 refl, passes _ 0 refl, passes _ 0 refl, refl, refl)
 
 -- the second of the changes of the second update is out of range, in row 7: the head, two objects, the limit, one change, and it
-out_of_range : IsVerdict (told 999999999 (adds 1 ∷ (record {
-  object =
-      1;
-  op = Add (pos 1);
-} ∷ record { object = 0; op = Add (pos 1) } ∷ []) ∷ []) []
-    [] []) (No 7 NotLegal)
+out_of_range : IsVerdict (told 999999999 (adds 1 ∷ (change 1 1 ∷ change 0 1 ∷ []) ∷ []) [] [] []) (No 7 NotLegal)
 out_of_range = (1, 1, fails _ 2 1 (omega arith) refl refl, fails _ 2 1 (omega arith) refl refl, refl)
 
 -- without the round the second update passes the limit, in row 6
@@ -84,11 +82,7 @@ touching : IsVerdict (told 0 (adds 3 ∷ adds 3 ∷ adds 3 ∷ adds 3 ∷ []) []
 touching = (passes _ 4 refl, passes _ 4 refl, passes _ 2 refl, passes _ 2 refl, passes _ 2 refl, refl, refl)
 
 -- the site had reported 1 when place 2 was decided, in row 9
-early : IsVerdict (told 0 (adds 5 ∷ adds 1 ∷ []) (record {
-  place =
-      2;
-  reported = 1;
-} ∷ []) (2 ∷ []) (from_to 0 2 ∷ [])) (No 9 WindowBeforeReport)
+early : IsVerdict (told 0 (adds 5 ∷ adds 1 ∷ []) (reports 2 1) (2 ∷ []) (from_to 0 2 ∷ [])) (No 9 WindowBeforeReport)
 early = (passes _ 2 refl, passes _ 2 refl, passes _ 1 refl, passes _ 1 refl, (0, fails _ 1 0 (omega arith) refl refl, refl))
 
 -- a round without a window, and the last row

@@ -1,20 +1,12 @@
 -- Updates that are legal up to one that is not.
-use Rattle.std.proofs.Common.{◌≡◌, ℕ, suc, ◌+◌, ◌<◌, ◌≤◌, ℤ, pos, Bool}
-use Rattle.std.proofs.Common.{true, List, [], ◌∷◌, ◌++◌, length, map, get_or, drop}
-use Rattle.std.proofs.Common.{inl, inr, arith, refl, sym, ap, subst, ◌∙◌}
-use Rattle.std.specs.Prelude.{All}
-use Rattle.std.specs.List.{list_all}
+use Rattle.ordup_record.proofs.Common.{◌++◌, ◌+◌, ◌<◌, ◌∙◌, ◌∷◌, ◌≡◌, ◌≤◌, [], All, ap, AreKnown, arith, Bool, cases_lt, Change, drop}
+use Rattle.ordup_record.proofs.Common.{get_or, get_or-map, greatest_value, History, history_of, in_range, inl, inr, IsInRange, IsLegalFront}
+use Rattle.ordup_record.proofs.Common.{IsLegalHistory, IsState, le-leb, length, List, list_all, map, pos, RecordState, refl, result_at}
+use Rattle.ordup_record.proofs.Common.{serial, serial-longer, State, subst, suc, sym, take-append-drop, take_all, true, value_at, with_more}
+use Rattle.ordup_record.proofs.Common.{ℕ, ℤ}
 use Rattle.std.specs.Int.RustNames.{unsigned_abs}
-use Rattle.std.proofs.lemmas.Bool.{cases_lt, le-leb}
-use Rattle.std.proofs.lemmas.List.{take-append-drop, get_or-take, take_all, get_or-map, get_or_past}
-use Rattle.ordup_objects.specs.declared.change.Change.{Change}
-use Rattle.ordup_objects.specs.Sizes.{greatest_value}
-use Rattle.ordup_objects.specs.Sets.{AreKnown}
-use Rattle.ordup_objects.specs.States.{State, value_at, in_range, result_at, IsState, IsInRange}
-use Rattle.ordup_objects.specs.Serial.{History, serial, with_more, IsLegalHistory}
-use Rattle.ordup_objects.proofs.SerialLemmas.{serial-longer, IsState-serial}
-use Rattle.ordup_record.specs.Records.{RecordState, history_of}
-use Rattle.ordup_record.specs.Validity.{IsLegalFront}
+use Rattle.std.proofs.lemmas.List.{get_or-take, get_or_past}
+use Rattle.ordup_objects.proofs.SerialLemmas.{IsState-serial}
 use Rattle.ordup_verdict.specs.Passing.{PassesBelow, IsFirstFailure, is_update_legal, is_change_in_range}
 use Rattle.ordup_verdict.specs.Rows.{change_row}
 use Rattle.ordup_verdict.specs.Verdicts.{IsIllegalRow}

@@ -1,28 +1,23 @@
 -- Verdicts and valid records.
-use Rattle.std.proofs.Common.{◌≡◌, ℕ, zero, suc, ◌+◌, ◌<◌, ◌≤◌, Bool, true}
-use Rattle.std.proofs.Common.{false, ℤ, List, length, get_or, arith, refl, sym, ap, ◌∙◌}
-use Rattle.std.proofs.Common.{inl, inr}
+use Rattle.ordup_record.proofs.Common.{◌+◌, ◌<◌, ◌∙◌, ◌≡◌, ◌≤◌, ap, arith, Bool, cases_lt, false, false≢true, full_rounds, get_or}
+use Rattle.ordup_record.proofs.Common.{get_or_default, history_of, inl, inr, is_within, IsLegalHistory, IsRecord, IsValid, IsWindow, le-leb}
+use Rattle.ordup_record.proofs.Common.{leb-true, length, length-map, List, RecordState, refl, report_at, StaysWithin, suc, sym, true}
+use Rattle.ordup_record.proofs.Common.{Window, zero, ℕ, ℤ}
 use Rattle.std.specs.Prelude.{not}
-use Rattle.std.proofs.lemmas.Bool.{cases_lt, le-leb, leb-true, false≢true, true≢false}
-use Rattle.std.proofs.lemmas.List.{length-map, get_or_default}
-use Rattle.ordup_objects.specs.Serial.{IsLegalHistory}
-use Rattle.ordup_rounds.specs.Schedules.{IsLimitTest, StaysWithin}
-use Rattle.ordup_rounds.specs.Windows.{IsWindow, AreDisjointWindows}
-use Rattle.ordup_rounds.specs.Rounds.{full_rounds}
-use Rattle.ordup_rounds.specs.declared.window.Window.{Window}
+use Rattle.std.proofs.lemmas.Bool.{true≢false}
+use Rattle.ordup_rounds.specs.Schedules.{IsLimitTest}
+use Rattle.ordup_rounds.specs.Windows.{AreDisjointWindows}
 use Rattle.ordup_rounds.proofs.RoundLemmas.{certified_rounds_are_fewest}
 use Rattle.ordup_limits.proofs.LimitLemmas.{within-test}
-use Rattle.ordup_record.specs.Records.{RecordState, IsRecord, history_of, is_within, report_at}
-use Rattle.ordup_record.specs.Validity.{IsValid}
-use Rattle.ordup_verdict.specs.Passing.{PassesBelow, IsFirstFailure, is_update_legal, is_place_within, window_at}
-use Rattle.ordup_verdict.specs.Passing.{is_window_over, is_window_apart, is_window_unreported}
-use Rattle.ordup_verdict.specs.Verdicts.{AreUpdatesLegal, ArePlacesWithin, AreWindowsOver, AreWindowsApart, AreWindowsUnreported}
-use Rattle.ordup_verdict.specs.Verdicts.{IsVerdict, IfFewest, NoFewerRounds}
+use Rattle.ordup_verdict.specs.Passing.{PassesBelow, IsFirstFailure, is_update_legal, is_place_within, window_at, is_window_over}
+use Rattle.ordup_verdict.specs.Passing.{is_window_apart, is_window_unreported}
+use Rattle.ordup_verdict.specs.Verdicts.{AreUpdatesLegal, ArePlacesWithin, AreWindowsOver, AreWindowsApart, AreWindowsUnreported, IsVerdict}
+use Rattle.ordup_verdict.specs.Verdicts.{IfFewest, NoFewerRounds}
 use Rattle.ordup_verdict.specs.declared.verdict.Verdict.{Verdict}
 use Rattle.ordup_verdict.specs.declared.verdict.Verdict.TheVariants.{Fewest, No}
 use Rattle.ordup_verdict.specs.declared.verdict.Reason.{Reason}
-use Rattle.ordup_verdict.specs.declared.verdict.Reason.TheVariants.{NotLegal, LimitsBroken, WindowLight, WindowsMeet}
-use Rattle.ordup_verdict.specs.declared.verdict.Reason.TheVariants.{WindowBeforeReport, CountDiffers}
+use Rattle.ordup_verdict.specs.declared.verdict.Reason.TheVariants.{NotLegal, LimitsBroken, WindowLight, WindowsMeet, WindowBeforeReport}
+use Rattle.ordup_verdict.specs.declared.verdict.Reason.TheVariants.{CountDiffers}
 
 not-true : (b : Bool) → not b ≡ true → b ≡ false
 not-true true is = absurd (false≢true is)

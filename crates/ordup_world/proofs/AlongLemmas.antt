@@ -1,16 +1,14 @@
 -- What is kept after each event of a list, one event more at the end.
-use Rattle.std.proofs.Common.{◌<◌, List, [], ◌∷◌, ◌++◌, length, arith}
+use Rattle.std.proofs.Common.{◌<◌, [], length, arith}
 use Rattle.ordup_rounds.specs.Fewest.{AreFewest}
 use Rattle.ordup_primary.specs.Declarations.{Declared}
 use Rattle.ordup_primary.specs.Settling.{report_at}
 use Rattle.ordup_primary.specs.Primaries.{progress_at, is_within}
 use Rattle.ordup_primary.proofs.PrimaryLemmas.{HasFewestRounds-sound}
 use Rattle.ordup_site.specs.Sites.{SiteState}
-use Rattle.ordup_world.specs.Events.{Past, later, AreAnswers, past_after}
-use Rattle.ordup_world.specs.Along.{Along, KeepSites, HaveFewest}
+use Rattle.ordup_world.specs.Events.{Past}
+use Rattle.ordup_world.specs.Along.{KeepSites, HaveFewest}
 use Rattle.ordup_world.specs.Worlds.{WorldState, store_of, IsSound, KeepsLimits, StandsFor}
-use Rattle.ordup_world.specs.declared.event.Event.{Event}
-use Rattle.ordup_world.specs.declared.event.Answer.{Answer}
 use Rattle.ordup_world.proofs.AfterLemmas.{updates-are}
 
 module _ {A : Type 0} where
@@ -24,7 +22,7 @@ module _ {A : Type 0} where
       record {
         told = omega (arith, here.reported, here.applied, holds.holds.told);
         got = omega (arith, here.applied, here.sent, holds.holds.got);
-        logged = omega (arith, here.sent, holds.holds.logged, updates-are (store_of w) past stands.store);
+        logged = omega (arith, here.sent, holds.holds.logged, updates-are (store_of w) past sound.store stands.store);
         feed = omega (arith, here.sent, here.applied, holds.feed);
         limits = rw (stands.store.log, here.applied, stands.store.acked) at (limits s d lt);
       }
@@ -49,16 +47,3 @@ module _ {A : Type 0} where
       → HaveFewest setup past
   HaveFewest-stands setup w past sound stands =
       rw (← stands.store.declared) (HaveFewest-own w past sound (rw (← stands.store.declared) at stands))
-
-  -- one event more
-  pub Along-push : (Holds : Past A → Type 0) (setup : Declared) (past : Past A) (events : List (Event A)) (answers : List (Answer A))
-      (e : Event A) (a : Answer A) → AreAnswers setup past events answers → Along Holds past events answers
-      → Holds (later (past_after past events answers) e a)
-      → Along Holds past (events ++ e ∷ []) (answers ++ a ∷ [])
-  Along-push Holds setup past [] [] e a are along now = (along, now)
-  Along-push Holds setup past [] (b ∷ answers) e a are along now = absurd are
-  Along-push Holds setup past (f ∷ events) [] e a are along now = absurd are
-  Along-push Holds setup past (f ∷ events) (b ∷ answers) e a are along now = (
-    along.0,
-    Along-push Holds setup (later past f b) events answers e a are.1 along.1 now,
-  )

@@ -1,8 +1,8 @@
 -- Queries keep their import limits.
-use Rattle.std.proofs.Common.{◌≡◌, ℕ, ◌+◌, ◌≤◌, ◌==◌, ℤ, true, false, List}
-use Rattle.std.proofs.Common.{[], ◌∷◌, length, arith, refl, sym, ap, ◌∙◌, inl, inr}
+use Rattle.std.proofs.Common.{◌≡◌, ℕ, ◌+◌, ◌≤◌, ◌==◌, ℤ, false, List, [], ◌∷◌, length, arith, refl, sym, ap, ◌∙◌, inl, inr}
 use Rattle.std.specs.Prelude.{Option, Some, None, option_map, nat_lt, ◌+ℤ◌}
-use Rattle.std.proofs.lemmas.Bool.{cases_Bool, ltb-false, eqb-false}
+use Rattle.std.proofs.lemmas.Bool.{cases_Bool, eqb-false, true≢false}
+use Rattle.std.proofs.lemmas.Option.{none-some, same_Some}
 use Rattle.std.proofs.lemmas.Int.{ints}
 use Rattle.std.proofs.lemmas.List.{length_push}
 use Rattle.std.proofs.lemmas.List.Elements.{All-nil, All-cons}
@@ -15,21 +15,17 @@ use Rattle.ordup_primary.specs.Declarations.{Declared}
 use Rattle.ordup_primary.specs.Primaries.{acked_after}
 use Rattle.ordup_query.proofs.ImportLemmas.{moved_between}
 use Rattle.ordup_world.specs.Queries.{ReadMade, Opened, import_total, values_read, refusal_now}
-use Rattle.ordup_world.specs.Events.{Past, Decisions, is_same, sets_of, log_of, applied, decisions, settled, read_now}
-use Rattle.ordup_world.specs.Events.{with_read, opened, reply, refused_or, is_refused, later, IsAnswer, AreAnswers}
+use Rattle.ordup_world.specs.Events.{Past, Decisions, is_same, sets_of, log_of, applied, decisions, settled, read_now, with_read, opened}
+use Rattle.ordup_world.specs.Events.{reply, refused_or, is_refused, later, IsAnswer, AreAnswers}
 use Rattle.ordup_query.specs.Queries.{value_sum}
 use Rattle.ordup_world.specs.Imports.{KeepsImport, values_on, AreAccepted, KeepImports}
 use Rattle.ordup_world.specs.Along.{Along}
 use Rattle.ordup_world.specs.declared.event.Event.{Event}
-use Rattle.ordup_world.specs.declared.event.Event.TheVariants.{Propose, Send, Apply, Report, Settle, Begin, Read, End, Abandon, Show}
+use Rattle.ordup_world.specs.declared.event.Event.TheVariants.{Propose, Settle, Begin, Read, End, Abandon}
 use Rattle.ordup_world.specs.declared.event.Answer.{Answer}
-use Rattle.ordup_world.specs.declared.event.Answer.TheVariants.{Proposed, Sent, Applied, Reported, Settlement, Begun}
-use Rattle.ordup_world.specs.declared.event.Answer.TheVariants.{ReadOut, Ended, Abandoned, Shown, Refused}
-use Rattle.ordup_world.proofs.QueryLemmas.{some-is}
-use Rattle.ordup_world.proofs.WorldLemmas.{some-none, same-name}
-
-true-false : true ≡ false → ⊥
-true-false e = absurd (cc)
+use Rattle.ordup_world.specs.declared.event.Answer.TheVariants.{Refused}
+use Rattle.ordup_world.proofs.QueryLemmas.{total-within}
+use Rattle.ordup_world.proofs.WorldLemmas.{same-name}
 
 -- ---- one read more
 
@@ -67,15 +63,6 @@ acked_after-few : (acked n : ℕ) (sites : List ℕ) → acked + 1 ≤ n → ack
 acked_after-few acked n [] le = le
 acked_after-few acked n (s ∷ sites) le = omega arith
 
-within-limit : (k : Opened) (r : ReadMade) → refusal_now k r ≡ None → import_total k.reads + r.import ≤ k.limit
-within-limit k r fine = elim (cases_Bool (length k.reads == 256)) [
-  | inl full ↦ absurd (some-none (rw full at fine))
-  | inr few ↦ elim (cases_Bool (nat_lt k.limit (import_total k.reads + r.import))) [
-    | inl over ↦ absurd (some-none (rw (few, over) at fine))
-    | inr within ↦ ltb-false k.limit (import_total k.reads + r.import) within
-  ]
-]
-
 module _ {A : Type 0} where
   -- ---- the acknowledged updates are updates of the log
 
@@ -88,20 +75,13 @@ module _ {A : Type 0} where
   acked-few : (setup : Declared) (past : Past A) → AreAccepted setup past → (decisions setup past).acked ≤ length (sets_of past)
   acked-few setup [] are = omega arith
   acked-few setup (Propose m ∷ past) are = omega (arith, acked-few setup past are.0, length_push (sets_of past) m)
-  acked-few setup (Send s ∷ past) are = acked-few setup past are.0
-  acked-few setup (Apply s ∷ past) are = acked-few setup past are.0
-  acked-few setup (Report s ∷ past) are = acked-few setup past are.0
   acked-few setup (Settle ∷ past) are = elim (cases_Bool ((decisions setup past).acked == length (sets_of past))) [
-    | inl all ↦ absurd (true-false (rw all at are.1))
+    | inl all ↦ absurd (true≢false (rw all at are.1))
     | inr some ↦
         settled-few setup past (decisions setup past) (length (sets_of past))
         (omega (arith, acked-few setup past are.0, eqb-false _ _ some))
   ]
-  acked-few setup (Begin q s limit ∷ past) are = acked-few setup past are.0
-  acked-few setup (Read q x ∷ past) are = acked-few setup past are.0
-  acked-few setup (End q ∷ past) are = acked-few setup past are.0
-  acked-few setup (Abandon q ∷ past) are = acked-few setup past are.0
-  acked-few setup (Show s ∷ past) are = acked-few setup past are.0
+  acked-few setup (_ ∷ past) are = acked-few setup past are.0
 
   -- ---- what is kept of an open query
 
@@ -114,7 +94,7 @@ module _ {A : Type 0} where
 
   unrefused : (r : Option Refusal) (a : Answer A) → is_refused (refused_or r a) ≡ false → r ≡ None
   unrefused None a fine = refl
-  unrefused (Some r) a fine = absurd (true-false fine)
+  unrefused (Some r) a fine = absurd (true≢false fine)
 
   -- an accepted read is refused by nothing
   accepted-read : (setup : Declared) (past : Past A) (q : List ℕ) (x : ℕ) (k : Opened) → opened setup q past ≡ Some k
@@ -122,19 +102,20 @@ module _ {A : Type 0} where
       → refusal_now k (read_now setup past k.site k.place x) ≡ None
   accepted-read setup past q x k found fine = elim (cases_Bool (nat_lt x (length setup.objects))) [
     | inl known ↦ unrefused (refusal_now k (read_now setup past k.site k.place x)) _ (rw (known, found) at fine)
-    | inr unknown ↦ absurd (true-false (rw unknown at fine))
+    | inr unknown ↦ absurd (true≢false (rw unknown at fine))
   ]
 
   kept-read : (setup : Declared) (past : Past A) (q : List ℕ) (x : ℕ) (o : Opened) (m : Option Opened) → KeptAll setup past
       → opened setup q past ≡ m → is_refused (reply setup past (Read q x)) ≡ false
       → option_map (with_read setup past x) m ≡ Some o
       → Kept setup (Read q x ∷ past) o
-  kept-read setup past q x o None all here fine e = absurd (some-none (sym e))
+  kept-read setup past q x o None all here fine e = absurd (cc)
   kept-read setup past q x o (Some k) all here fine e =
       let before = all q k here in
       let now : ReadMade = read_now setup past k.site k.place x in
-      let within : import_total k.reads + now.import ≤ k.limit = within-limit k now (accepted-read setup past q x k here fine) in
-      rw (← some-is (with_read setup past x k) o e) (record {
+      let within : import_total k.reads + now.import ≤ k.limit =
+      total-within _ k.limit _ now.import (accepted-read setup past q x k here fine) in
+      rw (← same_Some (with_read setup past x k) o e) (record {
         place = before.place;
         import =
             KeepsImport-read (serial (log_of setup past) k.place) k now before.import within
@@ -142,25 +123,15 @@ module _ {A : Type 0} where
       })
 
   kept : (setup : Declared) (past : Past A) → AreAccepted setup past → KeptAll setup past
-  kept setup [] are q o found = absurd (some-none (sym found))
+  kept setup [] are q o found = absurd (cc)
   kept setup (Propose m ∷ past) are q o found =
       let before = kept setup past are.0 q o found in
       let same : serial (log_of setup (Propose m ∷ past)) o.place ≡ serial (log_of setup past) o.place =
       serial-longer (log_of setup past) (m ∷ []) o.place before.place in
       record { place = omega (arith, before.place, length_push (sets_of past) m); import = rw same before.import }
-  kept setup (Send s ∷ past) are q o found =
-      let before = kept setup past are.0 q o found in record { place = before.place; import = before.import }
-  kept setup (Apply s ∷ past) are q o found =
-      let before = kept setup past are.0 q o found in record { place = before.place; import = before.import }
-  kept setup (Report s ∷ past) are q o found =
-      let before = kept setup past are.0 q o found in record { place = before.place; import = before.import }
-  kept setup (Settle ∷ past) are q o found =
-      let before = kept setup past are.0 q o found in record { place = before.place; import = before.import }
-  kept setup (Show s ∷ past) are q o found =
-      let before = kept setup past are.0 q o found in record { place = before.place; import = before.import }
   kept setup (Begin r s limit ∷ past) are q o found = elim (cases_Bool (is_same r q)) [
     | inl same ↦ (let fresh : Opened = record { site = s; place = (decisions setup past).acked; limit = limit; reads = [] } in
-        rw (← some-is fresh o (rw same at found)) (record {
+        rw (← same_Some fresh o (rw same at found)) (record {
           place = acked-few setup past are.0;
           import = KeepsImport-begun (serial (log_of setup past) (decisions setup past).acked) s (decisions setup past).acked limit;
         }))
@@ -173,13 +144,15 @@ module _ {A : Type 0} where
     | inr other ↦ (let before = kept setup past are.0 q o (rw other at found) in record { place = before.place; import = before.import })
   ]
   kept setup (End r ∷ past) are q o found = elim (cases_Bool (is_same r q)) [
-    | inl same ↦ absurd (some-none (sym (rw same at found)))
+    | inl same ↦ absurd (none-some o (rw same at found))
     | inr other ↦ (let before = kept setup past are.0 q o (rw other at found) in record { place = before.place; import = before.import })
   ]
   kept setup (Abandon r ∷ past) are q o found = elim (cases_Bool (is_same r q)) [
-    | inl same ↦ absurd (some-none (sym (rw same at found)))
+    | inl same ↦ absurd (none-some o (rw same at found))
     | inr other ↦ (let before = kept setup past are.0 q o (rw other at found) in record { place = before.place; import = before.import })
   ]
+  kept setup (_ ∷ past) are q o found =
+      let before = kept setup past are.0 q o found in record { place = before.place; import = before.import }
 
   -- ---- lists of events
 
@@ -192,17 +165,8 @@ module _ {A : Type 0} where
 
   AreAccepted-later : (setup : Declared) (past : Past A) (e : Event A) (a : Answer A) → AreAccepted setup past → IsAnswer setup past e a
       → AreAccepted setup (later past e a)
-  AreAccepted-later setup past e (Proposed number) are is = (are, accepted-reply setup past e (Proposed number) refl is)
-  AreAccepted-later setup past e (Sent s number) are is = (are, accepted-reply setup past e (Sent s number) refl is)
-  AreAccepted-later setup past e (Applied s number) are is = (are, accepted-reply setup past e (Applied s number) refl is)
-  AreAccepted-later setup past e (Reported s place) are is = (are, accepted-reply setup past e (Reported s place) refl is)
-  AreAccepted-later setup past e (Settlement settled) are is = (are, accepted-reply setup past e (Settlement settled) refl is)
-  AreAccepted-later setup past e (Begun q place) are is = (are, accepted-reply setup past e (Begun q place) refl is)
-  AreAccepted-later setup past e (ReadOut answer) are is = (are, accepted-reply setup past e (ReadOut answer) refl is)
-  AreAccepted-later setup past e (Ended answer) are is = (are, accepted-reply setup past e (Ended answer) refl is)
-  AreAccepted-later setup past e (Abandoned q) are is = (are, accepted-reply setup past e (Abandoned q) refl is)
-  AreAccepted-later setup past e (Shown a b c d values) are is = (are, accepted-reply setup past e (Shown a b c d values) refl is)
   AreAccepted-later setup past e (Refused r) are is = are
+  AreAccepted-later setup past e a are is = (are, accepted-reply setup past e a refl is)
 
   -- what holds after accepted events holds after each event of a list
   Along-accepted : (Holds : Past A → Type 0) (setup : Declared) → ((past : Past A) → AreAccepted setup past → Holds past)

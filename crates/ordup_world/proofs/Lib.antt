@@ -1,11 +1,9 @@
 pub mod StoreLemmas
 pub mod AfterLemmas
 pub mod RunLemmas
-pub mod AnswerLemmas
 pub mod StepLemmas
 pub mod QueryLemmas
 pub mod WorldLemmas
-pub mod QueryAnswerLemmas
 pub mod QueryStepLemmas
 pub mod ImportLemmas
 pub mod AlongLemmas

@@ -1,202 +1,224 @@
--- What each event of updates makes of the store.
-use Rattle.std.proofs.Common.{◌≡◌, ℕ, ◌+◌, ◌-◌, ◌<◌, ◌≤◌, true, false}
-use Rattle.std.proofs.Common.{List, ◌∷◌, length, get_or, arith, refl, sym, inl}
-use Rattle.std.specs.Prelude.{ℤ, None, nat_lt}
-use Rattle.std.proofs.Math.ListN.{set}
-use Rattle.std.proofs.lemmas.Bool.{le-ltb, false≢true}
+-- What each event of updates makes of the store, and what it answers.
+use Rattle.std.proofs.Common.{◌≡◌, ℕ, ◌+◌, ◌-◌, ◌<◌, ◌≤◌, ◌==◌, true, false}
+use Rattle.std.proofs.Common.{List, [], ◌∷◌, length, get_or, arith, refl, sym, ap, ◌∙◌, inl, inr}
+use Rattle.std.specs.Prelude.{ℤ, Option, Some, None, nat_lt}
+use Rattle.std.proofs.Math.ListN.{set, length-set}
+use Rattle.std.proofs.lemmas.Bool.{cases_Bool, cases_eq, le-ltb, lt-ltb, eq-eqb, ne_eqb, false≢true}
 use Rattle.ordup_objects.specs.declared.change.Change.{Change}
 use Rattle.ordup_objects.specs.declared.refusal.Refusal.{Refusal}
 use Rattle.ordup_objects.specs.declared.refusal.Refusal.TheVariants.{UnknownObject, UnknownSite, NothingToSend, FeedFull, NothingToApply}
 use Rattle.ordup_objects.specs.Refusals.{IsRefusal}
 use Rattle.ordup_objects.specs.Sets.{are_known}
-use Rattle.ordup_objects.specs.Serial.{with_update}
+use Rattle.ordup_objects.specs.Serial.{with_update, serial}
 use Rattle.ordup_log.specs.Appending.{append_refusal}
 use Rattle.ordup_primary.specs.Declarations.{Declared, capacity_of}
-use Rattle.ordup_primary.specs.Primaries.{PrimaryState, IsPrimary, Decides, progress_at, waiting_now}
+use Rattle.ordup_primary.specs.Primaries.{PrimaryState, IsPrimary, Decides, progress_at, forced_now, waiting_now}
 use Rattle.ordup_primary.specs.Primaries.{acked_after, settle_refusal, settled_as}
 use Rattle.ordup_primary.specs.declared.settled.Settled.{Settled}
 use Rattle.ordup_site.specs.Sites.{SiteState, HasApplied}
-use Rattle.ordup_world.specs.Events.{Past, later, reply, is_refused, IsAnswer}
-use Rattle.ordup_world.specs.Worlds.{StoreState, IsStore, IsStoreAfter}
+use Rattle.ordup_world.specs.Events.{Past, sets_of, sent, applied, reported, rounds, decisions, log_of}
+use Rattle.ordup_world.specs.Events.{reply, refused_or, is_refused, takes_memory, IsAnswer}
+use Rattle.ordup_world.specs.Worlds.{StoreState, IsStore, IsSiteAfter, IsStoreAfter}
 use Rattle.ordup_world.specs.Steps.{Grows, StepsStore}
 use Rattle.ordup_world.specs.declared.event.Event.{Event}
 use Rattle.ordup_world.specs.declared.event.Event.TheVariants.{Propose, Send, Apply, Report, Settle, Show}
 use Rattle.ordup_world.specs.declared.event.Answer.{Answer}
 use Rattle.ordup_world.specs.declared.event.Answer.TheVariants.{Proposed, Sent, Applied, Reported, Settlement, Shown, Refused}
-use Rattle.ordup_world.proofs.StoreLemmas.{IsStore-proposed, IsStore-sent, IsStore-applied, IsStore-reported, IsStore-settled}
-use Rattle.ordup_world.proofs.StoreLemmas.{Grows-same, Grows-proposed, Grows-sent, Grows-applied, Grows-settled}
-use Rattle.ordup_world.proofs.AfterLemmas.{IsStoreAfter-proposed, IsStoreAfter-sent, IsStoreAfter-applied, IsStoreAfter-reported}
-use Rattle.ordup_world.proofs.AfterLemmas.{IsStoreAfter-settled, IsStoreAfter-aside}
-use Rattle.ordup_world.proofs.AnswerLemmas.{answer-proposed, answer-propose_refused, answer-nothing_to_send, answer-feed_full}
-use Rattle.ordup_world.proofs.AnswerLemmas.{answer-sent, answer-nothing_to_apply, answer-applied, answer-reported}
-use Rattle.ordup_world.proofs.AnswerLemmas.{answer-settled, answer-settle_refused, answer-shown, answer-show_refused}
+use Rattle.ordup_world.proofs.StoreLemmas.{no_site, IsStore-proposed, IsStore-sent, IsStore-applied, IsStore-reported}
+use Rattle.ordup_world.proofs.StoreLemmas.{IsStore-decided, IsStore-waited, Grows-kept, acked_after-more}
+use Rattle.ordup_world.proofs.AfterLemmas.{later-fine, updates-are, after-at, settled-same, IsStoreAfter-proposed, IsStoreAfter-sent}
+use Rattle.ordup_world.proofs.AfterLemmas.{IsStoreAfter-applied, IsStoreAfter-reported, IsStoreAfter-decided, IsStoreAfter-waited}
+use Rattle.ordup_world.proofs.AfterLemmas.{IsStoreAfter-aside}
 
 -- a site that is there was declared
-below : (w : StoreState) (s : ℕ) → IsStore w → s < length w.sites → s < length w.primary.setup.sites
-below w s sound lt = omega (arith, lt, sound.count, sound.primary.count)
+pub there : (w : StoreState) (s : ℕ) → IsStore w → s < length w.sites → nat_lt s (length w.primary.setup.sites) ≡ true
+there w s sound lt = lt-ltb s (length w.primary.setup.sites) (omega (arith, lt, sound.count, sound.primary.count))
 
-module _ {A : Type 0} where
+-- the error of a call is the answer, where the reply is its refusal or else no refusal
+refused-answer : {A : Type 0} (setup : Declared) (past : Past A) (e : Event A) (r : Option Refusal) (answer : Answer A) {x : Refusal}
+    → reply setup past e ≡ refused_or r answer → takes_memory e ≡ true → is_refused answer ≡ false → IsRefusal r x
+    → IsAnswer setup past e (Refused x)
+refused-answer setup past e None answer same takes fine h = inr (takes, ap is_refused same ∙ fine, ap Refused h)
+refused-answer setup past e (Some y) answer same takes fine h = inl (ap Refused h ∙ sym same)
+
+module _ {A : Type 0} {w : StoreState} (sound : IsStore w) where
   -- a refused event
-  stays : (w : StoreState) (e : Event A) (r : Refusal) → IsStore w
+  stays : {e : Event A} {r : Refusal}
       → ((past : Past A) → IsStoreAfter w.primary.setup w past → IsAnswer w.primary.setup past e (Refused r))
       → StepsStore {A = A} w e (Refused r) w
-  stays w e r sound answers = record {
+  stays answers = record {
     answer = λ setup past is. rw (← is.declared) (answers past (rw (← is.declared) at is));
     state = λ setup past is. is;
     refused = λ refused. refl;
     sound = sound;
-    grows = Grows-same w;
+    grows = Grows-kept w w refl refl (omega arith) refl;
   }
 
-  -- an accepted event
-  accepted : (w v : StoreState) (e : Event A) (a : Answer A) → is_refused a ≡ false
-      → ((past : Past A) → later past e a ≡ e ∷ past) → IsStore v → Grows w v
-      → ((past : Past A) → IsStoreAfter w.primary.setup w past → IsAnswer w.primary.setup past e a)
-      → ((past : Past A) → IsStoreAfter w.primary.setup w past → IsStoreAfter w.primary.setup v (e ∷ past))
+  -- an accepted event: its answer, and what it makes of the store
+  accepted : {v : StoreState} {e : Event A} {a : Answer A} → is_refused a ≡ false → IsStore v → Grows w v
+      → ((past : Past A) → IsStoreAfter w.primary.setup w past
+      → IsAnswer w.primary.setup past e a × IsStoreAfter w.primary.setup v (e ∷ past))
       → StepsStore {A = A} w e a v
-  accepted w v e a fine longer sound grows answers after = record {
-    answer = λ setup past is. rw (← is.declared) (answers past (rw (← is.declared) at is));
-    state = λ setup past is. rw (← is.declared, longer past) (after past (rw (← is.declared) at is));
+  accepted {e = e} {a = a} fine new grows after = record {
+    answer = λ setup past is. rw (← is.declared) (after past (rw (← is.declared) at is)).0;
+    state = λ setup past is. rw (← is.declared, later-fine past e a fine) (after past (rw (← is.declared) at is)).1;
     refused = λ refused. absurd (false≢true (rw fine at refused));
-    sound = sound;
+    sound = new;
     grows = grows;
   }
 
-  -- ---- sites
-
   -- an event of a site that is not there
-  unknown : (w : StoreState) (e : Event A) (s : ℕ) → IsStore w → length w.sites ≤ s
+  pub unknown-site : {e : Event A} (s : ℕ) → length w.sites ≤ s
       → ((setup : Declared) (past : Past A) → nat_lt s (length setup.sites) ≡ false → reply setup past e ≡ Refused UnknownSite)
       → StepsStore {A = A} w e (Refused UnknownSite) w
-  unknown w e s sound past_all replies =
-      let no : nat_lt s (length w.primary.setup.sites) ≡ false =
-      le-ltb s (length w.primary.setup.sites) (omega (arith, past_all, sound.count, sound.primary.count)) in
-      stays w e UnknownSite sound (λ past is. inl (sym (replies w.primary.setup past no)))
-
-  pub unknown-send : (w : StoreState) (s : ℕ) → IsStore w → length w.sites ≤ s
-      → StepsStore {A = A} w (Send s) (Refused UnknownSite) w
-  unknown-send w s sound le = unknown w (Send s) s sound le (λ setup past no. rw no refl)
-
-  pub unknown-apply : (w : StoreState) (s : ℕ) → IsStore w → length w.sites ≤ s
-      → StepsStore {A = A} w (Apply s) (Refused UnknownSite) w
-  unknown-apply w s sound le = unknown w (Apply s) s sound le (λ setup past no. rw no refl)
-
-  pub unknown-report : (w : StoreState) (s : ℕ) → IsStore w → length w.sites ≤ s
-      → StepsStore {A = A} w (Report s) (Refused UnknownSite) w
-  unknown-report w s sound le = unknown w (Report s) s sound le (λ setup past no. rw no refl)
-
-  pub unknown-show : (w : StoreState) (s : ℕ) → IsStore w → length w.sites ≤ s
-      → StepsStore {A = A} w (Show s) (Refused UnknownSite) w
-  unknown-show w s sound le = unknown w (Show s) s sound le (λ setup past no. rw no refl)
+  unknown-site s past_all replies =
+      let no = le-ltb s (length w.primary.setup.sites) (omega (arith, past_all, sound.count, sound.primary.count)) in
+      stays (λ past is. inl (sym (replies w.primary.setup past no)))
 
   -- ---- Propose
 
-  pub unknown-object : (w : StoreState) (m : List Change) → IsStore w → are_known (length w.primary.setup.objects) m ≡ false
+  pub unknown-object : {m : List Change} → are_known (length w.primary.setup.objects) m ≡ false
       → StepsStore {A = A} w (Propose m) (Refused UnknownObject) w
-  unknown-object w m sound out = stays w (Propose m) UnknownObject sound (λ past is. inl (rw out refl))
+  unknown-object out = stays (λ past is. inl (rw out refl))
 
-  pub proposed : (w : StoreState) (p : PrimaryState) (m : List Change) (number : ℕ) → IsStore w
-      → are_known (length w.primary.setup.objects) m ≡ true → append_refusal w.primary.log m ≡ None
-      → number ≡ length w.primary.log.sets + 1 → IsPrimary p → p ≡ record w.primary { log = with_update w.primary.log m }
+  pub proposed : {p : PrimaryState} {m : List Change} {number : ℕ} → are_known (length w.primary.setup.objects) m ≡ true
+      → append_refusal w.primary.log m ≡ None → number ≡ length w.primary.log.sets + 1 → IsPrimary p
+      → p ≡ record w.primary { log = with_update w.primary.log m }
       → StepsStore {A = A} w (Propose m) (Proposed number) (record w { primary = p })
-  proposed w p m number sound over allowed e primary added =
-      let new = IsStore-proposed w p m sound primary added in
-      accepted w (record w { primary = p }) (Propose m) (Proposed number) refl (λ past. refl) new (Grows-proposed w p m added)
-      (λ past is. answer-proposed w past m number is over allowed e) (λ past is. IsStoreAfter-proposed w past p m sound is new added)
+  proposed {m = m} over allowed e primary added =
+      let new = IsStore-proposed w sound m (rw added at primary) in
+      rw added (accepted refl new (record { setup = refl; more = m ∷ []; log = refl; acked = omega arith; sites = refl }) (λ past is. (
+        inl (rw (e, over, is.log, rw is.log at allowed) refl),
+        IsStoreAfter-proposed w past sound is m new,
+      )))
 
-  pub propose_refused : (w : StoreState) (p : PrimaryState) (m : List Change) (r : Refusal) → IsStore w
-      → are_known (length w.primary.setup.objects) m ≡ true → IsRefusal (append_refusal w.primary.log m) r → p ≡ w.primary
+  pub propose_refused : {p : PrimaryState} {m : List Change} {r : Refusal} → are_known (length w.primary.setup.objects) m ≡ true
+      → IsRefusal (append_refusal w.primary.log m) r → p ≡ w.primary
       → StepsStore {A = A} w (Propose m) (Refused r) (record w { primary = p })
-  propose_refused w p m r sound over why same =
-      rw same (stays w (Propose m) r sound (λ past is. answer-propose_refused w past m r is over why))
-
-  -- ---- Send
-
-  pub nothing_to_send : (w : StoreState) (s : ℕ) → IsStore w → s < length w.sites
-      → (progress_at w.primary s).sent ≡ length w.primary.log.sets
-      → StepsStore {A = A} w (Send s) (Refused NothingToSend) w
-  nothing_to_send w s sound lt all =
-      stays w (Send s) NothingToSend sound (λ past is. answer-nothing_to_send w past s is lt (below w s sound lt) all)
-
-  pub feed_full : (w : StoreState) (s : ℕ) (site : SiteState) → IsStore w → s < length w.sites → site ≡ get_or w.sites s site
-      → ((progress_at w.primary s).sent ≡ length w.primary.log.sets → ⊥)
-      → (progress_at w.primary s).sent - site.applied ≡ capacity_of w.primary.setup s
-      → StepsStore {A = A} w (Send s) (Refused FeedFull) w
-  feed_full w s site sound lt at more full =
-      stays w (Send s) FeedFull sound (λ past is. answer-feed_full w past s site is lt (below w s sound lt) at more full)
-
-  pub sent_next : (w : StoreState) (p : PrimaryState) (s : ℕ) (site : SiteState) (number : ℕ) → IsStore w → s < length w.sites
-      → site ≡ get_or w.sites s site → ((progress_at w.primary s).sent ≡ length w.primary.log.sets → ⊥)
-      → ((progress_at w.primary s).sent - site.applied ≡ capacity_of w.primary.setup s → ⊥)
-      → number ≡ (progress_at w.primary s).sent + 1 → IsPrimary p
-      → p ≡ record w.primary {
-        sites = set w.primary.sites s (record (progress_at w.primary s) { sent = (progress_at w.primary s).sent + 1 });
-      }
-      → StepsStore {A = A} w (Send s) (Sent s number) (record w { primary = p })
-  sent_next w p s site number sound lt at more room e primary marked =
-      let new = IsStore-sent w p s site sound primary marked lt at more room in
-      accepted w (record w { primary = p }) (Send s) (Sent s number) refl (λ past. refl) new (Grows-sent w p _ marked)
-      (λ past is. answer-sent w past s site number is lt (below w s sound lt) at more room e)
-      (λ past is. IsStoreAfter-sent w past p s sound is new marked lt)
-
-  -- ---- Apply
-
-  pub nothing_to_apply : (w : StoreState) (s : ℕ) (site : SiteState) → IsStore w → s < length w.sites
-      → site ≡ get_or w.sites s site → site.applied ≡ (progress_at w.primary s).sent
-      → StepsStore {A = A} w (Apply s) (Refused NothingToApply) w
-  nothing_to_apply w s site sound lt at all =
-      stays w (Apply s) NothingToApply sound (λ past is. answer-nothing_to_apply w past s site is lt (below w s sound lt) at all)
-
-  pub applied_next : (w : StoreState) (s : ℕ) (site new : SiteState) (number : ℕ) → IsStore w → s < length w.sites
-      → site ≡ get_or w.sites s site → site.applied < (progress_at w.primary s).sent → number ≡ site.applied + 1
-      → HasApplied new w.primary.log (site.applied + 1)
-      → StepsStore {A = A} w (Apply s) (Applied s number) (record w { sites = set w.sites s new })
-  applied_next w s site new number sound lt at less e next =
-      let after = IsStore-applied w s site new sound lt at less next in
-      accepted w (record w { sites = set w.sites s new }) (Apply s) (Applied s number) refl (λ past. refl) after (Grows-applied w s new)
-      (λ past is. answer-applied w past s site number is lt (below w s sound lt) at (λ all. omega (arith, less, all)) e)
-      (λ past is. IsStoreAfter-applied w past s site new is after lt at next)
-
-  -- ---- Report
-
-  pub reported_now : (w : StoreState) (p : PrimaryState) (s place : ℕ) (site : SiteState) → IsStore w → s < length w.sites
-      → site ≡ get_or w.sites s site → place ≡ site.applied → IsPrimary p
-      → p ≡ record w.primary { sites = set w.primary.sites s (record (progress_at w.primary s) { reported = place }) }
-      → StepsStore {A = A} w (Report s) (Reported s place) (record w { primary = p })
-  reported_now w p s place site sound lt at here primary noted =
-      let told = rw here at noted in
-      let new = IsStore-reported w p s site sound primary told lt at in
-      rw here (accepted w (record w { primary = p }) (Report s) (Reported s site.applied) refl (λ past. refl) new (Grows-sent w p _ told)
-      (λ past is. answer-reported w past s site is lt (below w s sound lt) at)
-      (λ past is. IsStoreAfter-reported w past p s site sound is new told lt at))
+  propose_refused {m = m} over why same =
+      rw same (stays (λ past is. refused-answer w.primary.setup past (Propose m) (append_refusal w.primary.log m)
+      (Proposed (length w.primary.log.sets + 1))
+      (rw (over, is.log) refl) refl refl why))
 
   -- ---- Settle
 
-  pub settled_now : (w : StoreState) (p : PrimaryState) (settled : Settled A) → IsStore w → settle_refusal w.primary ≡ None
-      → settled ≡ settled_as w.primary → IsPrimary p → (w.primary.acked ≡ w.primary.decided → Decides w.primary p)
+  reply-settled : (past : Past A) → IsStoreAfter w.primary.setup w past
+      → reply w.primary.setup past Settle ≡ refused_or (settle_refusal w.primary) (Settlement (settled_as w.primary))
+  reply-settled past is =
+      rw (settled-same w past sound is, is.acked, is.log)
+      (elim (cases_Bool ((decisions w.primary.setup past).acked == length (sets_of past))) [
+        | inl all ↦ rw all refl
+        | inr some ↦ rw some refl
+      ])
+
+  pub settled_now : {p : PrimaryState} {settled : Settled A} → settle_refusal w.primary ≡ None → settled ≡ settled_as w.primary
+      → IsPrimary p → (w.primary.acked ≡ w.primary.decided → Decides w.primary p)
       → (w.primary.acked < w.primary.decided → p ≡ record w.primary { acked = acked_after w.primary.acked (waiting_now w.primary) })
       → StepsStore {A = A} w Settle (Settlement settled) (record w { primary = p })
-  settled_now w p settled sound allowed e primary first later =
-      let new = IsStore-settled w p sound primary first later in
-      accepted w (record w { primary = p }) Settle (Settlement settled) refl (λ past. refl) new (Grows-settled w p sound first later)
-      (λ past is. answer-settled w past settled sound is allowed e) (λ past is. IsStoreAfter-settled w past p sound is new first later)
+  settled_now {p = p} allowed e primary first waits =
+      let answers = λ (past : Past A) (is : IsStoreAfter w.primary.setup w past).
+      ap Settlement e
+      ∙ ap (λ r. refused_or r (Settlement (settled_as w.primary))) (sym allowed)
+      ∙ sym (reply-settled past is) in
+      elim (cases_eq w.primary.acked w.primary.decided) [
+        | inl same ↦ (let d = first same in
+            let new = IsStore-decided w sound p primary d in
+            accepted refl new (Grows-kept w (record w { primary = p }) d.setup d.log
+            (rw d.acked (acked_after-more w.primary.acked (forced_now w.primary))) refl)
+            (λ past is. (inl (answers past is), IsStoreAfter-decided w past sound is p new same d)))
+        | inr other ↦ (let less : w.primary.acked < w.primary.decided = omega (arith, sound.primary.acked, other) in
+            let new = IsStore-waited w sound (acked_after w.primary.acked (waiting_now w.primary)) (rw (waits less) at primary) in
+            let more = acked_after-more w.primary.acked (waiting_now w.primary) in
+            rw (waits less) (accepted refl new (Grows-kept _ _ refl refl more refl)
+            (λ past is. (inl (answers past is), IsStoreAfter-waited w past sound is new less))))
+      ]
 
-  pub settle_refused : (w : StoreState) (p : PrimaryState) (r : Refusal) → IsStore w → IsRefusal (settle_refusal w.primary) r
-      → p ≡ w.primary
+  pub settle_refused : {p : PrimaryState} {r : Refusal} → IsRefusal (settle_refusal w.primary) r → p ≡ w.primary
       → StepsStore {A = A} w Settle (Refused r) (record w { primary = p })
-  settle_refused w p r sound why same = rw same (stays w Settle r sound (λ past is. answer-settle_refused w past r sound is why))
+  settle_refused why same =
+      rw same (stays (λ past is. refused-answer w.primary.setup past Settle (settle_refusal w.primary) (Settlement (settled_as w.primary))
+      (reply-settled past is) refl refl why))
 
-  -- ---- Show
+  -- ---- a site that is there
 
-  pub shown : (w : StoreState) (s : ℕ) (site : SiteState) (sent applied reported rounds : ℕ) (values : List ℤ) → IsStore w
-      → s < length w.sites → site ≡ get_or w.sites s site → sent ≡ (progress_at w.primary s).sent → applied ≡ site.applied
-      → reported ≡ (progress_at w.primary s).reported → rounds ≡ length (progress_at w.primary s).rounds → values ≡ site.values
-      → StepsStore {A = A} w (Show s) (Shown sent applied reported rounds values) w
-  shown w s site sent applied reported rounds values sound lt at e a f h v =
-      rw a (accepted w w (Show s) (Shown sent site.applied reported rounds values) refl (λ past. refl) sound (Grows-same w)
-      (λ past is. answer-shown w past s site sent reported rounds values is lt (below w s sound lt) at e f h v)
-      (λ past is. IsStoreAfter-aside w.primary.setup w past (Show s) refl is))
+  module _ {s : ℕ} (lt : s < length w.sites) where
+    pub nothing_to_send : (progress_at w.primary s).sent ≡ length w.primary.log.sets
+        → StepsStore {A = A} w (Send s) (Refused NothingToSend) w
+    nothing_to_send all = stays (λ past is. inl (rw (
+      there w s sound lt,
+      eq-eqb (sent s past) (length (sets_of past)) (sym (is.sites s no_site lt).sent ∙ all ∙ updates-are w past sound is),
+    ) refl))
 
-  pub show_refused : (w : StoreState) (s : ℕ) (r : Refusal) → IsStore w → s < length w.sites → IsRefusal None r
-      → StepsStore {A = A} w (Show s) (Refused r) w
-  show_refused w s r sound lt why = stays w (Show s) r sound (λ past is. answer-show_refused w past s r (below w s sound lt) why)
+    pub show_refused : {r : Refusal} → IsRefusal None r → StepsStore {A = A} w (Show s) (Refused r) w
+    show_refused why =
+        stays (λ past is. refused-answer w.primary.setup past (Show s) None
+        (Shown (sent s past) (applied s past) (reported s past) (length (rounds w.primary.setup s past))
+        (serial (log_of w.primary.setup past) (applied s past))) (rw (there w s sound lt) refl) refl refl why)
+
+    module _ {site : SiteState} (at : site ≡ get_or w.sites s site) where
+      here : (past : Past A) → IsStoreAfter w.primary.setup w past → IsSiteAfter w.primary.setup past s (progress_at w.primary s) site
+      here past is = after-at w past sound is s site lt at
+
+      module _ (more : (progress_at w.primary s).sent ≡ length w.primary.log.sets → ⊥) where
+        unsent : (past : Past A) → IsStoreAfter w.primary.setup w past → (sent s past == length (sets_of past)) ≡ false
+        unsent past is = ne_eqb _ _ (λ e. more ((here past is).sent ∙ e ∙ sym (updates-are w past sound is)))
+
+        pub feed_full : (progress_at w.primary s).sent - site.applied ≡ capacity_of w.primary.setup s
+            → StepsStore {A = A} w (Send s) (Refused FeedFull) w
+        feed_full full = stays (λ past is. let feed : (sent s past - applied s past == capacity_of w.primary.setup s) ≡ true =
+            eq-eqb _ _ (omega (arith, (here past is).sent, (here past is).applied, full)) in
+            inl (rw (there w s sound lt, unsent past is, feed) refl))
+
+        pub sent_next : {p : PrimaryState} {number : ℕ}
+            → ((progress_at w.primary s).sent - site.applied ≡ capacity_of w.primary.setup s → ⊥)
+            → number ≡ (progress_at w.primary s).sent + 1 → IsPrimary p
+            → p ≡ record w.primary {
+              sites = set w.primary.sites s (record (progress_at w.primary s) { sent = (progress_at w.primary s).sent + 1 });
+            }
+            → StepsStore {A = A} w (Send s) (Sent s number) (record w { primary = p })
+        sent_next room e primary marked =
+            let new = IsStore-sent w sound s site lt at (rw marked at primary) more room in
+            rw (marked, e) (accepted refl new (Grows-kept _ _ refl refl (omega arith) refl) (λ past is.
+            let feed : (sent s past - applied s past == capacity_of w.primary.setup s) ≡ false =
+            ne_eqb _ _ (λ f. room (omega (arith, (here past is).sent, (here past is).applied, f))) in (
+              inl (rw (there w s sound lt, unsent past is, feed, (here past is).sent) refl),
+              IsStoreAfter-sent w past sound is s site lt at new,
+            )))
+
+      pub nothing_to_apply : site.applied ≡ (progress_at w.primary s).sent
+          → StepsStore {A = A} w (Apply s) (Refused NothingToApply) w
+      nothing_to_apply all = stays (λ past is. inl (rw (
+        there w s sound lt,
+        eq-eqb (applied s past) (sent s past) (sym (here past is).applied ∙ all ∙ (here past is).sent),
+      ) refl))
+
+      pub applied_next : {new : SiteState} {number : ℕ} → site.applied < (progress_at w.primary s).sent
+          → number ≡ site.applied + 1 → HasApplied new w.primary.log (site.applied + 1)
+          → StepsStore {A = A} w (Apply s) (Applied s number) (record w { sites = set w.sites s new })
+      applied_next {new = new} less e next =
+          let after = IsStore-applied w sound s site lt at less new next in
+          rw e (accepted refl after (Grows-kept _ _ refl refl (omega arith) (length-set w.sites s new)) (λ past is.
+          let some : (applied s past == sent s past) ≡ false =
+          ne_eqb _ _ (λ f. omega (arith, less, (here past is).applied, (here past is).sent, f)) in (
+            inl (rw (there w s sound lt, some, (here past is).applied) refl),
+            IsStoreAfter-applied w past sound is s site lt at new after next,
+          )))
+
+      pub reported_now : {p : PrimaryState} {place : ℕ} → place ≡ site.applied → IsPrimary p
+          → p ≡ record w.primary { sites = set w.primary.sites s (record (progress_at w.primary s) { reported = place }) }
+          → StepsStore {A = A} w (Report s) (Reported s place) (record w { primary = p })
+      reported_now applied primary noted =
+          let told = rw applied at noted in
+          let new = IsStore-reported w sound s site lt at (rw told at primary) in
+          rw (told, applied) (accepted refl new (Grows-kept _ _ refl refl (omega arith) refl)
+          (λ past is. (inl (rw (there w s sound lt, (here past is).applied) refl), IsStoreAfter-reported w past sound is s site lt at new)))
+
+      pub shown : {a b r n : ℕ} {values : List ℤ} → a ≡ (progress_at w.primary s).sent → b ≡ site.applied
+          → r ≡ (progress_at w.primary s).reported → n ≡ length (progress_at w.primary s).rounds → values ≡ site.values
+          → StepsStore {A = A} w (Show s) (Shown a b r n values) w
+      shown e f h k v =
+          rw (e, f, h, k, v) (accepted refl sound (Grows-kept w w refl refl (omega arith) refl) (λ past is.
+          let x = here past is in (
+            inl (rw (there w s sound lt, x.sent, x.applied, x.reported, is.rounds s lt, x.values) refl),
+            IsStoreAfter-aside w.primary.setup w past (Show s) refl is,
+          )))

@@ -1,6 +1,6 @@
 use Rattle.std.proofs.Common.{ap, ◌∙◌}
 use Rattle.ordup_primary.specs.Primaries.{PrimaryState}
-use Rattle.ordup_holds.proofs.BookLemmas.{keeps-settled, rooms-kept}
+use Rattle.ordup_holds.proofs.BookLemmas.{keeps-settled, rooms-kept, rooms-turned}
 use Rattle.ordup_holds.proofs.turning.turn.Goals as goal
 
 pub invariant_of-book : goal.invariant_of-book
@@ -19,26 +19,14 @@ send_all-requires g c = record { kept = keeps-settled _ _ _ c.settle_all.ensures
 
 pub invariant_of-book-2 : goal.invariant_of-book-2
 invariant_of-book-2 g c =
-    let reported = c.report_all.ensures.reported in
-    let feeds = c.settle_all.ensures.feeds in
-    let sent = c.send_all.ensures.sent in
     record {
       kept = c.send_all.ensures.kept;
-      rooms =
-          rooms-kept c.book.inside.primary c.send_all.new.primary _
-          (ap (λ (p : PrimaryState). p.log) sent.primary ∙ feeds.log ∙ ap (λ (p : PrimaryState). p.log) reported.primary)
-          (sent.sites ∙ feeds.count ∙ reported.sites) c.book.invariant.rooms;
+      rooms = rooms-turned _ c.report_all.ensures.reported c.settle_all.ensures.feeds c.send_all.ensures.sent c.book.invariant.rooms;
     }
 
 pub invariant_of-book-in_err-send_all : goal.invariant_of-book-in_err-send_all
 invariant_of-book-in_err-send_all g c =
-    let reported = c.report_all.ensures.reported in
-    let feeds = c.settle_all.ensures.feeds in
-    let sent = c.send_all.ensures.sent in
     record {
       kept = c.send_all.ensures.kept;
-      rooms =
-          rooms-kept c.book.inside.primary c.send_all.new.primary _
-          (ap (λ (p : PrimaryState). p.log) sent.primary ∙ feeds.log ∙ ap (λ (p : PrimaryState). p.log) reported.primary)
-          (sent.sites ∙ feeds.count ∙ reported.sites) c.book.invariant.rooms;
+      rooms = rooms-turned _ c.report_all.ensures.reported c.settle_all.ensures.feeds c.send_all.ensures.sent c.book.invariant.rooms;
     }

@@ -4,21 +4,17 @@ use Rattle.ordup_limits.specs.Limits.{keeps}
 use Rattle.ordup_limits.proofs.LimitLemmas.{first_passed-within, first_passed-at, passed-not_within, within-more}
 use Rattle.ordup_limits.proofs.limit_table.first_passed.Goals as goal
 
-pub returns-then-not-keeps-clause-over : goal.returns-then-not-keeps-clause-over
-returns-then-not-keeps-clause-over g c =
+pub returns-then-not-keeps : goal.returns-then-not-keeps
+returns-then-not-keeps g c =
     let over : keeps c.args.log.now c.args.groups.now c.args.from c.args.to
     (get_or c.args.limits.now c.loop-place.place c.index-limits-place.result) ≡ false =
     rw (← c.index-limits-place.is) (sym c.if-not-keeps.ensures.kept) in
-    first_passed-at c.args.log.now c.args.groups.now c.args.limits.now c.args.from c.args.to
-    c.loop-place.place c.index-limits-place.result (omega arith) c.loop-place.invariant.kept over
-
-pub returns-then-not-keeps-clause-within : goal.returns-then-not-keeps-clause-within
-returns-then-not-keeps-clause-within g c =
-    let over : keeps c.args.log.now c.args.groups.now c.args.from c.args.to
-    (get_or c.args.limits.now c.loop-place.place c.index-limits-place.result) ≡ false =
-    rw (← c.index-limits-place.is) (sym c.if-not-keeps.ensures.kept) in
-    passed-not_within c.args.log.now c.args.groups.now c.args.limits.now c.args.from c.args.to
-    c.loop-place.place c.index-limits-place.result (omega arith) over
+    record {
+      over = first_passed-at c.args.log.now c.args.groups.now c.args.limits.now c.args.from c.args.to
+          c.loop-place.place c.index-limits-place.result (omega arith) c.loop-place.invariant.kept over;
+      within = passed-not_within c.args.log.now c.args.groups.now c.args.limits.now c.args.from c.args.to
+          c.loop-place.place c.index-limits-place.result (omega arith) over;
+    }
 
 pub loop-place-preserved : goal.loop-place-preserved
 loop-place-preserved g c =

@@ -1,10 +1,7 @@
-use Rattle.std.proofs.Common.{◌≡◌, ◌<◌, [], length, sym, ap, ◌∙◌}
-use Rattle.ordup_objects.specs.Serial.{History, prefix_of, IsLegalHistory}
-use Rattle.ordup_objects.specs.Tables.{initial_state}
-use Rattle.ordup_primary.specs.Declarations.{Declared, limits_of}
-use Rattle.ordup_record.specs.Records.{IsRecord, history_of}
-use Rattle.ordup_record.specs.RecordInside.{state_of}
-use Rattle.ordup_record.specs.RecordsOf.{record_of}
+use Rattle.ordup_record.proofs.Common.{◌<◌, ◌∙◌, ◌≡◌, [], ap, History, history_of, initial_state, IsLegalHistory, IsRecord, length}
+use Rattle.ordup_record.proofs.Common.{limits_of, record_of, state_of, sym}
+use Rattle.ordup_objects.specs.Serial.{prefix_of}
+use Rattle.ordup_primary.specs.Declarations.{Declared}
 use Rattle.ordup_record.specs.declared.record.RecordParts.{RecordParts}
 use Rattle.ordup_record.proofs.SameLemmas.{first-at}
 use Rattle.ordup_record.proofs.RecordOfLemmas.{record-valid, record-sound, parts-content, parts-are}

@@ -1,7 +1,4 @@
-use Rattle.std.proofs.Common.{◌≡◌, length, map, take, arith, ap, ◌∙◌}
-use Rattle.std.proofs.lemmas.List.{take_all}
-use Rattle.ordup_primary.specs.Primaries.{progress_at, reported_at}
-use Rattle.ordup_record.specs.RecordsOf.{report_changes}
+use Rattle.ordup_record.proofs.Common.{◌∙◌, ◌≡◌, ap, arith, length, map, progress_at, report_changes, reported_at, take, take_all}
 use Rattle.ordup_record.proofs.ChangeLemmas.{change_at, changes-copied}
 use Rattle.ordup_record.proofs.recording.report_changes.Goals as goal
 

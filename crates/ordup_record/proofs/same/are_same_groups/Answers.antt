@@ -1,14 +1,11 @@
-use Rattle.std.proofs.Common.{refl, arith, []}
-use Rattle.std.proofs.lemmas.List.{same_lists}
+use Rattle.ordup_record.proofs.Common.{[], arith, refl, same_lists}
 use Rattle.ordup_record.proofs.SameLemmas.{same-more, not_same-at}
 use Rattle.ordup_record.proofs.same.are_same_groups.Goals as goal
 
 pub returns-then-not-is_same_group : goal.returns-then-not-is_same_group
 returns-then-not-is_same_group g c =
-    not_same-at c.args.these.now c.args.those.now c.new.result ([], []) c.is_same_group.result (c.is_same_group.ensures (
-      [],
-      [],
-    )).1 c.if-not-is_same_group.true
+    not_same-at c.args.these.now c.args.those.now c.new.result ([], []) c.is_same_group.result (c.is_same_group.ensures _).1
+    c.if-not-is_same_group.true
 
 pub loop-place-preserved : goal.loop-place-preserved
 loop-place-preserved g c =

@@ -1,5 +1,4 @@
-use Rattle.std.proofs.Common.{refl, arith}
-use Rattle.std.proofs.lemmas.List.{same_lists}
+use Rattle.ordup_record.proofs.Common.{arith, refl, same_lists}
 use Rattle.ordup_record.proofs.same.are_same_limits.Goals as goal
 
 pub returns : goal.returns

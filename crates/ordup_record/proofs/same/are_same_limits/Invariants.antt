@@ -1,5 +1,4 @@
-use Rattle.std.proofs.Common.{◌≡◌, ℕ, ◌<◌, get_or}
-use Rattle.ordup_limits.specs.declared.limit.Limit.{Limit}
+use Rattle.ordup_record.proofs.Common.{◌<◌, ◌≡◌, get_or, Limit, ℕ}
 use Rattle.ordup_record.proofs.same.are_same_limits.Given as goal
 
 -- the limits so far are the same

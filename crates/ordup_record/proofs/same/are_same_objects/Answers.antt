@@ -1,14 +1,11 @@
-use Rattle.std.proofs.Common.{refl, arith, pos, []}
-use Rattle.std.proofs.lemmas.List.{same_lists}
+use Rattle.ordup_record.proofs.Common.{[], arith, pos, refl, same_lists}
 use Rattle.ordup_record.proofs.SameLemmas.{same-more, not_same-at}
 use Rattle.ordup_record.proofs.same.are_same_objects.Goals as goal
 
 pub returns-then-not-is_same_object : goal.returns-then-not-is_same_object
 returns-then-not-is_same_object g c =
-    not_same-at c.args.these.now c.args.those.now c.new.result ([], pos 0) c.is_same_object.result (c.is_same_object.ensures (
-      [],
-      pos 0,
-    )).1 c.if-not-is_same_object.true
+    not_same-at c.args.these.now c.args.those.now c.new.result ([], pos 0) c.is_same_object.result (c.is_same_object.ensures _).1
+    c.if-not-is_same_object.true
 
 pub loop-place-preserved : goal.loop-place-preserved
 loop-place-preserved g c =

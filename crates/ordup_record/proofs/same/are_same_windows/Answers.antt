@@ -1,6 +1,4 @@
-use Rattle.std.proofs.Common.{rules}
-use Rattle.std.proofs.lemmas.Slice.Eq.{slice_eq-Decides}
-use Rattle.ordup_rounds.specs.declared.window.Window.{Window}
+use Rattle.ordup_record.proofs.Common.{rules, slice_eq-Decides, Window}
 use Rattle.ordup_record.proofs.same.are_same_windows.Goals as goal
 
 pub returns : goal.returns

@@ -1,6 +1,4 @@
-use Rattle.std.proofs.Common.{rules}
-use Rattle.std.proofs.lemmas.Slice.Eq.{slice_eq-Decides}
-use Rattle.ordup_objects.specs.declared.change.Change.{Change}
+use Rattle.ordup_record.proofs.Common.{Change, rules, slice_eq-Decides}
 use Rattle.ordup_record.proofs.same.is_same_set.Goals as goal
 
 pub returns : goal.returns

@@ -1,6 +1,5 @@
-use Rattle.std.proofs.Common.{arith, ◌≡◌, ◌∙◌, sym, []}
+use Rattle.ordup_record.proofs.Common.{◌∙◌, ◌≡◌, [], arith, nil_from_length, sym}
 use Rattle.std.proofs.lemmas.Grind.{common_steps}
-use Rattle.std.proofs.lemmas.List.{nil_from_length}
 use Rattle.ordup_record_reader.proofs.Splitting.{known-log, known-values, split-log, where-ok}
 use Rattle.ordup_record_reader.proofs.reading.split_sets.Goals.{then-not-is_empty, else-not-is_empty}
 use Rattle.ordup_record_reader.proofs.reading.split_sets.Goals as goal

@@ -1,11 +1,5 @@
-use Rattle.std.proofs.Common.{◌≡◌, ℕ, Bool, false, ◌+◌, ◌-◌, ◌<◌, []}
-use Rattle.std.proofs.Common.{length, get_or, arith, ap, sym, ◌∙◌, inl, inr}
-use Rattle.std.proofs.lemmas.Bool.{cases_lt, false≢true}
-use Rattle.std.proofs.lemmas.List.{length-map}
-use Rattle.std.specs.Prelude.{IsTrue}
-use Rattle.ordup_objects.specs.Serial.{History, IsLegalHistory}
-use Rattle.ordup_record.specs.Records.{RecordState, history_of}
-use Rattle.ordup_record.specs.Validity.{IsLegalFront}
+use Rattle.ordup_record.proofs.Common.{◌+◌, ◌-◌, ◌<◌, ◌∙◌, ◌≡◌, [], ap, arith, Bool, cases_lt, false, false≢true, get_or, History}
+use Rattle.ordup_record.proofs.Common.{history_of, inl, inr, IsLegalFront, IsLegalHistory, IsTrue, length, length-map, RecordState, sym, ℕ}
 use Rattle.ordup_verdict.proofs.LegalityLemmas.{front-all, illegal-row, known-at}
 use Rattle.ordup_verdict.proofs.legality.first_illegal.Goals as goal
 

@@ -1,10 +1,6 @@
-use Rattle.std.proofs.Common.{◌≡◌, ◌≤◌, rules, arith, to_z, of_z, w64, true, length, sym, ◌∙◌}
-use Rattle.std.proofs.lemmas.Bool.{false≢true}
-use Rattle.std.proofs.lemmas.Int.{to_z-of_z}
+use Rattle.ordup_record.proofs.Common.{◌∙◌, ◌≡◌, ◌≤◌, arith, false≢true, greatest_value, in_range, is_legal, length, of_z, result_at, rules}
+use Rattle.ordup_record.proofs.Common.{serial, sym, to_z, to_z-of_z, true, w64}
 use Rattle.std.specs.Int.RustNames.{unsigned_abs}
-use Rattle.ordup_objects.specs.Sizes.{greatest_value}
-use Rattle.ordup_objects.specs.States.{in_range, result_at, is_legal}
-use Rattle.ordup_objects.specs.Serial.{serial}
 use Rattle.ordup_verdict.proofs.LegalityLemmas.{all-pass, results-more}
 use Rattle.ordup_verdict.proofs.legality.first_out_of_range.Goals as goal
 

@@ -1,6 +1,4 @@
-use Rattle.std.proofs.Common.{length, map, get_or, true}
-use Rattle.ordup_objects.specs.States.{result_at, in_range}
-use Rattle.ordup_objects.specs.Serial.{serial}
+use Rattle.ordup_record.proofs.Common.{get_or, in_range, length, map, result_at, serial, true}
 use Rattle.ordup_verdict.specs.Passing.{PassesBelow}
 use Rattle.ordup_verdict.proofs.legality.first_out_of_range.Given as goal
 

@@ -1,7 +1,5 @@
-use Rattle.std.proofs.Common.{◌≡◌, rules, to_z, of_z, w64, length, ap, ◌∙◌}
-use Rattle.std.proofs.lemmas.Int.{to_z-of_z}
-use Rattle.ordup_objects.specs.States.{State, result_of, value_at}
-use Rattle.ordup_objects.specs.Serial.{serial}
+use Rattle.ordup_record.proofs.Common.{◌∙◌, ◌≡◌, ap, length, of_z, rules, serial, State, to_z, to_z-of_z, value_at, w64}
+use Rattle.ordup_objects.specs.States.{result_of}
 use Rattle.ordup_verdict.proofs.LegalityLemmas.{value-in_range}
 use Rattle.ordup_verdict.proofs.legality.result_at.Goals as goal
 

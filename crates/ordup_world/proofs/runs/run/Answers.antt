@@ -1,9 +1,9 @@
 use Rattle.std.proofs.Common.{arith, ◌≡◌, ◌++◌, ◌∷◌, [], ◌∙◌, sym, ap, append_assoc, length}
 use Rattle.std.specs.Vec.Iter.{into_iter_items}
 use Rattle.ordup_world.specs.Events.{past_after, later}
-use Rattle.ordup_world.proofs.RunLemmas.{all_yielded, past_after-push, AreAnswers-push}
+use Rattle.ordup_world.proofs.RunLemmas.{all_yielded, push}
 use Rattle.ordup_primary.proofs.PrimaryLemmas.{HasFewestRounds-sound}
-use Rattle.ordup_world.proofs.AlongLemmas.{KeepSites-stands, HaveFewest-stands, Along-push}
+use Rattle.ordup_world.proofs.AlongLemmas.{KeepSites-stands, HaveFewest-stands}
 use Rattle.ordup_world.specs.Along.{KeepSites, HaveFewest}
 use Rattle.ordup_world.proofs.ImportLemmas.{KeepImports-along}
 use Rattle.ordup_world.proofs.runs.run.Goals as goal
@@ -12,6 +12,10 @@ pub loop-event-preserved : goal.loop-event-preserved
 loop-event-preserved g c =
     let before = c.loop-event.invariant in
     let mid = past_after {A = g.row.A.Denot} [] c.loop-event.yielded c.loop-event.answers.items in
+    let more = push c.args.setup [] c.loop-event.yielded c.loop-event.answers.items c.in-Some.event c.step.result before.answers
+    (c.step.ensures.answer c.args.setup mid before.state) in
+    let after = c.step.ensures.state c.args.setup mid before.state in
+    let now = later mid c.in-Some.event c.step.result in
     record {
       left =
           append_assoc c.loop-event.yielded (c.in-Some.event ∷ []) (into_iter_items c.next.new.self)
@@ -21,71 +25,35 @@ loop-event-preserved g c =
       setup = c.step.ensures.setup ∙ before.setup;
       sound = c.step.ensures.sound;
       limits = c.step.ensures.limits;
-      answers =
-          rw c.push_reserved.ensures.items (AreAnswers-push c.args.setup [] c.loop-event.yielded
-          c.loop-event.answers.items c.in-Some.event c.step.result before.answers (c.step.ensures.answer c.args.setup mid before.state));
+      answers = rw c.push_reserved.ensures.items more.1;
       along =
-          let after = c.step.ensures.state c.args.setup mid before.state in
-          let now = KeepSites-stands c.args.setup c.step.new.self (later mid c.in-Some.event c.step.result)
-          c.step.ensures.sound c.step.ensures.limits after in
-          rw c.push_reserved.ensures.items (Along-push (KeepSites c.args.setup) c.args.setup [] c.loop-event.yielded
-          c.loop-event.answers.items c.in-Some.event c.step.result before.answers before.along now);
+          rw c.push_reserved.ensures.items (more.2 (KeepSites c.args.setup) before.along
+          (KeepSites-stands c.args.setup c.step.new.self now c.step.ensures.sound c.step.ensures.limits after));
       fewest =
-          let after = c.step.ensures.state c.args.setup mid before.state in
-          let now = HaveFewest-stands c.args.setup c.step.new.self (later mid c.in-Some.event c.step.result) c.step.ensures.sound after in
-          rw c.push_reserved.ensures.items
-          (Along-push (HaveFewest c.args.setup) c.args.setup [] c.loop-event.yielded c.loop-event.answers.items c.in-Some.event
-          c.step.result before.answers before.fewest now);
-      state =
-          rw (
-            c.push_reserved.ensures.items,
-            past_after-push c.args.setup [] c.loop-event.yielded c.loop-event.answers.items c.in-Some.event c.step.result before.answers,
-          ) (c.step.ensures.state c.args.setup mid before.state);
+          rw c.push_reserved.ensures.items (more.2 (HaveFewest c.args.setup) before.fewest
+          (HaveFewest-stands c.args.setup c.step.new.self now c.step.ensures.sound after));
+      state = rw (c.push_reserved.ensures.items, more.0) after;
     }
 
-pub returns-clause-answers : goal.returns-clause-answers
-returns-clause-answers g c =
+pub returns : goal.returns
+returns g c =
     let before = c.loop-event.invariant in
     let all : c.loop-event.yielded ≡ c.args.events.items =
     all_yielded c.loop-event.yielded (into_iter_items c.loop-event.event-iterator) c.args.events.items
     (omega (arith, c.in-None.ensures.steps.0, c.loop-event.event-iterator.rest.ok)) before.left in
-    rw all at before.answers
-
-pub returns-clause-state : goal.returns-clause-state
-returns-clause-state g c =
-    let before = c.loop-event.invariant in
-    let all : c.loop-event.yielded ≡ c.args.events.items =
-    all_yielded c.loop-event.yielded (into_iter_items c.loop-event.event-iterator) c.args.events.items
-    (omega (arith, c.in-None.ensures.steps.0, c.loop-event.event-iterator.rest.ok)) before.left in
-    rw all at before.state
-
-pub returns-clause-along : goal.returns-clause-along
-returns-clause-along g c =
-    let before = c.loop-event.invariant in
-    let all : c.loop-event.yielded ≡ c.args.events.items =
-    all_yielded c.loop-event.yielded (into_iter_items c.loop-event.event-iterator) c.args.events.items
-    (omega (arith, c.in-None.ensures.steps.0, c.loop-event.event-iterator.rest.ok)) before.left in
-    rw all at before.along
-
-pub returns-clause-fewest : goal.returns-clause-fewest
-returns-clause-fewest g c =
-    let before = c.loop-event.invariant in
-    let left = c.loop-event.event-iterator in
-    let none : length (into_iter_items left) ≡ 0 = omega (arith, c.in-None.ensures.steps.0, left.rest.ok) in
-    let all : c.loop-event.yielded ≡ c.args.events.items =
-    all_yielded c.loop-event.yielded (into_iter_items left) c.args.events.items none before.left in
-    rw all at before.fewest
-
-pub returns-clause-rounds : goal.returns-clause-rounds
-returns-clause-rounds g c = HasFewestRounds-sound c.loop-event.world.primary c.loop-event.invariant.sound.store.primary
-
-pub returns-clause-imports : goal.returns-clause-imports
-returns-clause-imports g c =
-    let before = c.loop-event.invariant in
-    let all : c.loop-event.yielded ≡ c.args.events.items =
-    all_yielded c.loop-event.yielded (into_iter_items c.loop-event.event-iterator) c.args.events.items
-    (omega (arith, c.in-None.ensures.steps.0, c.loop-event.event-iterator.rest.ok)) before.left in
-    KeepImports-along c.args.setup c.args.events.items c.loop-event.answers.items (rw all at before.answers)
+    record {
+      answers = rw all at before.answers;
+      state = rw all at before.state;
+      setup = before.setup;
+      sound = before.sound;
+      limits = before.limits;
+      rounds = HasFewestRounds-sound c.loop-event.world.primary before.sound.store.primary;
+      imports = KeepImports-along c.args.setup c.args.events.items c.loop-event.answers.items (rw all at before.answers);
+      along = rw all at before.along;
+      fewest = rw all at before.fewest;
+      allowed = c.in_ok-world.ensures.allowed;
+      refused = tt;
+    }
 
 pub loop-event-init : goal.loop-event-init
 loop-event-init g c =

@@ -1,7 +1,8 @@
-use Rattle.std.proofs.Common.{arith, length}
+use Rattle.std.proofs.Common.{arith, ap, length}
+use Rattle.ordup_limits.specs.Ledgers.{LedgerState}
 use Rattle.ordup_limits.specs.LedgerInside.{ledger_of}
-use Rattle.ordup_limits.proofs.TotalLemmas.{HasBitsBelow-masks}
-use Rattle.ordup_limits.proofs.LedgerLemmas.{StandsFor-reported}
+use Rattle.ordup_limits.proofs.TotalLemmas.{HasBitsBelow-masks, AreTotals-raised}
+use Rattle.ordup_limits.proofs.LedgerLemmas.{StandsFor-prepared}
 use Rattle.ordup_limits.proofs.lag_ledger.LagLedger.reported.Goals as goal
 
 pub raise_to-requires-clause-count : goal.raise_to-requires-clause-count
@@ -14,8 +15,17 @@ raise_to-requires-clause-bits g c =
 
 pub returns-clause-stands : goal.returns-clause-stands
 returns-clause-stands g c =
-    StandsFor-reported c.args.self.now (ledger_of c.self.inside) c.args.log.now c.args.groups.now c.args.to c.raise_to.new.totals.items
-    c.len-updates.ensures.legal c.len-groups.ensures.groups c.requires.stands (rw (← c.self.view_is) at c.prepare.ensures.rest)
-    c.self.invariant.few
-    (rw (← c.self.view_is) at c.prepare.ensures.masks) c.self.invariant.taken c.requires.forward c.requires.last c.raise_to.ensures.few
-    (rw c.as_slice-masks.ensures.value at c.raise_to.ensures.totals)
+    let masks = rw (← c.self.view_is) at c.prepare.ensures.masks in
+    let rest = rw (← c.self.view_is) at c.prepare.ensures.rest in
+    let now = StandsFor-prepared (ledger_of c.self.inside) c.requires.stands rest masks in
+    record {
+      objects = now.objects;
+      known = now.known;
+      reported = c.requires.last;
+      extended = now.extended;
+      taken = AreTotals-raised c.self.inside.masks.items c.len-updates.ensures.legal c.len-groups.ensures.groups now.known now.objects
+          c.self.invariant.few masks (omega (arith, c.requires.forward, ap (λ (k : LedgerState). k.reported) rest)) c.requires.last
+          c.self.invariant.taken now.taken c.raise_to.ensures.few (rw c.as_slice-masks.ensures.value at c.raise_to.ensures.totals);
+      added = now.added;
+      masks = now.masks;
+    }

@@ -1,4 +1,3 @@
-use Rattle.std.proofs.Common.{◌∙◌}
 use Rattle.ordup_primary.proofs.ReportLemmas.{changes-rise, report_at-found}
 use Rattle.ordup_primary.proofs.reports.Reports.at.Goals as goal
 

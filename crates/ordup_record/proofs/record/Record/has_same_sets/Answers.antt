@@ -1,5 +1,4 @@
-use Rattle.std.proofs.Common.{refl, arith}
-use Rattle.std.proofs.lemmas.List.{same_lists}
+use Rattle.ordup_record.proofs.Common.{arith, refl, same_lists}
 use Rattle.ordup_record.proofs.record.Record.has_same_sets.Goals as goal
 
 pub returns : goal.returns

@@ -1,5 +1,4 @@
-use Rattle.std.proofs.Common.{◌≡◌, ℕ, ◌<◌, List, get_or}
-use Rattle.ordup_objects.specs.declared.change.Change.{Change}
+use Rattle.ordup_record.proofs.Common.{◌<◌, ◌≡◌, Change, get_or, List, ℕ}
 use Rattle.ordup_record.proofs.record.Record.has_same_sets.Given as goal
 
 -- the updates so far are the same

@@ -1,9 +1,7 @@
-use Rattle.std.proofs.Common.{◌≡◌, ◌∙◌, ◌-◌, ap, get_or, ◌++◌, ◌∷◌, [], List, length, ◌<◌, arith, rules, subst}
-use Rattle.ordup_objects.specs.Refusals.{IsRefusal}
-use Rattle.ordup_objects.specs.Sets.{set_refusal}
-use Rattle.ordup_objects.specs.declared.change.Change.{Change}
+use Rattle.ordup_record.proofs.Common.{◌++◌, ◌-◌, ◌<◌, ◌∙◌, ◌∷◌, ◌≡◌, [], ap, arith, Change, get_or, get_or_default, IsRefusal, length}
+use Rattle.ordup_record.proofs.Common.{List, rules, set_refusal, subst}
 use Rattle.ordup_rows.specs.Stages.{last_set}
-use Rattle.ordup_record_reader.proofs.RowLemmas.{get_any, refused_row}
+use Rattle.ordup_record_reader.proofs.RowLemmas.{refused_row}
 use Rattle.ordup_record_reader.proofs.told.Told.add_next_change.Goals as goal
 
 pub returns-in-Err : goal.returns-in-Err
@@ -12,7 +10,7 @@ returns-in-Err c =
     let count : c.len-last.result ≡ length sets = search rules in
     let some : 0 < length sets = c.requires.some in
     let same : c.index_mut.result.now ≡ last_set sets =
-    c.index_mut.ensures.value ∙ get_any sets (c.len-last.result - 1) _ [] (omega (arith, count, some))
+    c.index_mut.ensures.value ∙ get_or_default sets (c.len-last.result - 1) _ [] (omega (arith, count, some))
     ∙ ap (λ n. get_or sets (n - 1) []) count in
     let why : IsRefusal (set_refusal (length c.args.self.now.objects) (last_set c.args.self.now.sets.items ++ c.args.change ∷ []))
     c.in-Err.refusal =

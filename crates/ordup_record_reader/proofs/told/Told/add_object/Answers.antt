@@ -1,5 +1,4 @@
-use Rattle.std.proofs.Common.{rules, w64}
-use Rattle.std.proofs.lemmas.Int.{to_z-of_z}
+use Rattle.ordup_record.proofs.Common.{rules, to_z-of_z, w64}
 use Rattle.ordup_record_reader.specs.ColumnViews.{columns_view}
 use Rattle.ordup_record_reader.specs.ToldViews.{told_of}
 use Rattle.ordup_record_reader.proofs.RowLemmas.{no_object, object_with, ok_by}

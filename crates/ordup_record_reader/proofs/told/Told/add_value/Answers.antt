@@ -1,5 +1,4 @@
-use Rattle.std.proofs.Common.{rules, w64}
-use Rattle.std.proofs.lemmas.Int.{to_z-of_z}
+use Rattle.ordup_record.proofs.Common.{rules, to_z-of_z, w64}
 use Rattle.ordup_record_reader.proofs.RowLemmas.{refused_row}
 use Rattle.ordup_record_reader.proofs.told.Told.add_value.Goals as goal
 

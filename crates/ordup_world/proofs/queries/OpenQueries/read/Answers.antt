@@ -7,9 +7,7 @@ use Rattle.ordup_world.proofs.QueryStepLemmas.{unknown-read, read_refused, read_
 use Rattle.ordup_world.proofs.queries.OpenQueries.read.Goals as goal
 
 pub returns-then-index-len : goal.returns-then-index-len
-returns-then-index-len g c =
-    unknown-read (with_queries (state_of c.args.store.now) c.args.self.now) c.args.name c.args.object c.requires
-    (grind (arith, common_steps))
+returns-then-index-len g c = unknown-read c.requires (grind (arith, common_steps))
 
 pub read_at-requires-clause-site : goal.read_at-requires-clause-site
 read_at-requires-clause-site g c =
@@ -31,13 +29,9 @@ read_at-requires-clause-known g c =
     rw c.as_slice.ensures.value (λ s d lt. omega (arith, known, values-known w c.requires s d lt))
 
 pub returns-in-Ok : goal.returns-in-Ok
-returns-in-Ok g c =
-    read_out (with_queries (state_of c.args.store.now) c.args.self.now) c.read_at.new.self c.args.name c.args.object c.in-Ok.answer
-    c.requires (grind (arith, common_steps))
-    (rw c.as_slice.ensures.value at c.in-Ok.ensures.ok)
+returns-in-Ok g c = read_out c.requires (grind (arith, common_steps)) (rw c.as_slice.ensures.value at c.in-Ok.ensures.ok)
 
 pub returns-in-Err : goal.returns-in-Err
 returns-in-Err g c =
-    read_refused (with_queries (state_of c.args.store.now) c.args.self.now) c.read_at.new.self c.args.name c.args.object
-    c.in-Err.refusal c.requires (grind (arith, common_steps))
-    (rw c.as_slice.ensures.value at c.in-Err.ensures.refused) c.in-Err.ensures.err
+    read_refused c.requires (grind (arith, common_steps)) (rw c.as_slice.ensures.value at c.in-Err.ensures.refused)
+    c.in-Err.ensures.err

@@ -1,7 +1,7 @@
 -- What a reply is, by the parts that answered it.
 use Rattle.std.proofs.Common.{◌≡◌, ℕ, ◌<◌, true, List, [], ◌++◌, length, None}
 use Rattle.std.proofs.Common.{Some, ap, arith, refl, subst, sym, ◌∙◌, inl, inr}
-use Rattle.std.specs.Prelude.{nat_lt}
+use Rattle.std.specs.Prelude.{nat_lt, Ok}
 use Rattle.std.proofs.lemmas.Bool.{cases_Bool}
 use Rattle.std.proofs.lemmas.Bool.Decides.{nat_tests}
 use Rattle.ordup_objects.specs.declared.refusal.Refusal.TheVariants.{NoMemory, UnknownSite}
@@ -16,10 +16,10 @@ use Rattle.ordup_world.specs.declared.event.Event.{Event}
 use Rattle.ordup_world.specs.declared.event.Answer.{Answer}
 use Rattle.ordup_world.specs.declared.event.Answer.TheVariants.{Refused}
 use Rattle.ordup_grammar.specs.declared.action.Action.{Action}
-use Rattle.ordup_grammar.specs.declared.command.Command.TheVariants.{Certify, Start}
+use Rattle.ordup_grammar.specs.declared.command.Command.TheVariants.{Act, Certify, Start}
 use Rattle.ordup_answers.specs.Sessions.{Session, declaring, running, Declares, IsWorldOf}
 use Rattle.ordup_answers.specs.Answers.{Leaves}
-use Rattle.ordup_answers.specs.Events.{names_of}
+use Rattle.ordup_answers.specs.Events.{event_of, names_of}
 use Rattle.ordup_answers.specs.Places.{place_among}
 use Rattle.ordup_answers.specs.Replies.{event_reply, command_reply, reply_or_refusal}
 use Rattle.ordup_text.specs.Texts.{answer_text, certified_text, started_text}
@@ -45,19 +45,28 @@ module _ {A : Type 0} where
   answered setup past e answer (inr no_memory) other = absurd (other no_memory.2)
 
   -- what is left by an event
-  pub left_by_event : (d : Declared) (v : WorldState) (past : Past A) (a : Action) (e : Event A) (answer : Answer A)
-      → IsAnswer d past e answer → StandsFor d v (later past e answer) → (answer ≡ Refused NoMemory → ⊥)
-      → (setup : Declared) (subject object old new : List ℕ) → setup ≡ d → (subject, object) ≡ names_of a
+  pub left_by_event : (d : Declared) (w : WorldState) (past : Past A) (e : Event A) (answer : Answer A)
+      → IsAnswer d past e answer → StandsFor d w (later past e answer) → (answer ≡ Refused NoMemory → ⊥)
+      → (setup : Declared) (subject object old new : List ℕ) → setup ≡ d
       → new ≡ old ++ answer_text setup subject object answer
-      → Leaves (IsWorldOf v) old new (event_reply d past a e)
-  left_by_event d v past a e answer is state other setup subject object old new same named text =
-      let replied = answered d past e answer is other in
-      let text_in : Declared → List ℕ × List ℕ → Answer A → List ℕ =
-      λ d names given. old ++ answer_text d names.0 names.1 given in (
-        subst (λ given. StandsFor d v (later past e given)) replied state,
-        text ∙ ap (λ d. text_in d (subject, object) answer) same ∙ ap (λ names. text_in d names answer) named
-            ∙ ap (text_in d (names_of a)) replied,
+      → Leaves (IsWorldOf w) old new (event_reply d past (subject, object) e)
+  left_by_event d w past e answer is state other setup subject object old new same text =
+      let replied = answered d past e answer is other in (
+        subst (λ given. StandsFor d w (later past e given)) replied state,
+        text
+            ∙ ap (λ (d : Declared). old ++ answer_text d subject object answer) same
+            ∙ ap (λ given. old ++ answer_text d subject object given) replied,
       )
+
+  -- what is left by an action, by its event and the names in it
+  pub left_by_action : (v w : WorldState) (a : Action) (names : List ℕ × List ℕ) (e : Event A) (old new : List ℕ)
+      → event_of v.primary.setup a ≡ Ok e → names ≡ names_of a
+      → ((d : Declared) (past : Past A) → StandsFor d v past → Leaves (IsWorldOf w) old new (event_reply d past names e))
+      → (s : Session A) → IsWorldOf v s → Leaves (IsWorldOf w) old new (reply_or_refusal s (command_reply s (Act a)))
+  left_by_action v w a names e old new is named left (declaring d) stands = absurd stands
+  left_by_action v w a names e old new is named left (running d past) stands =
+      let event : event_of d a ≡ Ok e = ap (λ d. event_of d a) (sym stands.store.declared) ∙ is in
+      rw (event, sym named) (left d past stands)
 
   -- what is left by a start
   pub left_by_start : (d : Declared) (w : WorldState) (old new : List ℕ)

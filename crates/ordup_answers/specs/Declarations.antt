@@ -1,9 +1,8 @@
 -- What the declarations of a script make of what is declared.
-use Rattle.std.specs.Prelude.{ℕ, ℤ, List, [], ◌∷◌, ◌++◌, length, Result, slice_set}
+use Rattle.std.specs.Prelude.{length, Result}
 use Rattle.ordup_objects.specs.Tables.{object_refusal}
 use Rattle.ordup_objects.specs.declared.refusal.Refusal.{Refusal}
 use Rattle.ordup_log.specs.Groups.{group_refusal}
-use Rattle.ordup_log.specs.declared.scope.Scope.{Scope}
 use Rattle.ordup_primary.specs.Declarations.{Declared, with_object, with_group, with_site, with_limit, site_refusal, site_limit_refusal}
 use Rattle.ordup_grammar.specs.Numbers.{amount_of}
 use Rattle.ordup_grammar.specs.declared.declaration.Declaration.{Declaration}

@@ -8,7 +8,6 @@ use Rattle.ordup_world.specs.Events.{reply as event_answer}
 use Rattle.ordup_world.specs.declared.event.Event.{Event}
 use Rattle.ordup_grammar.specs.Lines.{Line}
 use Rattle.ordup_grammar.specs.Requests.{request_of}
-use Rattle.ordup_grammar.specs.declared.action.Action.{Action}
 use Rattle.ordup_grammar.specs.declared.command.Command.{Command}
 use Rattle.ordup_grammar.specs.declared.command.Command.TheVariants.{Declare, Start, Certify, Act}
 use Rattle.ordup_grammar.specs.declared.declaration.Declaration.{Declaration}
@@ -34,11 +33,11 @@ declared_text (Site name capacity) = named_text (codes "ok site ") name
 declared_text (Limit site what amount) = named_text (codes "ok limit ") site
 
 module _ {A : Type 0} where
-  -- the reply to an action by its event
-  abbrev pub event_reply : Declared → Past A → Action → Event A → Reply A
-  event_reply d past a e =
+  -- the reply to an event by these names: of a site or a query, and of an object
+  abbrev pub event_reply : Declared → Past A → List ℕ × List ℕ → Event A → Reply A
+  event_reply d past names e =
       let answer = event_answer d past e in
-      (running d (later past e answer), answer_text d (names_of a).0 (names_of a).1 answer)
+      (running d (later past e answer), answer_text d names.0 names.1 answer)
 
   -- what comes of asking for the certificate of a site, by its name and its place
   abbrev pub certificate_reply : Declared → Past A → List ℕ → ℕ → Result (Reply A) Refusal
@@ -54,7 +53,7 @@ module _ {A : Type 0} where
   command_reply (running d past) (Declare x) = Err AlreadyStarted
   command_reply (running d past) Start = Err AlreadyStarted
   command_reply (running d past) (Certify site) = certificate_reply d past site (place_among d.sites site)
-  command_reply (running d past) (Act a) = made_of (event_reply d past a) (event_of d a)
+  command_reply (running d past) (Act a) = made_of (event_reply d past (names_of a)) (event_of d a)
 
   -- what is refused leaves the session as it is, and is told
   abbrev pub reply_or_refusal : Session A → Result (Reply A) Refusal → Reply A

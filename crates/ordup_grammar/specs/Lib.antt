@@ -10,3 +10,4 @@ pub mod Actions
 pub mod Commands
 pub mod Requests
 pub mod LineBuffers
+pub mod LineParts

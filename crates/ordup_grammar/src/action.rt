@@ -3,6 +3,7 @@ ghost use Rattle.ordup_grammar.specs.Actions.{action_of};
 
 use crate::change_words::ChangeWords;
 use crate::number::Number;
+use crate::spelled::is_spelled;
 use crate::word::Word;
 use crate::words::Words;
 
@@ -40,36 +41,37 @@ pub enum Action<'a> {
 
 impl<'a> Action<'a> {
     /// The action that a first word and the words after it spell.
+    #[inline(always)]
     pub(crate) fn parse(first: &Word<'_>, rest: &Words<'a>) -> Option<Action<'a>>
         ensures { result ≡ action_of first.now rest.now }
     {
         let first = first.as_bytes();
-        if first == b"propose".as_slice() {
+        if is_spelled(first, b"propose") {
             Some(Action::Propose(ChangeWords::parse(rest)?))
-        } else if first == b"send".as_slice() {
+        } else if is_spelled(first, b"send") {
             Some(Action::Send(rest.only_word()?))
-        } else if first == b"apply".as_slice() {
+        } else if is_spelled(first, b"apply") {
             Some(Action::Apply(rest.only_word()?))
-        } else if first == b"report".as_slice() {
+        } else if is_spelled(first, b"report") {
             Some(Action::Report(rest.only_word()?))
-        } else if first == b"settle".as_slice() {
+        } else if is_spelled(first, b"settle") {
             if rest.is_empty() {
                 Some(Action::Settle)
             } else {
                 None
             }
-        } else if first == b"begin".as_slice() {
+        } else if is_spelled(first, b"begin") {
             let (query, rest) = rest.split_first()?;
             let (site, limit) = rest.name_and_number()?;
             Some(Action::Begin { query, site, limit })
-        } else if first == b"read".as_slice() {
+        } else if is_spelled(first, b"read") {
             let (query, object) = rest.two_words()?;
             Some(Action::Read { query, object })
         } else if first == b"end".as_slice() {
             Some(Action::End(rest.only_word()?))
-        } else if first == b"abandon".as_slice() {
+        } else if is_spelled(first, b"abandon") {
             Some(Action::Abandon(rest.only_word()?))
-        } else if first == b"show".as_slice() {
+        } else if is_spelled(first, b"show") {
             Some(Action::Show(rest.only_word()?))
         } else {
             None

@@ -3,6 +3,7 @@ ghost use Rattle.ordup_grammar.specs.Commands.{command_of};
 
 use crate::action::Action;
 use crate::declaration::Declaration;
+use crate::spelled::is_spelled;
 use crate::word::Word;
 use crate::words::Words;
 
@@ -21,17 +22,18 @@ pub enum Command<'a> {
 
 impl<'a> Command<'a> {
     /// The command that a first word and the words after it spell, if they spell one.
+    #[inline(always)]
     pub(crate) fn parse(first: &Word<'_>, rest: &Words<'a>) -> Option<Command<'a>>
         ensures { result ≡ command_of first.now rest.now }
     {
-        if first.as_bytes() == b"start".as_slice() {
+        if is_spelled(first.as_bytes(), b"start") {
             return if rest.is_empty() {
                 Some(Command::Start)
             } else {
                 None
             };
         }
-        if first.as_bytes() == b"certify".as_slice() {
+        if is_spelled(first.as_bytes(), b"certify") {
             return Some(Command::Certify(rest.only_word()?));
         }
         if let Some(action) = Action::parse(first, rest) {

@@ -1,20 +1,77 @@
 //! Lines that come in pieces: where one ends, and what no piece has ended yet.
 ghost use Rattle.std.specs.Prelude.{◌≡◌, ℕ, List, [], ◌∷◌, ◌++◌, ◌<◌, MatchOption, true, false, length};
 ghost use Rattle.ordup_grammar.specs.Lines.{IsPart};
-ghost use Rattle.ordup_grammar.specs.Requests.{request_of};
+ghost use Rattle.ordup_grammar.specs.Requests.{is_printed, request_of};
+ghost use Rattle.std.specs.List.{list_all};
 
+use crate::printed::printed_prefix;
 use crate::request::Request;
 use crate::sizes::MOST_LINE_BYTES;
 use memchr::memchr;
 use std::marker::Model;
 
+/// The part of a line that lies within one piece of a script, without the line feed.
+#[derive(Drop)]
+pub struct LinePart<'a> {
+    bytes: &'a [u8],
+    /// Each of them is known to be printed.
+    is_printed: bool,
+}
+
+impl<'a> Model for LinePart<'a> {
+    ghost use Rattle.std.specs.Prelude.{ℕ, List};
+    ghost use Rattle.ordup_grammar.specs.LineParts.{IsLinePart};
+
+    ghost Value = { List ℕ };
+
+    ghost view = { λ p. p.bytes.now };
+
+    ghost invariant = { IsLinePart };
+}
+
+impl<'a> LinePart<'a> {
+    /// The part of these bytes.
+    pub fn new(bytes: &'a [u8]) -> Self
+        ensures { result ≡ bytes.now }
+    {
+        LinePart {
+            bytes,
+            is_printed: false,
+        }
+    }
+
+    /// Its bytes.
+    pub fn as_bytes(&self) -> &'a [u8]
+        ensures { result.now ≡ self.now }
+    {
+        self.bytes
+    }
+
+    /// Whether each byte is printed.
+    pub(crate) fn is_printed(&self) -> bool
+        ensures { result ≡ list_all is_printed self.now }
+    {
+        self.is_printed || printed_prefix(self.bytes) == self.bytes.len()
+    }
+}
+
 /// What stands before the first line feed, and what stands after it.
-pub fn split_line(bytes: &[u8]) -> Option<(&[u8], &[u8])>
+///
+/// It goes over the bytes once, and so knows of most lines that each of their bytes is printed.
+pub fn split_line(bytes: &[u8]) -> Option<(LinePart<'_>, &[u8])>
     ensures { MatchOption result (IsPart bytes.now) (λ found.
-        IsPart found.0.now × (bytes.now ≡ found.0.now ++ 10 ∷ found.1.now)) }
+        IsPart found.0 × (bytes.now ≡ found.0 ++ 10 ∷ found.1.now)) }
 {
+    let printed = printed_prefix(bytes);
+    if printed < bytes.len() && bytes[printed] == b'\n' {
+        let part = LinePart {
+            bytes: &bytes[..printed],
+            is_printed: true,
+        };
+        return Some((part, &bytes[printed + 1..]));
+    }
     let end = memchr(b'\n', bytes)?;
-    Some((&bytes[..end], &bytes[end + 1..]))
+    Some((LinePart::new(&bytes[..end]), &bytes[end + 1..]))
 }
 
 /// The part of a line that no line feed has ended yet: at most its first 4,096 bytes, and whether it is longer.
@@ -80,7 +137,7 @@ impl LineBuffer {
         if self.is_long {
             Request::NoCommand
         } else {
-            Request::of(&self.bytes[..self.len])
+            Request::of(&LinePart::new(&self.bytes[..self.len]))
         }
     }
 

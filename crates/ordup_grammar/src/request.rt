@@ -4,6 +4,7 @@ ghost use Rattle.ordup_grammar.specs.Lines.{cut};
 ghost use Rattle.ordup_grammar.specs.Requests.{request_of, is_comment, is_printed};
 
 use crate::command::Command;
+use crate::line_buffer::LinePart;
 use crate::sizes::MOST_LINE_BYTES;
 use crate::words::Words;
 
@@ -19,18 +20,20 @@ pub enum Request<'a> {
 }
 
 impl<'a> Request<'a> {
-    /// What a line asks for.
+    /// What a line asks for that is this part.
     #[tactic(auto, unfolding(crate::specs::Requests::request_of))]
-    pub fn of(line: &'a [u8]) -> Request<'a>
-        ensures { result ≡ request_of (cut line.now) }
+    #[inline(always)]
+    pub fn of(part: &LinePart<'a>) -> Request<'a>
+        ensures { result ≡ request_of (cut part.now) }
     {
+        let line = part.as_bytes();
         if line.len() > MOST_LINE_BYTES {
             return Request::NoCommand;
         }
         if is_comment(line) {
             return Request::Nothing;
         }
-        if !are_printed(line) {
+        if !part.is_printed() {
             return Request::NoCommand;
         }
         let Some((first, rest)) = Words::of(line).split_first() else {
@@ -51,16 +54,4 @@ fn is_comment(line: &[u8]) -> bool
         [] => false,
         [first, ..] => *first == b'#',
     }
-}
-
-/// Whether each byte of a line lies from space to tilde.
-fn are_printed(line: &[u8]) -> bool
-    ensures { result ≡ list_all is_printed line.now }
-{
-    // It does not stop at the first that does not, so that many bytes are looked at at once.
-    let mut are_printed = true;
-    for byte in line {
-        are_printed &= *byte >= 32 && *byte <= 126;
-    }
-    are_printed
 }

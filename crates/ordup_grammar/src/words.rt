@@ -1,8 +1,9 @@
-ghost use Rattle.std.specs.Prelude.{◌≡◌, ◌≤◌, [], ◌∷◌, ◌==◌, ℕ, List, IsFalse, MatchOption, codes, length, nat_eq, position};
+ghost use Rattle.std.specs.Prelude.{◌≡◌, ◌≤◌, [], ◌∷◌, ◌==◌, ℕ, List, IsFalse, MatchOption, codes, length, nat_eq};
 ghost use Rattle.std.specs.List.{slice_split, starts_with};
 ghost use Rattle.ordup_grammar.specs.Words.{words_of, only_word, two_words, name_and_number, only_number};
 
 use crate::number::Number;
+use crate::position::position_of;
 use crate::word::Word;
 use std::marker::Model;
 
@@ -109,11 +110,4 @@ pub(crate) fn split_once<'a>(text: &'a [u8], separator: u8) -> Option<(&'a [u8],
 {
     let end = position_of(text, separator)?;
     Some((&text[..end], &text[end + 1..]))
-}
-
-/// The place of the first of these bytes in a text.
-fn position_of(text: &[u8], wanted: u8) -> Option<usize>
-    ensures { result ≡ position (λ byte. byte == wanted) text.now }
-{
-    text.iter().position(|byte| *byte == wanted)
 }

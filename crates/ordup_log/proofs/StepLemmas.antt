@@ -1,14 +1,15 @@
 -- Steps of numbers, and the search among them.
 use Rattle.std.proofs.Common.{◌≡◌, ℕ, zero, suc, ◌+◌, ◌-◌, ◌<◌, ◌≤◌, true, false, List, [], ◌∷◌, ◌++◌, length, get_or}
 use Rattle.std.proofs.Common.{arith, refl, sym, ap, ◌∙◌, inl, inr}
-use Rattle.std.specs.Prelude.{◌==◌, All, nat_le, if◌then◌else◌}
-use Rattle.std.specs.List.{fold}
+use Rattle.std.specs.Prelude.{◌==◌, Some, All, nat_le, if◌then◌else◌}
+use Rattle.std.specs.List.{fold, slice_get}
 use Rattle.std.specs.List.Sorted.{IsNonDecreasingBy, IsPartitionPoint}
 use Rattle.std.proofs.lemmas.Bool.{cases_Bool, cases_lt, eqb-true, eqb-false, eq-eqb, ne_eqb}
 use Rattle.std.proofs.lemmas.Bool.Decides.{nat_tests}
 use Rattle.std.proofs.lemmas.List.{length_push, get_or_push}
 use Rattle.std.proofs.lemmas.List.Elements.{All-nil, All-push, All-weaker}
 use Rattle.std.proofs.lemmas.List.Sums.{fold-append}
+use Rattle.std.proofs.lemmas.Option.{slice_get_within, get_or_from_slice_get}
 use Rattle.std.proofs.lemmas.List.Sorted.{IsNonDecreasingBy-short, IsNonDecreasingBy-push}
 use Rattle.ordup_objects.specs.Sums.{sum_from}
 use Rattle.ordup_log.specs.Steps.{steps_of, as_of}
@@ -106,6 +107,23 @@ as_of-some steps k zero d some le point = absurd (omega (arith, some))
 as_of-some steps k (suc i) d some le point =
     let e : suc i - 1 ≡ i = omega arith in
     rw e (found_some steps k i 0 d (omega arith) point)
+
+-- the last of all steps, where it is at or before the place
+pub as_of-last : (steps : List (ℕ × ℕ)) (k : ℕ) (last : ℕ × ℕ) → IsNonDecreasingBy (λ (step : ℕ × ℕ). step.0) steps
+    → slice_get steps (length steps - 1) ≡ Some last → last.0 ≤ k → as_of steps k ≡ last.1
+as_of-last steps k last sorted at le =
+    let end : ℕ = length steps - 1 in
+    let some : end < length steps = slice_get_within steps end last at in
+    let all : AreSplit steps k (length steps) = (
+      λ j d low high.
+          let before : (get_or steps j d).0 ≤ (get_or steps end d).0 = sorted j end d (omega (arith, high)) some in
+          let is : get_or steps end d ≡ last = get_or_from_slice_get steps end last d at in
+          let early : (get_or steps j d).0 ≤ k = omega (arith, le, (rw is at before)) in
+          grind (arith, nat_tests, early),
+      λ j d low high. absurd (omega (arith, low, high)),
+    ) in
+    as_of-some steps k (length steps) last (omega (arith, some)) (omega arith) all
+    ∙ ap (λ (step : ℕ × ℕ). step.1) (get_or_from_slice_get steps end last last at)
 
 -- ---- postings are the steps of the running weight
 

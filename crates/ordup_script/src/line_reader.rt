@@ -6,7 +6,7 @@ ghost use Rattle.ordup_script.specs.Readings.{EndsIn, Reads, ReadsOn};
 
 use crate::line_taker::LineTaker;
 use crate::sizes::PIECE;
-use ordup_grammar::{LineBuffer, Request, split_line};
+use ordup_grammar::{LineBuffer, LinePart, Request, split_line};
 use std::io::Read;
 
 /// How much of a script was read.
@@ -31,7 +31,12 @@ fn take_held<T: LineTaker>(held: &mut LineBuffer, taker: &mut T) -> Result<(), T
 }
 
 /// Has the line taken that this part ends.
-fn end_line<T: LineTaker>(held: &mut LineBuffer, taker: &mut T, part: &[u8]) -> Result<(), T::Fault>
+#[inline(always)]
+fn end_line<T: LineTaker>(
+    held: &mut LineBuffer,
+    taker: &mut T,
+    part: &LinePart<'_>,
+) -> Result<(), T::Fault>
     requires part { IsPart part.now }
     requires room { 0 < T.room taker.old }
     ensures lines { ReadsOn T.took T.stopped taker.old held.old taker.new held.new (part.now ++ 10 ∷ []) result }
@@ -40,7 +45,7 @@ fn end_line<T: LineTaker>(held: &mut LineBuffer, taker: &mut T, part: &[u8]) -> 
     if held.is_empty() {
         return taker.take(&Request::of(part));
     }
-    held.hold(part);
+    held.hold(part.as_bytes());
     take_held(held, taker)
 }
 
@@ -57,7 +62,7 @@ fn read_piece<T: LineTaker>(
 {
     let mut rest = piece;
     while let Some((part, more)) = split_line(rest) {
-        end_line(held, taker, part)?;
+        end_line(held, taker, &part)?;
         rest = more;
     }
     held.hold(rest);

@@ -49,6 +49,7 @@ impl<W: Write, A: Allocator + Copy> LineTaker for Answerer<'_, W, A> {
     // More than a script has bytes.
     ghost room = { λ _. 18446744073709551616 };
 
+    #[inline(always)]
     fn take(&mut self, request: &Request<'_>) -> Result<(), ScriptFault> {
         let alloc = *self.answers.allocator();
         match answer(alloc, self.store, request, self.answers) {

@@ -7,8 +7,8 @@ use std::alloc::{AllocError, Global};
 use std::io::Read;
 use std::test::Fail;
 
-/// The plans of docs/FORMATS.md, in its form: a line that begins with `> ` is one of the plan, the other is what `read_plan`
-/// answers to the lines before it.
+/// Plans in the form of docs/FORMATS.md, which shows some of them: a line that begins with `> ` is one of the plan, the
+/// other is what `read_plan` answers to the lines before it.
 const SHOWN: [&str; 8] = [
     "\
 > # a shop

@@ -10,6 +10,8 @@ use ordup_world::{Answer, QueryAnswer, ReadAnswer, Settled, Setup};
 use std::alloc::{AllocError, Allocator};
 
 /// Adds a text and a number.
+// Inlined, so that the length of the text is known where it is copied.
+#[inline(always)]
 pub fn push_with_number<A: Allocator + Copy>(
     out: &mut TextBuffer<A>,
     text: &[u8],
@@ -22,6 +24,8 @@ pub fn push_with_number<A: Allocator + Copy>(
 }
 
 /// Adds a text and a value.
+// Inlined, so that the length of the text is known where it is copied.
+#[inline(always)]
 fn push_with_value<A: Allocator + Copy>(
     out: &mut TextBuffer<A>,
     text: &[u8],
@@ -151,6 +155,8 @@ fn push_shown<A: Allocator + Copy>(
 }
 
 /// Adds the answer to an event that names this subject, a site or a query, and this object.
+// To be inlined: where the answer is known, its text alone is left to add.
+#[inline(always)]
 pub fn push_answer<A: Allocator + Copy>(
     out: &mut TextBuffer<A>,
     setup: &Setup<A>,
@@ -192,6 +198,8 @@ pub fn push_answer<A: Allocator + Copy>(
 }
 
 /// Adds what a read gave.
+// Inlined, so that the length of the text is known where it is copied.
+#[inline(always)]
 fn push_read<A: Allocator + Copy>(
     out: &mut TextBuffer<A>,
     query: &[u8],

@@ -159,6 +159,7 @@ impl<A: Allocator + Copy> TextBuffer<A> {
     }
 
     /// Adds a value in digits, with a minus before one below 0.
+    #[inline(always)]
     pub fn push_value(&mut self, value: i64) -> Result<(), AllocError>
         ensures { OnOk result (self.new.text ≡ self.old.text ++ signed_decimal value) }
     {

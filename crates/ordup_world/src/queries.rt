@@ -81,6 +81,7 @@ impl<A: Allocator + Copy> OpenQueries<A> {
     }
 
     /// A query begins at the site, with what is acknowledged now as its reference.
+    #[inline(always)]
     pub(crate) fn begin(
         &mut self,
         store: &Store<A>,
@@ -116,6 +117,7 @@ impl<A: Allocator + Copy> OpenQueries<A> {
     }
 
     /// The query reads an object at its site.
+    #[inline(always)]
     pub(crate) fn read(&mut self, store: &Store<A>, name: Name, object: ObjectId) -> Answer<A>
         requires { IsSound (with_queries (state_of store.now) self.old) }
         ensures { StepsWorld (with_queries (state_of store.now) self.old) (Event.Read name object) result (with_queries (state_of store.now) self.new) }
@@ -130,6 +132,7 @@ impl<A: Allocator + Copy> OpenQueries<A> {
     }
 
     /// The query ends, and is answered what its reads added up to.
+    #[inline(always)]
     pub(crate) fn end(&mut self, name: Name) -> Answer<A>
         ensures { (store : StoreState) → IsSound (with_queries store self.old) → StepsWorld (with_queries store self.old) (Event.End name) result (with_queries store self.new) }
     {
@@ -140,6 +143,7 @@ impl<A: Allocator + Copy> OpenQueries<A> {
     }
 
     /// The query ends without an answer.
+    #[inline(always)]
     pub(crate) fn abandon(&mut self, name: Name) -> Answer<A>
         ensures { (store : StoreState) → IsSound (with_queries store self.old) → StepsWorld (with_queries store self.old) (Event.Abandon name) result (with_queries store self.new) }
     {
@@ -178,6 +182,7 @@ impl<A: Allocator + Copy> OpenQueries<A> {
     }
 
     /// The query of this name reads an object at its site.
+    #[inline(always)]
     fn read_at(
         &mut self,
         name: Name,

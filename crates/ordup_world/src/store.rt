@@ -34,6 +34,7 @@ impl<A: Allocator + Copy> Store<A> {
     }
 
     /// The primary numbers a message set as the next update.
+    #[inline(always)]
     pub(crate) fn propose(&mut self, set: MessageSet<A>) -> Answer<A>
         requires { IsStore (state_of self.old) }
         ensures { StepsStore (state_of self.old) (Event.Propose set) result (state_of self.new) }
@@ -48,6 +49,7 @@ impl<A: Allocator + Copy> Store<A> {
     }
 
     /// The first update that was not sent to the site goes into its feed.
+    #[inline(always)]
     pub(crate) fn send(&mut self, site: SiteId) -> Answer<A>
         requires { IsStore (state_of self.old) }
         ensures { StepsStore (state_of self.old) (Event.Send site) result (state_of self.new) }
@@ -70,6 +72,7 @@ impl<A: Allocator + Copy> Store<A> {
     }
 
     /// The site applies the next update of its feed.
+    #[inline(always)]
     pub(crate) fn apply(&mut self, site: SiteId) -> Answer<A>
         requires { IsStore (state_of self.old) }
         ensures { StepsStore (state_of self.old) (Event.Apply site) result (state_of self.new) }
@@ -88,6 +91,7 @@ impl<A: Allocator + Copy> Store<A> {
     }
 
     /// The site reports how many updates it applied.
+    #[inline(always)]
     pub(crate) fn report(&mut self, site: SiteId) -> Answer<A>
         requires { IsStore (state_of self.old) }
         ensures { StepsStore (state_of self.old) (Event.Report site) result (state_of self.new) }
@@ -101,6 +105,7 @@ impl<A: Allocator + Copy> Store<A> {
     }
 
     /// The primary settles the head.
+    #[inline(always)]
     pub(crate) fn settle(&mut self) -> Answer<A>
         requires { IsStore (state_of self.old) }
         ensures { StepsStore (state_of self.old) Event.Settle result (state_of self.new) }
@@ -112,6 +117,7 @@ impl<A: Allocator + Copy> Store<A> {
     }
 
     /// The numbers and the values of the site.
+    #[inline(always)]
     pub(crate) fn show(&self, site: SiteId) -> Answer<A>
         requires { IsStore (state_of self.now) }
         ensures { StepsStore (state_of self.now) (Event.Show site) result (state_of self.now) }

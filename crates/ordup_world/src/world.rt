@@ -59,6 +59,8 @@ impl<A: Allocator + Copy> World<A> {
     }
 
     /// Takes one event and answers it. A refused event leaves all as it was.
+    // Inlined, and with it each step: a caller that knows the event moves neither it nor its answer.
+    #[inline(always)]
     pub fn step(&mut self, event: Event<A>) -> Answer<A>
         ensures answer { (setup : Declared) (past : Past A) → StandsFor setup self.old past → IsAnswer setup past event result }
         ensures state { (setup : Declared) (past : Past A) → StandsFor setup self.old past → StandsFor setup self.new (later past event result) }
@@ -73,6 +75,7 @@ impl<A: Allocator + Copy> World<A> {
     }
 
     /// Takes one event and answers it.
+    #[inline(always)]
     fn take(&mut self, event: Event<A>) -> Answer<A>
         ensures { StepsWorld self.old event result self.new }
     {

@@ -1,6 +1,6 @@
 use Rattle.std.proofs.Common.{leb, arith, rules, sym}
 use Rattle.std.proofs.lemmas.List.Sorted.{IsPartitionPoint-from_clause, IsPartitionedBy-leb}
-use Rattle.ordup_log.proofs.StepLemmas.{as_of-none, as_of-some}
+use Rattle.ordup_log.proofs.StepLemmas.{as_of-none, as_of-some, as_of-last}
 use Rattle.ordup_log.proofs.steps.as_of.Goals as goal
 
 pub returns-in-0 : goal.returns-in-0
@@ -17,3 +17,8 @@ returns-in_default c =
     (IsPartitionedBy-leb (λ step. step.0) _ c.args.place c.requires) (λ a r q k. search rules) in
     sym (as_of-some c.args.steps.now c.args.place c.partition_point.result (0, 0) (omega arith)
     c.partition_point.ensures.bound point)
+
+pub returns : goal.returns
+returns c =
+    sym (as_of-last c.args.steps.now c.args.place c.in-Some.last.now c.requires (sym (rw c.in-Some.is at c.last.ensures.value))
+    c.if-last-place.true)

@@ -9,4 +9,6 @@ returns-then-is_empty-clause-lines g c =
 
 pub returns-clause-lines : goal.returns-clause-lines
 returns-clause-lines g c =
-    reads_then (reads_part c.args.taker.now c.args.held.now c.hold.new.self c.args.part.now c.hold.ensures) c.take_held.ensures.lines
+    reads_then
+    (reads_part c.args.taker.now c.args.held.now c.hold.new.self c.args.part.now (rw c.as_bytes.ensures at c.hold.ensures))
+    c.take_held.ensures.lines

@@ -24,7 +24,7 @@ returns-in_err-end_line-clause-lines g c =
 pub loop-part-preserved : goal.loop-part-preserved
 loop-part-preserved g c =
     let (room, done, is, so_far) = c.loop-part.invariant in
-    let part = c.in-Some.part.now in
+    let part = c.in-Some.part in
     let more = c.in-Some.more.now in
     let size = simp length-append at (ap length c.in-Some.ensures.1) in (
       omega (arith, room, c.in_ok-end_line.ensures.room, size),

@@ -6,12 +6,12 @@ use Rattle.std.proofs.lemmas.Bool.{cases_Bool, cases_lt, lt-ltb, le-ltb}
 use Rattle.std.proofs.lemmas.Cmp.{nat_list_eq_equiv}
 use Rattle.std.proofs.lemmas.List.{get_or-map, get_or-take, length-map, take-map, take_more}
 use Rattle.std.proofs.lemmas.List.Elements.{All-set}
-use Rattle.std.proofs.lemmas.List.Sums.{passes_at_first}
+use Rattle.std.proofs.lemmas.List.Sums.{passes_at_first, position_or_len_is}
 use Rattle.std.proofs.lemmas.Map.Keys.{apart_from_distinct}
 use Rattle.std.proofs.lemmas.Option.{get_or_from_slice_get, slice_get_cases}
 use Rattle.std.specs.List.{position, position_or_len}
 use Rattle.std.specs.Prelude.{ℤ, slice_get}
-use Rattle.std.specs.Cmp.Lexicographic.{pointwise}
+use Rattle.std.specs.Cmp.Lexicographic.{pointwise, bytes_decides}
 use Rattle.indexmap.specs.IndexMap.{insert_entry, set_value_at}
 use Rattle.ordup_objects.specs.Names.{is_name}
 use Rattle.ordup_objects.specs.Tables.{names_of, place_of, with_entry, initial_state, AreNames, AreDistinct}
@@ -60,22 +60,51 @@ position-none p xs d fails = elim (cases_lt (position_or_len p xs) (length xs)) 
   | inr le ↦ rw (le-ltb (position_or_len p xs) (length xs) le) refl
 ]
 
--- where no name comes twice, no entry before one has its name
+-- the name of the entry at a place
+named-at : {V : Type 0} (table : List (List ℕ × V)) (i : ℕ) (name : List ℕ) (entry : V) → slice_get table i ≡ Some (name, entry)
+    → (i < length (names_of table)) × (get_or (names_of table) i [] ≡ name)
+named-at {V} table i name entry at =
+    let lt : i < length table = elim (slice_get_cases table i).1 [ inl in_list ↦ in_list.1 | inr past ↦ absurd (cc) ] in
+    let count : length (names_of table) ≡ length table = length-map table (λ e. e.0) in
+    let entry_at : get_or table i (name, entry) ≡ (name, entry) = get_or_from_slice_get table i (name, entry) (name, entry) at in (
+      omega arith,
+      get_or-map (λ (e : List ℕ × V). e.0) table i (name, entry) [] lt ∙ ap (λ (e : List ℕ × V). e.0) entry_at,
+    )
+
+-- where no name comes twice, no place before an entry has its name
+apart-before : {V : Type 0} (table : List (List ℕ × V)) (i : ℕ) (name : List ℕ) (entry : V) → AreDistinct table
+    → slice_get table i ≡ Some (name, entry) → (k : ℕ) → k < i → pointwise nat_eq name (get_or (names_of table) k []) ≡ false
+apart-before table i name entry distinct at k below =
+    let names : List (List ℕ) = names_of table in
+    let named = named-at table i name entry at in
+    rw (← named.1)
+    (nat_list_eq_equiv.symm (get_or names i []) (get_or names k [])
+    ∙ apart_from_distinct (pointwise nat_eq) names k i [] distinct below named.0)
+
+-- so no entry before one has its name
 pub place_of-before : {V : Type 0} (table : List (List ℕ × V)) (i : ℕ) (name : List ℕ) (entry : V) → AreDistinct table
     → slice_get table i ≡ Some (name, entry) → place_of name (take i table) ≡ None
 place_of-before {V} table i name entry distinct at =
     let names : List (List ℕ) = names_of table in
-    let lt : i < length table = elim (slice_get_cases table i).1 [ inl in_list ↦ in_list.1 | inr past ↦ absurd (cc) ] in
-    let count : length names ≡ length table = length-map table (λ e. e.0) in
-    let entry_at : get_or table i (name, entry) ≡ (name, entry) = get_or_from_slice_get table i (name, entry) (name, entry) at in
-    let is : get_or names i [] ≡ name =
-    get_or-map (λ (e : List ℕ × V). e.0) table i (name, entry) [] lt ∙ ap (λ (e : List ℕ × V). e.0) entry_at in
     let before : names_of (take i table) ≡ take i names = sym (take-map (λ (e : List ℕ × V). e.0) i table) in
     rw before (position-none (pointwise nat_eq name) (take i names) [] (λ k h.
     let below : k < i = omega (arith, length-take i names) in
-    rw (get_or-take i names k [] below, ← is)
-    (nat_list_eq_equiv.symm (get_or names i []) (get_or names k [])
-    ∙ apart_from_distinct (pointwise nat_eq) names k i [] distinct below (omega arith))))
+    rw (get_or-take i names k [] below) (apart-before table i name entry distinct at k below)))
+
+-- and the place of an entry is the place of its name
+pub place_of-at : {V : Type 0} (table : List (List ℕ × V)) (i : ℕ) (name wanted : List ℕ) (entry : V) → AreDistinct table
+    → slice_get table i ≡ Some (name, entry) → pointwise nat_eq wanted name ≡ true → place_of wanted table ≡ Some i
+place_of-at table i name wanted entry distinct at same =
+    let names : List (List ℕ) = names_of table in
+    let named = named-at table i name entry at in
+    let is : wanted ≡ name = (bytes_decides wanted name).0 same in
+    let first : position_or_len (pointwise nat_eq wanted) names ≡ i =
+    position_or_len_is (pointwise nat_eq wanted) names i [] (omega (arith, named.0))
+    (λ k h. rw is (apart-before table i name entry distinct at k h))
+    (λ h. rw (named.1) same) in
+    let found = lt-ltb (position_or_len (pointwise nat_eq wanted) names) (length names) (rw first named.0) in
+    let at_first : position (pointwise nat_eq wanted) names ≡ Some (position_or_len (pointwise nat_eq wanted) names) = rw found refl in
+    at_first ∙ ap (λ n. Some n) first
 
 -- a prefix with the entry after it is the longer prefix
 pub take-next : {X : Type 0} (xs : List X) (i : ℕ) (x : X) → slice_get xs i ≡ Some x → take (i + 1) xs ≡ take i xs ++ x ∷ []

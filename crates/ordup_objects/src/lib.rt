@@ -4,6 +4,7 @@
 #![tactic(auto)]
 
 mod change;
+mod hints;
 mod laws;
 mod message_set;
 mod name;
@@ -15,6 +16,7 @@ pub mod sizes;
 mod values;
 
 pub use change::{Change, NumberOp, ObjectId, Op};
+pub use hints::Hints;
 pub use laws::{
     longer_histories_keep_marks, longer_histories_keep_object_spans,
     longer_histories_keep_serial_results, prefixes_of_legal_histories_are_legal,

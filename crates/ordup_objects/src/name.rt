@@ -1,4 +1,4 @@
-ghost use Rattle.std.specs.Prelude.{◌≡◌, ℕ, ◌<◌, ◌≤◌, ◌↔◌, IsOk, IfOk, IfErr, IsTrue, length, nat_eq, ◌∷◌, []};
+ghost use Rattle.std.specs.Prelude.{◌≡◌, ℕ, ◌<◌, ◌≤◌, ◌↔◌, IsOk, IfOk, IfErr, IsTrue, ◌*◌, length, nat_eq, ◌∷◌, []};
 ghost use Rattle.std.specs.List.{list_all};
 ghost use Rattle.std.specs.Cmp.Lexicographic.{pointwise, nat_list_eq_equiv};
 ghost use Rattle.std.specs.Cmp.Rules.{comparing, hashing};
@@ -69,6 +69,46 @@ impl Name {
     {
         &self.bytes[..self.len as usize]
     }
+
+    /// Whether these bytes spell the name.
+    #[inline(always)]
+    pub(crate) fn is_spelled(&self, bytes: &[u8]) -> bool
+        ensures { result ≡ pointwise nat_eq bytes.now self.now }
+    {
+        are_alike(bytes, self.as_bytes())
+    }
+}
+
+/// Whether two runs of bytes are the same, of which the second has up to 16: by the first and the last of them, which are
+/// compared as numbers and hold all bytes.
+#[inline(always)]
+fn are_alike(a: &[u8], b: &[u8]) -> bool
+    requires { length b.now ≤ 16 }
+    ensures { result ≡ pointwise nat_eq a.now b.now }
+{
+    let len = b.len();
+    if a.len() != len {
+        return false;
+    }
+    if len >= 8 {
+        have_alike_ends::<8>(a, b)
+    } else if len >= 4 {
+        have_alike_ends::<4>(a, b)
+    } else if len >= 2 {
+        have_alike_ends::<2>(a, b)
+    } else {
+        len == 0 || a[0] == b[0]
+    }
+}
+
+/// Whether the first and the last N bytes of two runs of one length are the same, where these are all bytes.
+#[inline(always)]
+fn have_alike_ends<const N: usize>(a: &[u8], b: &[u8]) -> bool
+    requires { (length a.now ≡ length b.now) × (N ≤ length b.now) × (length b.now ≤ 2 * N) }
+    ensures { result ≡ pointwise nat_eq a.now b.now }
+{
+    (a.first_chunk::<N>().unwrap() == b.first_chunk::<N>().unwrap())
+        & (a.last_chunk::<N>().unwrap() == b.last_chunk::<N>().unwrap())
 }
 
 fn is_letter(byte: u8) -> bool
@@ -106,7 +146,7 @@ impl PartialEq for Name {
     ghost laws = { Prim.search (comparing, rules) };
 
     fn eq(&self, other: &Name) -> bool {
-        self.as_bytes() == other.as_bytes()
+        self.len == other.len && self.bytes == other.bytes
     }
 }
 
@@ -162,6 +202,6 @@ impl Equivalent<Name> for NameBytes<'_> {
     ghost respects_eq = { λ q x y. nat_list_eq_equiv.congr q.bytes.now x y };
 
     fn equivalent(&self, key: &Name) -> bool {
-        self.bytes == key.as_bytes()
+        key.is_spelled(self.bytes)
     }
 }

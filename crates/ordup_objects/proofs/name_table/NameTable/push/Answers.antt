@@ -12,7 +12,7 @@ invariant_of-self-2 g c =
     All-same (λ (e : List ℕ × g.row.V.Denot). is_name e.0 ≡ true) c.insert.new.self.entries
     (c.self.inside.entries.entries ++ (c.args.name, c.args.entry) ∷ []) added
     (All-push (λ (e : List ℕ × g.row.V.Denot). is_name e.0 ≡ true) c.self.inside.entries.entries
-    (c.args.name, c.args.entry) c.self.invariant c.as_bytes-bytes.ensures.name)
+    (c.args.name, c.args.entry) c.self.invariant c.as_bytes.ensures.name)
 
 pub returns-clause-ok : goal.returns-clause-ok
 returns-clause-ok g c =

@@ -1,7 +1,7 @@
 -- The fields of a log that grows.
 use Rattle.std.proofs.Common.{◌≡◌, ℕ, suc, ◌+◌, ◌-◌, ◌<◌, ◌≤◌, ◌^◌, true, sum}
 use Rattle.std.proofs.Common.{List, [], ◌∷◌, ◌++◌, length, take, drop, get_or}
-use Rattle.std.proofs.Common.{arith, refl, sym, ap, ◌∙◌, inl, inr, Vec, vec_len}
+use Rattle.std.proofs.Common.{arith, refl, sym, ap, ◌∙◌, inl, inr, Vec, vec_len, ℤ}
 use Rattle.std.specs.Prelude.{◌==◌, false, None}
 use Rattle.std.proofs.Math.ListN.{get_or-append}
 use Rattle.std.proofs.Math.Seq.{get_or-append_seam, drop-append_seam, take-length}
@@ -77,7 +77,7 @@ module _ {A : Type 0} (l : Inside A) (is : IsLog l) where
       rw (← view, other, now) refl
 
   -- a log keeps its invariant where its lists only get room
-  pub IsLog-same : (sets : Vec (List Change) A) (distances begins : Vec ℕ A) (postings : Vec (Vec (ℕ × ℕ) A) A)
+  pub IsLog-same : {results : List ℤ} (sets : Vec (List Change) A) (distances begins : Vec ℕ A) (postings : Vec (Vec (ℕ × ℕ) A) A)
       (all : Vec (ℕ × ℕ) A) → sets.items ≡ l.sets.items → distances.items ≡ l.distances.items → begins.items ≡ l.begins.items
       → length postings.items ≡ length l.postings.items
       → ((x : ℕ) (d : Vec (ℕ × ℕ) A) → (get_or postings.items x d).items ≡ (get_or l.postings.items x d).items)
@@ -90,6 +90,7 @@ module _ {A : Type 0} (l : Inside A) (is : IsLog l) where
         postings = postings;
         all = all;
         end = l.end;
+        results = results;
       })
   IsLog-same sets distances begins postings all e f b count each g =
       let len : vec_len sets ≡ vec_len l.sets = omega (arith, sets.ok.0, l.sets.ok.0, ap length e) in
@@ -151,7 +152,7 @@ module _ {A : Type 0} (l : Inside A) (is : IsLog l) where
         )
 
     -- a log keeps its invariant by one legal set more, with its distances and postings and the values after it
-    pub IsLog-longer : (sets : Vec (List Change) A) (distances begins : Vec ℕ A) (postings : Vec (Vec (ℕ × ℕ) A) A)
+    pub IsLog-longer : {results : List ℤ} (sets : Vec (List Change) A) (distances begins : Vec ℕ A) (postings : Vec (Vec (ℕ × ℕ) A) A)
         (all : Vec (ℕ × ℕ) A) (end : State) (number : ℕ)
         → AreKnown (length l.start) m → vec_len l.sets < most_updates → number ≡ vec_len l.sets + 1
         → sets.items ≡ l.sets.items ++ m ∷ [] → distances.items ≡ l.distances.items ++ ds
@@ -168,6 +169,7 @@ module _ {A : Type 0} (l : Inside A) (is : IsLog l) where
           postings = postings;
           all = all;
           end = end;
+          results = results;
         })
     IsLog-longer sets distances begins postings all end number known few at e f b same each g k =
         let h : History = history_of l in

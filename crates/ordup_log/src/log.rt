@@ -28,6 +28,8 @@ pub struct Log<A: Allocator + Copy = Global> {
     /// The same on all objects together.
     all: Vec<(u64, u64), A>,
     end: Values<A>,
+    // Kept from one update to the next, since new room is zeroed.
+    results: Results,
 }
 
 impl<A: Allocator + Copy> Model for Log<A> {
@@ -92,6 +94,7 @@ impl<A: Allocator + Copy> Log<A> {
             postings,
             all: Vec::new(alloc),
             end,
+            results: Results::new(),
         })
     }
 
@@ -126,8 +129,7 @@ impl<A: Allocator + Copy> Log<A> {
         if self.sets.len() == MOST_UPDATES {
             return Err(Refusal::LogFull);
         }
-        let mut results = Results::new();
-        let Ok(()) = self.end.results(&set, &mut results) else {
+        let Ok(()) = self.end.results(&set, &mut self.results) else {
             return Err(Refusal::OutOfRange);
         };
         let count = set.changes().len();
@@ -143,11 +145,12 @@ impl<A: Allocator + Copy> Log<A> {
         };
         let number = self.sets.len() as u64 + 1;
         let begin = self.distances.len();
-        self.end.push_distances(&set, &results, &mut self.distances);
+        self.end
+            .push_distances(&set, &self.results, &mut self.distances);
         let distances = part(self.distances.as_slice(), begin, count);
         post_all(&mut self.postings, set.changes(), distances, number);
         post(&mut self.all, number, total(distances));
-        self.end.put(&set, &results);
+        self.end.put(&set, &self.results);
         self.sets.push_reserved(set);
         self.begins.push_reserved(begin);
         Ok(number)

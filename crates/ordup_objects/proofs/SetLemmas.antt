@@ -65,15 +65,19 @@ changed_one v (c ∷ m) w x distinct known same =
           (get_or-set_other w c.object x (result_at v c) (pos 0) (λ f. eqb-false c.object x e (sym f)) ∙ same))
     ]
 
+-- what stands at a place of the results of a set
+pub result_is : (v : State) (m : List Change) (results : List ℤ) (i : ℕ) (c : Change) → i < length m → AreResults v m results
+    → c ≡ get_or m i c → get_or results i (pos 0) ≡ result_at v c
+result_is v m results i c lt are same =
+    sym (get_or-take (length m) results i (pos 0) lt) ∙ ap (λ rs. get_or rs i (pos 0)) are
+    ∙ get_or-map (result_at v) m i c (pos 0) lt ∙ ap (result_at v) (sym same)
+
 -- one distance more, by the result of its change
 pub distances_of-more : (v : State) (m : List Change) (results : List ℤ) (i d : ℕ) (c : Change) → i < length m
     → AreResults v m results → c ≡ get_or m i c → d ≡ distance (get_or results i (pos 0)) (value_at v c.object)
     → distances_of v (take i m) ++ d ∷ [] ≡ distances_of v (take (i + 1) m)
 distances_of-more v m results i d c lt are same is =
-    let result : get_or results i (pos 0) ≡ result_at v c =
-    sym (get_or-take (length m) results i (pos 0) lt) ∙ ap (λ rs. get_or rs i (pos 0)) are
-    ∙ get_or-map (result_at v) m i c (pos 0) lt ∙ ap (result_at v) (sym same) in
-    let by : d ≡ distance_by v c = is ∙ ap (λ r. distance r (value_at v c.object)) result in
+    let by : d ≡ distance_by v c = is ∙ ap (λ r. distance r (value_at v c.object)) (result_is v m results i c lt are same) in
     rw by (ap (λ x. distances_of v (take i m) ++ distance_by v x ∷ []) same ∙ sym (map_more (distance_by v) m i c lt))
 
 -- what a set makes of one value

@@ -1,3 +1,6 @@
+ghost use Rattle.std.specs.Prelude.{◌≡◌, length};
+ghost use Rattle.ordup_objects.specs.Sizes.{most_changes};
+
 use crate::sizes::MOST_CHANGES;
 use std::marker::Model;
 
@@ -26,5 +29,13 @@ impl Results {
         Results {
             results: [0; MOST_CHANGES],
         }
+    }
+
+    /// The results, in the order of the changes. What stands after them says nothing.
+    pub fn as_slice(&self) -> &[i64]
+        ensures results { result.now ≡ self.now }
+        ensures room { length result.now ≡ most_changes }
+    {
+        &self.results
     }
 }

@@ -130,13 +130,12 @@ fn read_rows<R: Read>(alloc: Global, rdr: &mut Reader<R>) -> Result<(Stage, u64)
         if !is_found {
             return Ok((stage, count + 1));
         }
-        let Ok(next) = take_row(alloc, stage, &row) else {
+        let Ok(is_taken) = take_row(alloc, &mut stage, &row) else {
             return Err(RecordReadFault::NoMemory);
         };
-        let Some(next) = next else {
+        if !is_taken {
             return Err(RecordReadFault::Malformed { row: count + 1 });
-        };
-        stage = next;
+        }
     }
     Err(RecordReadFault::Read)
 }

@@ -1,5 +1,6 @@
 //! How far a reading has come.
 ghost use Rattle.std.specs.Prelude.{◌≡◌, IfOk, option_map, option_and_then};
+ghost use Rattle.std.specs.Bool.{then_some};
 ghost use Rattle.csv.specs.Records.{fields_of};
 ghost use Rattle.ordup_record_reader.specs.ColumnViews.{columns_view};
 ghost use Rattle.ordup_rows.specs.RowKinds.{kind_of};
@@ -50,39 +51,41 @@ fn open(alloc: Global, c: &RowColumns<'_>) -> Option<Stage>
     Some(Stage::Told { decided, told })
 }
 
-/// The stage after a row that is not the first.
+/// Takes a row that is not the first, where it may stand there, and answers whether it did.
 fn go_on(
     alloc: Global,
     decided: u64,
-    before: Told,
+    so_far: &mut Told,
     c: &RowColumns<'_>,
-) -> Result<Option<Stage>, AllocError>
-    requires { AreUpdatesKnown (told_of before) }
-    ensures { IfOk result (λ next. option_map stage_of next
-        ≡ option_and_then (λ kind. option_map (λ r. told decided r) (with_row decided (told_of before) kind (columns_view c.now)))
+) -> Result<bool, AllocError>
+    requires { AreUpdatesKnown (told_of so_far.old) }
+    ensures { IfOk result (λ is_taken. then_some is_taken (told decided (told_of so_far.new))
+        ≡ option_and_then (λ kind. option_map (λ r. told decided r) (with_row decided (told_of so_far.old) kind (columns_view c.now)))
         (kind_of c.now.kind.now)) }
 {
-    let mut told = before;
     let Some(kind) = RowKind::parse(c.kind) else {
-        return Ok(None);
+        return Ok(false);
     };
-    if told.add_row(alloc, decided, kind, c)? {
-        Ok(Some(Stage::Told { decided, told }))
-    } else {
-        Ok(None)
-    }
+    so_far.add_row(alloc, decided, kind, c)
 }
 
-/// The stage after a row, where the row may stand there.
-pub fn take_row(alloc: Global, stage: Stage, row: &ByteRecord) -> Result<Option<Stage>, AllocError>
-    requires { AreStageUpdatesKnown (stage_of stage) }
-    ensures { IfOk result (λ next. option_map stage_of next ≡ step (stage_of stage) (fields_of row.now)) }
+/// Takes a row, where it may stand there, and answers whether it did.
+// In place, since a stage has tables: with each row they were moved a few times.
+pub fn take_row(alloc: Global, stage: &mut Stage, row: &ByteRecord) -> Result<bool, AllocError>
+    requires { AreStageUpdatesKnown (stage_of stage.old) }
+    ensures { IfOk result (λ is_taken. then_some is_taken (stage_of stage.new) ≡ step (stage_of stage.old) (fields_of row.now)) }
 {
     let Some(columns) = RowColumns::split(row) else {
-        return Ok(None);
+        return Ok(false);
     };
     match stage {
-        Stage::Unread => Ok(open(alloc, &columns)),
-        Stage::Told { decided, told } => go_on(alloc, decided, told, &columns),
+        Stage::Unread => match open(alloc, &columns) {
+            Some(opened) => {
+                *stage = opened;
+                Ok(true)
+            }
+            None => Ok(false),
+        },
+        Stage::Told { decided, told } => go_on(alloc, *decided, told, &columns),
     }
 }

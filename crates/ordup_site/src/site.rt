@@ -1,15 +1,14 @@
 ghost use Rattle.std.specs.Prelude.{◌≡◌, ◌≤◌, ◌<◌, ◌+◌, ◌*◌, ℕ, ℤ, List, [], IsTrue, IfOk, IfErr, All, length, map, take, replicate, slice_index_or};
 ghost use Rattle.ordup_objects.specs.Sizes.{most_changes, most_updates, greatest_distance};
 ghost use Rattle.ordup_objects.specs.Tables.{initial_state};
-ghost use Rattle.ordup_objects.specs.States.{value_at, is_legal, after, IsInRange, IsState};
+ghost use Rattle.ordup_objects.specs.States.{value_at, is_legal, after, AreResults, IsInRange, IsState};
 ghost use Rattle.ordup_objects.specs.Sets.{AreKnown};
 ghost use Rattle.ordup_objects.specs.Serial.{History, set_at, with_update};
 ghost use Rattle.ordup_objects.specs.Weights.{distance};
 ghost use Rattle.ordup_site.specs.Sites.{HasApplied, travelled_at};
 ghost use Rattle.ordup_site.specs.Travelling.{Moves, travelled_on};
 
-use ordup_objects::sizes::MOST_CHANGES;
-use ordup_objects::{Change, MessageSet, ObjectId, ObjectTable, Refusal, Values};
+use ordup_objects::{Change, MessageSet, ObjectId, ObjectTable, Refusal, Results, Values};
 use std::alloc::{AllocError, Allocator, Global};
 use std::marker::Model;
 
@@ -22,6 +21,8 @@ pub struct Site<A: Allocator + Copy = Global> {
     applied: u64,
     values: Values<A>,
     travelled: Vec<u64, A>,
+    // Kept from one application to the next, since new room is zeroed, which took as long as to apply a set of one change.
+    results: Results,
 }
 
 impl<A: Allocator + Copy> Model for Site<A> {
@@ -49,6 +50,7 @@ impl<A: Allocator + Copy> Site<A> {
                 applied: 0,
                 values,
                 travelled,
+                results: Results::new(),
             }),
             Err(_) => Err(Refusal::NoMemory),
         }
@@ -70,7 +72,12 @@ impl<A: Allocator + Copy> Site<A> {
         // Where it is the next of a log, the site applied one update more of that log.
         ensures next { (h : History) (j : ℕ) → HasApplied self.old h j → j < length h.sets → set.now ≡ set_at h (j + 1) → HasApplied self.new h (j + 1) }
     {
-        move_values(&mut self.values, &mut self.travelled, set);
+        move_values(
+            &mut self.values,
+            &mut self.travelled,
+            &mut self.results,
+            set,
+        );
         self.applied += 1;
     }
 
@@ -115,10 +122,11 @@ impl<A: Allocator + Copy> Site<A> {
     }
 }
 
-/// Applies a legal set to the values, and adds to what each of them travelled how far it moved.
+/// Applies a legal set to the values, and adds to what each of them travelled how far it moves.
 fn move_values<A: Allocator + Copy>(
     values: &mut Values<A>,
     travelled: &mut [u64],
+    results: &mut Results,
     set: &MessageSet<A>,
 )
     requires known { AreKnown (length values.old) set.now }
@@ -130,42 +138,31 @@ fn move_values<A: Allocator + Copy>(
     // For the proof: the values are in range.
     let _objects = values.len();
     let changes = set.changes();
-    let mut before = [0; MOST_CHANGES];
-    read_values(values, changes, &mut before);
-    let _ = values.apply(set);
-    travel_on(values, changes, &before, travelled);
+    let _ = values.results(set, results);
+    travel_on(values, changes, results.as_slice(), travelled);
+    values.put(set, results);
 }
 
-/// Reads the values of the changed objects.
-fn read_values<A: Allocator + Copy>(values: &Values<A>, changes: &[Change], read: &mut [i64])
-    requires objects { All (λ c. c.object < length values.now) changes.now }
-    requires room { length changes.now ≤ length read.old }
-    requires range { All IsInRange read.old }
-    ensures read { take (length changes.now) read.new ≡ map (λ c. value_at values.now c.object) changes.now }
-    ensures range { All IsInRange read.new }
-{
-    for (i, change) in changes.iter().enumerate() {
-        read[i] = values.get(change.object);
-    }
-}
-
-/// Adds how far each changed object went, from the value beside its change to the one that it has now.
+/// Adds how far each change moves its object's value, from the one that it has to its result.
 fn travel_on<A: Allocator + Copy>(
     values: &Values<A>,
     changes: &[Change],
-    before: &[i64],
+    results: &[i64],
     travelled: &mut [u64],
 )
-    requires objects { All (λ c. c.object < length values.now) changes.now }
+    requires known { AreKnown (length values.now) changes.now }
     requires same { length travelled.old ≡ length values.now }
     requires few { length changes.now ≤ most_changes }
-    requires room { length changes.now ≤ length before.now }
-    requires range { All IsInRange before.now }
+    requires room { length changes.now ≤ length results.now }
+    requires results { AreResults values.now changes.now results.now }
+    requires legal { IsTrue (is_legal changes.now values.now) }
     requires bounded { All (λ t. t ≤ greatest_distance * most_updates) travelled.old }
-    ensures { travelled.new ≡ travelled_on values.now changes.now before.now travelled.old }
+    ensures { travelled.new ≡ travelled_on values.now changes.now travelled.old }
 {
+    // For the proof: the values are in range.
+    let _objects = values.len();
     for (i, change) in changes.iter().enumerate() {
-        let moved = values.get(change.object).abs_diff(before[i]);
+        let moved = results[i].abs_diff(values.get(change.object));
         travelled[change.object.index()] += moved;
     }
 }

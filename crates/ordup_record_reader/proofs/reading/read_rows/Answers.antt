@@ -1,5 +1,4 @@
-use Rattle.std.proofs.Common.{◌∙◌, ◌+◌, inl, sym, subst}
-use Rattle.std.specs.Prelude.{IfSome}
+use Rattle.ordup_record.proofs.Common.{◌+◌, ◌∙◌, IfSome, inl, subst, sym}
 use Rattle.csv.specs.Reading.{source_of}
 use Rattle.ordup_rows.specs.Texts.{IsMalformedAt}
 use Rattle.ordup_record_reader.specs.StageViews.{stage_of}
@@ -17,24 +16,24 @@ returns-then-not-is_found-clause-taken g c =
     whole g.R.Read.remaining c.loop-count.rdr c.read_byte_record.new.self (source_of g.R.Read.remaining c.args.rdr.now)
     (stage_of c.loop-count.stage) c.loop-count.count _ config h r
 
-pub returns-in_default-next-clause-malformed : goal.returns-in_default-next-clause-malformed
-returns-in_default-next-clause-malformed g c n e =
+pub returns-then-not-is_taken-clause-malformed : goal.returns-then-not-is_taken-clause-malformed
+returns-then-not-is_taken-clause-malformed g c n e =
     let (plain, ready, config, is, h) = c.loop-count.invariant in
     let r = rw c.if-not-is_found.false at (c.in-Ok.ensures.reads plain ready) in
     subst (λ k. IfSome (source_of g.R.Read.remaining c.args.rdr.now) (λ text. IsMalformedAt text k))
     (malformed-number (c.loop-count.count + 1) n e)
     (bad g.R.Read.remaining c.loop-count.rdr c.read_byte_record.new.self (source_of g.R.Read.remaining c.args.rdr.now)
-    (stage_of c.loop-count.stage) c.loop-count.count _ config h r (sym (rw c.in_default-next.is at c.in-Ok-take_row.ensures)))
+    (stage_of c.loop-count.stage) c.loop-count.count _ config h r (sym (rw c.if-not-is_taken.true at c.in-Ok-take_row.ensures)))
 
 pub loop-count-preserved : goal.loop-count-preserved
 loop-count-preserved g c =
     let (plain, ready, config, is, h) = c.loop-count.invariant in
     let r = rw c.if-not-is_found.false at (c.in-Ok.ensures.reads plain ready) in
-    let next = sym (rw c.in-Some.is at c.in-Ok-take_row.ensures) in (
+    let next = sym (rw c.if-not-is_taken.false at c.in-Ok-take_row.ensures) in (
       r.3 ∙ plain,
       inl (c.in-Ok.ensures.ready plain),
       r.2 ∙ config,
-      (step_follows (stage_of c.loop-count.stage) _ (stage_of c.in-Some.next) is next).is,
+      (step_follows (stage_of c.loop-count.stage) _ (stage_of c.take_row.new.stage) is next).is,
       onward g.R.Read.remaining c.loop-count.rdr c.read_byte_record.new.self (source_of g.R.Read.remaining c.args.rdr.now)
-          (stage_of c.loop-count.stage) (stage_of c.in-Some.next) c.loop-count.count _ config h r next,
+          (stage_of c.loop-count.stage) (stage_of c.take_row.new.stage) c.loop-count.count _ config h r next,
     )

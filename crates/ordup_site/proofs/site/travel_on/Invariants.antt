@@ -6,7 +6,6 @@ use Rattle.ordup_site.proofs.site.travel_on.Given as goal
 -- what is left goes on from where the values so far travelled
 abbrev pub invariant-loop-i : goal.invariant-loop-i
 invariant-loop-i g l = record {
-  left : travelled_on l.values (drop l.i l.changes) (drop l.i l.before) l.travelled ≡ travelled_on l.values l.changes
-      l.before l.initial.travelled;
+  left : travelled_on l.values (drop l.i l.changes) l.travelled ≡ travelled_on l.values l.changes l.initial.travelled;
   bounded : All (λ t. t ≤ greatest_distance * most_updates + greatest_distance * l.i) l.travelled;
 }

@@ -8,8 +8,8 @@ use Rattle.ordup_log.specs.Postings.{posted}
 use Rattle.ordup_log.proofs.LogLemmas.{allowed, IsLog-same, IsLog-longer, total-few, posted-fits, all-fits, take-drop-last}
 use Rattle.ordup_log.proofs.log.Log.append.Goals as goal
 
-pub invariant_of-self : goal.invariant_of-self
-invariant_of-self g c =
+pub invariant_of-self-then-is_err : goal.invariant_of-self-then-is_err
+invariant_of-self-then-is_err g c =
     IsLog-same c.self.inside c.self.invariant c.reserve.new.self c.self.inside.distances c.self.inside.begins
     c.self.inside.postings c.self.inside.all c.reserve.ensures.items refl refl refl (λ x d. refl) refl
 

@@ -3,37 +3,33 @@ ghost use Rattle.std.specs.Prelude.{OnOk};
 ghost use Rattle.ordup_primary.specs.Declarations.{Declared};
 ghost use Rattle.ordup_world.specs.Events.{Past};
 ghost use Rattle.ordup_world.specs.Worlds.{StandsFor};
-ghost use Rattle.ordup_grammar.specs.declared.command.Command.{Command};
-ghost use Rattle.ordup_answers.specs.Answers.{Leaves};
+ghost use Rattle.ordup_grammar.specs.declared.action.Action.{Action};
+ghost use Rattle.ordup_answers.specs.Answers.{Leaves, LeavesByAction};
 ghost use Rattle.ordup_answers.specs.Events.{query_name, read_of};
 ghost use Rattle.ordup_answers.specs.Refusals.{Gives};
-ghost use Rattle.ordup_answers.specs.Replies.{command_reply, event_reply, reply_or_refusal};
+ghost use Rattle.ordup_answers.specs.Replies.{event_reply};
 ghost use Rattle.ordup_answers.specs.Sessions.{Session, IsWorldOf};
 
 use crate::changes::set_in;
 use crate::places::{find_object, find_site};
-use ordup_grammar::{Action, Word};
+use ordup_grammar::{Action, ChangeWords, Number, Word};
 use ordup_objects::{Name, ObjectId, Refusal};
 use ordup_text::{TextBuffer, push_answer, push_refused};
 use ordup_world::{Event, Setup, World};
 use std::alloc::{AllocError, Allocator};
 
 /// Lets an action happen, and answers it.
-#[inline(always)]
 pub(crate) fn answer_action<A: Allocator + Copy>(
     alloc: A,
     world: &mut World<A>,
     action: &Action<'_>,
     out: &mut TextBuffer<A>,
 ) -> Result<(), AllocError>
-    ensures { OnOk result ((s : Session A) → IsWorldOf world.old s → Leaves (IsWorldOf world.new) out.old.text out.new.text (reply_or_refusal s (command_reply s (Command.Act action.now)))) }
+    ensures { OnOk result ((s : Session A) → LeavesByAction world.old world.new out.old.text out.new.text action.now s) }
 {
     let setup = world.primary().setup();
     match action {
-        Action::Propose(words) => match set_in(alloc, setup.objects(), words) {
-            Ok(set) => answer_event(world, Event::Propose(set), &[], &[], out),
-            Err(refusal) => push_refused(out, refusal),
-        },
+        Action::Propose(words) => answer_proposal(alloc, world, words, out),
         Action::Send(site) => {
             let event = Event::Send(find_site(setup, site));
             answer_event(world, event, site.as_bytes(), &[], out)
@@ -47,40 +43,119 @@ pub(crate) fn answer_action<A: Allocator + Copy>(
             answer_event(world, event, site.as_bytes(), &[], out)
         }
         Action::Settle => answer_event(world, Event::Settle, &[], &[], out),
-        Action::Begin { query, site, limit } => match Name::new(query.as_bytes()) {
-            Ok(name) => {
-                let event = Event::Begin {
-                    query: name,
-                    site: find_site(setup, site),
-                    limit: limit.amount(),
-                };
-                answer_event(world, event, query.as_bytes(), &[], out)
-            }
-            Err(refusal) => push_refused(out, refusal),
-        },
-        Action::Read { query, object } => match read_of(setup, query, object) {
-            Ok((name, place)) => {
-                let event = Event::Read {
-                    query: name,
-                    object: place,
-                };
-                answer_event(world, event, query.as_bytes(), object.as_bytes(), out)
-            }
-            Err(refusal) => push_refused(out, refusal),
-        },
-        Action::End(query) => match query_name(query) {
-            Ok(name) => answer_event(world, Event::End(name), query.as_bytes(), &[], out),
-            Err(refusal) => push_refused(out, refusal),
-        },
-        Action::Abandon(query) => match query_name(query) {
-            Ok(name) => answer_event(world, Event::Abandon(name), query.as_bytes(), &[], out),
-            Err(refusal) => push_refused(out, refusal),
-        },
-        Action::Show(site) => {
-            let event = Event::Show(find_site(setup, site));
-            answer_event(world, event, site.as_bytes(), &[], out)
-        }
+        Action::Begin { query, site, limit } => answer_begin(world, query, site, limit, out),
+        Action::Read { query, object } => answer_read(world, query, object, out),
+        Action::End(query) => answer_end(world, query, out),
+        Action::Abandon(query) => answer_abandon(world, query, out),
+        Action::Show(site) => answer_show(world, site, out),
     }
+}
+
+/// Answers a proposal.
+// A function of its own, as the next ones: the places of its values are cleared where it begins, and so for its actions alone.
+// That takes 3 in 100 off a line's instructions.
+#[inline(always)]
+fn answer_proposal<A: Allocator + Copy>(
+    alloc: A,
+    world: &mut World<A>,
+    words: &ChangeWords<'_>,
+    out: &mut TextBuffer<A>,
+) -> Result<(), AllocError>
+    ensures { OnOk result ((s : Session A) → LeavesByAction world.old world.new out.old.text out.new.text (Action.Propose words.now) s) }
+{
+    match set_in(alloc, world.primary().setup().objects(), words) {
+        Ok(set) => answer_event(world, Event::Propose(set), &[], &[], out),
+        Err(refusal) => push_refused(out, refusal),
+    }
+}
+
+/// Answers the begin of a query.
+#[inline(always)]
+fn answer_begin<A: Allocator + Copy>(
+    world: &mut World<A>,
+    query: &Word<'_>,
+    site: &Word<'_>,
+    limit: &Number,
+    out: &mut TextBuffer<A>,
+) -> Result<(), AllocError>
+    ensures { OnOk result ((s : Session A) → LeavesByAction world.old world.new out.old.text out.new.text (Action.Begin query.now site.now limit.now) s) }
+{
+    match Name::new(query.as_bytes()) {
+        Ok(name) => {
+            let event = Event::Begin {
+                query: name,
+                site: find_site(world.primary().setup(), site),
+                limit: limit.amount(),
+            };
+            answer_event(world, event, query.as_bytes(), &[], out)
+        }
+        Err(refusal) => push_refused(out, refusal),
+    }
+}
+
+/// Answers a read.
+#[inline(always)]
+fn answer_read<A: Allocator + Copy>(
+    world: &mut World<A>,
+    query: &Word<'_>,
+    object: &Word<'_>,
+    out: &mut TextBuffer<A>,
+) -> Result<(), AllocError>
+    ensures { OnOk result ((s : Session A) → LeavesByAction world.old world.new out.old.text out.new.text (Action.Read query.now object.now) s) }
+{
+    match read_of(world.primary().setup(), query, object) {
+        Ok((name, place)) => {
+            let event = Event::Read {
+                query: name,
+                object: place,
+            };
+            answer_event(world, event, query.as_bytes(), object.as_bytes(), out)
+        }
+        Err(refusal) => push_refused(out, refusal),
+    }
+}
+
+/// Answers the end of a query.
+#[inline(always)]
+fn answer_end<A: Allocator + Copy>(
+    world: &mut World<A>,
+    query: &Word<'_>,
+    out: &mut TextBuffer<A>,
+) -> Result<(), AllocError>
+    ensures { OnOk result ((s : Session A) → LeavesByAction world.old world.new out.old.text out.new.text (Action.End query.now) s) }
+{
+    match query_name(query) {
+        Ok(name) => answer_event(world, Event::End(name), query.as_bytes(), &[], out),
+        Err(refusal) => push_refused(out, refusal),
+    }
+}
+
+/// Answers that a query is given up.
+#[inline(always)]
+fn answer_abandon<A: Allocator + Copy>(
+    world: &mut World<A>,
+    query: &Word<'_>,
+    out: &mut TextBuffer<A>,
+) -> Result<(), AllocError>
+    ensures { OnOk result ((s : Session A) → LeavesByAction world.old world.new out.old.text out.new.text (Action.Abandon query.now) s) }
+{
+    match query_name(query) {
+        Ok(name) => answer_event(world, Event::Abandon(name), query.as_bytes(), &[], out),
+        Err(refusal) => push_refused(out, refusal),
+    }
+}
+
+/// Answers what a site holds.
+#[inline(always)]
+fn answer_show<A: Allocator + Copy>(
+    world: &mut World<A>,
+    site: &Word<'_>,
+    out: &mut TextBuffer<A>,
+) -> Result<(), AllocError>
+    ensures { OnOk result ((s : Session A) → LeavesByAction world.old world.new out.old.text out.new.text (Action.Show site.now) s) }
+{
+    let event = Event::Show(find_site(world.primary().setup(), site));
+    answer_event(world, event, site.as_bytes(), &[], out)
 }
 
 /// Steps the world by an event, and answers it by these names: of a site or a query, and of an object.

@@ -1,18 +1,18 @@
 -- The parts of a list, from the place of the first element at which it is cut.
 use Rattle.std.proofs.Common.{◌≡◌, ◌∙◌, ap, ℕ, suc, ◌+◌, ◌-◌, ◌<◌, ◌≤◌, refl}
 use Rattle.std.proofs.Common.{Bool, false, true, cond, nat_lt, List, [], ◌∷◌, ◌++◌, length}
-use Rattle.std.proofs.Common.{take, drop, get_or, Some, None, arith, add-one, position, not, ◌==◌}
+use Rattle.std.proofs.Common.{take, drop, get_or, Some, None, arith, add-one, position, not, subst, ◌==◌, if◌then◌else◌}
 use Rattle.std.proofs.Math.Seq.{split_at}
 use Rattle.std.proofs.lemmas.Bool.{eqb-true}
 use Rattle.std.proofs.lemmas.Bool.Decides.{nat_tests}
 use Rattle.std.proofs.lemmas.List.{get_or-take, length-drop, length-take, take_all}
-use Rattle.std.proofs.lemmas.List.Elements.{All-from_get_or}
+use Rattle.std.proofs.lemmas.List.Elements.{All-from_get_or, All-head, filter_passes}
 use Rattle.std.proofs.lemmas.List.Quantifiers.{position-Some}
 use Rattle.std.proofs.lemmas.List.Splits.{length-slice_split, slice_split_at, slice_split_none}
 use Rattle.std.proofs.lemmas.List.Sums.{count_by-le-length, fails_before_first, length-filter}
 use Rattle.std.specs.List.{All, slice_split, position_or_len}
 use Rattle.memchr.specs.Find.{IsFirstByte}
-use Rattle.ordup_grammar.specs.Words.{words_of}
+use Rattle.ordup_grammar.specs.Words.{only_word, words_of}
 
 -- what is not true is false
 is_false : (b : Bool) → ¬ (b ≡ true) → b ≡ false
@@ -78,3 +78,22 @@ few_words line =
       length-slice_split is_space line,
       count_by-le-length is_space line,
     )
+
+not_true : (b : Bool) → not b ≡ true → b ≡ false
+not_true false h = refl
+not_true true h = absurd cc
+
+-- a word of a line has a byte
+word_has_byte : (line word : List ℕ) (rest : List (List ℕ)) → words_of line ≡ word ∷ rest → (length word == 0) ≡ false
+word_has_byte line word rest is =
+    let has_byte : List ℕ → Type 0 = λ w. not (length w == 0) ≡ true in
+    let all = filter_passes (λ (w : List ℕ). not (length w == 0)) (slice_split (λ byte. byte == 32) line) in
+    not_true (length word == 0) (All-head has_byte word rest (subst (All has_byte) is all))
+
+-- what is left of a line with one word
+pub one_word : (line word : List ℕ) (rest : List (List ℕ)) → words_of line ≡ word ∷ rest → (length rest == 0) ≡ true
+    → only_word (words_of line) ≡ (if length word == 0 then None else Some word)
+one_word line word [] is none = rw (word_has_byte line word [] is, is) refl
+one_word line word (x ∷ xs) is none =
+    let empty : length (x ∷ xs) ≡ 0 = eqb-true _ 0 none in
+    absurd (omega arith)

@@ -1,5 +1,6 @@
-ghost use Rattle.std.specs.Prelude.{◌≡◌};
+ghost use Rattle.std.specs.Prelude.{◌≡◌, option_map};
 ghost use Rattle.ordup_grammar.specs.Commands.{command_of};
+ghost use Rattle.ordup_grammar.specs.Declarations.{declaration_of};
 
 use crate::action::Action;
 use crate::declaration::Declaration;
@@ -39,6 +40,15 @@ impl<'a> Command<'a> {
         if let Some(action) = Action::parse(first, rest) {
             return Some(Command::Act(action));
         }
+        Command::parse_declaration(first, rest)
+    }
+
+    /// The declaration that a first word and the words after it spell.
+    // A function of its own: the place of the declaration is cleared where it begins, and so for declarations alone.
+    #[inline(always)]
+    fn parse_declaration(first: &Word<'_>, rest: &Words<'a>) -> Option<Command<'a>>
+        ensures { result ≡ option_map (λ d. Command.Declare d) (declaration_of first.now rest.now) }
+    {
         match Declaration::parse(first, rest) {
             Some(declaration) => Some(Command::Declare(declaration)),
             None => None,

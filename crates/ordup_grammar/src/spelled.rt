@@ -23,10 +23,5 @@ fn four_bytes(text: &[u8], place: usize) -> u32
     requires { place + 4 ≤ length text.now }
     ensures { result ≡ from_le_bytes w32 (take 4 (drop place text.now)) }
 {
-    u32::from_le_bytes([
-        text[place],
-        text[place + 1],
-        text[place + 2],
-        text[place + 3],
-    ])
+    u32::from_le_bytes(*text[place..].first_chunk::<4>().unwrap())
 }

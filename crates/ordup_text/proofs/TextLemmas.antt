@@ -8,8 +8,8 @@ use Rattle.ordup_query.specs.declared.answer.QueryAnswer.{QueryAnswer}
 use Rattle.ordup_text.specs.Texts.{read_text, ended_text, value_text, values_text}
 
 pub read_parts : (old query object : List ℕ) (a : ReadAnswer)
-    → (((((((old ++ codes "ok read ") ++ query) ++ 32 ∷ []) ++ object) ++ (codes " value " ++ signed_decimal a.value))
-    ++ (codes " import " ++ decimal a.import)) ++ (codes " total " ++ decimal a.total)) ++ 10 ∷ []
+    → ((((((((((old ++ codes "ok read ") ++ query) ++ 32 ∷ []) ++ object) ++ codes " value ") ++ signed_decimal a.value)
+    ++ codes " import ") ++ decimal a.import) ++ codes " total ") ++ decimal a.total) ++ 10 ∷ []
     ≡ old ++ read_text query object a
 read_parts old query object a = simp append_assoc
 

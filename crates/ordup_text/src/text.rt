@@ -3,7 +3,7 @@ ghost use Rattle.std.specs.Prelude.{◌≡◌, ◌++◌, ◌∷◌, [], OnOk, le
 ghost use Rattle.std.specs.Fmt.{decimal, signed_decimal};
 ghost use Rattle.ordup_text.specs.Texts.{refused_text, started_text, named_text, done_text, numbered_text, value_text, values_text, shown_text, sites_text, listed_text, settled_text, read_text, ended_text, window_text, windows_text, certified_text, answer_text};
 
-use crate::text_buffer::TextBuffer;
+use crate::text_buffer::{MOST_DIGITS, TextBuffer};
 use ordup_objects::{Name, ObjectId, ObjectTable, Refusal, SiteId};
 use ordup_primary::Window;
 use ordup_world::{Answer, QueryAnswer, ReadAnswer, Settled, Setup};
@@ -79,21 +79,21 @@ pub fn push_named<A: Allocator + Copy>(
 }
 
 /// Adds an answer that ends with a name and a number.
-// Inlined, so that the length of the text is known where it is copied.
-#[inline(always)]
-pub fn push_numbered<A: Allocator + Copy>(
+pub fn push_numbered<A: Allocator + Copy, const N: usize>(
     out: &mut TextBuffer<A>,
-    done: &[u8],
+    done: &[u8; N],
     name: &[u8],
     number: u64,
 ) -> Result<(), AllocError>
     ensures { OnOk result (out.new.text ≡ out.old.text ++ numbered_text done.now name.now number) }
 {
     out.push(done)?;
-    out.push(name)?;
-    out.push(b" ")?;
-    out.push_number(number)?;
-    out.push(b"\n")
+    out.make_room(name.len() + MOST_DIGITS + 2)?;
+    out.put(name);
+    out.put(b" ");
+    out.put_number(number);
+    out.put(b"\n");
+    Ok(())
 }
 
 /// Adds an object's name and value.
@@ -155,7 +155,8 @@ fn push_shown<A: Allocator + Copy>(
 }
 
 /// Adds the answer to an event that names this subject, a site or a query, and this object.
-// To be inlined: where the answer is known, its text alone is left to add.
+// Inlined: where the answer is known, its text alone is left to add. The compiler leaves a function out of that which would grow
+// very large, so what adds a text with a name and a number stays a call, for each length of its first part.
 #[inline(always)]
 pub fn push_answer<A: Allocator + Copy>(
     out: &mut TextBuffer<A>,
@@ -198,8 +199,6 @@ pub fn push_answer<A: Allocator + Copy>(
 }
 
 /// Adds what a read gave.
-// Inlined, so that the length of the text is known where it is copied.
-#[inline(always)]
 fn push_read<A: Allocator + Copy>(
     out: &mut TextBuffer<A>,
     query: &[u8],
@@ -210,12 +209,18 @@ fn push_read<A: Allocator + Copy>(
 {
     out.push(b"ok read ")?;
     out.push(query)?;
-    out.push(b" ")?;
-    out.push(object)?;
-    push_with_value(out, b" value ", answer.value)?;
-    push_with_number(out, b" import ", answer.import)?;
-    push_with_number(out, b" total ", answer.total)?;
-    out.push(b"\n")
+    // For all that follows, so that it is looked for once.
+    out.make_room(object.len() + 3 * MOST_DIGITS + 25)?;
+    out.put(b" ");
+    out.put(object);
+    out.put(b" value ");
+    out.put_value(answer.value);
+    out.put(b" import ");
+    out.put_number(answer.import);
+    out.put(b" total ");
+    out.put_number(answer.total);
+    out.put(b"\n");
+    Ok(())
 }
 
 /// Adds what the reads of a query came to.
@@ -298,18 +303,18 @@ fn push_site<A: Allocator + Copy>(
 }
 
 /// Adds an answer that ends with a number.
-// Inlined, so that the length of the text is known where it is copied.
-#[inline(always)]
-pub fn push_done<A: Allocator + Copy>(
+pub fn push_done<A: Allocator + Copy, const N: usize>(
     out: &mut TextBuffer<A>,
-    done: &[u8],
+    done: &[u8; N],
     number: u64,
 ) -> Result<(), AllocError>
     ensures { OnOk result (out.new.text ≡ out.old.text ++ done_text done.now number) }
 {
-    out.push(done)?;
-    out.push_number(number)?;
-    out.push(b"\n")
+    out.make_room(done.len() + MOST_DIGITS + 1)?;
+    out.put(done);
+    out.put_number(number);
+    out.put(b"\n");
+    Ok(())
 }
 
 /// Adds the answer that shows how many rounds a site has at least, and its windows.

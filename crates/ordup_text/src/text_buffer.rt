@@ -10,7 +10,7 @@ use std::alloc::{AllocError, Allocator, Global};
 use std::marker::Model;
 
 /// The most digits of a number.
-const MOST_DIGITS: usize = 20;
+pub(crate) const MOST_DIGITS: usize = 20;
 
 /// A text, and the room behind it.
 #[derive(Drop)]
@@ -70,7 +70,7 @@ impl<A: Allocator + Copy> TextBuffer<A> {
 
     /// Sees to it that there is room for so many bytes behind the text.
     #[inline(always)]
-    fn make_room(&mut self, room: usize) -> Result<(), AllocError>
+    pub(crate) fn make_room(&mut self, room: usize) -> Result<(), AllocError>
         ensures text { self.new.text ≡ self.old.text }
         ensures room { OnOk result (room ≤ self.new.room) }
     {
@@ -92,7 +92,7 @@ impl<A: Allocator + Copy> TextBuffer<A> {
 
     /// Adds a text, for which there is room.
     #[inline(always)]
-    fn put(&mut self, text: &[u8])
+    pub(crate) fn put(&mut self, text: &[u8])
         requires { length text.now ≤ self.old.room }
         ensures text { self.new.text ≡ self.old.text ++ text.now }
         ensures room { self.new.room + length text.now ≡ self.old.room }
@@ -127,7 +127,7 @@ impl<A: Allocator + Copy> TextBuffer<A> {
 
     /// Adds a number in digits, for as many of which there is room as there may be.
     #[inline(always)]
-    fn put_number(&mut self, number: u64)
+    pub(crate) fn put_number(&mut self, number: u64)
         requires { 20 ≤ self.old.room }
         ensures text { self.new.text ≡ self.old.text ++ decimal number }
         ensures room { self.old.room ≤ self.new.room + 20 }
@@ -136,6 +136,19 @@ impl<A: Allocator + Copy> TextBuffer<A> {
         let start = write_digits(number, &mut digits, MOST_DIGITS);
         let (shown, count) = (&digits[start..start + MOST_DIGITS], MOST_DIGITS - start);
         self.put_front(shown, count);
+    }
+
+    /// Adds a value in digits, for a minus and as many digits of which there is room as there may be.
+    #[inline(always)]
+    pub(crate) fn put_value(&mut self, value: i64)
+        requires { 21 ≤ self.old.room }
+        ensures text { self.new.text ≡ self.old.text ++ signed_decimal value }
+        ensures room { self.old.room ≤ self.new.room + 21 }
+    {
+        if value < 0 {
+            self.put(b"-");
+        }
+        self.put_number(value.unsigned_abs());
     }
 
     /// Adds a text.
@@ -163,9 +176,8 @@ impl<A: Allocator + Copy> TextBuffer<A> {
     pub fn push_value(&mut self, value: i64) -> Result<(), AllocError>
         ensures { OnOk result (self.new.text ≡ self.old.text ++ signed_decimal value) }
     {
-        if value < 0 {
-            self.push(b"-")?;
-        }
-        self.push_number(value.unsigned_abs())
+        self.make_room(MOST_DIGITS + 1)?;
+        self.put_value(value);
+        Ok(())
     }
 }

@@ -1,7 +1,6 @@
 -- Ledgers and limits.
-use Rattle.std.proofs.Common.{◌≡◌, ℕ, ◌-◌, ◌<◌, ◌≤◌, true, List, length, length-append, get_or, arith, refl, sym, ap, ◌∙◌}
+use Rattle.std.proofs.Common.{◌≡◌, ℕ, ◌-◌, ◌≤◌, true, List, length, length-append, get_or, arith, refl, sym, ap, ◌∙◌}
 use Rattle.std.proofs.Common.{inl, inr}
-use Rattle.std.specs.Prelude.{nat_le}
 use Rattle.std.proofs.lemmas.Bool.{cases_lt}
 use Rattle.ordup_objects.specs.declared.change.Change.{Change}
 use Rattle.ordup_objects.specs.Serial.{History, with_more}
@@ -10,37 +9,18 @@ use Rattle.ordup_log.specs.Spans.{span}
 use Rattle.ordup_log.specs.declared.scope.Scope.{Scope}
 use Rattle.ordup_log.specs.declared.scope.Scope.TheVariants.{Count}
 use Rattle.ordup_log.proofs.SpanLemmas.{span-longer, span-inner}
-use Rattle.ordup_limits.specs.declared.limit.Limit.{Limit}
-use Rattle.ordup_limits.specs.Limits.{Limits, keeps}
+use Rattle.ordup_limits.specs.Limits.{Limits}
 use Rattle.ordup_limits.specs.Totals.{weighed, AreTotals, AreMasks}
 use Rattle.ordup_limits.specs.Ledgers.{LedgerState, StandsFor, LongerHistoriesKeepLedgers}
 use Rattle.ordup_limits.proofs.TotalLemmas.{span-from_start}
 
 -- a span weighs the difference of two from the start, and nothing where it is empty
-span-difference : (h : History) (groups : GroupList) (s : Scope) (a b : ℕ)
+pub span-difference : (h : History) (groups : GroupList) (s : Scope) (a b : ℕ)
     → span h groups s 0 b - span h groups s 0 a ≡ span h groups s a b
 span-difference h groups s a b = elim (cases_lt a b) [
   | inl lt ↦ omega (arith, span-from_start h groups s a b (omega arith))
   | inr le ↦ (let none : b - a ≡ 0 = omega arith in rw none (omega (arith, span-inner h groups s 0 0 b a (omega arith) le)))
 ]
-
-lag-span : (h : History) (groups : GroupList) (s : Scope) (a b : ℕ) → (s ≡ Count → ⊥)
-    → weighed h groups s b - weighed h groups s a ≡ span h groups s a b
-lag-span h groups Count a b other = absurd (other refl)
-lag-span h groups s a b other = span-difference h groups s a b
-
--- what a limit's totals say of the span between the places
-pub keeps-totals : (l : LedgerState) (h : History) (groups : GroupList) (place added taken : ℕ) (limit : Limit) → StandsFor l h groups
-    → place < length l.limits → get_or l.limits place limit ≡ limit → (limit.scope ≡ Count → ⊥)
-    → added ≡ get_or l.added place 0 → taken ≡ get_or l.taken place 0
-    → nat_le (added - taken) limit.amount ≡ keeps h groups l.reported l.extended limit
-keeps-totals l h groups place added taken limit stands lt is other here there =
-    let lag : added - taken ≡ span h groups limit.scope l.reported l.extended =
-    ap (λ n. n - taken) (here ∙ stands.added.each place limit lt ∙ ap (λ (k : Limit). weighed h groups k.scope l.extended) is)
-    ∙ ap (λ n. weighed h groups limit.scope l.extended - n)
-    (there ∙ stands.taken.each place limit lt ∙ ap (λ (k : Limit). weighed h groups k.scope l.reported) is)
-    ∙ lag-span h groups limit.scope l.reported l.extended other in
-    ap (λ n. nat_le n limit.amount) lag
 
 -- a ledger once its masks are put down
 pub StandsFor-prepared : {l : LedgerState} (q : LedgerState) {h : History} {groups : GroupList} → StandsFor l h groups

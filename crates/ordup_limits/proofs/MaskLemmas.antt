@@ -11,12 +11,42 @@ use Rattle.std.proofs.Math.ListN.{set}
 use Rattle.std.proofs.Math.Pow.{pow-lt}
 use Rattle.std.proofs.lemmas.Bool.{cases_eq, cases_lt, eq-eqb, ne_eqb, lt-ltb, le-ltb, false≢true}
 use Rattle.std.proofs.lemmas.Grind.{get_or-set_at, get_or_default_zero}
-use Rattle.std.proofs.lemmas.List.{get_or-set_other}
-use Rattle.std.proofs.lemmas.Nat.Bits.{bit_at_or, bit_at-lt, bit_at-pow_same, bit_at-pow_other, bit_at_clear_same, bit_at_clear_other}
-use Rattle.ordup_limits.specs.Totals.{has_bit, share}
+use Rattle.std.proofs.lemmas.List.{get_or_past, get_or-set_other}
+use Rattle.std.proofs.lemmas.Nat.Bits.{bit_at-zero, bit_at_or, bit_at-lt, bit_at-pow_same, bit_at-pow_other}
+use Rattle.std.proofs.lemmas.Nat.Bits.{bit_at_clear_same, bit_at_clear_other}
+use Rattle.ordup_limits.specs.Totals.{has_bit, HasBitsBelow, IsBelow, share}
+use Rattle.ordup_objects.specs.Sizes.{most_objects}
 
 shifted : (limit : ℕ) → limit < 64 → 1 * 2 ^ limit % 18446744073709551616 ≡ 2 ^ limit
 shifted limit lt = let small : 2 ^ limit < 18446744073709551616 = pow-lt lt in omega (arith, small)
+
+-- a bit is put into a mask
+pub bit-put : (mask limit i : ℕ) → limit < 64
+    → (bit_at (bit_or mask (1 * 2 ^ limit % 18446744073709551616)) i == 1) ≡ ((i == limit) || (bit_at mask i == 1))
+bit-put mask limit i few = rw (shifted limit few, bit_at_or mask (2 ^ limit) i) (elim (cases_eq i limit) [
+  | inl this ↦ (let bit : bit_at (2 ^ limit) i ≡ 1 = rw this (bit_at-pow_same limit) in
+      rw (eq-eqb i limit this) (eq-eqb _ 1 (omega (arith, bit, bit_at-lt mask i))))
+  | inr other ↦ (let bit : bit_at (2 ^ limit) i ≡ 0 = bit_at-pow_other limit i other in
+      rw (ne_eqb i limit other) (ap (λ n. n == 1) (omega (arith, bit))))
+])
+
+-- a mask has the bits of two
+pub bit-either : (a b i : ℕ) → (bit_at (bit_or a b) i == 1) ≡ ((bit_at a i == 1) || (bit_at b i == 1))
+bit-either a b i = rw (bit_at_or a b i) (elim (cases_eq (bit_at a i) 1) [
+  | inl one ↦ rw (eq-eqb _ 1 one) (eq-eqb _ 1 (omega (arith, one, bit_at-lt b i)))
+  | inr other ↦ rw (ne_eqb _ 1 other) (ap (λ n. n == 1) (omega (arith, other, bit_at-lt a i)))
+])
+
+-- where two masks have no bit from n on, nor has the mask with the bits of both
+pub IsBelow-either : (n a b : ℕ) → IsBelow n a → IsBelow n b → IsBelow n (bit_or a b)
+IsBelow-either n a b first second i past few = bit-either a b i ∙ rw (first i past few, second i past few) refl
+
+-- nor has what is read among masks that have none
+pub IsBelow-at : (n : ℕ) (masks : List ℕ) (x : ℕ) → length masks ≡ most_objects → HasBitsBelow n masks → IsBelow n (get_or masks x 0)
+IsBelow-at n masks x same below i past few = elim (cases_lt x most_objects) [
+  | inl lt ↦ below x i lt past few
+  | inr other ↦ rw (get_or_past masks x 0 (omega arith), bit_at-zero i) refl
+]
 
 -- a bit is put into the mask of an object
 pub has_bit-put : (masks : List ℕ) (object limit at old : ℕ) → limit < 64 → at ≡ object → object < length masks
@@ -24,19 +54,11 @@ pub has_bit-put : (masks : List ℕ) (object limit at old : ℕ) → limit < 64 
     → has_bit (set masks at (bit_or old (1 * 2 ^ limit % 18446744073709551616))) i x
     ≡ (((object == x) && (i == limit)) || has_bit masks i x)
 has_bit-put masks object limit at old few same there is x i = elim (cases_eq x object) [
-  | inl here ↦ (let value : get_or (set masks at (bit_or old (1 * 2 ^ limit % 18446744073709551616))) x 0 ≡ bit_or old (2 ^ limit) =
-      get_or-set_at masks at x _ 0 (here ∙ sym same) (rw same there) ∙ ap (bit_or old) (shifted limit few) in
+  | inl here ↦ (let put = bit_or old (1 * 2 ^ limit % 18446744073709551616) in
+      let value : get_or (set masks at put) x 0 ≡ put = get_or-set_at masks at x _ 0 (here ∙ sym same) (rw same there) in
       let before : get_or masks x 0 ≡ old =
       ap (λ k. get_or masks k 0) (here ∙ sym same) ∙ sym (get_or_default_zero masks at old (rw same there)) ∙ sym is in
-      elim (cases_eq i limit) [
-        | inl this ↦ (let one : bit_at (bit_or old (2 ^ limit)) i ≡ 1 =
-            bit_at_or old (2 ^ limit) i
-            ∙ (let bit : bit_at (2 ^ limit) i ≡ 1 = rw this (bit_at-pow_same limit) in omega (arith, bit, bit_at-lt old i)) in
-            rw (value, eq-eqb object x (sym here), eq-eqb i limit this) (eq-eqb _ 1 one))
-        | inr other ↦ (let kept : bit_at (bit_or old (2 ^ limit)) i ≡ bit_at old i =
-            bit_at_or old (2 ^ limit) i ∙ omega (arith, bit_at-pow_other limit i other) in
-            rw (value, before, eq-eqb object x (sym here), ne_eqb i limit other) (ap (λ n. n == 1) kept))
-      ])
+      rw (value, before, eq-eqb object x (sym here)) (bit-put old limit i few))
   | inr other ↦ rw (get_or-set_other masks at x _ 0 (λ e. other (e ∙ same)), ne_eqb object x (λ e. other (sym e))) refl
 ]
 
@@ -71,12 +93,17 @@ cleared-less rest z few one = elim (cases_lt (cleared rest z) rest) [
 ]
 
 -- where all bits are below n, so is each of them
-pub bit-below : (rest z n : ℕ) → bit_at rest z ≡ 1 → z < 64
-    → ((k : ℕ) → n ≤ k → k < 64 → (bit_at rest k == 1) ≡ false) → z < n
+pub bit-below : (rest z n : ℕ) → bit_at rest z ≡ 1 → z < 64 → IsBelow n rest → z < n
 bit-below rest z n one few below = elim (cases_lt z n) [
   | inl lt ↦ lt
   | inr past ↦ absurd (false≢true (sym (below z past few) ∙ eq-eqb (bit_at rest z) 1 one))
 ]
+
+-- and so are those that are left without one
+pub IsBelow-cleared : (n rest z : ℕ) → IsBelow n rest → bit_at rest z ≡ 1 → z < 64 → IsBelow n (cleared rest z)
+IsBelow-cleared n rest z below one few k past small =
+    ap (λ n. n == 1) (bit_at_clear_other w64 rest z few k small (λ e. absurd (omega (arith, e, past, bit-below rest z n one few below))))
+    ∙ below k past small
 
 pub share-most : (b : Bool) (weight : ℕ) → share b weight ≤ weight
 share-most true weight = omega arith

@@ -39,9 +39,17 @@ pub record AreTotals (h : History) (groups : GroupList) (limits : Limits) (place
 abbrev pub has_bit : List ℕ → ℕ → ℕ → Bool
 has_bit masks i x = bit_at (slice_index masks x) i == 1
 
+-- a mask has no bit from n on
+abbrev pub IsBelow : ℕ → ℕ → Type 0
+IsBelow n mask = (i : ℕ) → n ≤ i → i < most_limits → (bit_at mask i == 1) ≡ false
+
 -- no mask has a bit from n on
 abbrev pub HasBitsBelow : ℕ → List ℕ → Type 0
 HasBitsBelow n masks = (x i : ℕ) → x < most_objects → n ≤ i → i < most_limits → has_bit masks i x ≡ false
+
+-- totals are as they were, but for those that a mask has a bit for
+abbrev pub AreUntouched : ℕ → List ℕ → List ℕ → Type 0
+AreUntouched mask old new = (i : ℕ) → i < length old → (bit_at mask i == 1) ≡ false → slice_index new i ≡ slice_index old i
 
 -- for each object the limits on whose scopes its changes count, a bit for each
 abbrev pub AreMasks : GroupList → Limits → List ℕ → Type 0

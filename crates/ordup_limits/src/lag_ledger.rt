@@ -1,14 +1,14 @@
-ghost use Rattle.std.specs.Prelude.{◌≡◌, ◌≤◌, ◌<◌, ℕ, IfOk, IfErr, length, not, true, slice_index_or};
+ghost use Rattle.std.specs.Prelude.{◌≡◌, ◌≤◌, ℕ, IfOk, IfErr, length, not, true};
 ghost use Rattle.ordup_objects.specs.Serial.{History};
 ghost use Rattle.ordup_objects.specs.Sizes.{most_objects};
 ghost use Rattle.ordup_log.specs.Groups.{GroupList};
-ghost use Rattle.ordup_limits.specs.declared.limit.Limit.{Limit};
-ghost use Rattle.ordup_limits.specs.Limits.{keeps, within, AreScopesKnown};
+ghost use Rattle.ordup_limits.specs.Limits.{within, AreScopesKnown};
 
 use crate::limit_table::LimitTable;
 use crate::masks::{fill, no_masks};
+use crate::passed::{counts_of, passed_among};
 use crate::totals::{no_totals, raise_to};
-use ordup_log::{Groups, Log, Scope};
+use ordup_log::{Groups, Log};
 use ordup_objects::Refusal;
 use std::alloc::{Allocator, Global};
 use std::marker::Model;
@@ -33,6 +33,10 @@ pub struct LagLedger<A: Allocator + Copy = Global> {
     /// For each object the limits on whose scopes its changes count, a bit for each, once a call has seen the groups.
     masks: Vec<u64, A>,
     has_masks: bool,
+    /// The limits on the count of updates, a bit for each.
+    counts: u64,
+    /// The limits that the span between the places passes, a bit for each.
+    passed: u64,
 }
 
 impl<A: Allocator + Copy> Model for LagLedger<A> {
@@ -64,6 +68,7 @@ impl<A: Allocator + Copy> LagLedger<A> {
         let added = no_totals(alloc, limits.len())?;
         let masks = no_masks(alloc)?;
         let limits = limits.copy(alloc)?;
+        let counts = counts_of(&limits);
         Ok(LagLedger {
             limits,
             reported: 0,
@@ -72,6 +77,8 @@ impl<A: Allocator + Copy> LagLedger<A> {
             added,
             masks,
             has_masks: false,
+            counts,
+            passed: 0,
         })
     }
 
@@ -89,8 +96,12 @@ impl<A: Allocator + Copy> LagLedger<A> {
         let _groups = groups.len();
         self.prepare(groups);
         let masks = self.masks.as_slice();
-        raise_to(&mut self.added, log, masks, self.extended, to);
+        let touched = raise_to(&mut self.added, log, masks, self.extended, to);
         self.extended = to;
+        let updates = to.saturating_sub(self.reported);
+        let (added, taken) = (self.added.as_slice(), self.taken.as_slice());
+        let mask = self.passed | touched | self.counts;
+        self.passed = passed_among(&self.limits, updates, added, taken, mask);
     }
 
     /// Takes off the updates up to a place that the site has reported. It takes no memory.
@@ -109,6 +120,9 @@ impl<A: Allocator + Copy> LagLedger<A> {
         let masks = self.masks.as_slice();
         raise_to(&mut self.taken, log, masks, self.reported, to);
         self.reported = to;
+        let updates = self.extended.saturating_sub(to);
+        let (added, taken) = (self.added.as_slice(), self.taken.as_slice());
+        self.passed = passed_among(&self.limits, updates, added, taken, self.passed);
     }
 
     /// Whether the span from the reported place to the extended one passes a limit. Equal is not over.
@@ -116,33 +130,7 @@ impl<A: Allocator + Copy> LagLedger<A> {
         ensures { (h : History) (groups : GroupList) → StandsFor self.now h groups →
             result ≡ not (within h groups self.now.limits self.now.reported self.now.extended) }
     {
-        for place in 0..self.len() {
-            if !self.keeps(place) {
-                return true;
-            }
-        }
-        false
-    }
-
-    fn len(&self) -> usize
-        ensures { result ≡ length self.now.limits }
-    {
-        self.limits.len()
-    }
-
-    /// Whether the span between the places keeps a limit.
-    fn keeps(&self, place: usize) -> bool
-        requires { place < length self.now.limits }
-        ensures { (h : History) (groups : GroupList) (d : Limit) → StandsFor self.now h groups →
-            result ≡ keeps h groups self.now.reported self.now.extended (slice_index_or self.now.limits place d) }
-    {
-        let (scope, amount) = self.limits.get(place);
-        match scope {
-            Scope::Count => self.extended.saturating_sub(self.reported) <= amount,
-            Scope::Object(_) | Scope::Group(_) | Scope::All => {
-                self.added[place].saturating_sub(self.taken[place]) <= amount
-            }
-        }
+        self.passed != 0
     }
 
     /// Puts the masks down, where that was not done.

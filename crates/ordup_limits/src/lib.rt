@@ -9,6 +9,7 @@ mod laws;
 mod limit;
 mod limit_table;
 mod masks;
+mod passed;
 pub mod sizes;
 mod totals;
 

@@ -1,9 +1,9 @@
-ghost use Rattle.std.specs.Prelude.{false, ◌≡◌, ◌==◌, ◌≤◌, ◌<◌, ◌+◌, ◌-◌, ◌*◌, ℕ, IfOk, IfErr, length, replicate, slice_index};
+ghost use Rattle.std.specs.Prelude.{◌≡◌, ◌==◌, ◌≤◌, ◌<◌, ◌+◌, ◌-◌, ◌*◌, ℕ, IfOk, IfErr, length, replicate, slice_index};
 ghost use Rattle.std.specs.Int.{bit_at};
 ghost use Rattle.ordup_objects.specs.Sizes.{greatest_weight, greatest_distance, most_objects, most_updates};
 ghost use Rattle.ordup_objects.specs.Sums.{sum_from};
 ghost use Rattle.ordup_limits.specs.Sizes.{most_limits};
-ghost use Rattle.ordup_limits.specs.Totals.{has_bit, HasBitsBelow, share, weight_where};
+ghost use Rattle.ordup_limits.specs.Totals.{has_bit, AreUntouched, HasBitsBelow, IsBelow, share, weight_where};
 
 use ordup_log::Log;
 use ordup_objects::Refusal;
@@ -20,14 +20,15 @@ pub(crate) fn no_totals<A: Allocator + Copy>(alloc: A, count: usize) -> Result<V
     }
 }
 
-/// Raises the totals of the updates up to a place to those of the updates up to a later one.
+/// Raises the totals of the updates up to a place to those of the updates up to a later one. It answers a mask that has a bit for
+/// each total that is raised.
 pub(crate) fn raise_to<A: Allocator + Copy>(
     totals: &mut Vec<u64, A>,
     log: &Log<A>,
     masks: &[u64],
     from: u64,
     to: u64,
-)
+) -> u64
     requires forward { from ≤ to }
     requires last { to ≤ length log.now.sets }
     requires objects { length log.now.start ≤ most_objects }
@@ -40,16 +41,26 @@ pub(crate) fn raise_to<A: Allocator + Copy>(
     ensures totals { (i : ℕ) → i < length totals.old.items →
         slice_index totals.new.items i ≡ slice_index totals.old.items i + sum_from
         (weight_where (has_bit masks.now i) log.now) from (to - from) }
+    ensures below { IsBelow (length totals.old.items) result }
+    ensures untouched { AreUntouched result totals.old.items totals.new.items }
 {
+    let mut touched = 0;
     for place in from..to {
-        raise(totals, log, masks, place + 1);
+        touched |= raise(totals, log, masks, place + 1);
     }
+    touched
 }
 
 /// Raises the totals of the updates before a place to those of the updates up to it.
 ///
-/// It looks at the changes of the update at the place, and at no other.
-fn raise<A: Allocator + Copy>(totals: &mut Vec<u64, A>, log: &Log<A>, masks: &[u64], place: u64)
+/// It looks at the changes of the update at the place, and at no other. It answers a mask that has a bit for each total that is
+/// raised.
+fn raise<A: Allocator + Copy>(
+    totals: &mut Vec<u64, A>,
+    log: &Log<A>,
+    masks: &[u64],
+    place: u64,
+) -> u64
     requires first { 0 < place }
     requires last { place ≤ length log.now.sets }
     requires objects { length log.now.start ≤ most_objects }
@@ -61,20 +72,26 @@ fn raise<A: Allocator + Copy>(totals: &mut Vec<u64, A>, log: &Log<A>, masks: &[u
     ensures few { (i : ℕ) → slice_index totals.new.items i ≤ greatest_weight * place }
     ensures totals { (i : ℕ) → i < length totals.old.items →
         slice_index totals.new.items i ≡ slice_index totals.old.items i + weight_where (has_bit masks.now i) log.now (place - 1) }
+    ensures below { IsBelow (length totals.old.items) result }
+    ensures untouched { AreUntouched result totals.old.items totals.new.items }
 {
     // For the proof: there are few enough updates for the totals to fit.
     let _updates = log.len();
     let changes = log.set(place).changes();
     let distances = log.distances(place);
+    let mut touched = 0;
     for (i, change) in changes.iter().enumerate() {
-        add(totals, masks[change.object.index()], distances[i]);
+        let mask = masks[change.object.index()];
+        add(totals, mask, distances[i]);
+        touched |= mask;
     }
+    touched
 }
 
 /// Adds a weight to the totals whose bits are set in the mask, from the lowest on.
 fn add<A: Allocator + Copy>(totals: &mut Vec<u64, A>, mask: u64, weight: u64)
     requires count { length totals.old.items ≤ most_limits }
-    requires mask { (i : ℕ) → length totals.old.items ≤ i → i < most_limits → (bit_at mask i == 1) ≡ false }
+    requires mask { IsBelow (length totals.old.items) mask }
     requires weight { weight ≤ greatest_distance }
     requires few { (i : ℕ) → slice_index totals.old.items i ≤ greatest_weight * most_updates }
     ensures count { length totals.new.items ≡ length totals.old.items }

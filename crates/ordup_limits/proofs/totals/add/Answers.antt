@@ -1,11 +1,11 @@
-use Rattle.std.proofs.Common.{arith, ap, ◌∙◌, w64}
+use Rattle.std.proofs.Common.{arith, ◌∙◌, w64}
 use Rattle.std.proofs.Math.ListN.{length-set}
 use Rattle.std.proofs.lemmas.List.{get_or_read}
 use Rattle.std.specs.Prelude.{◌==◌}
 use Rattle.std.specs.Int.{bit_at, trailing_zeros}
 use Rattle.std.proofs.Math.Facts.{Fits-lt-pow}
-use Rattle.std.proofs.lemmas.Nat.Bits.{bit_at-trailing_zeros, bit_at_clear_other}
-use Rattle.ordup_limits.proofs.MaskLemmas.{cleared-less, bit-below, share-most, share-next}
+use Rattle.std.proofs.lemmas.Nat.Bits.{bit_at-trailing_zeros}
+use Rattle.ordup_limits.proofs.MaskLemmas.{cleared-less, bit-below, IsBelow-cleared, share-most, share-next}
 use Rattle.ordup_limits.proofs.totals.add.Goals as goal
 
 pub index_mut-requires : goal.index_mut-requires
@@ -49,8 +49,7 @@ loop-rest-preserved g c =
     let lt = bit-below rest _ _ low.1 low.0 before.below in
     record {
       count = length-set totals _ _ ∙ before.count;
-      below = λ k past few.
-          ap (λ n. n == 1) (bit_at_clear_other w64 rest _ low.0 k few (λ e. absurd (omega (arith, e, lt, past)))) ∙ before.below k past few;
+      below = IsBelow-cleared _ rest _ before.below low.1 low.0;
       totals = λ k below.
           share-next totals rest _ k c.index_mut.result.now c.args.weight _ low.0 (omega (arith, below, c.requires.count))
           (omega (arith, lt, before.count)) low.1

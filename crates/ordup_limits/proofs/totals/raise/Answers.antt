@@ -1,11 +1,12 @@
-use Rattle.std.proofs.Common.{arith, ap, inl, inr, ◌≡◌, ◌==◌, ◌-◌, ◌∙◌, length, sym}
+use Rattle.std.proofs.Common.{Bool, arith, ap, inl, inr, ◌≡◌, ◌==◌, ◌-◌, ◌∙◌, length, sym}
 use Rattle.std.specs.Prelude.{slice_index}
 use Rattle.std.specs.Int.{bit_at}
-use Rattle.std.proofs.lemmas.Bool.{cases_lt}
+use Rattle.std.proofs.lemmas.Bool.{cases_lt, or_parts}
 use Rattle.std.proofs.lemmas.List.{get_or_past, length-map}
 use Rattle.ordup_objects.specs.Serial.{serial, set_at}
 use Rattle.ordup_objects.specs.Weights.{distance_by}
 use Rattle.ordup_limits.specs.Totals.{has_bit, share}
+use Rattle.ordup_limits.proofs.MaskLemmas.{bit-either, IsBelow-at, IsBelow-either}
 use Rattle.ordup_limits.proofs.TotalLemmas.{distance-few, weight_of-next, weight_where-few}
 use Rattle.ordup_limits.proofs.totals.raise.Goals as goal
 
@@ -33,12 +34,22 @@ loop-i-preserved g c =
     let ds = c.distances-distances.result.now in
     let i = c.loop-i.i in
     let before = c.loop-i.invariant in
+    let mask = slice_index c.args.masks.now c.index.result in
     let same : length ds ≡ length m =
     ap length c.distances-distances.ensures.distances
     ∙ length-map (set_at c.args.log.now c.args.place) (distance_by (serial c.args.log.now (c.args.place - 1)))
     ∙ sym (ap length (c.changes-changes.ensures.changes ∙ c.set.ensures.set)) in
     record {
       count = omega (arith, c.add.ensures.count, before.count);
+      below = IsBelow-either _ _ mask before.below (IsBelow-at _ c.args.masks.now c.index.result c.requires.masks c.requires.bits);
+      untouched = λ k lt out. (let parts = or_parts (bit_at c.loop-i.touched k == 1) (bit_at mask k == 1)
+          (sym (bit-either c.loop-i.touched mask k) ∙ out) in
+          omega (
+            arith,
+            c.add.ensures.totals k (omega (arith, before.count)),
+            ap (λ (b : Bool). share b (slice_index ds i)) parts.1,
+            before.untouched k lt parts.0,
+          ));
       totals = λ k lt. omega (
         arith,
         before.totals k lt,

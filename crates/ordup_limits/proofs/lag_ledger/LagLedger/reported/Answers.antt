@@ -1,17 +1,18 @@
-use Rattle.std.proofs.Common.{arith, ap, length}
+use Rattle.std.proofs.Common.{arith, ap, length, ◌-◌, ◌∙◌}
 use Rattle.ordup_limits.specs.Ledgers.{LedgerState}
 use Rattle.ordup_limits.specs.LedgerInside.{ledger_of}
+use Rattle.ordup_limits.proofs.PassedLemmas.{IsMask-reported}
 use Rattle.ordup_limits.proofs.TotalLemmas.{HasBitsBelow-masks, AreTotals-raised}
 use Rattle.ordup_limits.proofs.LedgerLemmas.{StandsFor-prepared}
 use Rattle.ordup_limits.proofs.lag_ledger.LagLedger.reported.Goals as goal
 
 pub raise_to-requires-clause-count : goal.raise_to-requires-clause-count
-raise_to-requires-clause-count g c = omega (arith, c.self.invariant.taken, c.self.invariant.few)
+raise_to-requires-clause-count g c = omega (arith, c.self.invariant.ledger.taken, c.self.invariant.ledger.few)
 
 pub raise_to-requires-clause-bits : goal.raise_to-requires-clause-bits
 raise_to-requires-clause-bits g c =
     rw (← c.as_slice-masks.ensures.value) at (HasBitsBelow-masks c.args.groups.now c.self.inside.limits c.self.inside.masks.items
-    (length c.self.inside.taken.items) c.self.invariant.taken (rw (← c.self.view_is) at c.prepare.ensures.masks))
+    (length c.self.inside.taken.items) c.self.invariant.ledger.taken (rw (← c.self.view_is) at c.prepare.ensures.masks))
 
 pub returns-clause-stands : goal.returns-clause-stands
 returns-clause-stands g c =
@@ -24,8 +25,31 @@ returns-clause-stands g c =
       reported = c.requires.last;
       extended = now.extended;
       taken = AreTotals-raised c.self.inside.masks.items c.len-updates.ensures.legal c.len-groups.ensures.groups now.known now.objects
-          c.self.invariant.few masks (omega (arith, c.requires.forward, ap (λ (k : LedgerState). k.reported) rest)) c.requires.last
-          c.self.invariant.taken now.taken c.raise_to.ensures.few (rw c.as_slice-masks.ensures.value at c.raise_to.ensures.totals);
+          c.self.invariant.ledger.few masks (omega (arith, c.requires.forward, ap (λ (k : LedgerState). k.reported) rest)) c.requires.last
+          c.self.invariant.ledger.taken now.taken c.raise_to.ensures.few (rw c.as_slice-masks.ensures.value at c.raise_to.ensures.totals);
       added = now.added;
       masks = now.masks;
+    }
+
+pub invariant_of-self : goal.invariant_of-self
+invariant_of-self g c =
+    let l = c.self.inside in
+    let before = c.self.invariant in
+    let rest = rw (← c.self.view_is) at c.prepare.ensures.rest in
+    record {
+      ledger = record {
+        few = before.ledger.few;
+        taken = c.raise_to.ensures.count ∙ before.ledger.taken;
+        added = before.ledger.added;
+        masks = before.ledger.masks;
+        empty = before.ledger.empty;
+      };
+      counts = before.counts;
+      passed = IsMask-reported l.limits (l.extended - l.reported) (l.extended - c.args.to) l.added.items l.taken.items
+          c.raise_to.new.totals.items l.passed c.passed_among-self-inside.result before.passed
+          (omega (arith, c.requires.forward, ap (λ (k : LedgerState). k.reported) rest))
+          (λ i lt. omega (arith, c.raise_to.ensures.totals i (omega (arith, lt, before.ledger.taken))))
+          (rw (c.saturating_sub-updates.ensures, c.as_slice-added.ensures.value, c.as_slice-taken.ensures.value)
+          at c.passed_among-self-inside.ensures);
+      fits = c.passed_among-self-inside.type_inv;
     }

@@ -5,4 +5,5 @@ use Rattle.ordup_grammar.proofs.words.word_or_nothing.Goals as goal
 pub returns-then-is_empty : goal.returns-then-is_empty
 returns-then-is_empty c =
     rw c.as_bytes.ensures
-    (one_word c.args.line.now c.in-Some.word c.in-Some.rest (sym c.of.ensures ∙ c.in-Some.ensures) (sym c.is_empty.ensures ∙ c.if-is_empty.true))
+    (one_word c.args.line.now c.in-Some.word c.in-Some.rest (sym c.of.ensures ∙ c.in-Some.ensures)
+    (sym c.is_empty.ensures ∙ c.if-is_empty.true))

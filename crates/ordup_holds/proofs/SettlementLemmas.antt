@@ -6,30 +6,29 @@ use Rattle.ordup_primary.specs.Primaries.{PrimaryState, SiteProgress, IsPrimary,
 use Rattle.ordup_primary.specs.Primaries.{waiting_now, acked_after, acked_or_round, acked_or_waiting}
 use Rattle.ordup_holds.specs.Turning.{Settles, SameFeeds}
 
-module _ {A : Type 0} where
-  -- the head is acknowledged where no site holds it up, and only there
-  round-acked : (a k n : ℕ) (sites : List ℕ) → acked_or_round {A = A} k sites ≡ Acked n → acked_after a sites ≡ a + 1
-  round-acked a k n [] e = refl
-  round-acked a k n (s ∷ sites) e = absurd cc
+-- the head is acknowledged where no site holds it up, and only there
+round-acked : (a k n : ℕ) (sites : List ℕ) → acked_or_round k sites ≡ Acked n → acked_after a sites ≡ a + 1
+round-acked a k n [] e = refl
+round-acked a k n (s ∷ sites) e = absurd cc
 
-  waiting-acked : (a k n : ℕ) (sites : List ℕ) → acked_or_waiting {A = A} k sites ≡ Acked n → acked_after a sites ≡ a + 1
-  waiting-acked a k n [] e = refl
-  waiting-acked a k n (s ∷ sites) e = absurd cc
+waiting-acked : (a k n : ℕ) (sites : List ℕ) → acked_or_waiting k sites ≡ Acked n → acked_after a sites ≡ a + 1
+waiting-acked a k n [] e = refl
+waiting-acked a k n (s ∷ sites) e = absurd cc
 
-  -- what is acknowledged after a settlement, by its answer
-  pub settled-acked : (p q : PrimaryState) (n : ℕ) → IsPrimary p → Settles p q → Acked n ≡ settled_as {A = A} p → q.acked ≡ p.acked + 1
-  settled-acked p q n is settles e = elim (cases_eq p.acked p.decided) [
-    | inl first ↦
-        (let answer : acked_or_round {A = A} (p.acked + 1) (forced_now p) ≡ Acked n =
-        sym (rw (eq-eqb p.acked p.decided first) at e) in
-        (settles.first first).acked ∙ round-acked p.acked (p.acked + 1) n (forced_now p) answer)
-    | inr other ↦
-        (let answer : acked_or_waiting {A = A} (p.acked + 1) (waiting_now p) ≡ Acked n =
-        sym (rw (ne_eqb p.acked p.decided other) at e) in
-        let le = is.acked in
-        ap (λ (r : PrimaryState). r.acked) (settles.later (omega arith))
-        ∙ waiting-acked p.acked (p.acked + 1) n (waiting_now p) answer)
-  ]
+-- what is acknowledged after a settlement, by its answer
+pub settled-acked : (p q : PrimaryState) (n : ℕ) → IsPrimary p → Settles p q → Acked n ≡ settled_as p → q.acked ≡ p.acked + 1
+settled-acked p q n is settles e = elim (cases_eq p.acked p.decided) [
+  | inl first ↦
+      (let answer : acked_or_round (p.acked + 1) (forced_now p) ≡ Acked n =
+      sym (rw (eq-eqb p.acked p.decided first) at e) in
+      (settles.first first).acked ∙ round-acked p.acked (p.acked + 1) n (forced_now p) answer)
+  | inr other ↦
+      (let answer : acked_or_waiting (p.acked + 1) (waiting_now p) ≡ Acked n =
+      sym (rw (ne_eqb p.acked p.decided other) at e) in
+      let le = is.acked in
+      ap (λ (r : PrimaryState). r.acked) (settles.later (omega arith))
+      ∙ waiting-acked p.acked (p.acked + 1) n (waiting_now p) answer)
+]
 
 -- what is sent and reported is as it was
 pub same-feeds : (p q : PrimaryState) → IsPrimary p → Settles p q → SameFeeds p q

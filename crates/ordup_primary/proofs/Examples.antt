@@ -87,11 +87,11 @@ primary acked decided s = record {
 }
 
 -- equal is not over; 6 is, unless 1 was reported in time; and a report that comes late is waited for up to the head
-settled : (settled_as {A = ℕ} (primary 0 0 (site 0 [] [])) ≡ Acked 1)
-    × (settled_as {A = ℕ} (primary 1 1 (site 0 (0 ∷ []) [])) ≡ Round 2 (0 ∷ []))
-    × (settled_as {A = ℕ} (primary 1 1 (site 1 (0 ∷ []) [])) ≡ Acked 2)
-    × (settled_as {A = ℕ} (primary 1 2 (site 1 (0 ∷ 0 ∷ []) (2 ∷ []))) ≡ Waiting 2 (0 ∷ []))
-    × (settled_as {A = ℕ} (primary 1 2 (site 2 (0 ∷ 0 ∷ []) (2 ∷ []))) ≡ Acked 2)
+settled : (settled_as (primary 0 0 (site 0 [] [])) ≡ Acked 1)
+    × (settled_as (primary 1 1 (site 0 (0 ∷ []) [])) ≡ Round 2 (0 ∷ []))
+    × (settled_as (primary 1 1 (site 1 (0 ∷ []) [])) ≡ Acked 2)
+    × (settled_as (primary 1 2 (site 1 (0 ∷ 0 ∷ []) (2 ∷ []))) ≡ Waiting 2 (0 ∷ []))
+    × (settled_as (primary 1 2 (site 2 (0 ∷ 0 ∷ []) (2 ∷ []))) ≡ Acked 2)
 settled = (refl, refl, refl, refl, refl)
 
 -- of two updates both, or one, are acknowledged; and both, or one, were sent

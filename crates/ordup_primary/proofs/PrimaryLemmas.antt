@@ -26,7 +26,8 @@ use Rattle.ordup_primary.specs.Declarations.{Declared, AreDeclared, limits_of, i
 use Rattle.ordup_primary.specs.Settling.{last_place}
 use Rattle.ordup_primary.specs.Primaries.{SiteProgress, PrimaryState, first_progress, progress_at, reported_at, is_within, forced_now}
 use Rattle.ordup_primary.specs.Primaries.{waiting_now, acked_after, decided_at, send_refusal, settle_refusal, Decides, IsSiteSound}
-use Rattle.ordup_primary.specs.Primaries.{IsPrimary, HasFewestRounds, acked_or_waiting, settled_as}
+use Rattle.ordup_primary.specs.Primaries.{IsPrimary, HasFewestRounds, acked_or_round, acked_or_waiting, settled_as}
+use Rattle.ordup_primary.specs.declared.settled.Settled.TheVariants.{Acked, Round, Waiting}
 use Rattle.ordup_primary.specs.PrimaryInside.{progress_of, state_of}
 use Rattle.ordup_primary.specs.declared.primary.Primary.TheInside.{Inside}
 use Rattle.ordup_primary.specs.declared.progress.Progress.{Progress}
@@ -557,6 +558,21 @@ pub acked-some : (acked : ℕ) (forced : List ℕ) → false ≡ (length forced 
 acked-some acked [] e = absurd (false≢true e)
 acked-some acked (s ∷ forced) e = refl
 
+-- what a settlement answers, by whether there is a site that holds the head up
+pub acked_or_round-none : (k : ℕ) (forced : List ℕ) → true ≡ (length forced == 0) → Acked k ≡ acked_or_round k forced
+acked_or_round-none k forced none = rw (nil-from_empty forced none) refl
+
+pub acked_or_round-some : (k : ℕ) (forced : List ℕ) → false ≡ (length forced == 0) → Round k forced ≡ acked_or_round k forced
+acked_or_round-some k [] e = absurd (false≢true e)
+acked_or_round-some k (s ∷ forced) e = refl
+
+pub acked_or_waiting-none : (k : ℕ) (waiting : List ℕ) → true ≡ (length waiting == 0) → Acked k ≡ acked_or_waiting k waiting
+acked_or_waiting-none k waiting none = rw (nil-from_empty waiting none) refl
+
+pub acked_or_waiting-some : (k : ℕ) (waiting : List ℕ) → false ≡ (length waiting == 0) → Waiting k waiting ≡ acked_or_waiting k waiting
+acked_or_waiting-some k [] e = absurd (false≢true e)
+acked_or_waiting-some k (s ∷ waiting) e = refl
+
 -- the head, once it is decided, waits for a site that has not reported it where the site's rounds end with it
 pub waits-by_last_round : (p : PrimaryState) (s k : ℕ) → IsPrimary p → s < length p.sites → p.acked < p.decided
     → k ≡ p.acked + 1 → (progress_at p s).reported < k
@@ -587,6 +603,6 @@ pub settle-allowed : (p : PrimaryState) (updates : ℕ) → updates ≡ length p
 settle-allowed p updates is more = rw (ne_eqb p.acked (length p.log.sets) (λ e. more (e ∙ sym is))) refl
 
 -- a head that is decided is waited for
-pub settled-later : {A : Type 0} (p : PrimaryState) → (p.acked ≡ p.decided → ⊥)
-    → acked_or_waiting (p.acked + 1) (waiting_now p) ≡ settled_as {A = A} p
+pub settled-later : (p : PrimaryState) → (p.acked ≡ p.decided → ⊥)
+    → acked_or_waiting (p.acked + 1) (waiting_now p) ≡ settled_as p
 settled-later p later = rw (ne_eqb p.acked p.decided later) refl

@@ -5,3 +5,4 @@ pub mod ReportsInside
 pub mod Primaries
 pub mod PrimaryInside
 pub mod Parcels
+pub mod SiteListInside

@@ -57,16 +57,16 @@ waiting_now p =
     (p.acked + 1)
 
 -- an acknowledgement where no site holds the head up
-abbrev pub acked_or_round : {A : Type 0} → ℕ → List ℕ → Settled A
+abbrev pub acked_or_round : ℕ → List ℕ → Settled
 acked_or_round k [] = Acked k
 acked_or_round k (s ∷ sites) = Round k (s ∷ sites)
 
-abbrev pub acked_or_waiting : {A : Type 0} → ℕ → List ℕ → Settled A
+abbrev pub acked_or_waiting : ℕ → List ℕ → Settled
 acked_or_waiting k [] = Acked k
 acked_or_waiting k (s ∷ sites) = Waiting k (s ∷ sites)
 
 -- what a settlement of the head answers
-abbrev pub settled_as : {A : Type 0} → PrimaryState → Settled A
+abbrev pub settled_as : PrimaryState → Settled
 settled_as p = if p.acked == p.decided then acked_or_round (p.acked + 1) (forced_now p) else acked_or_waiting (p.acked + 1) (waiting_now p)
 
 -- how many updates are acknowledged where these sites hold the head up

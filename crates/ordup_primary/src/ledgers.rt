@@ -52,21 +52,17 @@ pub(crate) fn extend_to<A: Allocator + Copy>(
 }
 
 /// The sites whose ledgers are over a limit.
-pub(crate) fn sites_over<A: Allocator + Copy>(
-    alloc: A,
-    ledgers: &[LagLedger<A>],
-) -> Result<SiteList<A>, Refusal>
+pub(crate) fn sites_over<A: Allocator + Copy>(ledgers: &[LagLedger<A>]) -> SiteList
     requires few { length ledgers.now ≤ most_sites }
-    ensures sites { IfOk result (λ sites. (h : History) (groups : GroupList) (d : LedgerState) →
+    ensures { (h : History) (groups : GroupList) (d : LedgerState) →
         All (λ l. StandsFor l h groups) ledgers.now →
-        sites ≡ where_below (λ s. is_over h groups (slice_index_or ledgers.now s d)) (length ledgers.now)) }
-    ensures refused { IfErr result (λ e. e ≡ Refusal.NoMemory) }
+        result ≡ where_below (λ s. is_over h groups (slice_index_or ledgers.now s d)) (length ledgers.now) }
 {
-    let mut sites = SiteList::new(alloc);
+    let mut sites = SiteList::new();
     for place in 0..ledgers.len() {
-        if ledgers[place].over() && sites.push(SiteId::new(place as u8)).is_err() {
-            return Err(Refusal::NoMemory);
+        if ledgers[place].over() {
+            sites.push(SiteId::new(place as u8));
         }
     }
-    Ok(sites)
+    sites
 }

@@ -144,13 +144,14 @@ impl<A: Allocator + Copy> Primary<A> {
     /// limit is forced: the update waits for it. Where no site is forced, the head is acknowledged at once, and else by the
     /// first later settlement at which each forced site has reported it.
     ///
-    /// It is refused `NothingToSettle` where all updates are acknowledged, and `NoMemory`.
-    pub fn settle(&mut self) -> Result<Settled<A>, Refusal>
+    /// It is refused `NothingToSettle` where all updates are acknowledged, and `NoMemory`. A later settlement is never refused.
+    pub fn settle(&mut self) -> Result<Settled, Refusal>
         ensures answer { IfOk result (λ settled. settled ≡ settled_as self.old) }
         ensures first { IfOk result (λ _. self.old.acked ≡ self.old.decided → Decides self.old self.new) }
         ensures later { IfOk result (λ _. self.old.acked < self.old.decided → self.new ≡ record self.old { acked = acked_after self.old.acked (waiting_now self.old) }) }
         ensures allowed { IfOk result (λ _. settle_refusal self.old ≡ None) }
         ensures refused { IfErr result (λ e. IsRefusal (settle_refusal self.old) e) }
+        ensures only_first { IfErr result (λ _. self.old.acked ≡ self.old.decided) }
         ensures err { IfErr result (λ _. self.new ≡ self.old) }
         ensures sound { IsPrimary self.new }
         ensures fewest { HasFewestRounds self.new }
@@ -162,7 +163,7 @@ impl<A: Allocator + Copy> Primary<A> {
         if self.acked == self.decided {
             self.decide(head)
         } else {
-            self.wait(head)
+            Ok(self.wait(head))
         }
     }
 
@@ -266,7 +267,7 @@ impl<A: Allocator + Copy> Primary<A> {
     }
 
     /// The first settlement of the head, which decides it.
-    fn decide(&mut self, head: u64) -> Result<Settled<A>, Refusal>
+    fn decide(&mut self, head: u64) -> Result<Settled, Refusal>
         requires first { self.old.acked ≡ self.old.decided }
         requires head { head ≡ self.old.acked + 1 }
         requires some { head ≤ length self.old.log.sets }
@@ -276,7 +277,7 @@ impl<A: Allocator + Copy> Primary<A> {
         ensures err { IfErr result (λ _. self.new ≡ self.old) }
         ensures sound { IsPrimary self.new }
     {
-        let forced = self.forced_now(head)?;
+        let forced = self.forced_now(head);
         take_room(&mut self.sites)?;
         put_down(&mut self.sites, forced.as_slice(), head);
         self.decided = head;
@@ -291,25 +292,23 @@ impl<A: Allocator + Copy> Primary<A> {
     }
 
     /// A later settlement of the head.
-    fn wait(&mut self, head: u64) -> Result<Settled<A>, Refusal>
+    fn wait(&mut self, head: u64) -> Settled
         requires later { self.old.acked < self.old.decided }
         requires head { head ≡ self.old.acked + 1 }
         requires some { head ≤ length self.old.log.sets }
-        ensures answer { IfOk result (λ settled. settled ≡ acked_or_waiting (self.old.acked + 1) (waiting_now self.old)) }
-        ensures later { IfOk result (λ _. self.new ≡ record self.old { acked = acked_after self.old.acked (waiting_now self.old) }) }
-        ensures refused { IfErr result (λ e. e ≡ Refusal.NoMemory) }
-        ensures err { IfErr result (λ _. self.new ≡ self.old) }
+        ensures answer { result ≡ acked_or_waiting (self.old.acked + 1) (waiting_now self.old) }
+        ensures later { self.new ≡ record self.old { acked = acked_after self.old.acked (waiting_now self.old) } }
         ensures sound { IsPrimary self.new }
     {
-        let waiting = self.waiting_now(head)?;
+        let waiting = self.waiting_now(head);
         if waiting.as_slice().is_empty() {
             self.acked = head;
-            return Ok(Settled::Acked(head));
+            return Settled::Acked(head);
         }
-        Ok(Settled::Waiting {
+        Settled::Waiting {
             k: head,
             sites: waiting,
-        })
+        }
     }
 
     /// How many sites there are, at most 16.
@@ -321,36 +320,34 @@ impl<A: Allocator + Copy> Primary<A> {
     }
 
     /// The sites that a first settlement of the head forces. It adds the updates up to the head to the ledgers.
-    fn forced_now(&mut self, head: u64) -> Result<SiteList<A>, Refusal>
+    fn forced_now(&mut self, head: u64) -> SiteList
         requires head { head ≡ self.old.acked + 1 }
         requires some { head ≤ length self.old.log.sets }
-        ensures sites { IfOk result (λ sites. sites ≡ forced_now self.old) }
-        ensures refused { IfErr result (λ e. e ≡ Refusal.NoMemory) }
+        ensures sites { result ≡ forced_now self.old }
         ensures same { self.new ≡ self.old }
         ensures sound { IsPrimary self.new }
     {
         // For the proof: there are few enough sites.
         let _sites = self.setup.sites();
         extend_to(&mut self.ledgers, &self.log, self.setup.groups(), head);
-        sites_over(*self.ledgers.allocator(), self.ledgers.as_slice())
+        sites_over(self.ledgers.as_slice())
     }
 
     /// The sites that were forced at the decision of the head and have not reported it.
-    fn waiting_now(&self, head: u64) -> Result<SiteList<A>, Refusal>
+    fn waiting_now(&self, head: u64) -> SiteList
         requires later { self.now.acked < self.now.decided }
         requires head { head ≡ self.now.acked + 1 }
         requires some { head ≤ length self.now.log.sets }
-        ensures sites { IfOk result (λ sites. sites ≡ waiting_now self.now) }
-        ensures refused { IfErr result (λ e. e ≡ Refusal.NoMemory) }
+        ensures { result ≡ waiting_now self.now }
     {
-        let mut waiting = SiteList::new(*self.sites.allocator());
+        let mut waiting = SiteList::new();
         for place in 0..self.count() {
             let site = SiteId::new(place as u8);
-            if self.is_waiting(site, head) && waiting.push(site).is_err() {
-                return Err(Refusal::NoMemory);
+            if self.is_waiting(site, head) {
+                waiting.push(site);
             }
         }
-        Ok(waiting)
+        waiting
     }
 
     /// Whether a site was forced at the head, which is decided, and has not reported it.

@@ -1,48 +1,52 @@
-ghost use Rattle.std.specs.Prelude.{◌≡◌, ◌++◌, ◌∷◌, [], ℕ, length, OnOk, OnErr};
+ghost use Rattle.std.specs.Prelude.{◌≡◌, ◌<◌, ◌++◌, ◌∷◌, [], length};
+ghost use Rattle.ordup_objects.specs.Sizes.{most_sites};
 
 use ordup_objects::SiteId;
-use std::alloc::{AllocError, Allocator, Global};
+use ordup_objects::sizes::MOST_SITES;
 use std::marker::Model;
 
-/// Sites in order of declaration.
+/// Sites in order of declaration. It takes no memory.
 #[derive(Debug, Drop)]
-pub struct SiteList<A: Allocator + Copy = Global> {
-    sites: Vec<SiteId, A>,
+pub struct SiteList {
+    sites: [SiteId; MOST_SITES],
+    count: usize,
 }
 
-impl<A: Allocator + Copy> Model for SiteList<A> {
+impl Model for SiteList {
     ghost use Rattle.std.specs.Prelude.{List, ℕ};
+    ghost use Rattle.ordup_primary.specs.SiteListInside.{sites_of, HasFewSites};
 
     ghost Value = { List ℕ };
 
-    ghost view = { λ s. s.sites.items };
+    ghost view = { sites_of };
+
+    ghost invariant = { HasFewSites };
 }
 
-impl<A: Allocator + Copy> SiteList<A> {
-    /// No sites. It takes no memory.
-    pub(crate) fn new(alloc: A) -> Self
+impl SiteList {
+    /// No sites.
+    pub(crate) fn new() -> Self
         ensures { result ≡ [] }
     {
         SiteList {
-            sites: Vec::new(alloc),
+            sites: [SiteId::new(0); MOST_SITES],
+            count: 0,
         }
     }
 
     /// Adds a site as the last.
-    pub(crate) fn push(&mut self, site: SiteId) -> Result<(), AllocError>
-        ensures ok { OnOk result (self.new ≡ self.old ++ site ∷ []) }
-        ensures err { OnErr result (self.new ≡ self.old) }
+    pub(crate) fn push(&mut self, site: SiteId)
+        requires { length self.old < most_sites }
+        ensures { self.new ≡ self.old ++ site ∷ [] }
     {
-        match self.sites.push(site) {
-            Ok(()) => Ok(()),
-            Err(_) => Err(AllocError),
-        }
+        self.sites[self.count] = site;
+        self.count += 1;
     }
 
     /// The sites.
     pub fn as_slice(&self) -> &[SiteId]
         ensures { result.now ≡ self.now }
     {
-        self.sites.as_slice()
+        &self.sites[..self.count]
     }
 }

@@ -59,7 +59,7 @@ abbrev pub listed_text : List ℕ → ℕ → List (List ℕ × ℕ) → List �
 listed_text done number table sites = done ++ decimal number ++ sites_text table sites ++ 10 ∷ []
 
 -- the text of what came of a settlement
-abbrev pub settled_text : {A : Type 0} → List (List ℕ × ℕ) → Settled A → List ℕ
+abbrev pub settled_text : List (List ℕ × ℕ) → Settled → List ℕ
 settled_text table (Acked k) = done_text (codes "ok acked ") k
 settled_text table (Round k sites) = listed_text (codes "ok round ") k table sites
 settled_text table (Waiting k sites) = listed_text (codes "ok waiting ") k table sites

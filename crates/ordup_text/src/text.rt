@@ -244,7 +244,7 @@ fn push_ended<A: Allocator + Copy>(
 fn push_settled<A: Allocator + Copy>(
     out: &mut TextBuffer<A>,
     setup: &Setup<A>,
-    settled: &Settled<A>,
+    settled: &Settled,
 ) -> Result<(), AllocError>
     ensures { OnOk result (out.new.text ≡ out.old.text ++ settled_text setup.now.sites settled.now) }
 {

@@ -178,7 +178,7 @@ module _ {A : Type 0} where
         let b = is.sites s no_site (omega (arith, sound.count)) in rw (is.log, b.reported, b.reports, is.acked) refl))
 
     -- what a settlement answers is what it would answer after the accepted events
-    pub settled-same : settled_as {A = A} w.primary ≡ settlement_of w.primary.setup past (decisions w.primary.setup past)
+    pub settled-same : settled_as w.primary ≡ settlement_of w.primary.setup past (decisions w.primary.setup past)
     settled-same = rw (forced-same, waiting-same, is.acked, is.decided) refl
 
     -- the head was settled for the first time

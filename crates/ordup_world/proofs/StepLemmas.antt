@@ -111,7 +111,7 @@ module _ {A : Type 0} {w : StoreState} (sound : IsStore w) where
         | inr some ↦ rw some refl
       ])
 
-  pub settled_now : {p : PrimaryState} {settled : Settled A} → settle_refusal w.primary ≡ None → settled ≡ settled_as w.primary
+  pub settled_now : {p : PrimaryState} {settled : Settled} → settle_refusal w.primary ≡ None → settled ≡ settled_as w.primary
       → IsPrimary p → (w.primary.acked ≡ w.primary.decided → Decides w.primary p)
       → (w.primary.acked < w.primary.decided → p ≡ record w.primary { acked = acked_after w.primary.acked (waiting_now w.primary) })
       → StepsStore {A = A} w Settle (Settlement settled) (record w { primary = p })

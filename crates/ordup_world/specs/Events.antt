@@ -105,7 +105,7 @@ module _ {A : Type 0} where
   decisions setup (_ ∷ past) = decisions setup past
 
   -- what a settlement answers
-  abbrev pub settlement_of : Declared → Past A → Decisions → Settled A
+  abbrev pub settlement_of : Declared → Past A → Decisions → Settled
   settlement_of setup past ds =
       if ds.acked == ds.decided then acked_or_round (ds.acked + 1) (forced_after setup past ds)
       else acked_or_waiting (ds.acked + 1) (waiting_after setup past ds)

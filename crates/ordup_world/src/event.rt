@@ -56,7 +56,7 @@ pub enum Answer<A: Allocator + Copy = Global> {
         place: u64,
     },
     /// What came of the settlement.
-    Settlement(Settled<A>),
+    Settlement(Settled),
     /// The query began: its reference is the last update that was acknowledged then, or 0.
     Begun {
         query: Name,

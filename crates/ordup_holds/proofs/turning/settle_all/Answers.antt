@@ -1,5 +1,4 @@
 use Rattle.std.proofs.Common.{suc, ◌∙◌, sym}
-use Rattle.std.specs.Global.{Global}
 use Rattle.ordup_holds.specs.Turning.{Settles}
 use Rattle.ordup_holds.proofs.SettlementLemmas.{settled-acked, same-feeds, same-feeds-more}
 use Rattle.ordup_holds.proofs.turning.settle_all.Goals as goal
@@ -18,7 +17,7 @@ loop-primary-preserved c =
           c.loop-primary.primary,
           before.1.1,
           settles,
-          settled-acked {A = Global} _ _ _ sound settles (sym c.in-Acked.is ∙ ok.answer),
+          settled-acked _ _ _ sound settles (sym c.in-Acked.is ∙ ok.answer),
         ),
       ),
     )

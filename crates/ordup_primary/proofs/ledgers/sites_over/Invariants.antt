@@ -1,4 +1,4 @@
-use Rattle.std.proofs.Common.{◌≡◌}
+use Rattle.std.proofs.Common.{◌≡◌, ◌≤◌, length}
 use Rattle.std.specs.Prelude.{All, slice_index_or}
 use Rattle.ordup_objects.specs.Serial.{History}
 use Rattle.ordup_log.specs.Groups.{GroupList}
@@ -9,6 +9,8 @@ use Rattle.ordup_primary.proofs.ledgers.sites_over.Given as goal
 
 -- the sites so far
 abbrev pub invariant-loop-place : goal.invariant-loop-place
-invariant-loop-place g l =
-    (h : History) (groups : GroupList) (d : LedgerState) → All (λ (k : LedgerState). StandsFor k h groups) l.ledgers
-    → l.sites ≡ where_below (λ s. is_over h groups (slice_index_or l.ledgers s d)) l.place
+invariant-loop-place g l = record {
+  few : length l.sites ≤ l.place;
+  sites : (h : History) (groups : GroupList) (d : LedgerState) → All (λ (k : LedgerState). StandsFor k h groups) l.ledgers
+      → l.sites ≡ where_below (λ s. is_over h groups (slice_index_or l.ledgers s d)) l.place;
+}

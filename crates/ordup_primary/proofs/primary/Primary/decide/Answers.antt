@@ -1,6 +1,7 @@
 use Rattle.std.proofs.Common.{arith, ap, sym, ◌∙◌, length, ◌==◌}
 use Rattle.ordup_primary.specs.PrimaryInside.{state_of}
 use Rattle.ordup_primary.proofs.PrimaryLemmas.{IsPrimary-decided, Decides-at, reports-next, acked-none, acked-some}
+use Rattle.ordup_primary.proofs.PrimaryLemmas.{acked_or_round-none, acked_or_round-some}
 use Rattle.ordup_primary.proofs.LedgerLemmas.{AreLedgers-decided}
 use Rattle.ordup_primary.proofs.primary.Primary.decide.Goals as goal
 
@@ -15,8 +16,8 @@ invariant_of-self g c =
 
 pub invariant_of-self-then-is_empty : goal.invariant_of-self-then-is_empty
 invariant_of-self-then-is_empty g c =
-    let is = c.self.view_is ∙ c.in_ok-forced.ensures.same in
-    let forced = c.as_slice.ensures ∙ rw (← is) at c.in_ok-forced.ensures.sites in
+    let is = c.self.view_is ∙ c.forced_now-forced.ensures.same in
+    let forced = c.as_slice.ensures ∙ rw (← is) at c.forced_now-forced.ensures.sites in
     let here = rw (← is) at c.requires.head in
     let decides =
     Decides-at c.self.inside c.take_room.new.sites.items c.put_down.new.sites.items c.as_slice.result.now c.args.head
@@ -34,8 +35,8 @@ invariant_of-self-then-is_empty g c =
 
 pub returns-then-is_empty-clause-decides : goal.returns-then-is_empty-clause-decides
 returns-then-is_empty-clause-decides g c =
-    let is = c.self.view_is ∙ c.in_ok-forced.ensures.same in
-    let forced = c.as_slice.ensures ∙ rw (← is) at c.in_ok-forced.ensures.sites in
+    let is = c.self.view_is ∙ c.forced_now-forced.ensures.same in
+    let forced = c.as_slice.ensures ∙ rw (← is) at c.forced_now-forced.ensures.sites in
     let here = rw (← is) at c.requires.head in
     rw (← is) (Decides-at c.self.inside c.take_room.new.sites.items
     c.put_down.new.sites.items c.as_slice.result.now c.args.head c.args.head c.in_ok-take_room.ensures.same forced
@@ -44,8 +45,8 @@ returns-then-is_empty-clause-decides g c =
 
 pub invariant_of-self-else-is_empty : goal.invariant_of-self-else-is_empty
 invariant_of-self-else-is_empty g c =
-    let is = c.self.view_is ∙ c.in_ok-forced.ensures.same in
-    let forced = c.as_slice.ensures ∙ rw (← is) at c.in_ok-forced.ensures.sites in
+    let is = c.self.view_is ∙ c.forced_now-forced.ensures.same in
+    let forced = c.as_slice.ensures ∙ rw (← is) at c.forced_now-forced.ensures.sites in
     let here = rw (← is) at c.requires.head in
     let decides =
     Decides-at c.self.inside c.take_room.new.sites.items c.put_down.new.sites.items c.as_slice.result.now
@@ -63,8 +64,8 @@ invariant_of-self-else-is_empty g c =
 
 pub returns-clause-decides : goal.returns-clause-decides
 returns-clause-decides g c =
-    let is = c.self.view_is ∙ c.in_ok-forced.ensures.same in
-    let forced = c.as_slice.ensures ∙ rw (← is) at c.in_ok-forced.ensures.sites in
+    let is = c.self.view_is ∙ c.forced_now-forced.ensures.same in
+    let forced = c.as_slice.ensures ∙ rw (← is) at c.forced_now-forced.ensures.sites in
     let here = rw (← is) at c.requires.head in
     rw (← is) (Decides-at c.self.inside c.take_room.new.sites.items c.put_down.new.sites.items c.as_slice.result.now
     c.self.inside.acked c.args.head c.in_ok-take_room.ensures.same forced c.put_down.ensures.count c.put_down.ensures.sites here
@@ -73,8 +74,8 @@ returns-clause-decides g c =
 
 pub returns-then-is_empty-clause-sound : goal.returns-then-is_empty-clause-sound
 returns-then-is_empty-clause-sound g c =
-    let is = c.self.view_is ∙ c.in_ok-forced.ensures.same in
-    let forced = c.as_slice.ensures ∙ rw (← is) at c.in_ok-forced.ensures.sites in
+    let is = c.self.view_is ∙ c.forced_now-forced.ensures.same in
+    let forced = c.as_slice.ensures ∙ rw (← is) at c.forced_now-forced.ensures.sites in
     let here = rw (← is) at c.requires.head in
     IsPrimary-decided (state_of c.self.inside) _ c.self.invariant.primary (rw (← is) at c.requires.first)
     (omega (arith, here, rw (← is) at c.requires.some))
@@ -85,8 +86,8 @@ returns-then-is_empty-clause-sound g c =
 
 pub returns-clause-sound : goal.returns-clause-sound
 returns-clause-sound g c =
-    let is = c.self.view_is ∙ c.in_ok-forced.ensures.same in
-    let forced = c.as_slice.ensures ∙ rw (← is) at c.in_ok-forced.ensures.sites in
+    let is = c.self.view_is ∙ c.forced_now-forced.ensures.same in
+    let forced = c.as_slice.ensures ∙ rw (← is) at c.forced_now-forced.ensures.sites in
     let here = rw (← is) at c.requires.head in
     IsPrimary-decided (state_of c.self.inside) _ c.self.invariant.primary (rw (← is) at c.requires.first)
     (omega (arith, here, rw (← is) at c.requires.some))
@@ -97,6 +98,20 @@ returns-clause-sound g c =
 
 pub put_down-requires-clause-next : goal.put_down-requires-clause-next
 put_down-requires-clause-next g c =
-    let is = c.self.view_is ∙ c.in_ok-forced.ensures.same in
+    let is = c.self.view_is ∙ c.forced_now-forced.ensures.same in
     reports-next c.self.inside c.take_room.new.sites.items c.args.head c.self.invariant.primary c.in_ok-take_room.ensures.same
     (rw (← is) at c.requires.first) (rw (← is) at c.requires.head)
+
+pub returns-then-is_empty-clause-answer : goal.returns-then-is_empty-clause-answer
+returns-then-is_empty-clause-answer g c =
+    let is = c.self.view_is ∙ c.forced_now-forced.ensures.same in
+    let forced = c.as_slice.ensures ∙ rw (← is) at c.forced_now-forced.ensures.sites in
+    rw (← is, ← forced, ← rw (← is) at c.requires.head) (acked_or_round-none c.args.head c.as_slice.result.now
+    (c.if-is_empty.ensures ∙ ap (λ xs. length xs == 0) (c.as_slice-2.ensures ∙ sym c.as_slice.ensures)))
+
+pub returns-clause-answer : goal.returns-clause-answer
+returns-clause-answer g c =
+    let is = c.self.view_is ∙ c.forced_now-forced.ensures.same in
+    let forced = rw (← is) at c.forced_now-forced.ensures.sites in
+    rw (← is, ← forced, ← rw (← is) at c.requires.head) (acked_or_round-some c.args.head c.forced_now-forced.result
+    (c.if-is_empty.ensures ∙ ap (λ xs. length xs == 0) c.as_slice-2.ensures))

@@ -72,6 +72,7 @@ impl<'a> Words<'a> {
     }
 
     /// The words, where there are exactly two.
+    #[inline(always)]
     pub(crate) fn two_words(&self) -> Option<(Word<'a>, Word<'a>)>
         ensures { result ≡ two_words self.now }
     {

@@ -2,7 +2,7 @@
 //!
 //! The bytes behind the text are there already, so a part of it is a copy of a length that is known most of the time, which
 //! takes 4 to 8 in 100 off the instructions of a line of a script.
-ghost use Rattle.std.specs.Prelude.{◌≡◌, ◌+◌, ◌≤◌, ◌++◌, [], OnOk, length, take};
+ghost use Rattle.std.specs.Prelude.{◌≡◌, ◌+◌, ◌≤◌, ◌++◌, [], OnOk, length};
 ghost use Rattle.std.specs.Fmt.{decimal, signed_decimal};
 
 use itoa::write_digits;
@@ -102,29 +102,6 @@ impl<A: Allocator + Copy> TextBuffer<A> {
         self.len = end;
     }
 
-    /// Leaves the first so many bytes of the text.
-    #[inline(always)]
-    fn truncate(&mut self, len: usize)
-        requires { len ≤ length self.old.text }
-        ensures text { self.new.text ≡ take len self.old.text }
-        ensures room { self.new.room + len ≡ self.old.room + length self.old.text }
-    {
-        self.len = len;
-    }
-
-    /// Adds the first so many bytes of a text. There is room for all of it: a copy of known length is a move or two.
-    #[inline(always)]
-    fn put_front(&mut self, text: &[u8], count: usize)
-        requires room { length text.now ≤ self.old.room }
-        requires front { count ≤ length text.now }
-        ensures text { self.new.text ≡ self.old.text ++ take count text.now }
-        ensures room { self.new.room + count ≡ self.old.room }
-    {
-        let end = self.len + count;
-        self.put(text);
-        self.truncate(end);
-    }
-
     /// Adds a number in digits, for as many of which there is room as there may be.
     #[inline(always)]
     pub(crate) fn put_number(&mut self, number: u64)
@@ -132,10 +109,9 @@ impl<A: Allocator + Copy> TextBuffer<A> {
         ensures text { self.new.text ≡ self.old.text ++ decimal number }
         ensures room { self.old.room ≤ self.new.room + 20 }
     {
-        let mut digits = [0; 2 * MOST_DIGITS];
-        let start = write_digits(number, &mut digits, MOST_DIGITS);
-        let (shown, count) = (&digits[start..start + MOST_DIGITS], MOST_DIGITS - start);
-        self.put_front(shown, count);
+        let end = self.len + digit_count(number);
+        write_digits(number, &mut self.bytes, end);
+        self.len = end;
     }
 
     /// Adds a value in digits, for a minus and as many digits of which there is room as there may be.
@@ -179,5 +155,16 @@ impl<A: Allocator + Copy> TextBuffer<A> {
         self.make_room(MOST_DIGITS + 1)?;
         self.put_value(value);
         Ok(())
+    }
+}
+
+/// How many digits a number has.
+#[inline(always)]
+fn digit_count(number: u64) -> usize
+    ensures { result ≡ length (decimal number) }
+{
+    match number.checked_ilog10() {
+        Some(power) => power as usize + 1,
+        None => 1,
     }
 }

@@ -78,10 +78,10 @@ impl<A: Allocator + Copy> Load<A> {
         } else {
             Op::Add(amount)
         };
-        let Ok(changes) = vec![in self.alloc; Change { object, op }] else {
-            return Err(Refusal::NoMemory);
-        };
-        MessageSet::new(self.world.primary().setup().objects(), changes)
+        MessageSet::single(
+            self.world.primary().setup().objects(),
+            Change { object, op },
+        )
     }
 
     /// Settles the update. Where it has a forced round, each site of the round reports, and it is settled once more.

@@ -28,7 +28,7 @@ pub(crate) fn carry<R: Threads + Wait + Sync>(
 {
     let objects = one_object(alloc)?;
     let (sender, taker) = Feed::new(alloc, &objects, capacity)?;
-    let set = first_to_one(alloc, &objects)?;
+    let set = first_to_one(&objects)?;
     let set = &set;
     let (sent, taken) = thread::join(
         rt,

@@ -16,7 +16,7 @@ pub(crate) fn one_object(alloc: Global) -> Result<ObjectTable, Refusal> {
 }
 
 /// The set that sets the first object to 1.
-pub(crate) fn first_to_one(alloc: Global, objects: &ObjectTable) -> Result<MessageSet, Refusal>
+pub(crate) fn first_to_one(objects: &ObjectTable) -> Result<MessageSet, Refusal>
     ensures set { IfOk result (λ set. set ≡ first_to_one) }
     ensures known { IfOk result (AreKnown (length objects.now)) }
 {
@@ -24,10 +24,7 @@ pub(crate) fn first_to_one(alloc: Global, objects: &ObjectTable) -> Result<Messa
         object: ObjectId::new(0),
         op: Op::Set(1),
     };
-    match Vec::from_slice(alloc, &[change]) {
-        Ok(changes) => MessageSet::new(objects, changes),
-        Err(_) => Err(Refusal::NoMemory),
-    }
+    MessageSet::single(objects, change)
 }
 
 /// The parcel with this number, of a copy of that set.

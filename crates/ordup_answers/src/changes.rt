@@ -57,6 +57,9 @@ pub fn set_in<A: Allocator + Copy>(
 ) -> Result<MessageSet<A>, Refusal>
     ensures { Gives (set_in objects.now words.now) result }
 {
+    if let Some(word) = words.only() {
+        return MessageSet::single(objects, change_in(objects, &word));
+    }
     let Ok(changes) = changes_in(alloc, objects, words) else {
         return Err(Refusal::NoMemory);
     };

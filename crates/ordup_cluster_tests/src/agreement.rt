@@ -16,8 +16,8 @@ fn first_primary(alloc: Global) -> Result<Primary, Refusal> {
 }
 
 /// Proposes the update that adds a number to x, and notes that it was sent to the first site.
-fn send(rt: &impl Abort, alloc: Global, primary: &mut Primary, n: i64) {
-    let set = add(rt, alloc, primary.setup().objects(), n);
+fn send(rt: &impl Abort, primary: &mut Primary, n: i64) {
+    let set = add(rt, primary.setup().objects(), n);
     assert!(rt; set.are_known(primary.log().objects()));
     assert!(rt; primary.propose(set).is_ok());
     mark_sent(rt, primary);
@@ -33,8 +33,8 @@ fn mark_sent(rt: &impl Abort, primary: &mut Primary) {
 }
 
 /// Applies the set that adds a number to x at a site.
-fn apply(rt: &impl Abort, alloc: Global, primary: &Primary, site: &mut Site, n: i64) {
-    let set = add(rt, alloc, primary.setup().objects(), n);
+fn apply(rt: &impl Abort, primary: &Primary, site: &mut Site, n: i64) {
+    let set = add(rt, primary.setup().objects(), n);
     apply_set(rt, site, &set);
 }
 
@@ -60,9 +60,9 @@ fn a_site_agrees_where_it_holds_what_it_applied(rt: HostRuntime) -> Result<(), F
     let alloc = rt.alloc();
     let mut primary = first_primary(alloc)?;
     let mut replica = Site::new(alloc, primary.setup().objects())?;
-    send(&rt, alloc, &mut primary, 3);
+    send(&rt, &mut primary, 3);
     assert!(rt; agrees(&rt, alloc, &primary, &replica));
-    apply(&rt, alloc, &primary, &mut replica, 4);
+    apply(&rt, &primary, &mut replica, 4);
     assert!(rt; !agrees(&rt, alloc, &primary, &replica));
     Ok(())
 }
@@ -72,10 +72,10 @@ fn a_site_agrees_only_up_to_what_it_was_sent(rt: HostRuntime) -> Result<(), Fail
     let alloc = rt.alloc();
     let mut primary = first_primary(alloc)?;
     let mut replica = Site::new(alloc, primary.setup().objects())?;
-    send(&rt, alloc, &mut primary, 3);
-    apply(&rt, alloc, &primary, &mut replica, 3);
+    send(&rt, &mut primary, 3);
+    apply(&rt, &primary, &mut replica, 3);
     assert!(rt; agrees(&rt, alloc, &primary, &replica));
-    apply(&rt, alloc, &primary, &mut replica, 3);
+    apply(&rt, &primary, &mut replica, 3);
     assert!(rt; !agrees(&rt, alloc, &primary, &replica));
     Ok(())
 }

@@ -5,19 +5,15 @@ ghost use Rattle.ordup_primary.specs.Declarations.{start_refusal};
 use ordup_holds::{Book, SeenValue, SiteCell, number, view};
 use ordup_objects::{Change, MessageSet, ObjectId, ObjectTable, Op, Refusal};
 use ordup_primary::{Scope, Setup};
-use std::alloc::Global;
 use std::process::Abort;
 
 /// The set that adds a number to x.
-pub fn add(rt: &impl Abort, alloc: Global, objects: &ObjectTable, n: i64) -> MessageSet {
+pub fn add(rt: &impl Abort, objects: &ObjectTable, n: i64) -> MessageSet {
     let change = Change {
         object: ObjectId::new(0),
         op: Op::Add(n),
     };
-    let Ok(changes) = Vec::from_slice(alloc, &[change]) else {
-        panic!(rt; "there is no memory for a change")
-    };
-    let Ok(set) = MessageSet::new(objects, changes) else {
+    let Ok(set) = MessageSet::single(objects, change) else {
         panic!(rt; "the set is refused")
     };
     set
@@ -39,8 +35,8 @@ pub fn declare(setup: &mut Setup) -> Result<(), Refusal>
 }
 
 /// Numbers the update that adds a number to x.
-pub fn number_add(rt: &impl Abort, alloc: Global, book: &mut Book, n: i64) -> Result<u64, Refusal> {
-    let set = add(rt, alloc, book.primary().setup().objects(), n);
+pub fn number_add(rt: &impl Abort, book: &mut Book, n: i64) -> Result<u64, Refusal> {
+    let set = add(rt, book.primary().setup().objects(), n);
     assert!(rt; set.are_known(book.primary().log().objects()));
     number(book, set)
 }

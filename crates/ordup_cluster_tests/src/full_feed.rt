@@ -59,9 +59,9 @@ fn opened_with_two(alloc: Global) -> Result<(Book, Vec<SiteCell>), Refusal> {
 }
 
 /// Numbers the updates from the first number to the last one.
-fn number_all(rt: &impl Abort, alloc: Global, book: &mut Book, first: u32, last: u32) {
+fn number_all(rt: &impl Abort, book: &mut Book, first: u32, last: u32) {
     for k in first..=last {
-        assert_eq!(rt; number_add(rt, alloc, book, i64::from(k)), Ok(u64::from(k)));
+        assert_eq!(rt; number_add(rt, book, i64::from(k)), Ok(u64::from(k)));
     }
 }
 
@@ -87,8 +87,8 @@ fn expect_seen(rt: &impl Abort, cell: &SiteCell, value: i64, applied: u64) {
 }
 
 /// Five updates through a feed with room for two.
-fn fill_and_empty<R: Wait + Abort>(rt: &R, alloc: Global, book: &mut Book, cell: &mut SiteCell) {
-    number_all(rt, alloc, book, 1, 5);
+fn fill_and_empty<R: Wait + Abort>(rt: &R, book: &mut Book, cell: &mut SiteCell) {
+    number_all(rt, book, 1, 5);
     // No limit holds an update back.
     assert_eq!(rt; turn(rt, book), Ok(5));
     expect_known(rt, book, 2, 0);
@@ -111,13 +111,13 @@ fn sends_stop_at_a_full_feed_and_go_on_once_there_is_room(rt: HostRuntime) -> Re
     let alloc = rt.alloc();
     let (mut book, mut cells) = opened(alloc, 2)?;
     assert_eq!(rt; cells.len(), 1);
-    fill_and_empty(&rt, alloc, &mut book, &mut cells[0]);
+    fill_and_empty(&rt, &mut book, &mut cells[0]);
     Ok(())
 }
 
 /// Takes one update at a time from a feed with room for three.
-fn take_one_by_one<R: Wait + Abort>(rt: &R, alloc: Global, book: &mut Book, cell: &mut SiteCell) {
-    number_all(rt, alloc, book, 1, 5);
+fn take_one_by_one<R: Wait + Abort>(rt: &R, book: &mut Book, cell: &mut SiteCell) {
+    number_all(rt, book, 1, 5);
     assert_eq!(rt; turn(rt, book), Ok(5));
     expect_known(rt, book, 3, 0);
     for k in 1..=2u64 {
@@ -134,13 +134,13 @@ fn each_update_that_is_taken_makes_room_for_one(rt: HostRuntime) -> Result<(), F
     let alloc = rt.alloc();
     let (mut book, mut cells) = opened(alloc, 3)?;
     assert_eq!(rt; cells.len(), 1);
-    take_one_by_one(&rt, alloc, &mut book, &mut cells[0]);
+    take_one_by_one(&rt, &mut book, &mut cells[0]);
     Ok(())
 }
 
 /// Three updates more than the largest feed has room for.
-fn overfill<R: Wait + Abort>(rt: &R, alloc: Global, book: &mut Book, cell: &mut SiteCell) {
-    number_all(rt, alloc, book, 1, 1_027);
+fn overfill<R: Wait + Abort>(rt: &R, book: &mut Book, cell: &mut SiteCell) {
+    number_all(rt, book, 1, 1_027);
     assert_eq!(rt; turn(rt, book), Ok(1_027));
     expect_known(rt, book, 1_024, 0);
     take_all(rt, cell, 1, 1_024);
@@ -157,13 +157,13 @@ fn the_largest_feed_loses_nothing(rt: HostRuntime) -> Result<(), Fail> {
     let alloc = rt.alloc();
     let (mut book, mut cells) = opened(alloc, GREATEST_CAPACITY)?;
     assert_eq!(rt; cells.len(), 1);
-    overfill(&rt, alloc, &mut book, &mut cells[0]);
+    overfill(&rt, &mut book, &mut cells[0]);
     Ok(())
 }
 
 /// Three updates for two sites, of which the first has room for one.
-fn fill_the_first<R: Wait + Abort>(rt: &R, alloc: Global, book: &mut Book) {
-    number_all(rt, alloc, book, 1, 3);
+fn fill_the_first<R: Wait + Abort>(rt: &R, book: &mut Book) {
+    number_all(rt, book, 1, 3);
     assert_eq!(rt; turn(rt, book), Ok(3));
     expect_known(rt, book, 1, 0);
 }
@@ -173,17 +173,17 @@ fn a_full_feed_keeps_nothing_from_the_other_sites(rt: HostRuntime) -> Result<(),
     let alloc = rt.alloc();
     let (mut book, mut cells) = opened_with_two(alloc)?;
     assert_eq!(rt; cells.len(), 2);
-    fill_the_first(&rt, alloc, &mut book);
+    fill_the_first(&rt, &mut book);
     take_all(&rt, &mut cells[0], 1, 1);
     take_all(&rt, &mut cells[1], 1, 3);
     Ok(())
 }
 
 /// Two updates, each of which waits for the site. One turn learns that the first was taken, acknowledges it, and sends the second.
-fn wait_for_each<R: Wait + Abort>(rt: &R, alloc: Global, book: &mut Book, cell: &mut SiteCell) {
-    number_all(rt, alloc, book, 1, 1);
+fn wait_for_each<R: Wait + Abort>(rt: &R, book: &mut Book, cell: &mut SiteCell) {
+    number_all(rt, book, 1, 1);
     assert_eq!(rt; turn(rt, book), Ok(0));
-    number_all(rt, alloc, book, 2, 2);
+    number_all(rt, book, 2, 2);
     assert_eq!(rt; turn(rt, book), Ok(0));
     expect_known(rt, book, 1, 0);
     take_all(rt, cell, 1, 1);
@@ -200,22 +200,17 @@ fn a_turn_learns_what_was_taken_and_acknowledges_it(rt: HostRuntime) -> Result<(
     let alloc = rt.alloc();
     let (mut book, mut cells) = opened_with_limit(alloc, Scope::All, 0)?;
     assert_eq!(rt; cells.len(), 1);
-    wait_for_each(&rt, alloc, &mut book, &mut cells[0]);
+    wait_for_each(&rt, &mut book, &mut cells[0]);
     Ok(())
 }
 
 /// Four updates, of which three may be acknowledged ahead of the site. The fourth waits until the site got all, one by one.
-fn wait_for_the_fourth<R: Wait + Abort>(
-    rt: &R,
-    alloc: Global,
-    book: &mut Book,
-    cell: &mut SiteCell,
-) {
+fn wait_for_the_fourth<R: Wait + Abort>(rt: &R, book: &mut Book, cell: &mut SiteCell) {
     for k in 1..=3u32 {
-        number_all(rt, alloc, book, k, k);
+        number_all(rt, book, k, k);
         assert_eq!(rt; turn(rt, book), Ok(u64::from(k)));
     }
-    number_all(rt, alloc, book, 4, 4);
+    number_all(rt, book, 4, 4);
     assert_eq!(rt; turn(rt, book), Ok(3));
     expect_known(rt, book, 1, 0);
     expect_seen(rt, cell, 0, 0);
@@ -245,7 +240,7 @@ fn a_round_ends_though_the_feed_has_room_for_one(rt: HostRuntime) -> Result<(), 
     let alloc = rt.alloc();
     let (mut book, mut cells) = opened_with_limit(alloc, Scope::Count, 3)?;
     assert_eq!(rt; cells.len(), 1);
-    wait_for_the_fourth(&rt, alloc, &mut book, &mut cells[0]);
+    wait_for_the_fourth(&rt, &mut book, &mut cells[0]);
     expect_round(&rt, &book, 4);
     Ok(())
 }

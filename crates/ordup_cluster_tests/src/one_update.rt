@@ -16,8 +16,8 @@ fn opened(alloc: Global) -> Result<(Book, Vec<SiteCell>), Refusal> {
 }
 
 /// The limit on x is 5: the update adds 6, and is acknowledged only once the site reported it.
-fn follow<R: Wait + Abort>(rt: &R, alloc: Global, book: &mut Book, cell: &mut SiteCell) {
-    assert_eq!(rt; number_add(rt, alloc, book, 6), Ok(1));
+fn follow<R: Wait + Abort>(rt: &R, book: &mut Book, cell: &mut SiteCell) {
+    assert_eq!(rt; number_add(rt, book, 6), Ok(1));
     assert_eq!(rt; take(rt, cell), None);
     assert_eq!(rt; turn(rt, book), Ok(0));
     assert_eq!(rt;
@@ -45,6 +45,6 @@ fn an_update_is_numbered_sent_taken_seen_and_acknowledged(rt: HostRuntime) -> Re
     let alloc = rt.alloc();
     let (mut book, mut cells) = opened(alloc)?;
     assert_eq!(rt; cells.len(), 1);
-    follow(&rt, alloc, &mut book, &mut cells[0]);
+    follow(&rt, &mut book, &mut cells[0]);
     Ok(())
 }

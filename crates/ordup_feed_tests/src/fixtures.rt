@@ -15,7 +15,7 @@ pub fn x(alloc: Global) -> Result<ObjectTable, Refusal> {
 }
 
 /// The parcel with this number, which sets x to 1. It follows any parcels before it.
-pub fn parcel(alloc: Global, objects: &ObjectTable, number: u64) -> Result<Parcel, Refusal>
+pub fn parcel(objects: &ObjectTable, number: u64) -> Result<Parcel, Refusal>
     requires { number ≤ most_updates }
     ensures { IfOk result (FollowsAny (length objects.now) number) }
 {
@@ -23,11 +23,8 @@ pub fn parcel(alloc: Global, objects: &ObjectTable, number: u64) -> Result<Parce
         object: ObjectId::new(0),
         op: Op::Set(1),
     };
-    match Vec::from_slice(alloc, &[change]) {
-        Ok(changes) => Ok(Parcel {
-            number,
-            set: MessageSet::new(objects, changes)?,
-        }),
-        Err(_) => Err(Refusal::NoMemory),
-    }
+    Ok(Parcel {
+        number,
+        set: MessageSet::single(objects, change)?,
+    })
 }

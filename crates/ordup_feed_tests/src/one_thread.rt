@@ -24,10 +24,10 @@ fn a_full_feed_hands_the_parcel_back(rt: HostRuntime) -> Result<(), Fail> {
     let alloc = rt.alloc();
     let objects = x(alloc)?;
     let (mut sender, mut taker) = Feed::new(alloc, &objects, 1)?;
-    let Ok(()) = sender.push(&rt, parcel(alloc, &objects, 1)?) else {
+    let Ok(()) = sender.push(&rt, parcel(&objects, 1)?) else {
         return Err("the feed has no room for a parcel")?;
     };
-    let Err(back) = sender.push(&rt, parcel(alloc, &objects, 2)?) else {
+    let Err(back) = sender.push(&rt, parcel(&objects, 2)?) else {
         return Err("the feed has room for a second parcel")?;
     };
     assert_eq!(rt; (back.refusal.number(), back.parcel.number), (15, 2));

@@ -12,15 +12,12 @@ use std::sync::Wait;
 use std::test::Fail;
 
 /// Proposes the update that adds a number to the first object.
-fn add(alloc: Global, primary: &mut Primary, n: i64) -> Result<u64, Refusal> {
+fn add(primary: &mut Primary, n: i64) -> Result<u64, Refusal> {
     let change = Change {
         object: ObjectId::new(0),
         op: Op::Add(n),
     };
-    let Ok(changes) = Vec::from_slice(alloc, &[change]) else {
-        return Err(Refusal::NoMemory);
-    };
-    let set = MessageSet::new(primary.setup().objects(), changes)?;
+    let set = MessageSet::single(primary.setup().objects(), change)?;
     if !set.are_known(primary.log().objects()) {
         return Err(Refusal::UnknownObject);
     }
@@ -48,16 +45,16 @@ fn x_and_a(alloc: Global) -> Result<Primary, Refusal> {
 }
 
 /// Adds 3 to x, and then 4.
-fn add_twice(alloc: Global, primary: &mut Primary) -> Result<(), Refusal> {
-    add(alloc, primary, 3)?;
-    add(alloc, primary, 4)?;
+fn add_twice(primary: &mut Primary) -> Result<(), Refusal> {
+    add(primary, 3)?;
+    add(primary, 4)?;
     Ok(())
 }
 
 /// The primary with the two updates.
 fn two_updates(alloc: Global) -> Result<Primary, Refusal> {
     let mut primary = x_and_a(alloc)?;
-    add_twice(alloc, &mut primary)?;
+    add_twice(&mut primary)?;
     Ok(primary)
 }
 

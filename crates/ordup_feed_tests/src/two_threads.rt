@@ -51,18 +51,12 @@ fn pop<R: Wait + Abort>(rt: &R, end: &mut TakeEnd) -> u64 {
 }
 
 /// Pushes all parcels, and looks after each: no look finds more than the pops that the taker had begun.
-fn send_all<R: Wait + Abort>(
-    rt: &R,
-    alloc: Global,
-    objects: &ObjectTable,
-    mut end: SendEnd,
-    begun: &AtomicU64,
-)
+fn send_all<R: Wait + Abort>(rt: &R, objects: &ObjectTable, mut end: SendEnd, begun: &AtomicU64)
     requires pushed { end.pushed ≡ [] }
     requires start { length end.start ≡ length objects.now }
 {
     for i in 0..PARCELS {
-        let Ok(parcel) = parcel(alloc, objects, i + 1) else {
+        let Ok(parcel) = parcel(objects, i + 1) else {
             panic!(rt; "no memory")
         };
         push(rt, &mut end, parcel);
@@ -95,7 +89,7 @@ fn send_through<R: Threads + Wait + Abort + Sync>(
         rt,
         move ||
             requires { (sender.pushed ≡ []) × (length sender.start ≡ length objects.now) }
-        { send_all(rt, alloc, objects, sender, begun) },
+        { send_all(rt, objects, sender, begun) },
         move || take_all(rt, taker, begun),
     );
     Ok(())

@@ -1,8 +1,20 @@
--- Which words spell no change, by the parts between their colons.
-use Rattle.std.proofs.Common.{◌≡◌, refl, ℕ, Bool, ◌<◌, ◌==◌, List, [], ◌∷◌, length, None, arith}
+-- What a change word spells, by the parts between its colons.
+use Rattle.std.proofs.Common.{◌≡◌, refl, ℕ, zero, suc, Bool, true, false, ◌<◌, ◌==◌, List, [], ◌∷◌, length, get_or, take, drop, ◌+◌, ◌-◌}
+use Rattle.std.proofs.Common.{Option, Some, None, option_map, ℤ, pos, position, if◌then◌else◌, arith}
+use Rattle.std.proofs.lemmas.Bool.Decides.{nat_tests}
+use Rattle.std.proofs.lemmas.List.Quantifiers.{position-Some}
 use Rattle.std.proofs.lemmas.List.Splits.{length-slice_split}
 use Rattle.std.specs.List.{slice_split}
+use Rattle.std.specs.Prelude.{is_some}
+use Rattle.std.specs.Str.{all_ascii_digits}
+use Rattle.std.specs.Str.Parse.{digits_value}
+use Rattle.ordup_grammar.specs.declared.change_words.ChangeWord.{ChangeWord}
+use Rattle.ordup_grammar.specs.declared.operation.Operation.{Operation}
 use Rattle.ordup_grammar.specs.ChangeWords.{change_of, change_of_parts}
+use Rattle.ordup_grammar.specs.Numbers.{number_of, magnitude_of, negated, is_plain}
+use Rattle.ordup_grammar.specs.Operations.{operation_of}
+use Rattle.ordup_grammar.proofs.Decimals.{plain-digits}
+use Rattle.ordup_grammar.proofs.Splits.{slice_split-position, slice_split-no_position}
 
 abbrev is_colon : ℕ → Bool
 is_colon byte = byte == 58
@@ -12,12 +24,72 @@ many_parts : (kind name part : List ℕ) (parts : List (List ℕ)) → 0 < lengt
 many_parts kind name part [] some = absurd (omega (arith, some))
 many_parts kind name part (next ∷ parts) some = refl
 
--- one of four parts or more
-pub change_of-many : (word kind rest name operand part more : List ℕ)
+-- the change of this object, if there is an operation
+abbrev change_by : List ℕ → Option Operation → Option ChangeWord
+change_by name operation = if length name == 0 then None else option_map (λ o. record { object = name; operation = o }) operation
+
+either_way : (b : Bool) (c : Option ChangeWord) → (if b then c else c) ≡ c
+either_way true c = refl
+either_way false c = refl
+
+change_by_place : (word kind rest name operand : List ℕ) (place : Option ℕ)
     → slice_split is_colon word ≡ kind ∷ slice_split is_colon rest
     → slice_split is_colon rest ≡ name ∷ slice_split is_colon operand
-    → slice_split is_colon operand ≡ part ∷ slice_split is_colon more
-    → change_of word ≡ None
-change_of-many word kind rest name operand part more first second third =
+    → position is_colon operand ≡ place
+    → change_of word ≡ change_by name (if is_some place then None else operation_of kind operand)
+change_by_place word kind rest name operand None first second nowhere =
+    rw (first, second, slice_split-no_position is_colon operand nowhere) refl
+change_by_place word kind rest name operand (Some i) first second found =
+    let parts = slice_split-position is_colon operand i found in
+    let more = take (length operand - (i + 1)) (drop (i + 1) operand) in
     let some : 0 < length (slice_split is_colon more) = omega (arith, length-slice_split is_colon more) in
-    rw (first, second, third) (many_parts kind name part (slice_split is_colon more) some)
+    rw (first, second, parts, either_way (length name == 0) None) (many_parts kind name (take i operand) (slice_split is_colon more) some)
+
+-- what stands behind the second colon is the last part where it has none
+pub change_of-behind : (word kind rest name operand : List ℕ)
+    → slice_split is_colon word ≡ kind ∷ slice_split is_colon rest
+    → slice_split is_colon rest ≡ name ∷ slice_split is_colon operand
+    → change_of word ≡ change_by name (if is_some (position is_colon operand) then None else operation_of kind operand)
+change_of-behind word kind rest name operand first second =
+    change_by_place word kind rest name operand (position is_colon operand) first second refl
+
+digit_at : (digits : List ℕ) (i : ℕ) → all_ascii_digits digits ≡ true → i < length digits → is_colon (get_or digits i 0) ≡ false
+digit_at [] i all below = absurd (omega (arith, below))
+digit_at (c ∷ cs) zero all below = grind (arith, nat_tests)
+digit_at (c ∷ cs) (suc i) all below =
+    let rest : all_ascii_digits cs ≡ true = grind (arith, nat_tests) in
+    digit_at cs i rest (omega (arith, below))
+
+no_plain : (digits : List ℕ) (i : ℕ) (b : Bool) → is_plain digits ≡ b → i < length digits → is_colon (get_or digits i 0) ≡ true
+    → (if b then Some (digits_value 10 digits) else None) ≡ None
+no_plain digits i false plain below colon = refl
+no_plain digits i true plain below colon =
+    let digit = digit_at digits i (plain-digits digits plain) below in
+    absurd cc
+
+no_magnitude : (digits : List ℕ) (i : ℕ) → i < length digits → is_colon (get_or digits i 0) ≡ true → magnitude_of digits ≡ None
+no_magnitude digits i below colon = no_plain digits i (is_plain digits) refl below colon
+
+no_number : (first : ℕ) (rest : List ℕ) (i : ℕ) (b : Bool) → (first == 45) ≡ b → i < length (first ∷ rest)
+    → is_colon (get_or (first ∷ rest) i 0) ≡ true
+    → (if b then negated (magnitude_of rest) else option_map (λ n. pos n) (magnitude_of (first ∷ rest))) ≡ None
+no_number first rest zero true minus below colon = absurd (grind (arith, nat_tests))
+no_number first rest (suc i) true minus below colon = rw (no_magnitude rest i (omega (arith, below)) colon) refl
+no_number first rest i false minus below colon = rw (no_magnitude (first ∷ rest) i below colon) refl
+
+number_of-colon : (word : List ℕ) (i : ℕ) → position is_colon word ≡ Some i → number_of word ≡ None
+number_of-colon [] i found = refl
+number_of-colon (first ∷ rest) i found =
+    let at = position-Some is_colon (first ∷ rest) i 0 found in
+    no_number first rest i (first == 45) refl at.0 at.1
+
+no_place : (word : List ℕ) (z : ℤ) (place : Option ℕ) → position is_colon word ≡ place → number_of word ≡ Some z
+    → is_some place ≡ false
+no_place word z None nowhere number = refl
+no_place word z (Some i) found number =
+    let none = number_of-colon word i found in
+    absurd cc
+
+-- in a number stands no colon
+pub position-number : (word : List ℕ) (z : ℤ) → number_of word ≡ Some z → is_some (position is_colon word) ≡ false
+position-number word z number = no_place word z (position is_colon word) refl number

@@ -50,7 +50,7 @@ number_of-signed_decimal (negsuc n) small =
     rw (magnitude_of-decimal (suc n) (omega arith), some)
 
 -- what plain digits are
-plain-digits : (digits : List ℕ) → is_plain digits ≡ true → all_ascii_digits digits ≡ true
+pub plain-digits : (digits : List ℕ) → is_plain digits ≡ true → all_ascii_digits digits ≡ true
 plain-digits digits plain = grind (arith, nat_tests)
 
 plain-length : (digits : List ℕ) → is_plain digits ≡ true → (0 < length digits) × (length digits ≤ 19)

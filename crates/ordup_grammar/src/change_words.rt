@@ -1,4 +1,4 @@
-ghost use Rattle.std.specs.Prelude.{◌≡◌, [], ◌∷◌, MatchOption, if◌then◌else◌, Some, None, length};
+ghost use Rattle.std.specs.Prelude.{◌≡◌, [], ◌∷◌, ◌==◌, false, MatchOption, if◌then◌else◌, Some, None, length};
 ghost use Rattle.ordup_grammar.specs.ChangeWords.{are_changes, change_of, changes_of};
 
 use crate::operation::Operation;
@@ -17,15 +17,14 @@ pub struct ChangeWord<'a> {
 
 impl<'a> ChangeWord<'a> {
     /// The change that a word spells: a kind, an object of at least one byte and an operand, between colons.
+    // Inlined, as the calls below: a change that a call answers is written in parts and read back as wider ones.
+    #[inline(always)]
     pub fn parse(word: &Word<'a>) -> Option<ChangeWord<'a>>
         ensures { result ≡ change_of word.now }
     {
         let (kind, rest) = split_once(word.as_bytes(), b':')?;
         let (object, operand) = split_once(rest, b':')?;
         if object.is_empty() {
-            return None;
-        }
-        if let Some((_part, _more)) = split_once(operand, b':') {
             return None;
         }
         let operation = Operation::parse(kind, operand)?;
@@ -94,7 +93,20 @@ impl<'a> ChangeWords<'a> {
         self.count
     }
 
+    /// The change, where there is exactly one.
+    #[inline(always)]
+    pub fn only(&self) -> Option<ChangeWord<'a>>
+        ensures { MatchOption result ((length self.now == 1) ≡ false) (λ change. self.now ≡ change ∷ []) }
+    {
+        if self.count != 1 {
+            return None;
+        }
+        let (change, _rest) = self.split_first()?;
+        Some(change)
+    }
+
     /// The first change and those after it, if there is one.
+    #[inline(always)]
     pub fn split_first(&self) -> Option<(ChangeWord<'a>, ChangeWords<'a>)>
         ensures { MatchOption result (self.now ≡ []) (λ found. self.now ≡ found.0 ∷ found.1) }
     {

@@ -1,7 +1,8 @@
-ghost use Rattle.std.specs.Prelude.{◌≡◌};
+ghost use Rattle.std.specs.Prelude.{◌≡◌, ◌==◌, None, is_some, position, if◌then◌else◌};
 ghost use Rattle.ordup_grammar.specs.Operations.{number_op_of, operation_of};
 
 use crate::number::Number;
+use crate::position::position_of;
 use crate::word::Word;
 use ordup_objects::NumberOp;
 
@@ -15,12 +16,13 @@ pub enum Operation<'a> {
 }
 
 impl<'a> Operation<'a> {
-    /// The operation that the first and the last part of a change word spell.
+    /// The operation that the first part of a change word spells with what stands behind its second colon. That is one part where
+    /// it has no colon; a number has none.
     pub(crate) fn parse(kind: &[u8], operand: &'a [u8]) -> Option<Operation<'a>>
-        ensures { result ≡ operation_of kind.now operand.now }
+        ensures { result ≡ (if is_some (position (λ byte. byte == 58) operand.now) then None else operation_of kind.now operand.now) }
     {
         if kind == b"take".as_slice() {
-            return if operand.is_empty() {
+            return if operand.is_empty() || position_of(operand, b':').is_some() {
                 None
             } else {
                 Some(Operation::Take(Word::new(operand)))

@@ -30,26 +30,21 @@ fn append(log: &mut Log, set: MessageSet) -> Result<u64, Refusal> {
 }
 
 /// Appends the update that adds a number to x.
-pub(crate) fn add(
-    alloc: Global,
-    objects: &ObjectTable,
-    log: &mut Log,
-    n: i64,
-) -> Result<u64, Refusal> {
+pub(crate) fn add(objects: &ObjectTable, log: &mut Log, n: i64) -> Result<u64, Refusal> {
     let change = Change {
         object: ObjectId::new(0),
         op: Op::Add(n),
     };
-    append(log, set_of(alloc, objects, &[change])?)
+    append(log, MessageSet::single(objects, change)?)
 }
 
 /// The log over x and y in which 3 is added to x, then -3, and then 0.
 fn up_and_down(alloc: Global) -> Result<Log, Refusal> {
     let objects = x_and_y(alloc)?;
     let mut log = Log::new(alloc, &objects)?;
-    add(alloc, &objects, &mut log, 3)?;
-    add(alloc, &objects, &mut log, -3)?;
-    add(alloc, &objects, &mut log, 0)?;
+    add(&objects, &mut log, 3)?;
+    add(&objects, &mut log, -3)?;
+    add(&objects, &mut log, 0)?;
     Ok(log)
 }
 
@@ -152,10 +147,10 @@ fn a_log_has_at_most_1000000_updates(rt: HostRuntime) -> Result<(), Fail> {
     let objects = x_and_y(rt.alloc())?;
     let mut log = Log::new(rt.alloc(), &objects)?;
     for place in 0..1_000_000u64 {
-        let number = add(rt.alloc(), &objects, &mut log, 0);
+        let number = add(&objects, &mut log, 0);
         assert_eq!(rt; number, Ok(place + 1));
     }
-    let refused = add(rt.alloc(), &objects, &mut log, 0);
+    let refused = add(&objects, &mut log, 0);
     assert_eq!(rt; refused, Err(Refusal::LogFull));
     // It would be out of range too, but a log that is full comes first.
     let refused = append_out_of_range(rt.alloc(), &objects, &mut log);

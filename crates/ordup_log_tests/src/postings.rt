@@ -10,8 +10,8 @@ use std::test::Fail;
 fn to_and_fro(alloc: Global, objects: &ObjectTable) -> Result<Log, Refusal> {
     let mut log = Log::new(alloc, objects)?;
     for _pair in 0..5_000 {
-        add(alloc, objects, &mut log, 1)?;
-        add(alloc, objects, &mut log, -1)?;
+        add(objects, &mut log, 1)?;
+        add(objects, &mut log, -1)?;
     }
     Ok(log)
 }
@@ -49,9 +49,9 @@ fn running_weights_are_those_as_of_a_place(rt: HostRuntime) -> Result<(), Fail> 
     let objects = x_and_y(rt.alloc())?;
     let mut log = Log::new(rt.alloc(), &objects)?;
     // 3 up, no way, and 2 down.
-    add(rt.alloc(), &objects, &mut log, 3)?;
-    add(rt.alloc(), &objects, &mut log, 0)?;
-    add(rt.alloc(), &objects, &mut log, -2)?;
+    add(&objects, &mut log, 3)?;
+    add(&objects, &mut log, 0)?;
+    add(&objects, &mut log, -2)?;
     assert!(rt; log.len() == 3);
     let (x, z) = (ObjectId::new(0), ObjectId::new(2));
     assert_eq!(rt; log.running_weight(x, 0), 0);

@@ -76,6 +76,9 @@ impl<A: Allocator + Copy> MessageSet<A> {
         ensures allowed { IfOk result (λ _. set_refusal (length objects.now) changes.items ≡ None) }
         ensures refused { IfErr result (λ e. set_refusal (length objects.now) changes.items ≡ Some e) }
     {
+        if let [change] = changes.as_slice() {
+            return MessageSet::single(objects, *change);
+        }
         if !are_known(objects.len(), &changes) {
             return Err(Refusal::UnknownObject);
         }
@@ -91,11 +94,29 @@ impl<A: Allocator + Copy> MessageSet<A> {
         if has_repeat(&changes) {
             return Err(Refusal::Repeated);
         }
-        let changes = match changes.as_slice() {
-            [change] => Changes::One([*change]),
-            _ => Changes::Many(changes),
-        };
-        Ok(MessageSet { changes })
+        Ok(MessageSet {
+            changes: Changes::Many(changes),
+        })
+    }
+
+    /// The set of a single change. It takes no memory.
+    ///
+    /// It is refused `UnknownObject` where an object is not in the table, and `OutOfRange` where the number is out of range.
+    pub fn single(objects: &ObjectTable<A>, change: Change) -> Result<Self, Refusal>
+        ensures set { IfOk result (λ set. set ≡ change ∷ []) }
+        ensures known { IfOk result (λ set. AreKnown (length objects.now) set) }
+        ensures allowed { IfOk result (λ _. set_refusal (length objects.now) (change ∷ []) ≡ None) }
+        ensures refused { IfErr result (λ e. set_refusal (length objects.now) (change ∷ []) ≡ Some e) }
+    {
+        if !is_known(objects.len(), &change) {
+            return Err(Refusal::UnknownObject);
+        }
+        if !has_number_in_range(&change) {
+            return Err(Refusal::OutOfRange);
+        }
+        Ok(MessageSet {
+            changes: Changes::One([change]),
+        })
     }
 
     /// The same set once more. It is refused `NoMemory` alone.

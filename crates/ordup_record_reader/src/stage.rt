@@ -52,12 +52,7 @@ fn open(alloc: Global, c: &RowColumns<'_>) -> Option<Stage>
 }
 
 /// Takes a row that is not the first, where it may stand there, and answers whether it did.
-fn go_on(
-    alloc: Global,
-    decided: u64,
-    so_far: &mut Told,
-    c: &RowColumns<'_>,
-) -> Result<bool, AllocError>
+fn go_on(decided: u64, so_far: &mut Told, c: &RowColumns<'_>) -> Result<bool, AllocError>
     requires { AreUpdatesKnown (told_of so_far.old) }
     ensures { IfOk result (λ is_taken. then_some is_taken (told decided (told_of so_far.new))
         ≡ option_and_then (λ kind. option_map (λ r. told decided r) (with_row decided (told_of so_far.old) kind (columns_view c.now)))
@@ -66,7 +61,7 @@ fn go_on(
     let Some(kind) = RowKind::parse(c.kind) else {
         return Ok(false);
     };
-    so_far.add_row(alloc, decided, kind, c)
+    so_far.add_row(decided, kind, c)
 }
 
 /// Takes a row, where it may stand there, and answers whether it did.
@@ -86,6 +81,6 @@ pub fn take_row(alloc: Global, stage: &mut Stage, row: &ByteRecord) -> Result<bo
             }
             None => Ok(false),
         },
-        Stage::Told { decided, told } => go_on(alloc, *decided, told, &columns),
+        Stage::Told { decided, told } => go_on(*decided, told, &columns),
     }
 }

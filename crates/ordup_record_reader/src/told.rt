@@ -16,7 +16,7 @@ use ordup_objects::{Change, MessageSet, Name, ObjectTable, Refusal};
 use ordup_record::ReportChange;
 use ordup_rounds::Window;
 use ordup_rows::RowKind;
-use std::alloc::{AllocError, Global};
+use std::alloc::AllocError;
 
 /// The most windows of a record.
 const MOST_WINDOWS: usize = 1_000_000;
@@ -169,7 +169,6 @@ impl Told {
     /// Takes the first change of an update.
     fn add_first_change(
         &mut self,
-        alloc: Global,
         decided: u64,
         c: &RowColumns<'_>,
         change: Change,
@@ -180,8 +179,7 @@ impl Told {
         if !self.is_before_reports() || place >= decided || !writes(c.first, place + 1) {
             return Ok(false);
         }
-        let changes = Vec::from_slice(alloc, &[change])?;
-        let Ok(set) = MessageSet::new(&self.objects, changes) else {
+        let Ok(set) = MessageSet::single(&self.objects, change) else {
             return Ok(false);
         };
         self.sets.push(set)?;
@@ -211,7 +209,6 @@ impl Told {
     /// Takes this change of a row.
     fn add_any_change(
         &mut self,
-        alloc: Global,
         decided: u64,
         c: &RowColumns<'_>,
         change: Change,
@@ -220,7 +217,7 @@ impl Told {
         ensures { Takes result self.new (with_any_change decided (told_of self.old) (columns_view c.now) change) }
     {
         if writes(c.second, 1) {
-            self.add_first_change(alloc, decided, c, change)
+            self.add_first_change(decided, c, change)
         } else if self.sets.is_empty() {
             Ok(false)
         } else {
@@ -229,19 +226,14 @@ impl Told {
     }
 
     /// Takes the change of a row.
-    fn add_change(
-        &mut self,
-        alloc: Global,
-        decided: u64,
-        c: &RowColumns<'_>,
-    ) -> Result<bool, AllocError>
+    fn add_change(&mut self, decided: u64, c: &RowColumns<'_>) -> Result<bool, AllocError>
         requires { AreUpdatesKnown (told_of self.old) }
         ensures { Takes result self.new (with_change_row decided (told_of self.old) (columns_view c.now)) }
     {
         let Some(change) = change(&self.objects, c.third) else {
             return Ok(false);
         };
-        self.add_any_change(alloc, decided, c, change)
+        self.add_any_change(decided, c, change)
     }
 
     /// The place of the last report change, 0 where there is none.
@@ -357,7 +349,6 @@ impl Told {
     /// Takes a row of a kind.
     pub fn add_row(
         &mut self,
-        alloc: Global,
         decided: u64,
         kind: RowKind,
         c: &RowColumns<'_>,
@@ -369,7 +360,7 @@ impl Told {
             RowKind::Object => self.add_object(c),
             RowKind::Member => self.add_member(c),
             RowKind::Limit => self.add_limit(c),
-            RowKind::Change => self.add_change(alloc, decided, c),
+            RowKind::Change => self.add_change(decided, c),
             RowKind::Report => self.add_report(decided, c),
             RowKind::Round => self.add_round(decided, c),
             RowKind::Window => self.add_window(decided, c),

@@ -70,21 +70,12 @@ pub fn x_y_and_z(rt: &impl Abort, alloc: Global) -> ObjectTable {
 }
 
 /// The set that adds a number to an object.
-pub fn add(
-    rt: &impl Abort,
-    alloc: Global,
-    objects: &ObjectTable,
-    object: ObjectId,
-    n: i64,
-) -> MessageSet {
+pub fn add(rt: &impl Abort, objects: &ObjectTable, object: ObjectId, n: i64) -> MessageSet {
     let change = Change {
         object,
         op: Op::Add(n),
     };
-    let Ok(changes) = Vec::from_slice(alloc, &[change]) else {
-        panic!(rt; "there is no memory for a change")
-    };
-    let Ok(set) = MessageSet::new(objects, changes) else {
+    let Ok(set) = MessageSet::single(objects, change) else {
         panic!(rt; "the set is refused")
     };
     set

@@ -135,8 +135,8 @@ fn an_update_is_acknowledged_and_read(rt: HostRuntime) -> Result<(), Fail> {
     let alloc = rt.alloc();
     let cluster = opened(alloc, Scope::Object(x()), 5)?;
     let objects = x_y_and_z(&rt, alloc);
-    let set = add(&rt, alloc, &objects, x(), 3);
-    let other = add(&rt, alloc, &objects, x(), 1);
+    let set = add(&rt, &objects, x(), 3);
+    let other = add(&rt, &objects, x(), 1);
     follow(&rt, &cluster, set, other);
     close(&rt, cluster, 1, &[]);
     Ok(())
@@ -147,7 +147,7 @@ fn a_round_waits_for_its_report(rt: HostRuntime) -> Result<(), Fail> {
     let alloc = rt.alloc();
     let cluster = opened(alloc, Scope::All, 0)?;
     let objects = x_y_and_z(&rt, alloc);
-    let set = add(&rt, alloc, &objects, x(), 1);
+    let set = add(&rt, &objects, x(), 1);
     wait_in_vain(&rt, &cluster, set);
     close(&rt, cluster, 0, &[Window { from: 0, to: 1 }]);
     Ok(())
@@ -158,7 +158,7 @@ fn a_round_ends_with_its_report(rt: HostRuntime) -> Result<(), Fail> {
     let alloc = rt.alloc();
     let cluster = opened(alloc, Scope::All, 0)?;
     let objects = x_y_and_z(&rt, alloc);
-    let set = add(&rt, alloc, &objects, x(), 1);
+    let set = add(&rt, &objects, x(), 1);
     wait_for_the_report(&rt, &cluster, set);
     close(&rt, cluster, 1, &[Window { from: 0, to: 1 }]);
     Ok(())

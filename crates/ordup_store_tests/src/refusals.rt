@@ -116,9 +116,9 @@ fn what_is_refused_has_no_number(rt: HostRuntime) -> Result<(), Fail> {
     let alloc = rt.alloc();
     let cluster = opened(alloc, Scope::Object(x()), 5)?;
     let objects = x_y_and_z(&rt, alloc);
-    let unknown = add(&rt, alloc, &objects, z(), 1);
-    let too_great = add(&rt, alloc, &objects, y(), 1_000_000_000);
-    let set = add(&rt, alloc, &objects, x(), 3);
+    let unknown = add(&rt, &objects, z(), 1);
+    let too_great = add(&rt, &objects, y(), 1_000_000_000);
+    let set = add(&rt, &objects, x(), 3);
     assert_eq!(rt;
         propose(&rt, &cluster, unknown),
         Err(Refusal::UnknownObject)
@@ -136,7 +136,7 @@ fn a_query_reads_within_its_limit(rt: HostRuntime) -> Result<(), Fail> {
     let alloc = rt.alloc();
     let cluster = opened(alloc, Scope::Object(x()), 5)?;
     let objects = x_y_and_z(&rt, alloc);
-    let set = add(&rt, alloc, &objects, x(), 3);
+    let set = add(&rt, &objects, x(), 3);
     assert_eq!(rt; propose(&rt, &cluster, set), Ok(1));
     read_within_2(&rt, &cluster);
     Ok(())

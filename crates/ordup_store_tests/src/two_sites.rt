@@ -74,7 +74,7 @@ fn a_session_never_goes_back(rt: HostRuntime) -> Result<(), Fail> {
     let alloc = rt.alloc();
     let cluster = opened_pair(alloc)?;
     let objects = x_y_and_z(&rt, alloc);
-    let set = add(&rt, alloc, &objects, x(), 3);
+    let set = add(&rt, &objects, x(), 3);
     apply_at_a(&rt, &cluster, set);
     read_at_b_and_settle(&rt, &cluster);
     read_at_a_and_then_b(&rt, &cluster);

@@ -29,26 +29,18 @@ fn x_y_and_a(alloc: Global) -> Result<Setup, Refusal> {
 }
 
 /// The message set of one change, of the object at this place.
-pub(crate) fn set_of(
-    alloc: Global,
-    objects: &ObjectTable,
-    object: u16,
-    op: Op,
-) -> Result<MessageSet, Refusal> {
+pub(crate) fn set_of(objects: &ObjectTable, object: u16, op: Op) -> Result<MessageSet, Refusal> {
     let change = Change {
         object: ObjectId::new(object),
         op,
     };
-    match Vec::from_slice(alloc, &[change]) {
-        Ok(changes) => MessageSet::new(objects, changes),
-        Err(_) => Err(Refusal::NoMemory),
-    }
+    MessageSet::single(objects, change)
 }
 
 /// Two updates, each with its settlement: 3 is added to x, and y becomes 14.
 fn two_updates(alloc: Global, objects: &ObjectTable) -> Result<Vec<Event>, Refusal> {
-    let first = set_of(alloc, objects, 0, Op::Add(3))?;
-    let second = set_of(alloc, objects, 1, Op::Set(14))?;
+    let first = set_of(objects, 0, Op::Add(3))?;
+    let second = set_of(objects, 1, Op::Set(14))?;
     let events = [
         Event::Propose(first),
         Event::Settle,
@@ -82,7 +74,7 @@ fn declare_x_within_5(setup: &mut Setup) -> Result<(), Refusal> {
 fn there_and_back(alloc: Global, objects: &ObjectTable) -> Result<Vec<Event>, Refusal> {
     let mut events = Vec::new(alloc);
     for n in [3, -4, 2] {
-        let set = set_of(alloc, objects, 0, Op::Add(n))?;
+        let set = set_of(objects, 0, Op::Add(n))?;
         if events.push(Event::Propose(set)).is_err() {
             return Err(Refusal::NoMemory);
         }

@@ -99,7 +99,7 @@ fn of_z(alloc: Global) -> Result<Event, Refusal> {
     objects.declare(b"x", 0)?;
     objects.declare(b"y", 0)?;
     objects.declare(b"z", 0)?;
-    Ok(Event::Propose(set_of(alloc, &objects, 2, Op::Add(1))?))
+    Ok(Event::Propose(set_of(&objects, 2, Op::Add(1))?))
 }
 
 /// Whether a read of this object is refused, since it is not there.

@@ -57,6 +57,7 @@ pub fn set_in<A: Allocator + Copy>(
 ) -> Result<MessageSet<A>, Refusal>
     ensures { Gives (set_in objects.now words.now) result }
 {
+    // Most sets have a single change, and need no list.
     if let Some(word) = words.only() {
         return MessageSet::single(objects, change_in(objects, &word));
     }

@@ -45,11 +45,15 @@ pub(crate) fn do_job<T: Threads + Wait + Sync, R: Read, W: Write>(
 }
 
 /// Runs a script and prints its answers.
+// What a script came to is dropped by a call, as what the jobs below made is: where it goes out of scope, the proof takes it apart.
 fn run<R: Read, W: Write>(alloc: Global, input: &mut R, output: &mut W) -> Outcome
     ensures { Answers (R.remaining input.old) (R.remaining input.new) (W.contents output.old) (W.contents output.new) result }
 {
     match run_script(alloc, input, output) {
-        Ok(_) => Ok(DONE),
+        Ok(end) => {
+            drop(end);
+            Ok(DONE)
+        }
         Err(fault) => Err(Fault::of_script(fault)),
     }
 }
@@ -64,8 +68,15 @@ fn print_record<R: Read, W: Write>(
     ensures { Records site.now (R.remaining input.old) (R.remaining input.new) (W.contents output.old) (W.contents output.new) result }
 {
     match run_script(alloc, input, &mut io::sink()) {
-        Ok(ScriptEnd::Running(world)) => print_site(alloc, site, world.primary(), output),
-        Ok(ScriptEnd::Declared(_)) => Err(Fault::NotStarted),
+        Ok(ScriptEnd::Running(world)) => {
+            let printed = print_site(alloc, site, world.primary(), output);
+            drop(world);
+            printed
+        }
+        Ok(ScriptEnd::Declared(setup)) => {
+            drop(setup);
+            Err(Fault::NotStarted)
+        }
         Err(fault) => Err(Fault::of_script(fault)),
     }
 }
@@ -78,7 +89,11 @@ fn print_site<W: Write>(alloc: Global, site: &[u8], primary: &Primary, output: &
         return Err(Fault::UnknownSite);
     };
     match record_of(alloc, primary, site) {
-        Ok(shown) => print_rows(alloc, &shown, output),
+        Ok(shown) => {
+            let printed = print_rows(alloc, &shown, output);
+            drop(shown);
+            printed
+        }
         Err(_) => Err(Fault::NoMemory),
     }
 }
@@ -99,7 +114,11 @@ fn check_record<R: Read, W: Write>(alloc: Global, input: &mut R, output: &mut W)
     ensures { Checks (R.remaining input.old) (W.contents output.old) (W.contents output.new) result }
 {
     match read_record(alloc, input) {
-        Ok(read) => print_verdict(alloc, check(&read), output),
+        Ok(read) => {
+            let verdict = check(&read);
+            drop(read);
+            print_verdict(alloc, verdict, output)
+        }
         Err(fault) => Err(Fault::of_reading(fault)),
     }
 }

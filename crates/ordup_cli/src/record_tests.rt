@@ -27,27 +27,27 @@ fn site_of(record: &[u8]) -> Option<&str> {
 
 #[test]
 fn records_are_printed_and_checked_as_their_transcripts_say(rt: HostRuntime) -> Result<(), Fail> {
-    for (name, transcript) in ROWS {
+    for row in ROWS.split("\n\n") {
         let mut script = Vec::new(rt.alloc());
         let mut record = Vec::new(rt.alloc());
-        for line in transcript.lines() {
+        for line in row.lines() {
             match line.as_bytes() {
                 [b'>', b' ', command @ ..] => push_line(&mut script, command)?,
                 [b'|', b' ', row @ ..] => push_line(&mut record, row)?,
                 [b'=', b' ', verdict @ ..] => {
                     let site = site_of(&record).ok_or("no site")?;
                     let printed = run_on(&rt, &["ordup", "record", site], &script);
-                    assert!(rt; printed.is(0, &record, b""), "{name}: the record");
+                    assert!(rt; printed.is(0, &record, b""), "the record: {row}");
                     let mut said = Vec::new(rt.alloc());
                     push_line(&mut said, verdict)?;
                     let checked = run_on(&rt, &["ordup", "check"], &record);
-                    assert!(rt; says(&checked, &said), "{name}: the check");
+                    assert!(rt; says(&checked, &said), "the check: {row}");
                     record.clear();
                 }
                 _ => {}
             }
         }
-        assert!(rt; record.is_empty(), "{name}: a record is not checked");
+        assert!(rt; record.is_empty(), "a record is not checked: {row}");
     }
     Ok(())
 }

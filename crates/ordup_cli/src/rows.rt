@@ -1,16 +1,17 @@
 //! Rows of scripts that no page shows: what each line is answered, as a person works it out. To add one, write its name and
 //! its transcript.
 
-/// A name, and a transcript: a line that begins with `> ` is a line of the script, any other is the answer that must come
-/// there. Each transcript is a script of its own.
+/// Rows, with an empty line between two of them: a line that begins with `# ` and names the row, and then its transcript. A line
+/// that begins with `> ` is a line of the script, any other is the answer that must come there. Each transcript is a script of its
+/// own.
 ///
 /// Lines that begin with `| ` are the record of a site after the lines of the script up to there, and the line after them, which
 /// begins with `= `, is what the check says of that record.
-pub(crate) const ROWS: [(&str, &str); 39] = [
-    ("An empty script", ""),
-    (
-        "Equal is not over, one more is, and a late report cancels no round",
-        "\
+// One text: a table of 39 takes the prover minutes.
+pub(crate) const ROWS: &str = "\
+# An empty script
+
+# Equal is not over, one more is, and a late report cancels no round
 > object x 0
 ok object x
 > object y 10
@@ -73,11 +74,8 @@ ok show a sent 2 applied 2 reported 2 rounds 1 x=6 y=10
 = yes 1
 > certify a
 ok certified a 1 0-2
-",
-    ),
-    (
-        "A report in time",
-        "\
+
+# A report in time
 > object x 0
 ok object x
 > object y 10
@@ -114,11 +112,8 @@ ok certified a 0
 | change,2,1,add:x:1
 | report,2,1,-
 = yes 0
-",
-    ),
-    (
-        "The head counts though it is not acknowledged",
-        "\
+
+# The head counts though it is not acknowledged
 > object x 0
 ok object x
 > object y 10
@@ -157,11 +152,8 @@ ok certified a 1 1-2
 | round,1,2,-
 | window,1,1,2
 = yes 1
-",
-    ),
-    (
-        "The path, not the net change",
-        "\
+
+# The path, not the net change
 > object x 0
 ok object x
 > object y 10
@@ -193,11 +185,8 @@ ok certified a 1 0-2
 | round,1,2,-
 | window,1,0,2
 = yes 1
-",
-    ),
-    (
-        "A group adds up",
-        "\
+
+# A group adds up
 > object x 0
 ok object x
 > object y 10
@@ -232,11 +221,8 @@ ok show a sent 0 applied 0 reported 0 rounds 1 x=0 y=10
 | round,1,2,-
 | window,1,0,2
 = yes 1
-",
-    ),
-    (
-        "A count of updates",
-        "\
+
+# A count of updates
 > object x 0
 ok object x
 > object y 10
@@ -273,11 +259,8 @@ ok certified a 1 0-3
 | round,1,3,-
 | window,1,0,3
 = yes 1
-",
-    ),
-    (
-        "A count of updates that move nothing",
-        "\
+
+# A count of updates that move nothing
 > object x 0
 ok object x
 > object y 10
@@ -298,11 +281,8 @@ refused 9 OutOfRange
 ok proposed 2
 > settle
 ok round 2 a
-",
-    ),
-    (
-        "The sum over all objects",
-        "\
+
+# The sum over all objects
 > object x 0
 ok object x
 > object y 10
@@ -321,11 +301,8 @@ ok acked 1
 ok proposed 2
 > settle
 ok round 2 a
-",
-    ),
-    (
-        "Several limits of one site",
-        "\
+
+# Several limits of one site
 > object x 0
 ok object x
 > object y 10
@@ -352,11 +329,8 @@ ok acked 2
 ok proposed 3
 > settle
 ok round 3 a
-",
-    ),
-    (
-        "Two groups that share a member",
-        "\
+
+# Two groups that share a member
 > object x 0
 ok object x
 > object y 10
@@ -409,11 +383,8 @@ ok acked 3
 ok proposed 4
 > settle
 ok round 4 a
-",
-    ),
-    (
-        "The greatest weights",
-        "\
+
+# The greatest weights
 > object x 1000000000
 ok object x
 > object y 1000000000
@@ -463,11 +434,8 @@ ok round 1 a c e
 | round,1,1,-
 | window,1,0,1
 = yes 1
-",
-    ),
-    (
-        "A swap reads the values before the set",
-        "\
+
+# A swap reads the values before the set
 > object x 0
 ok object x
 > object y 10
@@ -488,11 +456,8 @@ ok show a sent 1 applied 1 reported 0 rounds 0 x=10 y=0
 | object,1,x,0
 | object,2,y,10
 = yes 0
-",
-    ),
-    (
-        "A swap weighs what both values travel",
-        "\
+
+# A swap weighs what both values travel
 > object x 0
 ok object x
 > object y 10
@@ -520,11 +485,8 @@ ok round 1 b
 | round,1,1,-
 | window,1,0,1
 = yes 1
-",
-    ),
-    (
-        "A site ahead of what is acknowledged",
-        "\
+
+# A site ahead of what is acknowledged
 > object x 0
 ok object x
 > object y 10
@@ -563,11 +525,8 @@ ok certified a 1 1-2
 | round,1,2,-
 | window,1,1,2
 = yes 1
-",
-    ),
-    (
-        "Applied and not reported",
-        "\
+
+# Applied and not reported
 > object x 0
 ok object x
 > object y 10
@@ -596,11 +555,8 @@ ok reported a 1
 ok show a sent 1 applied 1 reported 1 rounds 1 x=5 y=10
 > settle
 ok waiting 2 a
-",
-    ),
-    (
-        "Applied again after a report",
-        "\
+
+# Applied again after a report
 > object x 0
 ok object x
 > object y 10
@@ -635,11 +591,8 @@ ok proposed 3
 ok show a sent 2 applied 2 reported 1 rounds 0 x=6 y=10
 > settle
 ok round 3 a
-",
-    ),
-    (
-        "Updates are acknowledged one at a time, in order",
-        "\
+
+# Updates are acknowledged one at a time, in order
 > object x 0
 ok object x
 > object y 10
@@ -680,11 +633,8 @@ ok show a sent 0 applied 0 reported 0 rounds 1 x=0 y=10
 | round,1,3,-
 | window,1,0,3
 = yes 1
-",
-    ),
-    (
-        "Only forced sites are waited for",
-        "\
+
+# Only forced sites are waited for
 > object x 0
 ok object x
 > site a 4
@@ -715,11 +665,8 @@ ok show b sent 1 applied 1 reported 1 rounds 1 x=3
 ok acked 1
 > settle
 refused 17 NothingToSettle
-",
-    ),
-    (
-        "Forced sites, in order of declaration",
-        "\
+
+# Forced sites, in order of declaration
 > object x 0
 ok object x
 > site west 4
@@ -770,11 +717,8 @@ ok show west sent 1 applied 1 reported 1 rounds 1 x=3
 ok show north sent 0 applied 0 reported 0 rounds 1 x=0
 > show south
 ok show south sent 0 applied 0 reported 0 rounds 0 x=0
-",
-    ),
-    (
-        "A query with an import limit",
-        "\
+
+# A query with an import limit
 > object x 0
 ok object x
 > object y 10
@@ -809,11 +753,8 @@ ok applied a 2
 refused 20 OverImport
 > end q
 ok end q place 1 sum 3 total 3 reads 2
-",
-    ),
-    (
-        "Queries that are refused",
-        "\
+
+# Queries that are refused
 > object x 0
 ok object x
 > object y 10
@@ -844,11 +785,8 @@ refused 4 BadName
 refused 8 UnknownSite
 > begin q a 1000000000000000001
 refused 9 OutOfRange
-",
-    ),
-    (
-        "Each query reads its own site",
-        "\
+
+# Each query reads its own site
 > object x 0
 ok object x
 > site near 4
@@ -879,11 +817,8 @@ ok end q place 1 sum 3 total 0 reads 1
 refused 20 OverImport
 > abandon r
 ok abandoned r
-",
-    ),
-    (
-        "Imports are paths too",
-        "\
+
+# Imports are paths too
 > object x 0
 ok object x
 > object y 10
@@ -912,11 +847,8 @@ ok begun r 2
 ok read r x value 0 import 8 total 8
 > end r
 ok end r place 2 sum 0 total 8 reads 1
-",
-    ),
-    (
-        "A reference that stays",
-        "\
+
+# A reference that stays
 > object x 0
 ok object x
 > object y 10
@@ -951,11 +883,8 @@ ok begun r 1
 ok read r x value 9 import 0 total 0
 > end q
 ok end q place 0 sum 19 total 9 reads 2
-",
-    ),
-    (
-        "Queries keep their references and sums apart",
-        "\
+
+# Queries keep their references and sums apart
 > object x 0
 ok object x
 > object y 10
@@ -988,11 +917,8 @@ refused 20 OverImport
 ok end p place 0 sum 0 total 24 reads 2
 > end q
 ok end q place 1 sum -7 total 0 reads 1
-",
-    ),
-    (
-        "Message sets that are refused",
-        "\
+
+# Message sets that are refused
 > object x 0
 ok object x
 > object y 10
@@ -1025,11 +951,8 @@ ok sent a 1
 ok applied a 1
 > show a
 ok show a sent 1 applied 1 reported 0 rounds 0 x=1 y=10
-",
-    ),
-    (
-        "Changes that are no changes",
-        "\
+
+# Changes that are no changes
 > object x 0
 ok object x
 > object y 10
@@ -1070,11 +993,8 @@ refused 6 UnknownObject
 refused 9 OutOfRange
 > propose take:x:x
 ok proposed 1
-",
-    ),
-    (
-        "Numbers and results at their edges",
-        "\
+
+# Numbers and results at their edges
 > object x -10
 ok object x
 > object y 0
@@ -1115,11 +1035,8 @@ ok sent a 1
 ok applied a 1
 > show a
 ok show a sent 1 applied 1 reported 0 rounds 0 x=-10 y=0
-",
-    ),
-    (
-        "Amounts",
-        "\
+
+# Amounts
 > object x 0
 ok object x
 > object y 10
@@ -1136,11 +1053,8 @@ refused 1 Syntax
 ok start
 > begin q a 9999999999999999999
 refused 9 OutOfRange
-",
-    ),
-    (
-        "1 before 2 and 3, whatever else is wrong",
-        "\
+
+# 1 before 2 and 3, whatever else is wrong
 > send
 refused 1 Syntax
 > read q x y
@@ -1181,20 +1095,14 @@ refused 1 Syntax
 refused 8 UnknownSite
 > certify a
 ok certified a 0
-",
-    ),
-    (
-        "A tab is no space",
-        "\
+
+# A tab is no space
 > object\tx 1
 refused 1 Syntax
 > object x 1\t
 refused 1 Syntax
-",
-    ),
-    (
-        "A limit on each scope, and one alone",
-        "\
+
+# A limit on each scope, and one alone
 > object x 0
 ok object x
 > group g x
@@ -1217,11 +1125,8 @@ refused 12 Repeated
 ok limit a
 > limit a all 2
 refused 12 Repeated
-",
-    ),
-    (
-        "An object that comes again further on",
-        "\
+
+# An object that comes again further on
 > object x 0
 ok object x
 > object y 0
@@ -1234,20 +1139,14 @@ ok site a
 ok start
 > propose add:x:1 add:y:1 add:x:2
 refused 12 Repeated
-",
-    ),
-    (
-        "A number below 0 is no capacity",
-        "\
+
+# A number below 0 is no capacity
 > object x -5
 ok object x
 > site s -1
 refused 9 OutOfRange
-",
-    ),
-    (
-        "A result is out of range after updates that are not acknowledged",
-        "\
+
+# A result is out of range after updates that are not acknowledged
 > object x 0
 ok object x
 > site a 4
@@ -1260,11 +1159,8 @@ ok proposed 1
 refused 9 OutOfRange
 > propose add:x:-1
 ok proposed 2
-",
-    ),
-    (
-        "Bytes at the edges of what is printed",
-        "\
+
+# Bytes at the edges of what is printed
 > # \x1f \x7f \u{e9} in a comment
 > object x~ 1
 refused 4 BadName
@@ -1274,11 +1170,8 @@ refused 1 Syntax
 refused 1 Syntax
 > object x\u{e9} 1
 refused 1 Syntax
-",
-    ),
-    (
-        "A word too many",
-        "\
+
+# A word too many
 > object x 0
 ok object x
 > site a 4
@@ -1307,11 +1200,8 @@ refused 1 Syntax
 refused 1 Syntax
 > end q
 ok end q place 0 sum 0 total 0 reads 0
-",
-    ),
-    (
-        "A word that is no name is no query",
-        "\
+
+# A word that is no name is no query
 > object x 0
 ok object x
 > site a 4
@@ -1324,6 +1214,4 @@ refused 18 UnknownQuery
 refused 18 UnknownQuery
 > abandon Q
 refused 18 UnknownQuery
-",
-    ),
-];
+";

@@ -9,10 +9,20 @@ use std::process::Abort;
 use std::test::Fail;
 
 /// A primary of what the fixture declares.
-fn first_primary(alloc: Global) -> Result<Primary, Refusal> {
+fn first_primary(rt: &impl Abort, alloc: Global) -> Result<Primary, Refusal> {
     let mut setup = Setup::new(alloc);
-    declare(&mut setup)?;
+    let Ok(()) = declare(&mut setup) else {
+        panic!(rt; "the declarations are refused")
+    };
     Primary::new(alloc, setup)
+}
+
+/// A site of what a primary has at the start.
+fn first_site(rt: &impl Abort, alloc: Global, primary: &Primary) -> Site {
+    let Ok(site) = Site::new(alloc, primary.setup().objects()) else {
+        panic!(rt; "there is no memory for a site")
+    };
+    site
 }
 
 /// Proposes the update that adds a number to x, and notes that it was sent to the first site.
@@ -58,24 +68,29 @@ fn agrees(rt: &impl Abort, alloc: Global, primary: &Primary, replica: &Site) -> 
 #[test]
 fn a_site_agrees_where_it_holds_what_it_applied(rt: HostRuntime) -> Result<(), Fail> {
     let alloc = rt.alloc();
-    let mut primary = first_primary(alloc)?;
-    let mut replica = Site::new(alloc, primary.setup().objects())?;
+    let mut primary = first_primary(&rt, alloc)?;
+    let mut replica = first_site(&rt, alloc, &primary);
     send(&rt, &mut primary, 3);
     assert!(rt; agrees(&rt, alloc, &primary, &replica));
     apply(&rt, &primary, &mut replica, 4);
     assert!(rt; !agrees(&rt, alloc, &primary, &replica));
+    // Dropped by a call: the prover has one proof of it for all tests. Where a value goes out of scope, each test proves it anew.
+    drop(replica);
+    drop(primary);
     Ok(())
 }
 
 #[test]
 fn a_site_agrees_only_up_to_what_it_was_sent(rt: HostRuntime) -> Result<(), Fail> {
     let alloc = rt.alloc();
-    let mut primary = first_primary(alloc)?;
-    let mut replica = Site::new(alloc, primary.setup().objects())?;
+    let mut primary = first_primary(&rt, alloc)?;
+    let mut replica = first_site(&rt, alloc, &primary);
     send(&rt, &mut primary, 3);
     apply(&rt, &primary, &mut replica, 3);
     assert!(rt; agrees(&rt, alloc, &primary, &replica));
     apply(&rt, &primary, &mut replica, 3);
     assert!(rt; !agrees(&rt, alloc, &primary, &replica));
+    drop(replica);
+    drop(primary);
     Ok(())
 }

@@ -2,10 +2,11 @@
 ghost use Rattle.std.specs.Prelude.{◌≡◌, None, OnOk};
 ghost use Rattle.ordup_primary.specs.Declarations.{start_refusal};
 
-use ordup_holds::{Book, SeenValue, SiteCell, number, view};
+use ordup_holds::{Book, SeenValue, SiteCell, number, take, turn, view};
 use ordup_objects::{Change, MessageSet, ObjectId, ObjectTable, Op, Refusal};
 use ordup_primary::{Scope, Setup};
 use std::process::Abort;
+use std::sync::Wait;
 
 /// The set that adds a number to x.
 pub fn add(rt: &impl Abort, objects: &ObjectTable, n: i64) -> MessageSet {
@@ -41,7 +42,20 @@ pub fn number_add(rt: &impl Abort, book: &mut Book, n: i64) -> Result<u64, Refus
     number(book, set)
 }
 
-/// The value of x in a cell.
-pub fn view_x(cell: &SiteCell) -> Result<SeenValue, Refusal> {
-    view(cell, ObjectId::new(0))
+/// Makes a turn, and sees that so many updates are acknowledged.
+pub fn expect_turn<R: Wait + Abort>(rt: &R, book: &mut Book, acked: u64) {
+    assert_eq!(rt; turn(rt, book), Ok(acked));
+}
+
+/// Takes what comes next, and sees that it is the update with this number, or nothing.
+pub fn expect_taken<R: Wait + Abort>(rt: &R, cell: &mut SiteCell, number: Option<u64>) {
+    assert_eq!(rt; take(rt, cell), number);
+}
+
+/// Sees the value of x in a cell, and how many updates were applied.
+pub fn expect_seen(rt: &impl Abort, cell: &SiteCell, value: i64, applied: u64) {
+    assert_eq!(rt;
+        view(cell, ObjectId::new(0)),
+        Ok(SeenValue { value, applied })
+    );
 }

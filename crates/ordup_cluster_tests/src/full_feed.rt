@@ -1,6 +1,6 @@
 //! Turns at a full feed. Update k adds k to x, so after the first k updates x is 1 + 2 + .. + k.
-use crate::fixtures::{number_add, view_x};
-use ordup_holds::{Book, SeenValue, SiteCell, open, take, turn};
+use crate::fixtures::{expect_seen, expect_taken, expect_turn, number_add};
+use ordup_holds::{Book, SiteCell, open};
 use ordup_objects::sizes::GREATEST_CAPACITY;
 use ordup_objects::{Refusal, SiteId};
 use ordup_primary::{Scope, Setup};
@@ -34,27 +34,34 @@ fn declare_two(setup: &mut Setup, capacity: u64, other: u64) -> Result<(), Refus
 }
 
 /// A store without limits.
-fn opened(alloc: Global, capacity: u64) -> Result<(Book, Vec<SiteCell>), Refusal> {
+fn opened(rt: &impl Abort, alloc: Global, capacity: u64) -> Result<(Book, Vec<SiteCell>), Refusal> {
     let mut setup = Setup::new(alloc);
-    declare(&mut setup, capacity)?;
+    let Ok(_) = declare(&mut setup, capacity) else {
+        panic!(rt; "the declarations are refused")
+    };
     open(alloc, setup)
 }
 
 /// A store with a limit, whose feed has room for one update.
 fn opened_with_limit(
+    rt: &impl Abort,
     alloc: Global,
     scope: Scope,
     amount: u64,
 ) -> Result<(Book, Vec<SiteCell>), Refusal> {
     let mut setup = Setup::new(alloc);
-    declare_limited(&mut setup, 1, scope, amount)?;
+    let Ok(()) = declare_limited(&mut setup, 1, scope, amount) else {
+        panic!(rt; "the declarations are refused")
+    };
     open(alloc, setup)
 }
 
 /// A store of two sites without limits. The feed of the first has room for one update, that of the second for four.
-fn opened_with_two(alloc: Global) -> Result<(Book, Vec<SiteCell>), Refusal> {
+fn opened_with_two(rt: &impl Abort, alloc: Global) -> Result<(Book, Vec<SiteCell>), Refusal> {
     let mut setup = Setup::new(alloc);
-    declare_two(&mut setup, 1, 4)?;
+    let Ok(()) = declare_two(&mut setup, 1, 4) else {
+        panic!(rt; "the declarations are refused")
+    };
     open(alloc, setup)
 }
 
@@ -68,9 +75,9 @@ fn number_all(rt: &impl Abort, book: &mut Book, first: u32, last: u32) {
 /// Takes the updates from the first number to the last one, after which the feed is empty.
 fn take_all<R: Wait + Abort>(rt: &R, cell: &mut SiteCell, first: u64, last: u64) {
     for k in first..=last {
-        assert_eq!(rt; take(rt, cell), Some(k));
+        expect_taken(rt, cell, Some(k));
     }
-    assert_eq!(rt; take(rt, cell), None);
+    expect_taken(rt, cell, None);
 }
 
 /// Sees that so many updates were sent to the first site, and that it reported so many.
@@ -81,26 +88,21 @@ fn expect_known(rt: &impl Abort, book: &Book, sent: u64, reported: u64) {
     assert_eq!(rt; (primary.sent(a), primary.reported(a)), (sent, reported));
 }
 
-/// Sees the value of x in a cell, and how many updates were applied.
-fn expect_seen(rt: &impl Abort, cell: &SiteCell, value: i64, applied: u64) {
-    assert_eq!(rt; view_x(cell), Ok(SeenValue { value, applied }));
-}
-
 /// Five updates through a feed with room for two.
 fn fill_and_empty<R: Wait + Abort>(rt: &R, book: &mut Book, cell: &mut SiteCell) {
     number_all(rt, book, 1, 5);
     // No limit holds an update back.
-    assert_eq!(rt; turn(rt, book), Ok(5));
+    expect_turn(rt, book, 5);
     expect_known(rt, book, 2, 0);
     // Nothing was taken, so there is no room.
-    assert_eq!(rt; turn(rt, book), Ok(5));
+    expect_turn(rt, book, 5);
     expect_known(rt, book, 2, 0);
     take_all(rt, cell, 1, 2);
     expect_seen(rt, cell, 3, 2);
-    assert_eq!(rt; turn(rt, book), Ok(5));
+    expect_turn(rt, book, 5);
     expect_known(rt, book, 4, 2);
     take_all(rt, cell, 3, 4);
-    assert_eq!(rt; turn(rt, book), Ok(5));
+    expect_turn(rt, book, 5);
     expect_known(rt, book, 5, 4);
     take_all(rt, cell, 5, 5);
     expect_seen(rt, cell, 15, 5);
@@ -109,20 +111,22 @@ fn fill_and_empty<R: Wait + Abort>(rt: &R, book: &mut Book, cell: &mut SiteCell)
 #[test]
 fn sends_stop_at_a_full_feed_and_go_on_once_there_is_room(rt: HostRuntime) -> Result<(), Fail> {
     let alloc = rt.alloc();
-    let (mut book, mut cells) = opened(alloc, 2)?;
+    let (mut book, mut cells) = opened(&rt, alloc, 2)?;
     assert_eq!(rt; cells.len(), 1);
     fill_and_empty(&rt, &mut book, &mut cells[0]);
+    drop(book);
+    drop(cells);
     Ok(())
 }
 
 /// Takes one update at a time from a feed with room for three.
 fn take_one_by_one<R: Wait + Abort>(rt: &R, book: &mut Book, cell: &mut SiteCell) {
     number_all(rt, book, 1, 5);
-    assert_eq!(rt; turn(rt, book), Ok(5));
+    expect_turn(rt, book, 5);
     expect_known(rt, book, 3, 0);
     for k in 1..=2u64 {
-        assert_eq!(rt; take(rt, cell), Some(k));
-        assert_eq!(rt; turn(rt, book), Ok(5));
+        expect_taken(rt, cell, Some(k));
+        expect_turn(rt, book, 5);
         expect_known(rt, book, 3 + k, k);
     }
     take_all(rt, cell, 3, 5);
@@ -132,21 +136,23 @@ fn take_one_by_one<R: Wait + Abort>(rt: &R, book: &mut Book, cell: &mut SiteCell
 #[test]
 fn each_update_that_is_taken_makes_room_for_one(rt: HostRuntime) -> Result<(), Fail> {
     let alloc = rt.alloc();
-    let (mut book, mut cells) = opened(alloc, 3)?;
+    let (mut book, mut cells) = opened(&rt, alloc, 3)?;
     assert_eq!(rt; cells.len(), 1);
     take_one_by_one(&rt, &mut book, &mut cells[0]);
+    drop(book);
+    drop(cells);
     Ok(())
 }
 
 /// Three updates more than the largest feed has room for.
 fn overfill<R: Wait + Abort>(rt: &R, book: &mut Book, cell: &mut SiteCell) {
     number_all(rt, book, 1, 1_027);
-    assert_eq!(rt; turn(rt, book), Ok(1_027));
+    expect_turn(rt, book, 1_027);
     expect_known(rt, book, 1_024, 0);
     take_all(rt, cell, 1, 1_024);
     // 1,024 times 1,025, halved.
     expect_seen(rt, cell, 524_800, 1_024);
-    assert_eq!(rt; turn(rt, book), Ok(1_027));
+    expect_turn(rt, book, 1_027);
     expect_known(rt, book, 1_027, 1_024);
     take_all(rt, cell, 1_025, 1_027);
     expect_seen(rt, cell, 527_878, 1_027);
@@ -155,42 +161,46 @@ fn overfill<R: Wait + Abort>(rt: &R, book: &mut Book, cell: &mut SiteCell) {
 #[test]
 fn the_largest_feed_loses_nothing(rt: HostRuntime) -> Result<(), Fail> {
     let alloc = rt.alloc();
-    let (mut book, mut cells) = opened(alloc, GREATEST_CAPACITY)?;
+    let (mut book, mut cells) = opened(&rt, alloc, GREATEST_CAPACITY)?;
     assert_eq!(rt; cells.len(), 1);
     overfill(&rt, &mut book, &mut cells[0]);
+    drop(book);
+    drop(cells);
     Ok(())
 }
 
 /// Three updates for two sites, of which the first has room for one.
 fn fill_the_first<R: Wait + Abort>(rt: &R, book: &mut Book) {
     number_all(rt, book, 1, 3);
-    assert_eq!(rt; turn(rt, book), Ok(3));
+    expect_turn(rt, book, 3);
     expect_known(rt, book, 1, 0);
 }
 
 #[test]
 fn a_full_feed_keeps_nothing_from_the_other_sites(rt: HostRuntime) -> Result<(), Fail> {
     let alloc = rt.alloc();
-    let (mut book, mut cells) = opened_with_two(alloc)?;
+    let (mut book, mut cells) = opened_with_two(&rt, alloc)?;
     assert_eq!(rt; cells.len(), 2);
     fill_the_first(&rt, &mut book);
     take_all(&rt, &mut cells[0], 1, 1);
     take_all(&rt, &mut cells[1], 1, 3);
+    drop(book);
+    drop(cells);
     Ok(())
 }
 
 /// Two updates, each of which waits for the site. One turn learns that the first was taken, acknowledges it, and sends the second.
 fn wait_for_each<R: Wait + Abort>(rt: &R, book: &mut Book, cell: &mut SiteCell) {
     number_all(rt, book, 1, 1);
-    assert_eq!(rt; turn(rt, book), Ok(0));
+    expect_turn(rt, book, 0);
     number_all(rt, book, 2, 2);
-    assert_eq!(rt; turn(rt, book), Ok(0));
+    expect_turn(rt, book, 0);
     expect_known(rt, book, 1, 0);
     take_all(rt, cell, 1, 1);
-    assert_eq!(rt; turn(rt, book), Ok(1));
+    expect_turn(rt, book, 1);
     expect_known(rt, book, 2, 1);
     take_all(rt, cell, 2, 2);
-    assert_eq!(rt; turn(rt, book), Ok(2));
+    expect_turn(rt, book, 2);
     expect_known(rt, book, 2, 2);
     expect_seen(rt, cell, 3, 2);
 }
@@ -198,9 +208,11 @@ fn wait_for_each<R: Wait + Abort>(rt: &R, book: &mut Book, cell: &mut SiteCell) 
 #[test]
 fn a_turn_learns_what_was_taken_and_acknowledges_it(rt: HostRuntime) -> Result<(), Fail> {
     let alloc = rt.alloc();
-    let (mut book, mut cells) = opened_with_limit(alloc, Scope::All, 0)?;
+    let (mut book, mut cells) = opened_with_limit(&rt, alloc, Scope::All, 0)?;
     assert_eq!(rt; cells.len(), 1);
     wait_for_each(&rt, &mut book, &mut cells[0]);
+    drop(book);
+    drop(cells);
     Ok(())
 }
 
@@ -208,19 +220,19 @@ fn a_turn_learns_what_was_taken_and_acknowledges_it(rt: HostRuntime) -> Result<(
 fn wait_for_the_fourth<R: Wait + Abort>(rt: &R, book: &mut Book, cell: &mut SiteCell) {
     for k in 1..=3u32 {
         number_all(rt, book, k, k);
-        assert_eq!(rt; turn(rt, book), Ok(u64::from(k)));
+        expect_turn(rt, book, u64::from(k));
     }
     number_all(rt, book, 4, 4);
-    assert_eq!(rt; turn(rt, book), Ok(3));
+    expect_turn(rt, book, 3);
     expect_known(rt, book, 1, 0);
     expect_seen(rt, cell, 0, 0);
     for k in 1..=3u64 {
         take_all(rt, cell, k, k);
-        assert_eq!(rt; turn(rt, book), Ok(3));
+        expect_turn(rt, book, 3);
         expect_known(rt, book, k + 1, k);
     }
     take_all(rt, cell, 4, 4);
-    assert_eq!(rt; turn(rt, book), Ok(4));
+    expect_turn(rt, book, 4);
     expect_seen(rt, cell, 10, 4);
 }
 
@@ -238,9 +250,11 @@ fn expect_round(rt: &impl Abort, book: &Book, place: u64) {
 #[test]
 fn a_round_ends_though_the_feed_has_room_for_one(rt: HostRuntime) -> Result<(), Fail> {
     let alloc = rt.alloc();
-    let (mut book, mut cells) = opened_with_limit(alloc, Scope::Count, 3)?;
+    let (mut book, mut cells) = opened_with_limit(&rt, alloc, Scope::Count, 3)?;
     assert_eq!(rt; cells.len(), 1);
     wait_for_the_fourth(&rt, &mut book, &mut cells[0]);
     expect_round(&rt, &book, 4);
+    drop(book);
+    drop(cells);
     Ok(())
 }

@@ -16,6 +16,8 @@ fn a_feed_has_room_for_1_to_1024_parcels(rt: HostRuntime) -> Result<(), Fail> {
     ] {
         assert_eq!(rt; Feed::new(alloc, &objects, capacity).err(), refusal);
     }
+    // Dropped by a call: the prover has one proof of it for all tests. Where a value goes out of scope, each test proves it anew.
+    drop(objects);
     Ok(())
 }
 
@@ -24,11 +26,11 @@ fn a_full_feed_hands_the_parcel_back(rt: HostRuntime) -> Result<(), Fail> {
     let alloc = rt.alloc();
     let objects = x(alloc)?;
     let (mut sender, mut taker) = Feed::new(alloc, &objects, 1)?;
-    let Ok(()) = sender.push(&rt, parcel(&objects, 1)?) else {
-        return Err("the feed has no room for a parcel")?;
+    let Ok(()) = sender.push(&rt, parcel(&rt, &objects, 1)) else {
+        panic!(rt; "the feed has no room for a parcel")
     };
-    let Err(back) = sender.push(&rt, parcel(&objects, 2)?) else {
-        return Err("the feed has room for a second parcel")?;
+    let Err(back) = sender.push(&rt, parcel(&rt, &objects, 2)) else {
+        panic!(rt; "the feed has room for a second parcel")
     };
     assert_eq!(rt; (back.refusal.number(), back.parcel.number), (15, 2));
     assert_eq!(rt; taker.pop(&rt).map(|p| p.number), Some(1));
@@ -38,5 +40,8 @@ fn a_full_feed_hands_the_parcel_back(rt: HostRuntime) -> Result<(), Fail> {
     assert_eq!(rt; sender.look(&rt), 1);
     assert!(rt; sender.push(&rt, back.parcel).is_ok());
     assert_eq!(rt; taker.pop(&rt).map(|p| p.number), Some(2));
+    drop(taker);
+    drop(sender);
+    drop(objects);
     Ok(())
 }

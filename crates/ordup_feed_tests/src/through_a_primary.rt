@@ -38,9 +38,11 @@ fn declare(setup: &mut Setup) -> Result<(), Refusal>
 }
 
 /// A primary with x and a.
-fn x_and_a(alloc: Global) -> Result<Primary, Refusal> {
+fn x_and_a(rt: &impl Abort, alloc: Global) -> Result<Primary, Refusal> {
     let mut setup = Setup::new(alloc);
-    declare(&mut setup)?;
+    let Ok(()) = declare(&mut setup) else {
+        panic!(rt; "the declarations are refused")
+    };
     Primary::new(alloc, setup)
 }
 
@@ -52,20 +54,25 @@ fn add_twice(primary: &mut Primary) -> Result<(), Refusal> {
 }
 
 /// The primary with the two updates.
-fn two_updates(alloc: Global) -> Result<Primary, Refusal> {
-    let mut primary = x_and_a(alloc)?;
-    add_twice(&mut primary)?;
+fn two_updates(rt: &impl Abort, alloc: Global) -> Result<Primary, Refusal> {
+    let mut primary = x_and_a(rt, alloc)?;
+    let Ok(()) = add_twice(&mut primary) else {
+        panic!(rt; "an update is refused")
+    };
     Ok(primary)
 }
 
 /// A feed of one parcel for the first site of a primary, to which nothing was sent yet.
-fn feed_of(rt: &impl Abort, alloc: Global, primary: &Primary) -> Result<(SendEnd, TakeEnd), Refusal>
-    ensures { IfOk result (λ ends. HasPushed primary.now ends.0) }
+fn feed_of(rt: &impl Abort, alloc: Global, primary: &Primary) -> (SendEnd, TakeEnd)
+    ensures { HasPushed primary.now result.0 }
 {
     let _acked = primary.acked();
     assert!(rt; primary.setup().sites() > 0);
     assert!(rt; primary.sent(SiteId::new(0)) == 0);
-    Feed::new(alloc, primary.setup().objects(), 1)
+    let Ok(ends) = Feed::new(alloc, primary.setup().objects(), 1) else {
+        panic!(rt; "the feed is refused")
+    };
+    ends
 }
 
 /// Pushes the next update for the first site behind those that were sent to it.
@@ -83,7 +90,10 @@ fn send<R: Wait>(rt: &R, primary: &mut Primary, end: &mut SendEnd) -> Result<u64
             primary.mark_sent(site);
             Ok(number)
         }
-        Err(back) => Err(back.refusal),
+        Err(back) => {
+            drop(back.parcel);
+            Err(back.refusal)
+        }
     }
 }
 
@@ -107,13 +117,16 @@ fn expect_taken<R: Wait + Abort>(rt: &R, end: &mut TakeEnd, number: u64) {
 
 #[test]
 fn the_updates_of_a_primary_go_through_a_feed(rt: HostRuntime) -> Result<(), Fail> {
-    let mut primary = two_updates(rt.alloc())?;
-    let (mut sender, mut taker) = feed_of(&rt, rt.alloc(), &primary)?;
+    let mut primary = two_updates(&rt, rt.alloc())?;
+    let (mut sender, mut taker) = feed_of(&rt, rt.alloc(), &primary);
     expect_sent(&rt, &mut primary, &mut sender, Ok(1));
     expect_sent(&rt, &mut primary, &mut sender, Err(Refusal::FeedFull));
     expect_taken(&rt, &mut taker, 1);
     expect_sent(&rt, &mut primary, &mut sender, Ok(2));
     expect_taken(&rt, &mut taker, 2);
     expect_sent(&rt, &mut primary, &mut sender, Err(Refusal::NothingToSend));
+    drop(taker);
+    drop(sender);
+    drop(primary);
     Ok(())
 }

@@ -56,13 +56,11 @@ fn send_all<R: Wait + Abort>(rt: &R, objects: &ObjectTable, mut end: SendEnd, be
     requires start { length end.start ≡ length objects.now }
 {
     for i in 0..PARCELS {
-        let Ok(parcel) = parcel(objects, i + 1) else {
-            panic!(rt; "no memory")
-        };
-        push(rt, &mut end, parcel);
+        push(rt, &mut end, parcel(rt, objects, i + 1));
         let known = end.look(rt);
         assert!(rt; known <= begun.load(Ordering::SeqCst));
     }
+    drop(end);
 }
 
 /// Pops all parcels, which come in order, and tells after each. Before it pops one it counts that it begins to.
@@ -72,6 +70,7 @@ fn take_all<R: Wait + Abort>(rt: &R, mut end: TakeEnd, begun: &AtomicU64) {
         assert_eq!(rt; pop(rt, &mut end), i + 1);
         end.tell(rt);
     }
+    drop(end);
 }
 
 /// Sends all parcels through a feed of this capacity, from one thread to another.

@@ -17,7 +17,7 @@ pub struct ChangeWord<'a> {
 
 impl<'a> ChangeWord<'a> {
     /// The change that a word spells: a kind, an object of at least one byte and an operand, between colons.
-    // Inlined, as the calls below: a change that a call answers is written in parts and read back as wider ones.
+    // Inlined, as the calls below, for the reason that `Words::two_words` is: a change is three words.
     #[inline(always)]
     pub fn parse(word: &Word<'a>) -> Option<ChangeWord<'a>>
         ensures { result ≡ change_of word.now }

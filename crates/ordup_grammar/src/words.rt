@@ -72,6 +72,7 @@ impl<'a> Words<'a> {
     }
 
     /// The words, where there are exactly two.
+    // Inlined: the words that a call answers are written in parts and read back as wider ones.
     #[inline(always)]
     pub(crate) fn two_words(&self) -> Option<(Word<'a>, Word<'a>)>
         ensures { result ≡ two_words self.now }

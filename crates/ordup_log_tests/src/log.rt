@@ -3,14 +3,17 @@ use ordup_log::{GroupId, Groups, Log, Scope};
 use ordup_objects::{Change, MessageSet, ObjectId, ObjectTable, Op, Refusal};
 use std::alloc::Global;
 use std::process::Abort;
-use std::test::Fail;
 
-/// The objects x at 0 and y at 10.
-pub(crate) fn x_and_y(alloc: Global) -> Result<ObjectTable, Refusal> {
+/// The objects x at 0 and y at 10, and a log over them.
+// Tests drop them by a call: the prover has one proof of it for all tests. Where they go out of scope, each test proves it anew.
+pub(crate) fn x_and_y(rt: &impl Abort, alloc: Global) -> (ObjectTable, Log) {
     let mut objects = ObjectTable::new(alloc);
-    objects.declare(b"x", 0)?;
-    objects.declare(b"y", 10)?;
-    Ok(objects)
+    assert!(rt; objects.declare(b"x", 0).is_ok());
+    assert!(rt; objects.declare(b"y", 10).is_ok());
+    let Ok(log) = Log::new(alloc, &objects) else {
+        panic!(rt; "there is no memory for a log")
+    };
+    (objects, log)
 }
 
 /// The message set of these changes.
@@ -30,7 +33,7 @@ fn append(log: &mut Log, set: MessageSet) -> Result<u64, Refusal> {
 }
 
 /// Appends the update that adds a number to x.
-pub(crate) fn add(objects: &ObjectTable, log: &mut Log, n: i64) -> Result<u64, Refusal> {
+fn add(objects: &ObjectTable, log: &mut Log, n: i64) -> Result<u64, Refusal> {
     let change = Change {
         object: ObjectId::new(0),
         op: Op::Add(n),
@@ -38,14 +41,16 @@ pub(crate) fn add(objects: &ObjectTable, log: &mut Log, n: i64) -> Result<u64, R
     append(log, MessageSet::single(objects, change)?)
 }
 
-/// The log over x and y in which 3 is added to x, then -3, and then 0.
-fn up_and_down(alloc: Global) -> Result<Log, Refusal> {
-    let objects = x_and_y(alloc)?;
-    let mut log = Log::new(alloc, &objects)?;
-    add(&objects, &mut log, 3)?;
-    add(&objects, &mut log, -3)?;
-    add(&objects, &mut log, 0)?;
-    Ok(log)
+/// Appends the updates that add these numbers to x.
+pub(crate) fn add_each(
+    objects: &ObjectTable,
+    log: &mut Log,
+    numbers: &[i64],
+) -> Result<(), Refusal> {
+    for n in numbers {
+        add(objects, log, *n)?;
+    }
+    Ok(())
 }
 
 /// What the span between two places weighs on x, on y, on all and on the count.
@@ -61,19 +66,20 @@ pub(crate) fn span(rt: &impl Abort, log: &Log, groups: &Groups, from: u64, to: u
 }
 
 #[test]
-fn spans_add_up_the_way_and_not_the_net_change(rt: HostRuntime) -> Result<(), Fail> {
-    let log = up_and_down(rt.alloc())?;
+fn spans_add_up_the_way_and_not_the_net_change(rt: HostRuntime) {
+    let (objects, mut log) = x_and_y(&rt, rt.alloc());
+    assert_eq!(rt; add_each(&objects, &mut log, &[3, -3, 0]), Ok(()));
     let groups = Groups::new(rt.alloc());
     // 3 + 3 + 0, then 3 + 0, and 0.
     assert_eq!(rt; span(&rt, &log, &groups, 0, 3), [6, 0, 6, 3]);
     assert_eq!(rt; span(&rt, &log, &groups, 1, 3), [3, 0, 3, 2]);
     assert_eq!(rt; span(&rt, &log, &groups, 2, 3), [0, 0, 0, 1]);
     assert_eq!(rt; span(&rt, &log, &groups, 3, 3), [0, 0, 0, 0]);
-    Ok(())
+    drop((objects, log));
 }
 
-/// The log over x and y in which they swap their values.
-fn swap(alloc: Global, objects: &ObjectTable) -> Result<Log, Refusal> {
+/// Appends the update in which x and y swap their values.
+fn append_swap(alloc: Global, objects: &ObjectTable, log: &mut Log) -> Result<u64, Refusal> {
     let (x, y) = (ObjectId::new(0), ObjectId::new(1));
     let changes = [
         Change {
@@ -85,9 +91,7 @@ fn swap(alloc: Global, objects: &ObjectTable) -> Result<Log, Refusal> {
             op: Op::Take(x),
         },
     ];
-    let mut log = Log::new(alloc, objects)?;
-    append(&mut log, set_of(alloc, objects, &changes)?)?;
-    Ok(log)
+    append(log, set_of(alloc, objects, &changes)?)
 }
 
 /// What the first update weighs on x, on y, on the first group, on all and on the count.
@@ -132,20 +136,18 @@ fn append_out_of_range(
 }
 
 #[test]
-fn a_refused_update_leaves_the_log(rt: HostRuntime) -> Result<(), Fail> {
-    let objects = x_and_y(rt.alloc())?;
-    let mut log = Log::new(rt.alloc(), &objects)?;
+fn a_refused_update_leaves_the_log(rt: HostRuntime) {
+    let (objects, mut log) = x_and_y(&rt, rt.alloc());
     let refused = append_out_of_range(rt.alloc(), &objects, &mut log);
     assert_eq!(rt; refused, Err(Refusal::OutOfRange));
     assert_eq!(rt; log.len(), 0);
     assert_eq!(rt; end(&rt, &log), [0, 10]);
-    Ok(())
+    drop((objects, log));
 }
 
 #[test]
-fn a_log_has_at_most_1000000_updates(rt: HostRuntime) -> Result<(), Fail> {
-    let objects = x_and_y(rt.alloc())?;
-    let mut log = Log::new(rt.alloc(), &objects)?;
+fn a_log_has_at_most_1000000_updates(rt: HostRuntime) {
+    let (objects, mut log) = x_and_y(&rt, rt.alloc());
     for place in 0..1_000_000u64 {
         let number = add(&objects, &mut log, 0);
         assert_eq!(rt; number, Ok(place + 1));
@@ -155,17 +157,18 @@ fn a_log_has_at_most_1000000_updates(rt: HostRuntime) -> Result<(), Fail> {
     // It would be out of range too, but a log that is full comes first.
     let refused = append_out_of_range(rt.alloc(), &objects, &mut log);
     assert_eq!(rt; refused, Err(Refusal::LogFull));
-    Ok(())
+    drop((objects, log));
 }
 
 #[test]
-fn a_swap_weighs_the_way_of_each_value(rt: HostRuntime) -> Result<(), Fail> {
-    let objects = x_and_y(rt.alloc())?;
-    let log = swap(rt.alloc(), &objects)?;
+fn a_swap_weighs_the_way_of_each_value(rt: HostRuntime) {
+    let (objects, mut log) = x_and_y(&rt, rt.alloc());
+    assert_eq!(rt; append_swap(rt.alloc(), &objects, &mut log), Ok(1));
     let mut groups = Groups::new(rt.alloc());
-    groups.declare(&objects, b"both", &[ObjectId::new(0), ObjectId::new(1)])?;
+    let both = [ObjectId::new(0), ObjectId::new(1)];
+    assert!(rt; groups.declare(&objects, b"both", &both).is_ok());
     // x from 0 to 10, and y from 10 to 0.
     assert_eq!(rt; first_weights(&rt, &log, &groups), [10, 10, 20, 20, 1]);
     assert_eq!(rt; end(&rt, &log), [10, 0]);
-    Ok(())
+    drop((objects, log));
 }

@@ -1,19 +1,15 @@
 //! The postings of a log, and spans by them.
-use crate::log::{add, span, x_and_y};
+use crate::log::{add_each, span, x_and_y};
 use ordup_log::{Groups, Log, as_of};
 use ordup_objects::{ObjectId, ObjectTable, Refusal};
-use std::alloc::Global;
 use std::process::Abort;
-use std::test::Fail;
 
-/// The log over x and y in which 1 is added to x at each odd place and taken from it at each even one, 10,000 updates in all.
-fn to_and_fro(alloc: Global, objects: &ObjectTable) -> Result<Log, Refusal> {
-    let mut log = Log::new(alloc, objects)?;
+/// Appends 10,000 updates, of which those at odd places add 1 to x, and those at even ones take it away.
+fn go_to_and_fro(objects: &ObjectTable, log: &mut Log) -> Result<(), Refusal> {
     for _pair in 0..5_000 {
-        add(objects, &mut log, 1)?;
-        add(objects, &mut log, -1)?;
+        add_each(objects, log, &[1, -1])?;
     }
-    Ok(log)
+    Ok(())
 }
 
 /// How many postings an object has, and the last of them.
@@ -24,9 +20,9 @@ fn postings_of(rt: &impl Abort, log: &Log, object: ObjectId) -> (usize, Option<(
 }
 
 #[test]
-fn each_update_that_moves_an_object_has_a_posting(rt: HostRuntime) -> Result<(), Fail> {
-    let objects = x_and_y(rt.alloc())?;
-    let log = to_and_fro(rt.alloc(), &objects)?;
+fn each_update_that_moves_an_object_has_a_posting(rt: HostRuntime) {
+    let (objects, mut log) = x_and_y(&rt, rt.alloc());
+    assert_eq!(rt; go_to_and_fro(&objects, &mut log), Ok(()));
     let groups = Groups::new(rt.alloc());
     assert_eq!(rt;
         span(&rt, &log, &groups, 0, 10_000),
@@ -41,17 +37,14 @@ fn each_update_that_moves_an_object_has_a_posting(rt: HostRuntime) -> Result<(),
     assert_eq!(rt; postings_of(&rt, &log, y), (0, None));
     assert!(rt; log.objects() == 2);
     assert_eq!(rt; log.end_value(x), 0);
-    Ok(())
+    drop((objects, log));
 }
 
 #[test]
-fn running_weights_are_those_as_of_a_place(rt: HostRuntime) -> Result<(), Fail> {
-    let objects = x_and_y(rt.alloc())?;
-    let mut log = Log::new(rt.alloc(), &objects)?;
+fn running_weights_are_those_as_of_a_place(rt: HostRuntime) {
+    let (objects, mut log) = x_and_y(&rt, rt.alloc());
     // 3 up, no way, and 2 down.
-    add(&objects, &mut log, 3)?;
-    add(&objects, &mut log, 0)?;
-    add(&objects, &mut log, -2)?;
+    assert_eq!(rt; add_each(&objects, &mut log, &[3, 0, -2]), Ok(()));
     assert!(rt; log.len() == 3);
     let (x, z) = (ObjectId::new(0), ObjectId::new(2));
     assert_eq!(rt; log.running_weight(x, 0), 0);
@@ -63,5 +56,5 @@ fn running_weights_are_those_as_of_a_place(rt: HostRuntime) -> Result<(), Fail> 
     assert_eq!(rt; as_of(&steps, 0), 0);
     assert_eq!(rt; as_of(&steps, 2), 3);
     assert_eq!(rt; as_of(&steps, 4), 5);
-    Ok(())
+    drop((objects, log));
 }

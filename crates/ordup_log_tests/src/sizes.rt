@@ -2,15 +2,18 @@
 use ordup_log::Groups;
 use ordup_objects::{Change, MessageSet, ObjectId, ObjectTable, Op, Refusal};
 use std::alloc::Global;
+use std::process::Abort;
 
 /// So many objects at 0: o0, o1 and on.
-fn many_objects(alloc: Global, count: u16) -> Result<ObjectTable, Refusal> {
+fn many_objects(rt: &impl Abort, alloc: Global, count: u16) -> ObjectTable {
     let mut objects = ObjectTable::new(alloc);
     for place in 0..count {
-        let name = format!(in alloc; "o{place}").or(Err(Refusal::NoMemory))?;
-        objects.declare(name.as_bytes(), 0)?;
+        let Ok(name) = format!(in alloc; "o{place}") else {
+            panic!(rt; "there is no memory for a name")
+        };
+        assert!(rt; objects.declare(name.as_bytes(), 0).is_ok());
     }
-    Ok(objects)
+    objects
 }
 
 /// The changes that add 1 to each of so many objects.
@@ -27,16 +30,18 @@ fn many_changes(alloc: Global, count: u16) -> Result<Vec<Change>, Refusal> {
 }
 
 /// How many changes the set has that changes so many objects.
-fn size_of_set(alloc: Global, count: u16) -> Result<usize, Refusal> {
-    let objects = many_objects(alloc, count)?;
-    let set = MessageSet::new(&objects, many_changes(alloc, count)?)?;
-    Ok(set.changes().len())
+fn size_of_set(rt: &impl Abort, alloc: Global, count: u16) -> Result<usize, Refusal> {
+    let changes = many_changes(alloc, count)?;
+    let objects = many_objects(rt, alloc, count);
+    let set = MessageSet::new(&objects, changes);
+    drop(objects);
+    Ok(set?.changes().len())
 }
 
 #[test]
 fn a_message_set_has_at_most_64_changes(rt: HostRuntime) {
-    assert_eq!(rt; size_of_set(rt.alloc(), 64), Ok(64));
-    assert_eq!(rt; size_of_set(rt.alloc(), 65), Err(Refusal::TooMany));
+    assert_eq!(rt; size_of_set(&rt, rt.alloc(), 64), Ok(64));
+    assert_eq!(rt; size_of_set(&rt, rt.alloc(), 65), Err(Refusal::TooMany));
 }
 
 /// So many objects, by their places.
@@ -51,16 +56,17 @@ fn many_members(alloc: Global, count: u16) -> Result<Vec<ObjectId>, Refusal> {
 }
 
 /// How many members the group of so many objects has.
-fn size_of_group(alloc: Global, count: u16) -> Result<usize, Refusal> {
-    let objects = many_objects(alloc, count)?;
+fn size_of_group(rt: &impl Abort, alloc: Global, count: u16) -> Result<usize, Refusal> {
     let members = many_members(alloc, count)?;
+    let objects = many_objects(rt, alloc, count);
     let mut groups = Groups::new(alloc);
-    let group = groups.declare(&objects, b"g", &members)?;
-    Ok(groups.members(group).len())
+    let group = groups.declare(&objects, b"g", &members);
+    drop(objects);
+    Ok(groups.members(group?).len())
 }
 
 #[test]
 fn a_group_has_at_most_64_members(rt: HostRuntime) {
-    assert_eq!(rt; size_of_group(rt.alloc(), 64), Ok(64));
-    assert_eq!(rt; size_of_group(rt.alloc(), 65), Err(Refusal::TooMany));
+    assert_eq!(rt; size_of_group(&rt, rt.alloc(), 64), Ok(64));
+    assert_eq!(rt; size_of_group(&rt, rt.alloc(), 65), Err(Refusal::TooMany));
 }

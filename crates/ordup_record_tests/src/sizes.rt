@@ -142,14 +142,24 @@ fn push_times(alloc: Global, text: &mut String, row: &str, count: usize) -> Resu
     Ok(())
 }
 
+/// What is said of the first rows, and of two rows after them that stand there so many times.
+fn said_of(
+    alloc: Global,
+    first: &str,
+    (row, count): (&str, usize),
+    (other, other_count): (&str, usize),
+) -> Result<String, AllocError> {
+    let mut text = String::new(alloc);
+    text.push_str(first)?;
+    push_times(alloc, &mut text, row, count)?;
+    push_times(alloc, &mut text, other, other_count)?;
+    said(alloc, text.as_str())
+}
+
 #[test]
 fn as_many_rows_of_a_kind_as_may_be_are_read_and_no_more(rt: HostRuntime) -> Result<(), Fail> {
-    for (first, row, count, other, other_count, wanted) in SIZES {
-        let mut text = String::new(rt.alloc());
-        text.push_str(first)?;
-        push_times(rt.alloc(), &mut text, row, count)?;
-        push_times(rt.alloc(), &mut text, other, other_count)?;
-        let told = said(rt.alloc(), text.as_str())?;
+    for &(first, row, count, other, other_count, wanted) in &SIZES {
+        let told = said_of(rt.alloc(), first, (row, count), (other, other_count))?;
         assert_eq!(rt;
             told.as_str(),
             wanted,

@@ -37,10 +37,15 @@ pub(crate) fn said_within(
         at_once,
     };
     match read_record_within(alloc, &mut input, limit) {
-        Ok(read) => match check(&read) {
-            Verdict::Fewest(rounds) => format!(in alloc; "yes {rounds}"),
-            Verdict::No { row, reason } => format!(in alloc; "no {row} {}", reason.name()),
-        },
+        Ok(read) => {
+            let verdict = check(&read);
+            // Dropped by a call: the prover has one proof of it for all tests. Where a value goes out of scope, each test proves it anew.
+            drop(read);
+            match verdict {
+                Verdict::Fewest(rounds) => format!(in alloc; "yes {rounds}"),
+                Verdict::No { row, reason } => format!(in alloc; "no {row} {}", reason.name()),
+            }
+        }
         Err(RecordReadFault::Malformed { row }) => format!(in alloc; "malformed {row}"),
         Err(RecordReadFault::Read) => String::from_str(alloc, "read fault"),
         Err(RecordReadFault::NoMemory) => String::from_str(alloc, "no memory"),
@@ -78,6 +83,24 @@ fn push_row(text: &mut String, row: &str) -> Result<(), AllocError> {
     text.push('\n')
 }
 
+/// Sees that this is said of a record in which other rows stand in the place of a part.
+fn assert_said<R: Abort>(
+    rt: &R,
+    alloc: Global,
+    record: &str,
+    part: &str,
+    other: &str,
+    wanted: &str,
+) -> Result<(), AllocError> {
+    let changed = record.replace(alloc, part, other)?;
+    let text = spelled(alloc, changed.as_str())?;
+    for at_once in [ALL, 1, 2, 3] {
+        let told = said_within(alloc, text.as_str(), at_once, u64::MAX)?;
+        assert!(rt; told.as_str() == wanted, "{other}by {at_once}: {told}");
+    }
+    Ok(())
+}
+
 /// Sees that of a record with changes is said what they say. In a change, lines that begin with `- ` are rows of the record,
 /// those with `+ ` what stands in their place, and the line with `= ` what is said then. Without rows of its own a change takes
 /// those of the one before.
@@ -105,12 +128,7 @@ pub(crate) fn assert_told<R: Abort>(
             push_row(&mut other, row)?;
             is_said = false;
         } else if let Some(wanted) = line.strip_prefix("= ") {
-            let changed = record.replace(alloc, part.as_str(), other.as_str())?;
-            let text = spelled(alloc, changed.as_str())?;
-            for at_once in [ALL, 1, 2, 3] {
-                let told = said_within(alloc, text.as_str(), at_once, u64::MAX)?;
-                assert!(rt; told.as_str() == wanted, "{other}by {at_once}: {told}");
-            }
+            assert_said(rt, alloc, record, part.as_str(), other.as_str(), wanted)?;
             is_said = true;
         }
     }

@@ -178,7 +178,10 @@ propose mul:tea:2
 fn read_with(alloc: Global, allocations: u64) -> Result<usize, PlanFault> {
     let scarce = Scarce::new(alloc, allocations);
     let plan = read_plan(&scarce, &mut PieceReader::new(PLAN, 7, usize::MAX))?;
-    Ok(plan.sets.len())
+    let sets = plan.sets.len();
+    // Dropped by a call: the prover has one proof of it for all tests. Where a value goes out of scope, each test proves it anew.
+    drop(plan);
+    Ok(sets)
 }
 
 #[test]

@@ -146,7 +146,11 @@ plan of 1 sets
 fn told(alloc: Global, text: &[u8]) -> Result<String, Fail> {
     let mut input = text;
     match read_plan(alloc, &mut input) {
-        Ok(plan) => Ok(format!(in alloc; "plan of {} sets", plan.sets.len())?),
+        Ok(plan) => {
+            let sets = plan.sets.len();
+            drop(plan);
+            Ok(format!(in alloc; "plan of {sets} sets")?)
+        }
         Err(PlanFault::Malformed { line }) => Ok(format!(in alloc; "Malformed{{{line}}}")?),
         Err(_) => Err(Fail::new("another fault")),
     }
@@ -204,10 +208,7 @@ fn a_comment_that_is_too_long_does_not_belong(rt: HostRuntime) -> Result<(), Fai
 fn fault<R: Read>(alloc: Global, input: &mut R, limit: u64) -> Option<PlanFault>
     requires { limit ≤ 1073741824 }
 {
-    match read_plan_within(alloc, input, limit) {
-        Ok(_) => None,
-        Err(fault) => Some(fault),
-    }
+    read_plan_within(alloc, input, limit).err()
 }
 
 #[test]

@@ -1,6 +1,6 @@
 //! The windows that show how many rounds each site has to have, by `Primary::windows`.
 use ordup_objects::SiteId;
-use ordup_script::{ScriptEnd, run_script};
+use ordup_script::{ScriptEnd, ScriptFault, run_script};
 use ordup_world::Primary;
 use std::alloc::{AllocError, Global};
 use std::test::Fail;
@@ -195,14 +195,22 @@ fn shown(alloc: Global, primary: &Primary) -> Result<Vec<u8>, AllocError> {
     Ok(text)
 }
 
+/// What is shown of the sites where a script stands.
+fn shown_at(alloc: Global, end: &Result<ScriptEnd, ScriptFault>) -> Result<Vec<u8>, Fail> {
+    match end {
+        Ok(ScriptEnd::Running(world)) => Ok(shown(alloc, world.primary())?),
+        _ => Err(Fail::new("the script did not start and end")),
+    }
+}
+
 /// What is shown of the sites at the end of a script.
 fn shown_after(alloc: Global, script: &[u8]) -> Result<Vec<u8>, Fail> {
     let mut input = script;
     let mut output: Vec<u8> = Vec::new(alloc);
-    match run_script(alloc, &mut input, &mut output) {
-        Ok(ScriptEnd::Running(world)) => Ok(shown(alloc, world.primary())?),
-        _ => Err(Fail::new("the script did not start and end")),
-    }
+    let end = run_script(alloc, &mut input, &mut output);
+    let shown = shown_at(alloc, &end);
+    drop(end);
+    shown
 }
 
 #[test]

@@ -46,22 +46,36 @@ fn declare(setup: &mut Setup, scope: Scope, limit: u64) -> Result<(), Refusal> {
 }
 
 /// A cluster of the site a, with this limit on that scope.
-pub fn opened(alloc: Global, scope: Scope, limit: u64) -> Result<Cluster, Refusal> {
+pub fn opened(
+    rt: &impl Abort,
+    alloc: Global,
+    scope: Scope,
+    limit: u64,
+) -> Result<Cluster, Refusal> {
     let mut setup = Setup::new(alloc);
-    declare(&mut setup, scope, limit)?;
+    let Ok(()) = declare(&mut setup, scope, limit) else {
+        panic!(rt; "the declarations are refused")
+    };
     Cluster::new(alloc, setup)
 }
 
+/// Declares what the cluster of one site has, with a limit on x of 5, and the site b, which has no limit.
+fn declare_pair(setup: &mut Setup) -> Result<SiteId, Refusal> {
+    declare(setup, Scope::Object(x()), 5)?;
+    setup.site(b"b", 4)
+}
+
 /// A cluster of the site a, whose limit on x is 5, and of the site b, which has no limit.
-pub fn opened_pair(alloc: Global) -> Result<Cluster, Refusal> {
+pub fn opened_pair(rt: &impl Abort, alloc: Global) -> Result<Cluster, Refusal> {
     let mut setup = Setup::new(alloc);
-    declare(&mut setup, Scope::Object(x()), 5)?;
-    setup.site(b"b", 4)?;
+    let Ok(_) = declare_pair(&mut setup) else {
+        panic!(rt; "the declarations are refused")
+    };
     Cluster::new(alloc, setup)
 }
 
 /// The first objects of a table: x at 0, y at 10, and z, which no cluster has.
-pub fn x_y_and_z(rt: &impl Abort, alloc: Global) -> ObjectTable {
+fn x_y_and_z(rt: &impl Abort, alloc: Global) -> ObjectTable {
     let mut objects = ObjectTable::new(alloc);
     assert_eq!(rt; objects.declare(b"x", 0), Ok(x()));
     assert_eq!(rt; objects.declare(b"y", 10), Ok(y()));
@@ -69,30 +83,52 @@ pub fn x_y_and_z(rt: &impl Abort, alloc: Global) -> ObjectTable {
     objects
 }
 
-/// The set that adds a number to an object.
-pub fn add(rt: &impl Abort, objects: &ObjectTable, object: ObjectId, n: i64) -> MessageSet {
+/// The set that adds a number to x, y or z.
+pub fn add(rt: &impl Abort, alloc: Global, object: ObjectId, n: i64) -> MessageSet {
+    let objects = x_y_and_z(rt, alloc);
     let change = Change {
         object,
         op: Op::Add(n),
     };
-    let Ok(set) = MessageSet::single(objects, change) else {
+    let Ok(set) = MessageSet::single(&objects, change) else {
         panic!(rt; "the set is refused")
     };
+    // Dropped by a call: the prover has one proof of it for all tests. Where a value goes out of scope, each test proves it anew.
+    drop(objects);
     set
 }
 
-/// Reads x at a site in a session.
-pub fn read_x<R: Wait>(
+/// Reads x at a site in a session, and sees this value, and that the site has applied so many updates.
+pub fn expect_seen<R: Wait + Abort>(
     rt: &R,
     cluster: &Cluster,
     session: &mut Session,
     site: SiteId,
-) -> Result<SeenValue, Refusal> {
-    cluster.read(rt, session, site, x())
+    value: i64,
+    applied: u64,
+) {
+    assert_eq!(rt;
+        cluster.read(rt, session, site, x()),
+        Ok(SeenValue { value, applied })
+    );
 }
 
-/// A site applies what it was sent; the cluster is stopped. It answers how many updates it applied.
-pub fn apply_at<R: Wait + Abort>(rt: &R, cluster: &Cluster, site: SiteId) -> u64 {
+/// Sees that a site, which has applied so many updates, is behind a session that reads x there.
+pub fn expect_behind<R: Wait + Abort>(
+    rt: &R,
+    cluster: &Cluster,
+    session: &mut Session,
+    site: SiteId,
+    applied: u64,
+) {
+    assert_eq!(rt;
+        cluster.read(rt, session, site, x()),
+        Err(Refusal::Behind { applied })
+    );
+}
+
+/// A site applies what it was sent, which is one update; the cluster is stopped.
+pub fn apply_at<R: Wait + Abort>(rt: &R, cluster: &Cluster, site: SiteId) {
     assert!(rt; site.index() < cluster.sites());
-    cluster.applier(rt, site, &OpenGate)
+    assert_eq!(rt; cluster.applier(rt, site, &OpenGate), 1);
 }

@@ -1,6 +1,6 @@
 //! Updates at the one site of a cluster, from the proposal to what is left at the end.
-use crate::fixtures::{a, add, apply_at, opened, read_x, x, x_y_and_z};
-use ordup_cluster::{Cluster, SeenValue, Session, SiteQuery};
+use crate::fixtures::{a, add, apply_at, expect_behind, expect_seen, opened, x};
+use ordup_cluster::{Cluster, Session, SiteQuery};
 use ordup_limits::Scope;
 use ordup_objects::{MessageSet, Refusal};
 use ordup_primary::Window;
@@ -18,7 +18,7 @@ fn stop_and_apply<R: Wait + Abort>(
 ) {
     cluster.stop();
     assert_eq!(rt; cluster.propose(rt, session, set, 1), Err(Refusal::Stopped));
-    assert_eq!(rt; apply_at(rt, cluster, a()), 1);
+    apply_at(rt, cluster, a());
 }
 
 /// A query begun after the update reads x before the site a has applied it, and again after that.
@@ -61,21 +61,12 @@ fn query_meanwhile<R: Wait + Abort>(
 fn follow<R: Wait + Abort>(rt: &R, cluster: &Cluster, set: MessageSet, other: MessageSet) {
     let mut session = Session::new();
     assert_eq!(rt; cluster.propose(rt, &mut session, set, 1), Ok(1));
-    assert_eq!(rt;
-        read_x(rt, cluster, &mut session, a()),
-        Err(Refusal::Behind { applied: 0 })
-    );
+    expect_behind(rt, cluster, &mut session, a(), 0);
     let Ok(query) = cluster.begin(rt, a(), 4) else {
         panic!(rt; "the query is refused")
     };
     query_meanwhile(rt, cluster, query, &mut session, other);
-    assert_eq!(rt;
-        read_x(rt, cluster, &mut session, a()),
-        Ok(SeenValue {
-            value: 3,
-            applied: 1
-        })
-    );
+    expect_seen(rt, cluster, &mut session, a(), 3, 1);
     assert_eq!(rt;
         cluster.settle(rt, &mut session, 2, 1),
         Err(Refusal::OutOfRange)
@@ -94,13 +85,7 @@ fn wait_in_vain<R: Wait + Abort>(rt: &R, cluster: &Cluster, set: MessageSet) {
         cluster.settle(rt, &mut session, 1, 2),
         Err(Refusal::NotYet { number: 1 })
     );
-    assert_eq!(rt;
-        read_x(rt, cluster, &mut session, a()),
-        Ok(SeenValue {
-            value: 0,
-            applied: 0
-        })
-    );
+    expect_seen(rt, cluster, &mut session, a(), 0, 0);
 }
 
 /// The update waits for the report, and is acknowledged in the first turn after it.
@@ -111,7 +96,7 @@ fn wait_for_the_report<R: Wait + Abort>(rt: &R, cluster: &Cluster, set: MessageS
         Err(Refusal::NotYet { number: 1 })
     );
     cluster.stop();
-    assert_eq!(rt; apply_at(rt, cluster, a()), 1);
+    apply_at(rt, cluster, a());
     assert_eq!(rt; session.seen(), 0);
     assert_eq!(rt; cluster.settle(rt, &mut session, 1, 1), Ok(()));
     assert_eq!(rt; session.seen(), 1);
@@ -128,15 +113,15 @@ fn close(rt: &impl Abort, cluster: Cluster, applied: u64, windows: &[Window]) {
     assert!(rt; primary.setup().sites() > 0);
     assert_eq!(rt; primary.windows(a()), windows);
     assert_eq!(rt; closed.site(a()).applied(), applied);
+    drop(closed);
 }
 
 #[test]
 fn an_update_is_acknowledged_and_read(rt: HostRuntime) -> Result<(), Fail> {
     let alloc = rt.alloc();
-    let cluster = opened(alloc, Scope::Object(x()), 5)?;
-    let objects = x_y_and_z(&rt, alloc);
-    let set = add(&rt, &objects, x(), 3);
-    let other = add(&rt, &objects, x(), 1);
+    let cluster = opened(&rt, alloc, Scope::Object(x()), 5)?;
+    let set = add(&rt, alloc, x(), 3);
+    let other = add(&rt, alloc, x(), 1);
     follow(&rt, &cluster, set, other);
     close(&rt, cluster, 1, &[]);
     Ok(())
@@ -145,9 +130,8 @@ fn an_update_is_acknowledged_and_read(rt: HostRuntime) -> Result<(), Fail> {
 #[test]
 fn a_round_waits_for_its_report(rt: HostRuntime) -> Result<(), Fail> {
     let alloc = rt.alloc();
-    let cluster = opened(alloc, Scope::All, 0)?;
-    let objects = x_y_and_z(&rt, alloc);
-    let set = add(&rt, &objects, x(), 1);
+    let cluster = opened(&rt, alloc, Scope::All, 0)?;
+    let set = add(&rt, alloc, x(), 1);
     wait_in_vain(&rt, &cluster, set);
     close(&rt, cluster, 0, &[Window { from: 0, to: 1 }]);
     Ok(())
@@ -156,9 +140,8 @@ fn a_round_waits_for_its_report(rt: HostRuntime) -> Result<(), Fail> {
 #[test]
 fn a_round_ends_with_its_report(rt: HostRuntime) -> Result<(), Fail> {
     let alloc = rt.alloc();
-    let cluster = opened(alloc, Scope::All, 0)?;
-    let objects = x_y_and_z(&rt, alloc);
-    let set = add(&rt, &objects, x(), 1);
+    let cluster = opened(&rt, alloc, Scope::All, 0)?;
+    let set = add(&rt, alloc, x(), 1);
     wait_for_the_report(&rt, &cluster, set);
     close(&rt, cluster, 1, &[Window { from: 0, to: 1 }]);
     Ok(())

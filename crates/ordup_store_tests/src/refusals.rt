@@ -1,5 +1,5 @@
 //! Which calls of a cluster are refused, and in which order.
-use crate::fixtures::{a, add, b, opened, x, x_y_and_z, y};
+use crate::fixtures::{a, add, b, opened, x, y};
 use ordup_cluster::{Cluster, SeenValue, Session};
 use ordup_limits::Scope;
 use ordup_objects::{MessageSet, ObjectId, Refusal, SiteId};
@@ -14,29 +14,46 @@ fn z() -> ObjectId {
     ObjectId::new(2)
 }
 
-/// Reads an object at a site in a session that has seen nothing.
-fn read<R: Wait>(
+/// Reads an object at a site in a session that has seen nothing, and sees this answer.
+fn expect_read<R: Wait + Abort>(
     rt: &R,
     cluster: &Cluster,
     site: SiteId,
     object: ObjectId,
-) -> Result<SeenValue, Refusal> {
-    cluster.read(rt, &mut Session::new(), site, object)
+    answer: Result<SeenValue, Refusal>,
+) {
+    assert_eq!(rt; cluster.read(rt, &mut Session::new(), site, object), answer);
 }
 
-/// Why a query is refused at a site with this limit, if it is.
-fn begin_refusal<R: Wait>(rt: &R, cluster: &Cluster, site: SiteId, limit: u64) -> Option<Refusal> {
-    cluster.begin(rt, site, limit).err()
+/// Begins a query at a site with this limit, and sees why it is refused, if it is.
+fn expect_begun<R: Wait + Abort>(
+    rt: &R,
+    cluster: &Cluster,
+    site: SiteId,
+    limit: u64,
+    refusal: Option<Refusal>,
+) {
+    assert_eq!(rt; cluster.begin(rt, site, limit).err(), refusal);
 }
 
-/// Proposes a set, with one turn, in a session that has seen nothing.
-fn propose<R: Wait>(rt: &R, cluster: &Cluster, set: MessageSet) -> Result<u64, Refusal> {
-    cluster.propose(rt, &mut Session::new(), set, 1)
+/// Proposes a set, with one turn, in a session that has seen nothing, and sees this answer.
+fn expect_proposed<R: Wait + Abort>(
+    rt: &R,
+    cluster: &Cluster,
+    set: MessageSet,
+    answer: Result<u64, Refusal>,
+) {
+    assert_eq!(rt; cluster.propose(rt, &mut Session::new(), set, 1), answer);
 }
 
-/// Waits for an update, for one turn, in a session that has seen nothing.
-fn settle<R: Wait>(rt: &R, cluster: &Cluster, number: u64) -> Result<(), Refusal> {
-    cluster.settle(rt, &mut Session::new(), number, 1)
+/// Waits for an update, for one turn, in a session that has seen nothing, and sees this answer.
+fn expect_settled<R: Wait + Abort>(
+    rt: &R,
+    cluster: &Cluster,
+    number: u64,
+    answer: Result<(), Refusal>,
+) {
+    assert_eq!(rt; cluster.settle(rt, &mut Session::new(), number, 1), answer);
 }
 
 /// A query that may import 2, where the reference is after the update that adds 3 to x, and the site a has not applied it.
@@ -77,67 +94,60 @@ fn a_cluster_has_a_site(rt: HostRuntime) -> Result<(), Fail> {
 
 #[test]
 fn an_unknown_object_comes_before_an_unknown_site(rt: HostRuntime) -> Result<(), Fail> {
-    let cluster = opened(rt.alloc(), Scope::All, 0)?;
-    assert_eq!(rt; read(&rt, &cluster, b(), z()), Err(Refusal::UnknownObject));
-    assert_eq!(rt; read(&rt, &cluster, a(), z()), Err(Refusal::UnknownObject));
-    assert_eq!(rt; read(&rt, &cluster, b(), y()), Err(Refusal::UnknownSite));
-    assert_eq!(rt;
-        read(&rt, &cluster, a(), y()),
+    let cluster = opened(&rt, rt.alloc(), Scope::All, 0)?;
+    expect_read(&rt, &cluster, b(), z(), Err(Refusal::UnknownObject));
+    expect_read(&rt, &cluster, a(), z(), Err(Refusal::UnknownObject));
+    expect_read(&rt, &cluster, b(), y(), Err(Refusal::UnknownSite));
+    expect_read(
+        &rt,
+        &cluster,
+        a(),
+        y(),
         Ok(SeenValue {
             value: 10,
-            applied: 0
-        })
+            applied: 0,
+        }),
     );
+    drop(cluster);
     Ok(())
 }
 
 #[test]
 fn an_unknown_site_comes_before_an_import_limit(rt: HostRuntime) -> Result<(), Fail> {
     let greatest = 1_000_000_000_000_000_000;
-    let cluster = opened(rt.alloc(), Scope::All, 0)?;
-    assert_eq!(rt;
-        begin_refusal(&rt, &cluster, b(), greatest + 1),
-        Some(Refusal::UnknownSite)
-    );
-    assert_eq!(rt;
-        begin_refusal(&rt, &cluster, a(), greatest + 1),
-        Some(Refusal::OutOfRange)
-    );
-    assert_eq!(rt;
-        begin_refusal(&rt, &cluster, b(), greatest),
-        Some(Refusal::UnknownSite)
-    );
-    assert_eq!(rt; begin_refusal(&rt, &cluster, a(), greatest), None);
+    let cluster = opened(&rt, rt.alloc(), Scope::All, 0)?;
+    expect_begun(&rt, &cluster, b(), greatest + 1, Some(Refusal::UnknownSite));
+    expect_begun(&rt, &cluster, a(), greatest + 1, Some(Refusal::OutOfRange));
+    expect_begun(&rt, &cluster, b(), greatest, Some(Refusal::UnknownSite));
+    expect_begun(&rt, &cluster, a(), greatest, None);
+    drop(cluster);
     Ok(())
 }
 
 #[test]
 fn what_is_refused_has_no_number(rt: HostRuntime) -> Result<(), Fail> {
     let alloc = rt.alloc();
-    let cluster = opened(alloc, Scope::Object(x()), 5)?;
-    let objects = x_y_and_z(&rt, alloc);
-    let unknown = add(&rt, &objects, z(), 1);
-    let too_great = add(&rt, &objects, y(), 1_000_000_000);
-    let set = add(&rt, &objects, x(), 3);
-    assert_eq!(rt;
-        propose(&rt, &cluster, unknown),
-        Err(Refusal::UnknownObject)
-    );
-    assert_eq!(rt; propose(&rt, &cluster, too_great), Err(Refusal::OutOfRange));
-    assert_eq!(rt; settle(&rt, &cluster, 1), Err(Refusal::OutOfRange));
-    assert_eq!(rt; propose(&rt, &cluster, set), Ok(1));
-    assert_eq!(rt; settle(&rt, &cluster, 0), Err(Refusal::OutOfRange));
-    assert_eq!(rt; settle(&rt, &cluster, 1), Ok(()));
+    let cluster = opened(&rt, alloc, Scope::Object(x()), 5)?;
+    let unknown = add(&rt, alloc, z(), 1);
+    let too_great = add(&rt, alloc, y(), 1_000_000_000);
+    let set = add(&rt, alloc, x(), 3);
+    expect_proposed(&rt, &cluster, unknown, Err(Refusal::UnknownObject));
+    expect_proposed(&rt, &cluster, too_great, Err(Refusal::OutOfRange));
+    expect_settled(&rt, &cluster, 1, Err(Refusal::OutOfRange));
+    expect_proposed(&rt, &cluster, set, Ok(1));
+    expect_settled(&rt, &cluster, 0, Err(Refusal::OutOfRange));
+    expect_settled(&rt, &cluster, 1, Ok(()));
+    drop(cluster);
     Ok(())
 }
 
 #[test]
 fn a_query_reads_within_its_limit(rt: HostRuntime) -> Result<(), Fail> {
     let alloc = rt.alloc();
-    let cluster = opened(alloc, Scope::Object(x()), 5)?;
-    let objects = x_y_and_z(&rt, alloc);
-    let set = add(&rt, &objects, x(), 3);
-    assert_eq!(rt; propose(&rt, &cluster, set), Ok(1));
+    let cluster = opened(&rt, alloc, Scope::Object(x()), 5)?;
+    let set = add(&rt, alloc, x(), 3);
+    expect_proposed(&rt, &cluster, set, Ok(1));
     read_within_2(&rt, &cluster);
+    drop(cluster);
     Ok(())
 }

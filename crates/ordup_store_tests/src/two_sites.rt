@@ -1,7 +1,7 @@
 //! Sessions over two sites, of which one lags.
-use crate::fixtures::{a, add, apply_at, b, opened_pair, read_x, x, x_y_and_z};
-use ordup_cluster::{Cluster, SeenValue, Session};
-use ordup_objects::{MessageSet, Refusal};
+use crate::fixtures::{a, add, apply_at, b, expect_behind, expect_seen, opened_pair, x};
+use ordup_cluster::{Cluster, Session};
+use ordup_objects::MessageSet;
 use std::process::Abort;
 use std::sync::Wait;
 use std::test::Fail;
@@ -11,49 +11,25 @@ fn apply_at_a<R: Wait + Abort>(rt: &R, cluster: &Cluster, set: MessageSet) {
     assert_eq!(rt; cluster.sites(), 2);
     assert_eq!(rt; cluster.propose(rt, &mut Session::new(), set, 1), Ok(1));
     cluster.stop();
-    assert_eq!(rt; apply_at(rt, cluster, a()), 1);
+    apply_at(rt, cluster, a());
 }
 
 /// A session that has read at a is refused at b, until b has applied as much.
 fn read_at_a_and_then_b<R: Wait + Abort>(rt: &R, cluster: &Cluster) {
     let mut session = Session::new();
-    assert_eq!(rt;
-        read_x(rt, cluster, &mut session, a()),
-        Ok(SeenValue {
-            value: 3,
-            applied: 1
-        })
-    );
-    assert_eq!(rt;
-        read_x(rt, cluster, &mut session, b()),
-        Err(Refusal::Behind { applied: 0 })
-    );
+    expect_seen(rt, cluster, &mut session, a(), 3, 1);
+    expect_behind(rt, cluster, &mut session, b(), 0);
     assert_eq!(rt; session.seen(), 1);
-    assert_eq!(rt; apply_at(rt, cluster, b()), 1);
-    assert_eq!(rt;
-        read_x(rt, cluster, &mut session, b()),
-        Ok(SeenValue {
-            value: 3,
-            applied: 1
-        })
-    );
+    apply_at(rt, cluster, b());
+    expect_seen(rt, cluster, &mut session, b(), 3, 1);
 }
 
 /// A session that has seen nothing reads at b what came before the update, and sees the update once it is settled.
 fn read_at_b_and_settle<R: Wait + Abort>(rt: &R, cluster: &Cluster) {
     let mut session = Session::new();
-    assert_eq!(rt;
-        read_x(rt, cluster, &mut session, b()),
-        Ok(SeenValue {
-            value: 0,
-            applied: 0
-        })
-    );
+    expect_seen(rt, cluster, &mut session, b(), 0, 0);
     assert_eq!(rt; cluster.settle(rt, &mut session, 1, 1), Ok(()));
-    assert_eq!(rt;
-        read_x(rt, cluster, &mut session, b()),
-        Err(Refusal::Behind { applied: 0 })
-    );
+    expect_behind(rt, cluster, &mut session, b(), 0);
 }
 
 /// Each of both sites has applied the one update of the log.
@@ -67,14 +43,14 @@ fn close(rt: &impl Abort, cluster: Cluster) {
     assert_eq!(rt; primary.setup().sites(), 2);
     assert_eq!(rt; closed.site(a()).applied(), 1);
     assert_eq!(rt; closed.site(b()).applied(), 1);
+    drop(closed);
 }
 
 #[test]
 fn a_session_never_goes_back(rt: HostRuntime) -> Result<(), Fail> {
     let alloc = rt.alloc();
-    let cluster = opened_pair(alloc)?;
-    let objects = x_y_and_z(&rt, alloc);
-    let set = add(&rt, &objects, x(), 3);
+    let cluster = opened_pair(&rt, alloc)?;
+    let set = add(&rt, alloc, x(), 3);
     apply_at_a(&rt, &cluster, set);
     read_at_b_and_settle(&rt, &cluster);
     read_at_a_and_then_b(&rt, &cluster);

@@ -73,9 +73,11 @@ fn declare(setup: &mut Setup) -> Result<(), Refusal> {
     Ok(())
 }
 
-fn opened(alloc: Global) -> Result<Cluster, Refusal> {
+fn opened(rt: &impl Abort, alloc: Global) -> Result<Cluster, Refusal> {
     let mut setup = Setup::new(alloc);
-    declare(&mut setup)?;
+    let Ok(()) = declare(&mut setup) else {
+        panic!(rt; "the declarations are refused")
+    };
     Cluster::new(alloc, setup)
 }
 
@@ -129,8 +131,8 @@ fn run<R: Threads + Wait + Abort + Sync>(
     cluster: &Cluster,
     gate: &HoldingGate,
 ) {
-    let objects = x_and_y(rt, alloc);
-    let objects = &objects;
+    let table = x_and_y(rt, alloc);
+    let objects = &table;
     thread::join(
         rt,
         move || apply_at(rt, cluster, 0, gate),
@@ -142,6 +144,8 @@ fn run<R: Threads + Wait + Abort + Sync>(
             )
         },
     );
+    // Dropped by a call: the prover has one proof of it for all tests. Where a value goes out of scope, each test proves it anew.
+    drop(table);
 }
 
 /// Both sites agree with the log, and have applied its one update.
@@ -156,12 +160,13 @@ fn close(rt: &impl Abort, cluster: Cluster) {
     assert_eq!(rt; primary.setup().sites(), 2);
     assert_eq!(rt; closed.site(SiteId::new(0)).applied(), 1);
     assert_eq!(rt; closed.site(SiteId::new(1)).applied(), 1);
+    drop(closed);
 }
 
 #[test]
 fn a_site_that_is_held_before_it_applies_holds_up_nobody(rt: HostRuntime) -> Result<(), Fail> {
     let gate = HoldingGate::new(Held::BeforeApply);
-    let cluster = opened(rt.alloc())?;
+    let cluster = opened(&rt, rt.alloc())?;
     run(&rt, rt.alloc(), &cluster, &gate);
     assert!(rt; !gate.gave_up.load(Ordering::SeqCst));
     close(&rt, cluster);
@@ -171,7 +176,7 @@ fn a_site_that_is_held_before_it_applies_holds_up_nobody(rt: HostRuntime) -> Res
 #[test]
 fn a_site_that_is_held_under_its_lock_holds_up_nobody(rt: HostRuntime) -> Result<(), Fail> {
     let gate = HoldingGate::new(Held::AtApply);
-    let cluster = opened(rt.alloc())?;
+    let cluster = opened(&rt, rt.alloc())?;
     run(&rt, rt.alloc(), &cluster, &gate);
     assert!(rt; !gate.gave_up.load(Ordering::SeqCst));
     close(&rt, cluster);

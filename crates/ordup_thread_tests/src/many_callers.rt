@@ -28,9 +28,11 @@ fn declare(setup: &mut Setup) -> Result<(), Refusal> {
     setup.limit(b, Scope::Object(x), 50)
 }
 
-fn opened(alloc: Global) -> Result<Cluster, Refusal> {
+fn opened(rt: &impl Abort, alloc: Global) -> Result<Cluster, Refusal> {
     let mut setup = Setup::new(alloc);
-    declare(&mut setup)?;
+    let Ok(()) = declare(&mut setup) else {
+        panic!(rt; "the declarations are refused")
+    };
     Cluster::new(alloc, setup)
 }
 
@@ -154,8 +156,8 @@ fn apply<R: Threads + Wait + Abort + Sync>(rt: &R, cluster: &Cluster) {
 
 /// The four callers and the two readers.
 fn call_and_watch<R: Threads + Wait + Abort + Sync>(rt: &R, alloc: Global, cluster: &Cluster) {
-    let objects = x_and_y(rt, alloc);
-    let objects = &objects;
+    let table = x_and_y(rt, alloc);
+    let objects = &table;
     let ended = AtomicU64::new(0);
     let ended = &ended;
     thread::join(
@@ -169,6 +171,7 @@ fn call_and_watch<R: Threads + Wait + Abort + Sync>(rt: &R, alloc: Global, clust
             )
         },
     );
+    drop(table);
 }
 
 /// All ten threads.
@@ -200,11 +203,12 @@ fn close(rt: &impl Abort, cluster: Cluster) {
     assert_eq!(rt; primary.setup().sites(), 4);
     assert!(rt; closed.site(SiteId::new(0)).applied() >= 4 * SETS - 64);
     assert!(rt; closed.site(SiteId::new(1)).applied() >= 4 * SETS - 50);
+    drop(closed);
 }
 
 #[test]
 fn each_read_is_the_value_of_a_prefix(rt: HostRuntime) -> Result<(), Fail> {
-    let cluster = opened(rt.alloc())?;
+    let cluster = opened(&rt, rt.alloc())?;
     run(&rt, rt.alloc(), &cluster);
     close(&rt, cluster);
     Ok(())

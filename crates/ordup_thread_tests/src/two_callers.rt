@@ -23,9 +23,11 @@ fn declare(setup: &mut Setup) -> Result<(), Refusal> {
     setup.limit(a, Scope::Count, 3)
 }
 
-fn opened(alloc: Global) -> Result<Cluster, Refusal> {
+fn opened(rt: &impl Abort, alloc: Global) -> Result<Cluster, Refusal> {
     let mut setup = Setup::new(alloc);
-    declare(&mut setup)?;
+    let Ok(()) = declare(&mut setup) else {
+        panic!(rt; "the declarations are refused")
+    };
     Cluster::new(alloc, setup)
 }
 
@@ -53,8 +55,8 @@ fn call<R: Wait + Abort>(
 
 /// The applier and the two callers, each in a thread of its own.
 fn run<R: Threads + Wait + Abort + Sync>(rt: &R, alloc: Global, cluster: &Cluster) {
-    let objects = x_and_y(rt, alloc);
-    let objects = &objects;
+    let table = x_and_y(rt, alloc);
+    let objects = &table;
     let ended = AtomicU64::new(0);
     let ended = &ended;
     thread::join(
@@ -68,6 +70,7 @@ fn run<R: Threads + Wait + Abort + Sync>(rt: &R, alloc: Global, cluster: &Cluste
             )
         },
     );
+    drop(table);
 }
 
 /// How many sets of the log change this object first.
@@ -99,6 +102,7 @@ fn expect_certified(rt: &impl Abort, alloc: Global, primary: &Primary) {
         panic!(rt; "there is no memory for a record")
     };
     assert!(rt; matches!(check(&record), Verdict::Fewest(_)));
+    drop(record);
 }
 
 /// The log has all sets, and the site at most three fewer.
@@ -114,11 +118,12 @@ fn close(rt: &impl Abort, alloc: Global, cluster: Cluster) {
     let applied = closed.site(SiteId::new(0)).applied();
     assert!(rt; 37 <= applied && applied <= 40);
     expect_certified(rt, alloc, primary);
+    drop(closed);
 }
 
 #[test]
 fn two_callers_wait_for_one_site(rt: HostRuntime) -> Result<(), Fail> {
-    let cluster = opened(rt.alloc())?;
+    let cluster = opened(&rt, rt.alloc())?;
     run(&rt, rt.alloc(), &cluster);
     close(&rt, rt.alloc(), cluster);
     Ok(())

@@ -72,7 +72,7 @@ fn push_certified(
     let Ok(shown) = record_of(alloc, primary, site) else {
         return Err(AllocError);
     };
-    match check(&shown) {
+    let pushed = match check(&shown) {
         Verdict::Fewest(rounds) => push_numbered(
             out,
             b"certified ",
@@ -81,5 +81,8 @@ fn push_certified(
         ),
         // For the proof: no record of a primary is refused.
         Verdict::No { .. } => push_named(out, b"uncertified ", shown.site().as_bytes()),
-    }
+    };
+    // By a call: where the record goes out of scope, the proof takes it apart.
+    drop(shown);
+    pushed
 }

@@ -47,14 +47,19 @@ pub fn run_threads<R: Threads + Wait + Sync>(
     // For the proof: there are at most 16 sites.
     let _sites = setup.sites();
     let cluster = Cluster::new(alloc, setup)?;
+    // A cluster is dropped by a call: where it goes out of scope, the proof takes it apart.
     let Ok(hands) = deal(alloc, sets, callers) else {
+        drop(cluster);
         return Err(Refusal::NoMemory);
     };
     let Some(tally) = with_appliers(rt, alloc, &cluster, hands) else {
+        drop(cluster);
         return Err(Refusal::NoMemory);
     };
     let closed = cluster.close()?;
-    match outcome_of(alloc, &closed, tally) {
+    let outcome = outcome_of(alloc, &closed, tally);
+    drop(closed);
+    match outcome {
         Ok(text) => Ok(text),
         Err(_) => Err(Refusal::NoMemory),
     }

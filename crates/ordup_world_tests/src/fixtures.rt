@@ -1,8 +1,12 @@
 //! What the tests work on.
+//!
+//! Tests drop by a call what a run left: the prover has one proof of it for all of them. Where it goes out of scope, each test
+//! proves it anew.
 use ordup_limits::Scope;
 use ordup_objects::{Change, MessageSet, ObjectId, ObjectTable, Op, Refusal};
 use ordup_world::{Event, Run, Setup, run};
 use std::alloc::Global;
+use std::process::Abort;
 
 /// Declares the objects x at 0 and y at 10.
 fn declare_objects(setup: &mut Setup) -> Result<(), Refusal> {
@@ -18,14 +22,6 @@ fn declare_site(setup: &mut Setup) -> Result<(), Refusal> {
     setup.limit(a, Scope::All, 3)?;
     setup.limit(a, Scope::Count, 1)?;
     Ok(())
-}
-
-/// The setup of x, y and a.
-fn x_y_and_a(alloc: Global) -> Result<Setup, Refusal> {
-    let mut setup = Setup::new(alloc);
-    declare_objects(&mut setup)?;
-    declare_site(&mut setup)?;
-    Ok(setup)
 }
 
 /// The message set of one change, of the object at this place.
@@ -51,19 +47,17 @@ fn two_updates(alloc: Global, objects: &ObjectTable) -> Result<Vec<Event>, Refus
 }
 
 /// Runs the two updates. The first weighs 3, within each limit; with the second it is 7 on all, over 3.
-pub(crate) fn run_two_updates(alloc: Global) -> Result<Run, Refusal> {
-    let setup = x_y_and_a(alloc)?;
-    let events = two_updates(alloc, setup.objects())?;
+pub(crate) fn run_two_updates(rt: &impl Abort, alloc: Global) -> Result<Run, Refusal> {
+    let mut setup = Setup::new(alloc);
+    assert_eq!(rt; declare_objects(&mut setup), Ok(()));
+    assert_eq!(rt; declare_site(&mut setup), Ok(()));
+    let Ok(events) = two_updates(alloc, setup.objects()) else {
+        panic!(rt; "an update is refused")
+    };
     run(alloc, setup, events)
 }
 
-/// The setup of x at 0 and of a, with 5 allowed on x.
-fn x_within_5(alloc: Global) -> Result<Setup, Refusal> {
-    let mut setup = Setup::new(alloc);
-    declare_x_within_5(&mut setup)?;
-    Ok(setup)
-}
-
+/// Declares x at 0, and a with 5 allowed on x.
 fn declare_x_within_5(setup: &mut Setup) -> Result<(), Refusal> {
     let x = setup.object(b"x", 0)?;
     let a = setup.site(b"a", 4)?;
@@ -83,8 +77,11 @@ fn there_and_back(alloc: Global, objects: &ObjectTable) -> Result<Vec<Event>, Re
 }
 
 /// Runs the three updates. They weigh 3, 4 and 2 on x, and are not settled.
-pub(crate) fn run_there_and_back(alloc: Global) -> Result<Run, Refusal> {
-    let setup = x_within_5(alloc)?;
-    let events = there_and_back(alloc, setup.objects())?;
+pub(crate) fn run_there_and_back(rt: &impl Abort, alloc: Global) -> Result<Run, Refusal> {
+    let mut setup = Setup::new(alloc);
+    assert_eq!(rt; declare_x_within_5(&mut setup), Ok(()));
+    let Ok(events) = there_and_back(alloc, setup.objects()) else {
+        panic!(rt; "an update is refused")
+    };
     run(alloc, setup, events)
 }

@@ -86,7 +86,7 @@ fn over_on_the_way(
 
 #[test]
 fn what_is_reported_is_taken_off(rt: HostRuntime) -> Result<(), Fail> {
-    let outcome = run_two_updates(rt.alloc())?;
+    let outcome = run_two_updates(&rt, rt.alloc())?;
     let primary = outcome.world.primary();
     let reported = over_as_it_reports(&rt, rt.alloc(), primary);
     let passed = over_as_the_report_passes(&rt, rt.alloc(), primary);
@@ -94,16 +94,18 @@ fn what_is_reported_is_taken_off(rt: HostRuntime) -> Result<(), Fail> {
     assert_eq!(rt; reported, Ok([true, true, false]));
     // 3, which equals the limit, and then 0: the second update, which weighs 4, is reported before it is added.
     assert_eq!(rt; passed, Ok([false, false, false]));
+    drop(outcome);
     Ok(())
 }
 
 #[test]
 fn a_ledger_weighs_the_way_that_is_not_reported(rt: HostRuntime) -> Result<(), Fail> {
-    let outcome = run_there_and_back(rt.alloc())?;
+    let outcome = run_there_and_back(&rt, rt.alloc())?;
     let over = over_on_the_way(&rt, rt.alloc(), outcome.world.primary());
     // x goes 0, 3, -1, 1, so the updates weigh 3, 4 and 2, and 5 is allowed.
     // Not reported are: none, 0; the first, 3; the first two, 3 + 4 = 7, though x has moved by 1; the second, 7 - 3 = 4; none of
     // those that were added, 0, since the report passes them; and with the third added none, 9 - 9 = 0.
     assert_eq!(rt; over, Ok([false, false, true, false, false, false]));
+    drop(outcome);
     Ok(())
 }

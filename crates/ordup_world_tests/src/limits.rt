@@ -16,7 +16,7 @@ fn first_passed(rt: &impl Abort, primary: &Primary, from: u64, to: u64) -> Optio
 
 #[test]
 fn the_first_limit_that_is_passed(rt: HostRuntime) -> Result<(), Fail> {
-    let outcome = run_two_updates(rt.alloc())?;
+    let outcome = run_two_updates(&rt, rt.alloc())?;
     let primary = outcome.world.primary();
     let passed = [
         // 3 on x, 3 on all, and 1 update.
@@ -29,5 +29,6 @@ fn the_first_limit_that_is_passed(rt: HostRuntime) -> Result<(), Fail> {
         first_passed(&rt, primary, 2, 0),
     ];
     assert_eq!(rt; passed, [None, Some(1), Some(1), None, None]);
+    drop(outcome);
     Ok(())
 }

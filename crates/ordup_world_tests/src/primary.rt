@@ -41,28 +41,38 @@ fn send(world: &mut World) {
 
 #[test]
 fn a_primary_shows_what_it_knows(rt: HostRuntime) -> Result<(), Fail> {
-    let outcome = run_two_updates(rt.alloc())?;
+    let outcome = run_two_updates(&rt, rt.alloc())?;
     let primary = outcome.world.primary();
     let known = numbers(&rt, primary);
     let is_forced = is_forced_at(&rt, primary, 2);
     assert_eq!(rt; known, [2, 1, 2, 0, 0, 0, 0]);
     assert!(rt; is_forced);
+    drop(outcome);
     Ok(())
 }
 
-#[test]
-fn a_primary_hands_out_the_first_update_that_was_not_sent(rt: HostRuntime) -> Result<(), Fail> {
-    let mut world = run_two_updates(rt.alloc())?.world;
-    send(&mut world);
-    let parcel = next(&rt, world.primary())?;
+/// Sees that a is to be sent the second update, in which y becomes 14.
+fn expect_second(rt: &impl Abort, primary: &Primary) {
+    let Ok(parcel) = next(rt, primary) else {
+        panic!(rt; "there is nothing to send")
+    };
     let set = Change {
         object: ObjectId::new(1),
         op: Op::Set(14),
     };
     assert_eq!(rt; parcel.number, 2);
     assert_eq!(rt; parcel.set.changes(), [set].as_slice());
-    send(&mut world);
+}
+
+#[test]
+fn a_primary_hands_out_the_first_update_that_was_not_sent(rt: HostRuntime) -> Result<(), Fail> {
+    let mut outcome = run_two_updates(&rt, rt.alloc())?;
+    let world = &mut outcome.world;
+    send(world);
+    expect_second(&rt, world.primary());
+    send(world);
     let nothing = next(&rt, world.primary()).err();
     assert_eq!(rt; nothing, Some(Refusal::NothingToSend));
+    drop(outcome);
     Ok(())
 }

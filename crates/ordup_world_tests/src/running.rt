@@ -3,6 +3,7 @@ use crate::fixtures::{run_two_updates, set_of};
 use ordup_objects::{Name, ObjectId, ObjectTable, Op, Refusal, SiteId};
 use ordup_world::{Answer, Event, Settled, Setup, World, run};
 use std::alloc::Global;
+use std::process::Abort;
 use std::test::Fail;
 
 /// Whether an answer numbers an update so.
@@ -31,7 +32,7 @@ fn is_round(answer: &Answer, wanted: u64) -> bool {
 
 #[test]
 fn a_list_of_events_has_a_list_of_answers(rt: HostRuntime) -> Result<(), Fail> {
-    let outcome = run_two_updates(rt.alloc())?;
+    let outcome = run_two_updates(&rt, rt.alloc())?;
     let is_answered = match outcome.answers.as_slice() {
         [first, second, third, fourth] => {
             is_proposed(first, 1)
@@ -42,6 +43,7 @@ fn a_list_of_events_has_a_list_of_answers(rt: HostRuntime) -> Result<(), Fail> {
         _ => false,
     };
     assert!(rt; is_answered);
+    drop(outcome);
     Ok(())
 }
 
@@ -86,20 +88,23 @@ fn is_site_unknown(world: &mut World, query: Name, site: SiteId) -> bool {
 #[test]
 fn events_of_sites_that_are_not_there(rt: HostRuntime) -> Result<(), Fail> {
     let query = Name::new(b"q")?;
-    let mut world = run_two_updates(rt.alloc())?.world;
+    let mut outcome = run_two_updates(&rt, rt.alloc())?;
     for place in [1, 15, 255] {
-        assert!(rt; is_site_unknown(&mut world, query, SiteId::new(place)));
+        assert!(rt; is_site_unknown(&mut outcome.world, query, SiteId::new(place)));
     }
+    drop(outcome);
     Ok(())
 }
 
 /// An update of the object z, over the objects x, y and z.
-fn of_z(alloc: Global) -> Result<Event, Refusal> {
+fn of_z(rt: &impl Abort, alloc: Global) -> Result<Event, Refusal> {
     let mut objects = ObjectTable::new(alloc);
-    objects.declare(b"x", 0)?;
-    objects.declare(b"y", 0)?;
-    objects.declare(b"z", 0)?;
-    Ok(Event::Propose(set_of(&objects, 2, Op::Add(1))?))
+    for name in ["x", "y", "z"] {
+        assert!(rt; objects.declare(name.as_bytes(), 0).is_ok());
+    }
+    let set = set_of(&objects, 2, Op::Add(1));
+    drop(objects);
+    Ok(Event::Propose(set?))
 }
 
 /// Whether a read of this object is refused, since it is not there.
@@ -111,11 +116,13 @@ fn is_object_unknown(world: &mut World, query: Name, place: u16) -> bool {
 #[test]
 fn events_of_objects_that_are_not_there(rt: HostRuntime) -> Result<(), Fail> {
     let query = Name::new(b"q")?;
-    let event = of_z(rt.alloc())?;
-    let mut world = run_two_updates(rt.alloc())?.world;
+    let event = of_z(&rt, rt.alloc())?;
+    let mut outcome = run_two_updates(&rt, rt.alloc())?;
+    let world = &mut outcome.world;
     for place in [2, 255, 256, 65_535] {
-        assert!(rt; is_object_unknown(&mut world, query, place));
+        assert!(rt; is_object_unknown(world, query, place));
     }
-    assert!(rt; is_refused(&mut world, event, Refusal::UnknownObject));
+    assert!(rt; is_refused(world, event, Refusal::UnknownObject));
+    drop(outcome);
     Ok(())
 }

@@ -4,9 +4,9 @@ use Rattle.ordup_cli.proofs.jobs.check_record.Goals as goal
 pub returns-in-Ok : goal.returns-in-Ok
 returns-in-Ok g c = judgement_printed _ _ _ _ (
   c.in-Ok.read,
-  c.check.result,
+  c.check-verdict.result,
   c.in-Ok.ensures.limited,
   c.in-Ok.ensures.read,
-  judged _ _ c.check.ensures.verdict c.check.ensures.fewest c.check.ensures.valid,
+  judged _ _ c.check-verdict.ensures.verdict c.check-verdict.ensures.fewest c.check-verdict.ensures.valid,
   c.print_verdict.ensures,
 )

@@ -8,7 +8,7 @@ push-requires g c =
     let made = c.in_ok-sender.ensures.ends.sender in
     let start = ap (λ (e : Sending). length e.start) made in
     let none = ap (λ (e : Sending). length e.pushed) made in
-    c.in_ok-parcel.ensures _ _ (start ∙ length-map _ _) (omega (arith, none))
+    c.parcel.ensures _ _ (start ∙ length-map _ _) (omega (arith, none))
 
 pub push-requires-2 : goal.push-requires-2
 push-requires-2 g c =
@@ -17,8 +17,8 @@ push-requires-2 g c =
     let start = ap (λ (e : Sending). length e.start) pushed ∙ ap (λ (e : Sending). length e.start) made in
     let none = ap (λ (e : Sending). length e.pushed) made in
     let one = ap (λ (e : Sending). length e.pushed) pushed in
-    c.in_ok-parcel-2.ensures _ _ (start ∙ length-map _ _)
-    (omega (arith, none, one, length_push c.in_ok-sender.sender.pushed c.in_ok-parcel.field-0))
+    c.parcel-2.ensures _ _ (start ∙ length-map _ _)
+    (omega (arith, none, one, length_push c.in_ok-sender.sender.pushed c.parcel.result))
 
 pub push-requires-3 : goal.push-requires-3
 push-requires-3 g c =
@@ -37,5 +37,5 @@ push-requires-3 g c =
     let none = ap (λ (e : Sending). length e.pushed) made in
     let one = ap (λ (e : Sending). length e.pushed) pushed in
     rw back.1
-    (c.in_ok-parcel-2.ensures _ _ (start ∙ length-map _ _)
-    (omega (arith, none, one, same, length_push c.in_ok-sender.sender.pushed c.in_ok-parcel.field-0)))
+    (c.parcel-2.ensures _ _ (start ∙ length-map _ _)
+    (omega (arith, none, one, same, length_push c.in_ok-sender.sender.pushed c.parcel.result)))

@@ -2,4 +2,4 @@ use Rattle.std.proofs.Common.{arith}
 use Rattle.ordup_feed_tests.proofs.two_threads.send_all.Goals as goal
 
 pub push-requires : goal.push-requires
-push-requires g c = let count = c.loop-i.invariant.0 in c.in-Ok.ensures _ _ c.loop-i.invariant.1 (omega (arith, count))
+push-requires g c = let count = c.loop-i.invariant.0 in c.parcel.ensures _ _ c.loop-i.invariant.1 (omega (arith, count))

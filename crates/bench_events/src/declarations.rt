@@ -13,8 +13,10 @@ pub(crate) const SITE_COUNT: u8 = 4;
 const CAPACITY: u64 = 4;
 
 /// 16 objects at 0, a group of the first four of them, and 4 sites with their limits. Names are single letters.
-pub(crate) fn setup<A: Allocator + Copy>(alloc: A, kind: Kind) -> Result<Setup<A>, Refusal> {
-    let mut setup = Setup::new(alloc);
+pub(crate) fn declare<A: Allocator + Copy>(
+    setup: &mut Setup<A>,
+    kind: Kind,
+) -> Result<(), Refusal> {
     for place in 0..OBJECT_COUNT {
         setup.object(&[b'a' + place], 0)?;
     }
@@ -27,9 +29,9 @@ pub(crate) fn setup<A: Allocator + Copy>(alloc: A, kind: Kind) -> Result<Setup<A
     let group = setup.group(b"a", &members)?;
     for place in 0..SITE_COUNT {
         let site = setup.site(&[b'a' + place], CAPACITY)?;
-        declare_limits(&mut setup, site, group, kind.lags(site))?;
+        declare_limits(setup, site, group, kind.lags(site))?;
     }
-    Ok(setup)
+    Ok(())
 }
 
 /// A limit on an object, on the group, on all objects and on the count of updates. Wide ones are never passed.

@@ -1,9 +1,9 @@
-use crate::declarations::{OBJECT_COUNT, SITE_COUNT, setup};
+use crate::declarations::{OBJECT_COUNT, SITE_COUNT, declare};
 use crate::kind::Kind;
 use crate::random::Random;
 use anyhow::bail;
 use ordup_objects::{Change, MessageSet, ObjectId, Op, Refusal, SiteId};
-use ordup_world::{Answer, Event, Settled, World};
+use ordup_world::{Answer, Event, Settled, Setup, World};
 use std::alloc::{Allocator, Global};
 
 /// A site that lags reports after every so many updates.
@@ -25,7 +25,12 @@ pub(crate) struct Load<A: Allocator + Copy = Global> {
 impl<A: Allocator + Copy> Load<A> {
     /// A started store, in which nothing has happened, and how many events are wanted.
     pub(crate) fn start(alloc: A, kind: Kind, events: u64) -> Result<Self, Refusal> {
-        let setup = setup(alloc, kind)?;
+        let mut setup = Setup::new(alloc);
+        if let Err(refusal) = declare(&mut setup, kind) {
+            // By a call, as the load itself: where it goes out of scope, the proof takes it apart.
+            drop(setup);
+            return Err(refusal);
+        }
         let world = World::start(alloc, setup)?;
         Ok(Load {
             alloc,
@@ -38,8 +43,14 @@ impl<A: Allocator + Copy> Load<A> {
         })
     }
 
+    /// Makes updates, and prints what has become of the store.
+    pub(crate) fn run_and_print(&mut self, rt: &impl Print) -> anyhow::Result<()> {
+        self.run()?;
+        self.print(rt)
+    }
+
     /// Makes updates until no more events are wanted. An update takes one event at least.
-    pub(crate) fn run(&mut self) -> Result<(), Refusal> {
+    fn run(&mut self) -> Result<(), Refusal> {
         for _ in 0..self.left {
             if self.left == 0 {
                 break;
@@ -117,7 +128,7 @@ impl<A: Allocator + Copy> Load<A> {
     }
 
     /// Prints the numbers of the log and of each site, with its values.
-    pub(crate) fn print(&mut self, rt: &impl Print) -> anyhow::Result<()> {
+    fn print(&mut self, rt: &impl Print) -> anyhow::Result<()> {
         println!(rt; "proposed {}", self.proposed)?;
         println!(rt; "acknowledged {}", self.acknowledged)?;
         for place in 0..SITE_COUNT {

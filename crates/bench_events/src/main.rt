@@ -17,8 +17,9 @@ fn main(rt: HostRuntime) -> Result<()> {
     let words: Vec<String> = env::args(&rt)?.collect(alloc)?;
     let (kind, events) = asked(words.as_slice())?;
     let mut load = Load::start(alloc, kind, events)?;
-    load.run()?;
-    load.print(&rt)
+    let printed = load.run_and_print(&rt);
+    drop(load);
+    printed
 }
 
 /// The kind of load and how many events the words ask for.

@@ -7,7 +7,10 @@ use crate::tell_lost_words;
 use ordup_words::FILE_TIP;
 use std::alloc::{AllocError, Global};
 use std::io::ErrorKind;
+use std::process::Abort;
+use std::sync::Wait;
 use std::test::Fail;
+use std::thread::Threads;
 
 /// A script of 64 bytes, and its 123 bytes of answers.
 const FIRST_RUN: &str = "\
@@ -61,92 +64,6 @@ fn scripts_are_answered_as_their_transcripts_say(rt: HostRuntime) -> Result<(), 
     Ok(())
 }
 
-/// Sizes at their edges: the lines before, a part that stands there so many times, with its number from 0 on in the place of
-/// `#`, the rest of the script, and how its last line, which is one too many, is refused.
-const SIZES: [(&str, &str, usize, &str, &str); 15] = [
-    ("", "object o# 0\n", 256, "object more 0\n", " 10 TooMany\n"),
-    (
-        "object x 0\n",
-        "group g# x\n",
-        32,
-        "group more\n",
-        " 10 TooMany\n",
-    ),
-    ("object x 0\ngroup g", " x", 65, "\n", " 10 TooMany\n"),
-    (
-        "object x 0\ngroup g",
-        " x",
-        65,
-        " z\n",
-        " 6 UnknownObject\n",
-    ),
-    ("", "site s# 4\n", 16, "site more 4\n", " 10 TooMany\n"),
-    ("", "site s# 4\n", 16, "site more 0\n", " 9 OutOfRange\n"),
-    (
-        "site a 4\n",
-        "object o# 0\nlimit a object o# 5\n",
-        64,
-        "limit a object o0 5\n",
-        " 10 TooMany\n",
-    ),
-    (
-        "site a 4\n",
-        "object o# 0\nlimit a object o# 5\n",
-        64,
-        "limit a all 1000000000000000001\n",
-        " 9 OutOfRange\n",
-    ),
-    (
-        "object x 0\nsite a 4\nstart\npropose",
-        " add:x:1",
-        65,
-        "\n",
-        " 10 TooMany\n",
-    ),
-    (
-        "object x 0\nsite a 4\nstart\npropose",
-        " add:x:1",
-        65,
-        " add:x:1000000001\n",
-        " 9 OutOfRange\n",
-    ),
-    (
-        "object x 0\nsite a 4\nstart\npropose",
-        " add:x:1",
-        65,
-        " add:z:1\n",
-        " 6 UnknownObject\n",
-    ),
-    (
-        "object x 0\nsite a 4\nstart\n",
-        "begin q# a 0\n",
-        64,
-        "begin q0 a 0\n",
-        " 10 TooMany\n",
-    ),
-    (
-        "object x 0\nsite a 4\nstart\n",
-        "begin q# a 0\n",
-        64,
-        "begin more a 1000000000000000001\n",
-        " 9 OutOfRange\n",
-    ),
-    (
-        "object x 5\nsite a 4\nstart\nbegin q a 0\n",
-        "read q x\n",
-        256,
-        "read q x\n",
-        " 10 TooMany\n",
-    ),
-    (
-        "object x 5\nsite a 4\nstart\nbegin q a 0\n",
-        "read q x\n",
-        256,
-        "propose add:x:1\nsend a\napply a\nread q x\n",
-        " 10 TooMany\n",
-    ),
-];
-
 /// Adds a part to a script so many times, with its number from 0 on in the place of `#`.
 fn push_times(
     alloc: Global,
@@ -162,19 +79,95 @@ fn push_times(
     Ok(())
 }
 
+/// The last line of a script is one too many for a size, and is refused so. The part of the script in brackets stands there so
+/// many times, with its number from 0 on in the place of `#`.
+fn assert_refused<T: Threads + Wait + Sync + AllocGlobal + Abort>(
+    rt: &T,
+    script: &str,
+    count: usize,
+    refused: &str,
+) -> Result<(), Fail> {
+    let (before, rest) = script.split_once("[").ok_or("no part")?;
+    let (part, rest) = rest.split_once("]").ok_or("no end of the part")?;
+    let mut script = String::new(rt.alloc());
+    script.push_str(before)?;
+    push_times(rt.alloc(), &mut script, part, count)?;
+    script.push_str(rest)?;
+    let ended = run_on(rt, &["ordup", "run"], script.as_bytes());
+    // The first refusal is the last answer.
+    let answers = str::from_utf8(&ended.output)?;
+    let after = answers.split_once("refused ").map(|(_, after)| after);
+    assert_eq!(rt; after, Some(refused), "{part}, {rest}");
+    Ok(())
+}
+
 #[test]
 fn one_more_than_a_size_is_refused_in_its_order(rt: HostRuntime) -> Result<(), Fail> {
-    for (before, part, count, rest, refused) in SIZES {
-        let mut script = String::new(rt.alloc());
-        script.push_str(before)?;
-        push_times(rt.alloc(), &mut script, part, count)?;
-        script.push_str(rest)?;
-        let ended = run_on(&rt, &["ordup", "run"], script.as_bytes());
-        // The first refusal is the last answer.
-        let answers = str::from_utf8(&ended.output)?;
-        let after = answers.split_once("refused").map(|(_, after)| after);
-        assert_eq!(rt; after, Some(refused), "{part}, {rest}");
-    }
+    assert_refused(&rt, "[object o# 0\n]object more 0\n", 256, "10 TooMany\n")?;
+    assert_refused(
+        &rt,
+        "object x 0\n[group g# x\n]group more\n",
+        32,
+        "10 TooMany\n",
+    )?;
+    assert_refused(&rt, "object x 0\ngroup g[ x]\n", 65, "10 TooMany\n")?;
+    assert_refused(&rt, "object x 0\ngroup g[ x] z\n", 65, "6 UnknownObject\n")?;
+    assert_refused(&rt, "[site s# 4\n]site more 4\n", 16, "10 TooMany\n")?;
+    assert_refused(&rt, "[site s# 4\n]site more 0\n", 16, "9 OutOfRange\n")?;
+    assert_refused(
+        &rt,
+        "site a 4\n[object o# 0\nlimit a object o# 5\n]limit a object o0 5\n",
+        64,
+        "10 TooMany\n",
+    )?;
+    assert_refused(
+        &rt,
+        "site a 4\n[object o# 0\nlimit a object o# 5\n]limit a all 1000000000000000001\n",
+        64,
+        "9 OutOfRange\n",
+    )?;
+    assert_refused(
+        &rt,
+        "object x 0\nsite a 4\nstart\npropose[ add:x:1]\n",
+        65,
+        "10 TooMany\n",
+    )?;
+    assert_refused(
+        &rt,
+        "object x 0\nsite a 4\nstart\npropose[ add:x:1] add:x:1000000001\n",
+        65,
+        "9 OutOfRange\n",
+    )?;
+    assert_refused(
+        &rt,
+        "object x 0\nsite a 4\nstart\npropose[ add:x:1] add:z:1\n",
+        65,
+        "6 UnknownObject\n",
+    )?;
+    assert_refused(
+        &rt,
+        "object x 0\nsite a 4\nstart\n[begin q# a 0\n]begin q0 a 0\n",
+        64,
+        "10 TooMany\n",
+    )?;
+    assert_refused(
+        &rt,
+        "object x 0\nsite a 4\nstart\n[begin q# a 0\n]begin more a 1000000000000000001\n",
+        64,
+        "9 OutOfRange\n",
+    )?;
+    assert_refused(
+        &rt,
+        "object x 5\nsite a 4\nstart\nbegin q a 0\n[read q x\n]read q x\n",
+        256,
+        "10 TooMany\n",
+    )?;
+    assert_refused(
+        &rt,
+        "object x 5\nsite a 4\nstart\nbegin q a 0\n[read q x\n]propose add:x:1\nsend a\napply a\nread q x\n",
+        256,
+        "10 TooMany\n",
+    )?;
     Ok(())
 }
 

@@ -74,7 +74,7 @@ fn a_site_agrees_where_it_holds_what_it_applied(rt: HostRuntime) -> Result<(), F
     assert!(rt; agrees(&rt, alloc, &primary, &replica));
     apply(&rt, &primary, &mut replica, 4);
     assert!(rt; !agrees(&rt, alloc, &primary, &replica));
-    // Dropped by a call: the prover has one proof of it for all tests. Where a value goes out of scope, each test proves it anew.
+    // Dropped by a call, which is proved once for all tests: docs/DECISIONS.md, Tests.
     drop(replica);
     drop(primary);
     Ok(())

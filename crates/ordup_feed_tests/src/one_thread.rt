@@ -16,7 +16,7 @@ fn a_feed_has_room_for_1_to_1024_parcels(rt: HostRuntime) -> Result<(), Fail> {
     ] {
         assert_eq!(rt; Feed::new(alloc, &objects, capacity).err(), refusal);
     }
-    // Dropped by a call: the prover has one proof of it for all tests. Where a value goes out of scope, each test proves it anew.
+    // Dropped by a call, which is proved once for all tests: docs/DECISIONS.md, Tests.
     drop(objects);
     Ok(())
 }

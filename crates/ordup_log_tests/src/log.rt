@@ -5,7 +5,7 @@ use std::alloc::Global;
 use std::process::Abort;
 
 /// The objects x at 0 and y at 10, and a log over them.
-// Tests drop them by a call: the prover has one proof of it for all tests. Where they go out of scope, each test proves it anew.
+// Tests drop them by a call, which is proved once for all tests: docs/DECISIONS.md, Tests.
 pub(crate) fn x_and_y(rt: &impl Abort, alloc: Global) -> (ObjectTable, Log) {
     let mut objects = ObjectTable::new(alloc);
     assert!(rt; objects.declare(b"x", 0).is_ok());

@@ -39,7 +39,7 @@ pub(crate) fn said_within(
     match read_record_within(alloc, &mut input, limit) {
         Ok(read) => {
             let verdict = check(&read);
-            // Dropped by a call: the prover has one proof of it for all tests. Where a value goes out of scope, each test proves it anew.
+            // Dropped by a call, which is proved once for all tests: docs/DECISIONS.md, Tests.
             drop(read);
             match verdict {
                 Verdict::Fewest(rounds) => format!(in alloc; "yes {rounds}"),

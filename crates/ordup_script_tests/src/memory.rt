@@ -179,7 +179,7 @@ fn read_with(alloc: Global, allocations: u64) -> Result<usize, PlanFault> {
     let scarce = Scarce::new(alloc, allocations);
     let plan = read_plan(&scarce, &mut PieceReader::new(PLAN, 7, usize::MAX))?;
     let sets = plan.sets.len();
-    // Dropped by a call: the prover has one proof of it for all tests. Where a value goes out of scope, each test proves it anew.
+    // Dropped by a call, which is proved once for all tests: docs/DECISIONS.md, Tests.
     drop(plan);
     Ok(sets)
 }

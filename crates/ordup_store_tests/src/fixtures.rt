@@ -93,7 +93,7 @@ pub fn add(rt: &impl Abort, alloc: Global, object: ObjectId, n: i64) -> MessageS
     let Ok(set) = MessageSet::single(&objects, change) else {
         panic!(rt; "the set is refused")
     };
-    // Dropped by a call: the prover has one proof of it for all tests. Where a value goes out of scope, each test proves it anew.
+    // Dropped by a call, which is proved once for all tests: docs/DECISIONS.md, Tests.
     drop(objects);
     set
 }

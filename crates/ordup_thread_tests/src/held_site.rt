@@ -144,7 +144,7 @@ fn run<R: Threads + Wait + Abort + Sync>(
             )
         },
     );
-    // Dropped by a call: the prover has one proof of it for all tests. Where a value goes out of scope, each test proves it anew.
+    // Dropped by a call, which is proved once for all tests: docs/DECISIONS.md, Tests.
     drop(table);
 }
 

@@ -1,7 +1,6 @@
 //! What the tests work on.
 //!
-//! Tests drop by a call what a run left: the prover has one proof of it for all of them. Where it goes out of scope, each test
-//! proves it anew.
+//! Tests drop by a call what a run left, which is proved once for all of them: docs/DECISIONS.md, Tests.
 use ordup_limits::Scope;
 use ordup_objects::{Change, MessageSet, ObjectId, ObjectTable, Op, Refusal};
 use ordup_world::{Event, Run, Setup, run};

@@ -14,8 +14,8 @@ use Rattle.ordup_verdict.specs.Reasons.{reason_name}
 use Rattle.ordup_verdict.specs.Verdicts.{IsVerdict}
 use Rattle.ordup_verdict.specs.declared.verdict.Verdict.{Verdict}
 use Rattle.ordup_verdict.specs.declared.verdict.Verdict.TheVariants.{Fewest, No}
-use Rattle.ordup_rows.specs.Texts.{IsMalformedAt, TextTells}
-use Rattle.ordup_record_reader.specs.Limits.{within}
+use Rattle.ordup_rows.specs.Texts.{TextTells}
+use Rattle.ordup_record_reader.specs.Limits.{IsMalformedWithin}
 use Rattle.ordup_rows.specs.Rows.{rows_of, rows_text}
 use Rattle.ordup_rows.specs.Sizes.{most_record_bytes}
 use Rattle.ordup_answers.specs.declared.script_end.ScriptEnd.{ScriptEnd}
@@ -119,7 +119,7 @@ abbrev pub Checks : Bytes → Bytes → Bytes → Outcome → Type 0
 Checks had old new (Ok status) = PrintsJudgement had old new (Ok status)
 Checks had old new (Err fault.Write) = PrintsJudgement had old new (Err fault.Write)
 Checks had old new (Err (fault.Malformed row)) =
-    IfSome had (λ text. IsMalformedAt (strip_bom (within most_record_bytes text)) row) × (new ≡ old)
+    IfSome had (λ text. IsMalformedWithin most_record_bytes text row) × (new ≡ old)
 Checks had old new (Err fault.Read) = new ≡ old
 Checks had old new (Err fault.NoMemory) = new ≡ old
 Checks had old new (Err fault.TooLong) = ⊥

@@ -1,34 +1,37 @@
 -- Bytes that are let through up to a limit.
 use Rattle.ordup_record.proofs.Common.{◌++◌, ◌+◌, ◌-◌, ◌<◌, ◌∙◌, ◌∷◌, ◌≡◌, ◌≤◌, [], ap, append_assoc, arith, cases_lt, false, IfSome, inl}
-use Rattle.ordup_record.proofs.Common.{inr, length, length-append, List, nat_lt, nat_tests, None, Option, option_map, RecordState, refl}
+use Rattle.ordup_record.proofs.Common.{inr, length, length-append, List, nat_le, nat_tests, None, Option, option_map, RecordState, refl}
 use Rattle.ordup_record.proofs.Common.{Some, subst, sym, take, take-append-le, true, ℕ}
-use Rattle.std.specs.Io.KnownBytes.{Consumes, IsAtEnd}
+use Rattle.std.specs.Io.KnownBytes.{Consumes, IsAtEnd, Keeps}
 use Rattle.std.proofs.Math.Seq.{take-append-add}
 use Rattle.std.proofs.lemmas.List.{length-take}
 use Rattle.csv.specs.Reading.{strip_bom}
-use Rattle.ordup_rows.specs.Texts.{IsMalformedAt, TextTells}
-use Rattle.ordup_record_reader.specs.Limits.{cut_at, within}
-use Rattle.ordup_record_reader.proofs.LimitLemmas.{told_whole}
+use Rattle.ordup_rows.specs.Stages.{Stage, closed}
+use Rattle.ordup_rows.specs.Texts.{TextTells}
+use Rattle.ordup_record_reader.specs.Limits.{IsMalformedWithin, cut_at, never}
+use Rattle.ordup_record_reader.specs.Reading.{HasBadRow, IsTaken}
+use Rattle.ordup_record_reader.proofs.LimitLemmas.{cut_is_not_all, cut_malformed}
+use Rattle.ordup_record_reader.proofs.ReadSteps.{closed-tells, open-malformed}
 
-pub short_is : (n : ℕ) (text : List ℕ) → length text < n → cut_at n text ≡ text
-short_is n text short = let is : nat_lt (length text) n ≡ true = grind (arith, nat_tests) in rw is refl
+pub short_is : (n : ℕ) (text : List ℕ) → length text ≤ n → cut_at n text ≡ text
+short_is n text short = let is : nat_le (length text) n ≡ true = grind (arith, nat_tests) in rw is refl
 
-long_is : (n : ℕ) (text : List ℕ) → n ≤ length text → cut_at n text ≡ take n text ++ 0 ∷ []
-long_is n text long = let is : nat_lt (length text) n ≡ false = grind (arith, nat_tests) in rw is refl
+pub long_is : (n : ℕ) (text : List ℕ) → n < length text → cut_at n text ≡ take n text ++ never ∷ []
+long_is n text long = let is : nat_le (length text) n ≡ false = grind (arith, nat_tests) in rw is refl
 
 -- some bytes come, and the rest is cut where it was
 cut_rest : (n : ℕ) (bytes text : List ℕ) → length bytes ≤ n → cut_at n (bytes ++ text) ≡ bytes ++ cut_at (n - length bytes) text
 cut_rest n bytes text few =
     let long = length-append bytes text in
-    elim (cases_lt (length text) (n - length bytes)) [
-      | inl short ↦ short_is n (bytes ++ text) (omega (arith, long, short, few))
-          ∙ ap (λ t. bytes ++ t) (sym (short_is (n - length bytes) text short))
-      | inr rest ↦ (let count : length bytes + (n - length bytes) ≡ n = omega (arith, few) in
+    elim (cases_lt (n - length bytes) (length text)) [
+      | inl rest ↦ (let count : length bytes + (n - length bytes) ≡ n = omega (arith, few) in
           long_is n (bytes ++ text) (omega (arith, long, rest, few))
-          ∙ ap (λ k. take k (bytes ++ text) ++ 0 ∷ []) (sym count)
-          ∙ ap (λ t. t ++ 0 ∷ []) (take-append-add bytes text (n - length bytes))
-          ∙ append_assoc bytes (take (n - length bytes) text) (0 ∷ [])
+          ∙ ap (λ k. take k (bytes ++ text) ++ never ∷ []) (sym count)
+          ∙ ap (λ t. t ++ never ∷ []) (take-append-add bytes text (n - length bytes))
+          ∙ append_assoc bytes (take (n - length bytes) text) (never ∷ [])
           ∙ ap (λ t. bytes ++ t) (sym (long_is (n - length bytes) text rest)))
+      | inr short ↦ short_is n (bytes ++ text) (omega (arith, long, short, few))
+          ∙ ap (λ t. bytes ++ t) (sym (short_is (n - length bytes) text short))
     ]
 
 consumes_cut : (n count : ℕ) (old new : Option (List ℕ)) (bytes : List ℕ) → length bytes ≡ count → count ≤ n → Consumes old new bytes
@@ -38,38 +41,79 @@ consumes_cut n count (Some xs) None bytes long few h = h
 consumes_cut n count (Some xs) (Some ys) bytes long few h =
     ap (cut_at n) h ∙ (cut_rest n bytes ys (omega (arith, long, few)) ∙ ap (λ k. bytes ++ cut_at (n - k) ys) long)
 
-end_cut : (n : ℕ) (o : Option (List ℕ)) → 0 < n → IsAtEnd o → IsAtEnd (option_map (cut_at n) o)
-end_cut n None some h = tt
-end_cut n (Some xs) some h = ap (cut_at n) h ∙ short_is n [] (omega arith)
+end_cut : (n : ℕ) (o : Option (List ℕ)) → IsAtEnd o → IsAtEnd (option_map (cut_at n) o)
+end_cut n None h = tt
+end_cut n (Some xs) h = ap (cut_at n) h ∙ short_is n [] (omega arith)
 
 -- one read of at most n bytes, into the front of a buffer
-pub reads_cut : (n count : ℕ) (old new : Option (List ℕ)) (buffer more : List ℕ) → 0 < n → count ≤ n → count ≤ length buffer
+pub reads_cut : (n count : ℕ) (old new : Option (List ℕ)) (buffer more : List ℕ) → count ≤ n → count ≤ length buffer
     → (0 < length (buffer ++ more) → 0 < length buffer)
     → Consumes old new (take count buffer) × (count ≡ 0 → 0 < length buffer → IsAtEnd new)
     → Consumes (option_map (cut_at n) old) (option_map (cut_at (n - count)) new) (take count (buffer ++ more))
     × (count ≡ 0 → 0 < length (buffer ++ more) → IsAtEnd (option_map (cut_at (n - count)) new))
-reads_cut n count old new buffer more some few fits room h =
+reads_cut n count old new buffer more few fits room h =
     let long : length (take count buffer) ≡ count = simp length-take (omega (arith, fits)) in (
       subst (Consumes (option_map (cut_at n) old) (option_map (cut_at (n - count)) new)) (sym (take-append-le count buffer more fits))
           (consumes_cut n count old new (take count buffer) long few h.0),
-      λ none given. end_cut (n - count) new (omega (arith, none, some)) (h.1 none (room given)),
+      λ none given. end_cut (n - count) new (h.1 none (room given)),
     )
+
+-- a read that fails leaves what is there as it is
+pub keeps_cut : (n : ℕ) (old new : Option (List ℕ)) → Keeps old new → Keeps (option_map (cut_at n) old) (option_map (cut_at n) new)
+keeps_cut n None new h = tt
+keeps_cut n (Some xs) None h = h
+keeps_cut n (Some xs) (Some ys) h = ap (cut_at n) h
+
+-- a read at the end gives nothing
+pub ends_cut : (old new : Option (List ℕ)) → Consumes old new [] → IsAtEnd new
+    → Consumes (option_map (cut_at 0) old) (option_map (cut_at 0) new) [] × IsAtEnd (option_map (cut_at 0) new)
+ends_cut old new h end = (consumes_cut 0 0 old new [] refl (omega arith) h, end_cut 0 new end)
+
+-- a byte more than may come
+pub one_over : (old new : Option (List ℕ)) (byte : List ℕ) → length byte ≡ 1 → Consumes old new byte
+    → Keeps (option_map (cut_at 0) old) (Some (never ∷ []))
+one_over None new byte one h = tt
+one_over (Some xs) None byte one h = absurd h
+one_over (Some xs) (Some ys) byte one h =
+    sym (long_is 0 xs (omega (arith, ap length h, length-append byte ys, one)))
 
 -- ---- a text that is read within a limit
 
-pub tells_whole : (limit : ℕ) (o : Option (List ℕ)) (r : RecordState)
-    → IfSome (option_map (within limit) o) (λ text. TextTells (strip_bom text) r)
+-- all bytes of a text that was taken to its end came
+pub taken_whole : (limit : ℕ) (o : Option (List ℕ)) (stage : Stage) (n : ℕ)
+    → IfSome (option_map (cut_at limit) o) (λ text. IsTaken (strip_bom text) stage n)
+    → IfSome o (λ text. (length text ≤ limit) × IsTaken (strip_bom text) stage n)
+taken_whole limit None stage n h = tt
+taken_whole limit (Some text) stage n h = elim (cases_lt limit (length text)) [
+  | inl long ↦ (let (rows, all, came, ran, counted) : IsTaken (strip_bom (take limit text ++ never ∷ [])) stage n =
+      rw (long_is limit text long) at h in
+      absurd (cut_is_not_all (take limit text) rows came all))
+  | inr short ↦ (short, rw (short_is limit text short) at h)
+]
+
+pub tells_whole : (o : Option (List ℕ)) (limit : ℕ) (stage : Stage) (n : ℕ) (r : RecordState) → closed stage ≡ Some r
+    → IfSome o (λ text. (length text ≤ limit) × IsTaken (strip_bom text) stage n)
     → IfSome o (λ text. TextTells (strip_bom text) r)
-tells_whole limit None r h = tt
-tells_whole limit (Some text) r h = (told_whole (limit + 1) text r h).1
+tells_whole None limit stage n r end h = tt
+tells_whole (Some text) limit stage n r end h = closed-tells (strip_bom text) stage n r h.1 end
 
-pub tells_within : (limit : ℕ) (o : Option (List ℕ)) (r : RecordState)
-    → IfSome (option_map (within limit) o) (λ text. TextTells (strip_bom text) r)
+pub tells_within : (o : Option (List ℕ)) (limit : ℕ) (stage : Stage) (n : ℕ)
+    → IfSome o (λ text. (length text ≤ limit) × IsTaken (strip_bom text) stage n)
     → IfSome o (λ text. length text ≤ limit)
-tells_within limit None r h = tt
-tells_within limit (Some text) r h = let few = (told_whole (limit + 1) text r h).0 in omega (arith, few)
+tells_within None limit stage n h = tt
+tells_within (Some text) limit stage n h = h.0
 
-pub malformed_within : (limit n : ℕ) (o : Option (List ℕ)) → IfSome (option_map (within limit) o) (λ text. IsMalformedAt (strip_bom text) n)
-    → IfSome o (λ text. IsMalformedAt (strip_bom (within limit text)) n)
-malformed_within limit n None h = tt
-malformed_within limit n (Some text) h = h
+pub missing_within : (o : Option (List ℕ)) (limit : ℕ) (stage : Stage) (n : ℕ) → closed stage ≡ None
+    → IfSome o (λ text. (length text ≤ limit) × IsTaken (strip_bom text) stage n)
+    → IfSome o (λ text. IsMalformedWithin limit text n)
+missing_within None limit stage n end h = tt
+missing_within (Some text) limit stage n end h = inl (h.0, open-malformed (strip_bom text) stage n h.1 end)
+
+pub bad_within : (limit n : ℕ) (o : Option (List ℕ)) → IfSome (option_map (cut_at limit) o) (λ text. HasBadRow (strip_bom text) n)
+    → IfSome o (λ text. IsMalformedWithin limit text n)
+bad_within limit n None h = tt
+bad_within limit n (Some text) h = elim (cases_lt limit (length text)) [
+  | inl long ↦ inr (long, cut_malformed (take limit text) n (rw (long_is limit text long) at h))
+  | inr short ↦ (let (rows, begins, came, bad) : HasBadRow (strip_bom text) n = rw (short_is limit text short) at h in
+      inl (short, inl (rows, begins, bad)))
+]

@@ -1,13 +1,12 @@
 -- A text that tells a record is answered by it.
-use Rattle.ordup_record.proofs.Common.{◌+◌, ◌≡◌, ◌≤◌, arith, Err, IfSome, length, List, Ok, Option, RecordState, refl, Some, subst, ℕ}
+use Rattle.ordup_record.proofs.Common.{◌≡◌, ◌≤◌, arith, Err, IfSome, inl, inr, length, List, Ok, Option, RecordState, refl, Some, ℕ}
 use Rattle.csv.specs.Reading.{strip_bom}
-use Rattle.ordup_rows.specs.Texts.{IsMalformedAt, TextTells}
+use Rattle.ordup_rows.specs.Texts.{TextTells}
 use Rattle.ordup_rows.proofs.TextLemmas.{texts_tell_one_record, told_texts_are_not_malformed}
 use Rattle.ordup_record_reader.specs.Answers.{AnswersRecord}
-use Rattle.ordup_record_reader.specs.Limits.{within}
+use Rattle.ordup_record_reader.specs.Limits.{IsMalformedWithin}
 use Rattle.ordup_record_reader.specs.declared.reading.RecordReadFault.{RecordReadFault}
 use Rattle.ordup_record_reader.specs.declared.reading.RecordReadFault.TheVariants as fault
-use Rattle.ordup_record_reader.proofs.Cuts.{short_is}
 
 pub answers_told : (o : Option (List ℕ)) (text : List ℕ) (q r : RecordState) → o ≡ Some text → TextTells (strip_bom text) r
     → IfSome o (λ text. TextTells (strip_bom text) q) → AnswersRecord (Ok q) r
@@ -15,10 +14,11 @@ answers_told o text q r is told read = texts_tell_one_record (strip_bom text) q 
 
 pub faults_told : (limit : ℕ) (o : Option (List ℕ)) (text : List ℕ) (e : RecordReadFault) (r : RecordState) → o ≡ Some text
     → length text ≤ limit → TextTells (strip_bom text) r
-    → ((n : ℕ) → e ≡ fault.Malformed n → IfSome o (λ text. IsMalformedAt (strip_bom (within limit text)) n)) → AnswersRecord (Err e) r
+    → ((n : ℕ) → e ≡ fault.Malformed n → IfSome o (λ text. IsMalformedWithin limit text n)) → AnswersRecord (Err e) r
 faults_told limit o text fault.Read r is few told malformed = tt
 faults_told limit o text fault.NoMemory r is few told malformed = tt
 faults_told limit o text (fault.Malformed n) r is few told malformed =
-    let bad : IsMalformedAt (strip_bom (within limit text)) n = rw is at (malformed n refl) in
-    told_texts_are_not_malformed (strip_bom text) r n told
-    (subst (λ t. IsMalformedAt (strip_bom t) n) (short_is (limit + 1) text (omega (arith, few))) bad)
+    elim (rw is at (malformed n refl)) [
+      | inl whole ↦ told_texts_are_not_malformed (strip_bom text) r n told whole.1
+      | inr long ↦ absurd (omega (arith, few, long.0))
+    ]

@@ -1,6 +1,6 @@
 //! A reader with a limit.
-ghost use Rattle.std.specs.Prelude.{◌≡◌, ◌+◌, option_map};
-ghost use Rattle.ordup_record_reader.specs.Limits.{cut_at};
+ghost use Rattle.std.specs.Prelude.{◌≡◌, ◌∷◌, [], false, if◌then◌else◌, Some, option_map};
+ghost use Rattle.ordup_record_reader.specs.Limits.{cut_at, never};
 
 use std::io::{self, ErrorKind, Read};
 
@@ -8,33 +8,45 @@ use std::io::{self, ErrorKind, Read};
 #[derive(Drop)]
 pub struct Limited<R> {
     input: R,
-    /// How many may be read yet, and one more, by which it is found that there are too many.
-    left: u128,
+    /// How many bytes may come yet.
+    left: u64,
+    /// Whether one more came.
+    is_over: bool,
 }
 
 impl<R: Read> Limited<R> {
     /// A reader of at most so many bytes.
     pub fn new(input: R, limit: u64) -> Self
         ensures input { result.input ≡ input }
-        ensures left { result.left ≡ limit + 1 }
+        ensures left { result.left ≡ limit }
+        ensures within { result.is_over ≡ false }
     {
         Limited {
             input,
-            left: limit as u128 + 1,
+            left: limit,
+            is_over: false,
         }
     }
 }
 
 impl<R: Read> Read for Limited<R> {
-    ghost remaining = { λ r. option_map (cut_at r.left) (R.remaining r.input) };
+    ghost remaining = { λ r. if r.is_over then Some (never ∷ []) else option_map (cut_at r.left) (R.remaining r.input) };
 
     fn read(&mut self, buffer: &mut [u8]) -> io::Result<usize> {
-        if self.left == 0 {
+        if self.is_over {
             return Err(io::Error::from(ErrorKind::Other));
         }
-        let most = (buffer.len() as u128).min(self.left) as usize;
+        if self.left == 0 {
+            let mut byte = [0];
+            if self.input.read(&mut byte)? == 0 {
+                return Ok(0);
+            }
+            self.is_over = true;
+            return Err(io::Error::from(ErrorKind::Other));
+        }
+        let most = (buffer.len() as u64).min(self.left) as usize;
         let count = self.input.read(&mut buffer[..most])?;
-        self.left -= count as u128;
+        self.left -= count as u64;
         Ok(count)
     }
 }

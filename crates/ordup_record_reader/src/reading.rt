@@ -1,15 +1,17 @@
 //! Rows to a record.
-ghost use Rattle.std.specs.Prelude.{All, ◌≡◌, ◌≤◌, ◌++◌, ℕ, List, Some, IfErr, IfOk, IfSome, OnOk, length};
+ghost use Rattle.std.specs.Prelude.{All, ◌≡◌, ◌==◌, false, ◌≤◌, ◌++◌, ℕ, List, Some, IfErr, IfOk, IfSome, OnOk, length};
 ghost use Rattle.csv.specs.Reading.{source_of, strip_bom};
+ghost use Rattle.csv.specs.Records.{fields_of};
+ghost use Rattle.std.specs.List.{list_any};
 ghost use Rattle.ordup_objects.specs.Sets.{AreKnown};
 ghost use Rattle.ordup_objects.specs.Tables.{initial_state};
 ghost use Rattle.ordup_record.specs.Records.{IsRecord, RecordState};
 ghost use Rattle.ordup_rows.specs.Rows.{rows_of, rows_text};
 ghost use Rattle.ordup_record_reader.specs.Answers.{AnswersRecord};
-ghost use Rattle.ordup_record_reader.specs.Limits.{within};
+ghost use Rattle.ordup_record_reader.specs.Limits.{IsMalformedWithin, never};
 ghost use Rattle.ordup_rows.specs.Sizes.{most_record_bytes};
-ghost use Rattle.ordup_record_reader.specs.Reading.{IsFresh, IsTaken};
-ghost use Rattle.ordup_rows.specs.Texts.{IsMalformedAt, TextTells};
+ghost use Rattle.ordup_record_reader.specs.Reading.{HasBadRow, IsFresh, IsTaken, has_never};
+ghost use Rattle.ordup_rows.specs.Texts.{TextTells};
 ghost use Rattle.ordup_rows.specs.Stages.{closed};
 ghost use Rattle.ordup_record_reader.specs.Splits.{BeginsIllegal};
 ghost use Rattle.ordup_record_reader.specs.StageViews.{stage_of};
@@ -111,13 +113,25 @@ fn close(alloc: Global, stage: Stage) -> Result<Option<Record>, AllocError>
     }
 }
 
+/// For the proof: each byte is less than what stands for one that never comes.
+fn see_bytes(bytes: &[u8])
+    ensures { list_any (λ b. b == never) bytes.now ≡ false }
+{}
+
+/// For the proof: each byte of a row came.
+fn see_row(row: &ByteRecord)
+    ensures { has_never (fields_of row.now) ≡ false }
+{
+    see_bytes(row.as_slice());
+}
+
 /// Reads rows to the end, or to the first that may not stand there: how far they came, and the number of the row after the last.
 fn read_rows<R: Read>(alloc: Global, rdr: &mut Reader<R>) -> Result<(Stage, u64), RecordReadFault>
     requires { IsFresh rdr.old }
     ensures taken { IfOk result (λ p. IfSome (source_of R.remaining rdr.old) (λ text. IsTaken text (stage_of p.0) p.1)) }
     ensures sound { IfOk result (λ p. IfSome (closed (stage_of p.0)) IsRecord) }
     ensures malformed { IfErr result (λ e. (n : ℕ) → e ≡ RecordReadFault.Malformed n
-        → IfSome (source_of R.remaining rdr.old) (λ text. IsMalformedAt text n)) }
+        → IfSome (source_of R.remaining rdr.old) (λ text. HasBadRow text n)) }
 {
     let mut stage = Stage::Unread;
     let mut row = ByteRecord::new(alloc);
@@ -130,6 +144,7 @@ fn read_rows<R: Read>(alloc: Global, rdr: &mut Reader<R>) -> Result<(Stage, u64)
         if !is_found {
             return Ok((stage, count + 1));
         }
+        see_row(&row);
         let Ok(is_taken) = take_row(alloc, &mut stage, &row) else {
             return Err(RecordReadFault::NoMemory);
         };
@@ -149,7 +164,7 @@ pub fn read_record_within<R: Read>(
     ensures read { IfOk result (λ r. IfSome (R.remaining input.old) (λ text. TextTells (strip_bom text) r)) }
     ensures limited { OnOk result (IfSome (R.remaining input.old) (λ text. length text ≤ limit)) }
     ensures malformed { IfErr result (λ e. (n : ℕ) → e ≡ RecordReadFault.Malformed n
-        → IfSome (R.remaining input.old) (λ text. IsMalformedAt (strip_bom (within limit text)) n)) }
+        → IfSome (R.remaining input.old) (λ text. IsMalformedWithin limit text n)) }
     ensures told { (text : List ℕ) (r : RecordState) → R.remaining input.old ≡ Some text → length text ≤ limit
         → TextTells (strip_bom text) r → AnswersRecord result r }
 {
@@ -170,7 +185,7 @@ pub fn read_record<R: Read>(alloc: Global, input: &mut R) -> Result<Record, Reco
     ensures read { IfOk result (λ r. IfSome (R.remaining input.old) (λ text. TextTells (strip_bom text) r)) }
     ensures limited { OnOk result (IfSome (R.remaining input.old) (λ text. length text ≤ most_record_bytes)) }
     ensures malformed { IfErr result (λ e. (n : ℕ) → e ≡ RecordReadFault.Malformed n
-        → IfSome (R.remaining input.old) (λ text. IsMalformedAt (strip_bom (within most_record_bytes text)) n)) }
+        → IfSome (R.remaining input.old) (λ text. IsMalformedWithin most_record_bytes text n)) }
     ensures told { (text : List ℕ) (r : RecordState) → R.remaining input.old ≡ Some text → length text ≤ most_record_bytes
         → TextTells (strip_bom text) r → AnswersRecord result r }
     ensures written { (r : RecordState) → IsRecord r → R.remaining input.old ≡ Some (rows_text (rows_of r)) → AnswersRecord result r }

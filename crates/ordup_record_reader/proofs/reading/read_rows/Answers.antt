@@ -1,6 +1,6 @@
 use Rattle.ordup_record.proofs.Common.{◌+◌, ◌∙◌, IfSome, inl, subst, sym}
 use Rattle.csv.specs.Reading.{source_of}
-use Rattle.ordup_rows.specs.Texts.{IsMalformedAt}
+use Rattle.ordup_record_reader.specs.Reading.{HasBadRow}
 use Rattle.ordup_record_reader.specs.StageViews.{stage_of}
 use Rattle.ordup_record_reader.proofs.ReadSteps.{bad, begins, onward, malformed-number, whole}
 use Rattle.ordup_rows.proofs.Running.{step_follows}
@@ -20,10 +20,11 @@ pub returns-then-not-is_taken-clause-malformed : goal.returns-then-not-is_taken-
 returns-then-not-is_taken-clause-malformed g c n e =
     let (plain, ready, config, is, h) = c.loop-count.invariant in
     let r = rw c.if-not-is_found.false at (c.in-Ok.ensures.reads plain ready) in
-    subst (λ k. IfSome (source_of g.R.Read.remaining c.args.rdr.now) (λ text. IsMalformedAt text k))
+    subst (λ k. IfSome (source_of g.R.Read.remaining c.args.rdr.now) (λ text. HasBadRow text k))
     (malformed-number (c.loop-count.count + 1) n e)
     (bad g.R.Read.remaining c.loop-count.rdr c.read_byte_record.new.self (source_of g.R.Read.remaining c.args.rdr.now)
-    (stage_of c.loop-count.stage) c.loop-count.count _ config h r (sym (rw c.if-not-is_taken.true at c.in-Ok-take_row.ensures)))
+    (stage_of c.loop-count.stage) c.loop-count.count _ config h r c.see_row.ensures
+    (sym (rw c.if-not-is_taken.true at c.in-Ok-take_row.ensures)))
 
 pub loop-count-preserved : goal.loop-count-preserved
 loop-count-preserved g c =
@@ -35,5 +36,5 @@ loop-count-preserved g c =
       r.2 ∙ config,
       (step_follows (stage_of c.loop-count.stage) _ (stage_of c.take_row.new.stage) is next).is,
       onward g.R.Read.remaining c.loop-count.rdr c.read_byte_record.new.self (source_of g.R.Read.remaining c.args.rdr.now)
-          (stage_of c.loop-count.stage) (stage_of c.take_row.new.stage) c.loop-count.count _ config h r next,
+          (stage_of c.loop-count.stage) (stage_of c.take_row.new.stage) c.loop-count.count _ config h r c.see_row.ensures next,
     )

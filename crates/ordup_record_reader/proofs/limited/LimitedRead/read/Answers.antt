@@ -4,5 +4,6 @@ use Rattle.ordup_record_reader.proofs.limited.LimitedRead.read.Goals as goal
 
 pub returns-clause-bytes : goal.returns-clause-bytes
 returns-clause-bytes g c =
-    reads_cut c.args.self.now.left c.in_ok-count.count _ _ c.read.new.buf _ (search rules) (search rules) (search rules)
-    (λ given. search rules) c.in_ok-count.ensures.bytes
+    rw c.if-self.false
+    (reads_cut c.args.self.now.left c.in_ok-count.count _ _ c.read-2.new.buf _ (search rules) (search rules)
+    (λ given. search rules) c.in_ok-count.ensures.bytes)

@@ -10,8 +10,11 @@ use Rattle.ordup_rows.specs.Stages.{Stage, closed}
 use Rattle.ordup_rows.specs.Texts.{TextTells}
 use Rattle.ordup_record_reader.specs.Limits.{IsMalformedWithin, cut_at, never}
 use Rattle.ordup_record_reader.specs.Reading.{HasBadRow, IsTaken}
-use Rattle.ordup_record_reader.proofs.LimitLemmas.{cut_is_not_all, cut_malformed}
-use Rattle.ordup_record_reader.proofs.ReadSteps.{closed-tells, open-malformed}
+use Rattle.ordup_record_reader.specs.ShortRows.{ends_at_long_row, from_row, most_row_bytes}
+use Rattle.ordup_record_reader.specs.declared.short_rows.Place.TheVariants as at
+use Rattle.ordup_record_reader.proofs.CutRows.{bad_passes, cut_malformed, passed_bad, passed_taken}
+use Rattle.ordup_record_reader.proofs.LimitLemmas.{cut_is_not_all}
+use Rattle.ordup_record_reader.proofs.ReadSteps.{closed-tells, open-malformed, text-bad, text-taken}
 
 pub short_is : (n : ℕ) (text : List ℕ) → length text ≤ n → cut_at n text ≡ text
 short_is n text short = let is : nat_le (length text) n ≡ true = grind (arith, nat_tests) in rw is refl
@@ -109,11 +112,28 @@ pub missing_within : (o : Option (List ℕ)) (limit : ℕ) (stage : Stage) (n : 
 missing_within None limit stage n end h = tt
 missing_within (Some text) limit stage n end h = inl (h.0, open-malformed (strip_bom text) stage n h.1 end)
 
-pub bad_within : (limit n : ℕ) (o : Option (List ℕ)) → IfSome (option_map (cut_at limit) o) (λ text. HasBadRow (strip_bom text) n)
+pub bad_within : (limit n : ℕ) (o : Option (List ℕ))
+    → IfSome (option_map (cut_at limit) o) (λ text. HasBadRow (from_row (strip_bom text)) n)
     → IfSome o (λ text. IsMalformedWithin limit text n)
 bad_within limit n None h = tt
 bad_within limit n (Some text) h = elim (cases_lt limit (length text)) [
   | inl long ↦ inr (long, cut_malformed (take limit text) n (rw (long_is limit text long) at h))
-  | inr short ↦ (let (rows, begins, came, bad) : HasBadRow (strip_bom text) n = rw (short_is limit text short) at h in
-      inl (short, inl (rows, begins, bad)))
+  | inr short ↦ inl (short, bad_passes (strip_bom text) n (rw (short_is limit text short) at h))
 ]
+
+-- ---- what is read of a text
+
+abbrev pub read_of : ℕ → Option (List ℕ) → Option (List ℕ)
+read_of limit o = option_map (ends_at_long_row at.Text most_row_bytes) (option_map (cut_at limit) o)
+
+pub read_whole : (limit : ℕ) (o source : Option (List ℕ)) (stage : Stage) (n : ℕ) → source ≡ option_map strip_bom (read_of limit o)
+    → IfSome source (λ text. IsTaken text stage n)
+    → IfSome o (λ text. (length text ≤ limit) × IsTaken (strip_bom text) stage n)
+read_whole limit o source stage n is taken =
+    taken_whole limit o stage n (passed_taken (option_map (cut_at limit) o) stage n (text-taken (read_of limit o) source stage n is taken))
+
+pub read_bad : (limit : ℕ) (o source : Option (List ℕ)) (n : ℕ) → source ≡ option_map strip_bom (read_of limit o)
+    → IfSome source (λ text. HasBadRow text n)
+    → IfSome o (λ text. IsMalformedWithin limit text n)
+read_bad limit o source n is bad =
+    bad_within limit n o (passed_bad (option_map (cut_at limit) o) n (text-bad (read_of limit o) source n is bad))

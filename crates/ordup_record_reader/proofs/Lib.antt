@@ -5,3 +5,5 @@ mod ReadSteps
 mod LimitLemmas
 mod Cuts
 mod ToldAnswers
+mod LongRowLemmas
+mod CutRows

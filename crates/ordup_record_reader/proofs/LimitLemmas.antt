@@ -11,6 +11,7 @@ use Rattle.csv.specs.declared.parser.State.TheVariants as st
 use Rattle.ordup_rows.specs.Rows.{Row}
 use Rattle.ordup_rows.specs.Texts.{HasRows, IsMalformedAt}
 use Rattle.ordup_record_reader.specs.Limits.{never}
+use Rattle.ordup_record_reader.specs.ShortRows.{from_row}
 use Rattle.ordup_record_reader.specs.Reading.{AllCame, HasBadRow, has_never}
 
 -- ---- the states of a reader without comments
@@ -123,9 +124,10 @@ neither false q = refl
 no_mark : (a b : ℕ) → is_bom a b never ≡ false
 no_mark a b = neither (a == 239) (b == 187)
 
--- the first row of a text has the byte that never came
-abbrev BeginsLost : List ℕ → Type 0
-BeginsLost text = (p : Read) × (next_record default_config st.StartRecord [] [] text ≡ Some p) × (has_never p.0 ≡ true)
+-- the first row of a text has the byte that never came, and is not too long
+abbrev pub BeginsLost : List ℕ → Type 0
+BeginsLost text =
+    (p : Read) × (next_record default_config st.StartRecord [] [] text ≡ Some p) × (has_never p.0 ≡ true) × (from_row text ≡ text)
 
 third : (p q r : Bool) → (p && q) ≡ false → (p && q && r) ≡ false
 third true true r other = absurd cc
@@ -133,33 +135,33 @@ third true false r other = refl
 third false q r other = refl
 
 -- one byte, and a mark does not begin with it
-not_a : (a : ℕ) → (a == 239) ≡ false → (more : List ℕ) → strip_bom (a ∷ more) ≡ a ∷ more
+pub not_a : (a : ℕ) → (a == 239) ≡ false → (more : List ℕ) → strip_bom (a ∷ more) ≡ a ∷ more
 unfolding strip_bom
 not_a a other [] = refl
 not_a a other (b ∷ []) = refl
 not_a a other (b ∷ c ∷ more) = rw other refl
 
-not_ab : (a b : ℕ) → ((a == 239) && (b == 187)) ≡ false → (more : List ℕ) → strip_bom (a ∷ b ∷ more) ≡ a ∷ b ∷ more
+pub not_ab : (a b : ℕ) → ((a == 239) && (b == 187)) ≡ false → (more : List ℕ) → strip_bom (a ∷ b ∷ more) ≡ a ∷ b ∷ more
 unfolding strip_bom
 not_ab a b other [] = refl
 not_ab a b other (c ∷ more) = rw (third (a == 239) (b == 187) (c == 191) other) refl
 
 lost_a : (a : ℕ) → a ≡ 239 → BeginsLost (a ∷ never ∷ [])
 unfolding next_record
-lost_a a is = rw is ((((239 ∷ never ∷ []) ∷ []), st.StartRecord, []), refl, refl)
+lost_a a is = rw is ((((239 ∷ never ∷ []) ∷ []), st.StartRecord, []), refl, refl, refl)
 
 lost_ab : (a b : ℕ) → a ≡ 239 → b ≡ 187 → BeginsLost (a ∷ b ∷ never ∷ [])
 unfolding next_record
-lost_ab a b is is2 = rw (is, is2) ((((239 ∷ 187 ∷ never ∷ []) ∷ []), st.StartRecord, []), refl, refl)
+lost_ab a b is is2 = rw (is, is2) ((((239 ∷ 187 ∷ never ∷ []) ∷ []), st.StartRecord, []), refl, refl, refl)
 
 -- The first bytes of a text are a mark and others, or others alone, however the text goes on; or there are too few to tell, and then
 -- no row came.
-abbrev Begins : List ℕ → List ℕ → Type 0
+abbrev pub Begins : List ℕ → List ℕ → Type 0
 Begins bytes left = ((more : List ℕ) → strip_bom (bytes ++ more) ≡ left ++ more) ⊎ BeginsLost (left ++ never ∷ [])
 
 pub strip_cut : (bytes : List ℕ) → (left : List ℕ) × (strip_bom (bytes ++ never ∷ []) ≡ left ++ never ∷ []) × Begins bytes left
 unfolding next_record strip_bom
-strip_cut [] = ([], refl, inr ((((never ∷ []) ∷ []), st.StartRecord, []), refl, refl))
+strip_cut [] = ([], refl, inr ((((never ∷ []) ∷ []), st.StartRecord, []), refl, refl, refl))
 strip_cut (a ∷ []) = (
   a ∷ [],
   refl,
@@ -185,29 +187,19 @@ strip_cut (a ∷ b ∷ c ∷ rest) = elim (cases_Bool (is_bom a b c)) [
 -- ---- a text that was cut off
 
 -- a bad row that came is one however the text goes on
-begun_bad : (left : List ℕ) (n : ℕ) → HasBadRow (left ++ never ∷ []) n → (more : List ℕ) → IsMalformedAt (left ++ more) n
+pub begun_bad : (left : List ℕ) (n : ℕ) → HasBadRow (left ++ never ∷ []) n → (more : List ℕ) → IsMalformedAt (left ++ more) n
 begun_bad left n (rows, (t, rest, h), came, bad) more =
     let (open2, left2, rest_is, follow) = front_rows rows st.StartRecord t left rest refl came h in
     inl (rows, (t, left2 ++ more, follow more), bad)
 
 -- no bad row came where the first row is lost
-lost_bad : (text : List ℕ) (n : ℕ) → BeginsLost text → HasBadRow text n → ⊥
+pub lost_bad : (text : List ℕ) (n : ℕ) → BeginsLost text → HasBadRow text n → ⊥
 unfolding Reached
 lost_bad text n lost ([], begins, came, bad) = absurd (omega (arith, bad.0, bad.1))
-lost_bad text n (q, f, lost) (row ∷ rows, (t, rest, (p, e, is, h)), came, bad) =
+lost_bad text n (q, f, lost, same) (row ∷ rows, (t, rest, (p, e, is, h)), came, bad) =
     let both = or_parts (has_never row) (list_any has_never rows) came in
     let one : q ≡ p = same_Some q p (sym f ∙ e) in
     absurd (false≢true (sym both.0 ∙ (ap has_never is ∙ (ap (λ z. has_never z.0) (sym one) ∙ lost))))
-
-pub cut_malformed : (bytes : List ℕ) (n : ℕ) → HasBadRow (strip_bom (bytes ++ never ∷ [])) n → (more : List ℕ)
-    → IsMalformedAt (strip_bom (bytes ++ more)) n
-cut_malformed bytes n bad more =
-    let (left, e, begins) = strip_cut bytes in
-    let there : HasBadRow (left ++ never ∷ []) n = subst (λ t. HasBadRow t n) e bad in
-    elim begins [
-      | inl on ↦ subst (λ t. IsMalformedAt t n) (sym (on more)) (begun_bad left n there more)
-      | inr lost ↦ absurd (lost_bad (left ++ never ∷ []) n lost there)
-    ]
 
 pub cut_is_not_all : (bytes : List ℕ) (rows : List Row) → AllCame rows → HasRows (strip_bom (bytes ++ never ∷ [])) rows → ⊥
 cut_is_not_all bytes rows came all =

@@ -5,3 +5,4 @@ pub mod Splits
 pub mod Limits
 pub mod Reading
 pub mod Answers
+pub mod ShortRows

@@ -6,6 +6,7 @@
 mod limited;
 mod reading;
 mod row_columns;
+mod short_rows;
 mod stage;
 mod told;
 

@@ -18,6 +18,7 @@ ghost use Rattle.ordup_record_reader.specs.StageViews.{stage_of};
 ghost use Rattle.ordup_record_reader.specs.ToldViews.{told_of};
 
 use crate::limited::Limited;
+use crate::short_rows::ShortRows;
 use crate::stage::{Stage, take_row};
 use crate::told::Told;
 use csv::{ByteRecord, Reader, ReaderBuilder};
@@ -171,7 +172,7 @@ pub fn read_record_within<R: Read>(
     let mut rdr = ReaderBuilder::new()
         .has_headers(false)
         .flexible(true)
-        .from_reader(alloc, Limited::new(input, limit));
+        .from_reader(alloc, ShortRows::new(Limited::new(input, limit)));
     let (stage, row) = read_rows(alloc, &mut rdr)?;
     match close(alloc, stage) {
         Ok(Some(record)) => Ok(record),

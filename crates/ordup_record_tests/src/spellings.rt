@@ -1,5 +1,8 @@
 //! What text is read as the same rows, and what of a record that is cut or too long.
+
 use crate::told::{ALL, assert_told, said, said_within};
+use ordup_record_reader::{RecordReadFault, read_record};
+use std::io::{self, Read};
 use std::test::Fail;
 
 /// A record of 121 bytes.
@@ -196,6 +199,49 @@ fn a_record_of_more_bytes_than_the_limit_is_not_read(rt: HostRuntime) -> Result<
             let told = said_within(rt.alloc(), RECORD, at_once, limit)?;
             assert_eq!(rt; told.as_str(), wanted, "{limit} bytes, by {at_once}");
         }
+    }
+    Ok(())
+}
+
+/// Gives one byte for ever.
+#[derive(Drop)]
+struct Endless {
+    byte: u8,
+}
+
+impl Read for Endless {
+    fn read(&mut self, buffer: &mut [u8]) -> io::Result<usize> {
+        buffer.fill(self.byte);
+        Ok(buffer.len())
+    }
+}
+
+#[test]
+fn a_row_that_never_ends_is_malformed(rt: HostRuntime) {
+    for byte in *b",\"x\0" {
+        let told = match read_record(rt.alloc(), &mut Endless { byte }) {
+            Ok(read) => {
+                drop(read);
+                0
+            }
+            Err(RecordReadFault::Malformed { row }) => row,
+            Err(_) => 0,
+        };
+        assert_eq!(rt; told, 1, "{byte} for ever");
+    }
+}
+
+#[test]
+fn a_row_that_the_limit_cuts_is_not_told(rt: HostRuntime) -> Result<(), Fail> {
+    // The limit is after 'ordup,1,so', which goes on as a right row. Three columns that end within it do not.
+    for (text, limit, wanted) in [
+        (RECORD, 10, "read fault"),
+        ("ordup,1,south\nand more", 14, "malformed 1"),
+        ("ordup,1,south\nand more", 13, "read fault"),
+        ("ordup,1,south", 13, "malformed 1"),
+    ] {
+        let told = said_within(rt.alloc(), text, ALL, limit)?;
+        assert_eq!(rt; told.as_str(), wanted, "{limit} bytes");
     }
     Ok(())
 }

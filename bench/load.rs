@@ -652,6 +652,69 @@ fn recorded<W: Write>(script: &mut Script<W>) -> io::Result<()> {
     Ok(())
 }
 
+/// A record of so many updates of one change, with as many limits, groups and members as a site may have, and a round, a
+/// report and a window for each place, since no update may be unreported.
+fn checked_wide<W: Write>(script: &mut Script<W>) -> io::Result<()> {
+    const MOST: u64 = 1_000_000_000_000_000_000;
+    let updates = std::mem::replace(&mut script.left, u64::MAX);
+    let mut random = Random(1);
+    script.line(format_args!("ordup,1,south,{updates}"))?;
+    for object in 0..256 {
+        script.line(format_args!("object,{},bin_{object},0", object + 1))?;
+    }
+    for place in 0..2048 {
+        let (group, member) = (place / 64, place % 64);
+        script.line(format_args!("member,{},shelf_{group},bin_{}", place + 1, (group * 8 + member) % 256))?;
+    }
+    script.line(format_args!("limit,1,all,{MOST}"))?;
+    script.line(format_args!("limit,2,count,0"))?;
+    for group in 0..32 {
+        script.line(format_args!("limit,{},group:shelf_{group},{MOST}", group + 3))?;
+    }
+    for object in 0..30 {
+        script.line(format_args!("limit,{},object:bin_{},{MOST}", object + 35, object * 8))?;
+    }
+    for place in 1..=updates {
+        let (object, amount) = (random.below(256), random.below(9) + 1);
+        script.line(format_args!("change,{place},1,add:bin_{object}:{amount}"))?;
+    }
+    for place in 2..=updates {
+        script.line(format_args!("report,{place},{},-", place - 1))?;
+    }
+    for place in 1..=updates {
+        script.line(format_args!("round,{place},{place},-"))?;
+    }
+    for place in 1..=updates {
+        script.line(format_args!("window,{place},{},{place}", place - 1))?;
+    }
+    Ok(())
+}
+
+/// Updates of one change, each sent to, applied at, settled and reported by two sites; every hundredth line is a certificate.
+fn certified<W: Write>(script: &mut Script<W>) -> io::Result<()> {
+    let limits = [(Scope::Object(10), 7_000), (Scope::Group(0), 24_000), (Scope::All, 48_000), (Scope::Count, 7)];
+    let lines = script.left;
+    let mut store = two_sites(script, 0, &limits);
+    store.start()?;
+    let mut certified = 0;
+    while store.script.left > 0 {
+        store.propose(1)?;
+        for site in 0..2 {
+            store.bring_up(site, 0)?;
+        }
+        store.settle()?;
+        for site in 0..2 {
+            store.report(site)?;
+        }
+        let written = lines - store.script.left;
+        if written / 100 > certified {
+            certified = written / 100;
+            store.script.line(format_args!("certify archive"))?;
+        }
+    }
+    Ok(())
+}
+
 /// How many sets at the end of a plan force a round. There are at most as many callers, so the last update of the log is one of
 /// these sets, in whatever order the callers propose them.
 const LAST_SETS: u64 = 16;
@@ -700,6 +763,8 @@ fn main() -> ExitCode {
         "unmoved" => unmoved(&mut script),
         "spans" => spans(&mut script),
         "recorded" => recorded(&mut script),
+        "checked-wide" => checked_wide(&mut script),
+        "certified" => certified(&mut script),
         "planned" => planned(&mut script),
         kind => {
             eprintln!("load: no kind of load is named {kind}");

@@ -67,6 +67,11 @@ impl<A: Allocator + Copy> Record<A> {
         Record { parts }
     }
 
+    /// The allocator that the record's memory is of.
+    pub fn allocator(&self) -> A {
+        *self.parts.reports.allocator()
+    }
+
     /// The name of the site.
     pub fn site(&self) -> &Name
         ensures { result.now ≡ self.now.site }

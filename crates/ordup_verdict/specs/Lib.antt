@@ -3,3 +3,4 @@ pub mod Rows
 pub mod Cursors
 pub mod Passing
 pub mod Verdicts
+pub mod Spans

@@ -9,6 +9,7 @@ mod cursors;
 mod legality;
 mod limits;
 mod rows;
+mod spans;
 mod verdict;
 mod windows;
 

@@ -7,7 +7,7 @@ ghost use Rattle.ordup_verdict.specs.Verdicts.{ArePlacesWithin, IsBrokenRow};
 
 use crate::cursors::{awaited, pass_reports, pass_rounds, reported};
 use crate::rows::change_row;
-use crate::windows::passes_a_limit;
+use crate::spans::Spans;
 use ordup_record::Record;
 use std::alloc::Allocator;
 
@@ -17,6 +17,7 @@ pub(crate) fn first_broken<A: Allocator + Copy>(audited: &Record<A>) -> Option<u
     ensures none { IfNone result (ArePlacesWithin audited.now) }
     ensures some { IfSome result (λ row. IsBrokenRow audited.now row) }
 {
+    let mut spans = Spans::of(audited);
     let mut reports_passed = 0;
     let mut rounds_passed = 0;
     for updates in 0..audited.decided() {
@@ -25,7 +26,7 @@ pub(crate) fn first_broken<A: Allocator + Copy>(audited: &Record<A>) -> Option<u
         rounds_passed = pass_rounds(audited.rounds(), rounds_passed, place);
         let reported = reported(audited.reports(), reports_passed);
         let base = reported.max(awaited(audited.rounds(), rounds_passed));
-        if passes_a_limit(audited, base, place) {
+        if spans.passes_a_limit(audited, base, place) {
             return Some(change_row(audited, updates, 0));
         }
     }

@@ -1,27 +1,14 @@
 //! Whether the windows of a record are over a limit alone, apart, and after what was reported.
 
-ghost use Rattle.std.specs.Prelude.{◌≡◌, ◌≤◌, IfNone, IfSome, length, not};
+ghost use Rattle.std.specs.Prelude.{IfNone, IfSome};
 ghost use Rattle.ordup_objects.specs.Serial.{IsLegalHistory};
-ghost use Rattle.ordup_record.specs.Records.{history_of, is_within};
+ghost use Rattle.ordup_record.specs.Records.{history_of};
 ghost use Rattle.ordup_verdict.specs.Verdicts.{AreWindowsOver, AreWindowsApart, AreWindowsUnreported, IsLightRow, IsMeetingRow, IsReportedRow};
 
 use crate::rows::window_row;
+use crate::spans::Spans;
 use ordup_record::Record;
 use std::alloc::Allocator;
-
-/// Whether the span from a place to another passes a limit.
-pub(crate) fn passes_a_limit<A: Allocator + Copy>(audited: &Record<A>, from: u64, to: u64) -> bool
-    requires legal { IsLegalHistory (history_of audited.now) }
-    requires last { to ≤ length audited.now.sets }
-    ensures { result ≡ not (is_within audited.now from to) }
-{
-    // For the proof: the objects and groups of the limits are there.
-    let _decided = audited.decided();
-    audited
-        .limits()
-        .over(audited.log(), audited.groups(), from, to)
-        .is_some()
-}
 
 /// The row of the first window that is over no limit, if there is one.
 pub(crate) fn first_light<A: Allocator + Copy>(audited: &Record<A>) -> Option<u64>
@@ -31,8 +18,9 @@ pub(crate) fn first_light<A: Allocator + Copy>(audited: &Record<A>) -> Option<u6
 {
     // For the proof: each window ends at a decided place.
     let _decided = audited.decided();
+    let mut spans = Spans::of(audited);
     for (place, window) in audited.windows().iter().enumerate() {
-        if !passes_a_limit(audited, window.from, window.to) {
+        if !spans.passes_a_limit(audited, window.from, window.to) {
             return Some(window_row(audited, place));
         }
     }

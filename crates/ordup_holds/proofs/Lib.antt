@@ -2,3 +2,4 @@ pub mod CellLemmas
 pub mod BookLemmas
 pub mod SettlementLemmas
 mod OpeningLemmas
+mod Examples

@@ -4,5 +4,6 @@ pub mod BookInside
 pub mod Cells
 pub mod CellInside
 pub mod Turning
+pub mod Numbering
 pub mod Waiting
 pub mod Agreement

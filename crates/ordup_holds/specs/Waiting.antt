@@ -1,5 +1,5 @@
 -- How waiting for an update ends unmet.
-use Rattle.std.specs.Prelude.{◌≡◌, ℕ, ◌<◌, Bool, true, false}
+use Rattle.std.specs.Prelude.{◌≡◌, ℕ, ◌<◌, ◌⊎◌, Bool, true, false}
 use Rattle.ordup_objects.specs.declared.refusal.Refusal.{Refusal}
 use Rattle.ordup_objects.specs.declared.refusal.Refusal.TheVariants.{NoMemory, NotYet}
 
@@ -8,3 +8,7 @@ use Rattle.ordup_objects.specs.declared.refusal.Refusal.TheVariants.{NoMemory, N
 abbrev pub EndsUnmet : ℕ → ℕ → ℕ → ℕ → Bool → Refusal → Type 0
 EndsUnmet number turns acked made true e = e ≡ NoMemory
 EndsUnmet number turns acked made false e = (e ≡ NotYet number) × (acked < number) × (made ≡ turns)
+
+-- the same of an update that is numbered, whatever is said of it
+abbrev pub StaysPending : ℕ → ℕ → ℕ → ℕ → Bool → Type 0
+StaysPending number turns acked made refused = (refused ≡ true) ⊎ ((acked < number) × (made ≡ turns))

@@ -14,8 +14,8 @@ mod waiting;
 
 pub use agreement::agree;
 pub use book::Book;
-pub use numbering::{begin, number};
+pub use numbering::{Numbered, begin, number, number_and_turn};
 pub use opening::open;
 pub use site_cell::{SeenValue, SiteCell, take, view};
 pub use turning::turn;
-pub use waiting::{Turns, until};
+pub use waiting::{Turns, until, until_acknowledged};

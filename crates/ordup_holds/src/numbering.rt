@@ -5,11 +5,14 @@ ghost use Rattle.ordup_objects.specs.Serial.{with_update};
 ghost use Rattle.ordup_objects.specs.Sets.{AreKnown};
 ghost use Rattle.ordup_log.specs.Appending.{append_refusal};
 ghost use Rattle.ordup_query.specs.Queries.{begin_refusal};
+ghost use Rattle.ordup_holds.specs.Numbering.{IsTurn, with_numbered};
 
 use crate::book::Book;
+use crate::turning::turn;
 use ordup_objects::{MessageSet, Refusal};
 use ordup_query::Query;
 use ordup_query::sizes::GREATEST_IMPORT_LIMIT;
+use std::sync::Wait;
 
 /// Numbers a message set as the next update of a book's log, and answers its number.
 ///
@@ -26,6 +29,36 @@ pub fn number(book: &mut Book, set: MessageSet) -> Result<u64, Refusal>
     let _acked = book.primary.acked();
     let number = book.primary.propose(set)?;
     Ok(number)
+}
+
+/// What came of the hold in which a set was numbered.
+#[derive(Drop)]
+pub struct Numbered {
+    /// The number of the update.
+    pub number: u64,
+    /// What the first turn after it answered: how many updates are acknowledged, or that a growth was refused.
+    pub turn: Result<u64, Refusal>,
+}
+
+/// Numbers a message set as the next update of a book's log, and makes one turn after it.
+///
+/// It is refused as `number` is, and then nothing was numbered. Where the turn is refused a growth, the update stands.
+pub fn number_and_turn<R: Wait>(
+    rt: &R,
+    book: &mut Book,
+    set: MessageSet,
+) -> Result<Numbered, Refusal>
+    requires { AreKnown (length book.old.primary.log.start) set }
+    ensures number { IfOk result (λ it. it.number ≡ length book.old.primary.log.sets + 1) }
+    ensures turn { IfOk result (λ it. IsTurn (with_numbered book.old set) book.new it.turn) }
+    ensures log { IfOk result (λ _. book.new.primary.log ≡ with_update book.old.primary.log set) }
+    ensures allowed { IfOk result (λ _. append_refusal book.old.primary.log set ≡ None) }
+    ensures refused { IfErr result (λ e. IsRefusal (append_refusal book.old.primary.log set) e) }
+    ensures err { OnErr result (book.new ≡ book.old) }
+{
+    let number = number(book, set)?;
+    let turn = turn(rt, book);
+    Ok(Numbered { number, turn })
 }
 
 /// Begins a query with this import limit, 0 to 10^18, whose reference is what is acknowledged now.

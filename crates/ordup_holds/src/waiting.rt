@@ -1,5 +1,5 @@
-ghost use Rattle.std.specs.Prelude.{◌≡◌, ℕ, Bool, ◌+◌, ◌^◌, ◌<◌, ◌≤◌, true, false, OnOk, IfErr};
-ghost use Rattle.ordup_holds.specs.Waiting.{EndsUnmet};
+ghost use Rattle.std.specs.Prelude.{◌≡◌, ℕ, Bool, ◌+◌, ◌^◌, ◌<◌, ◌≤◌, true, false, OnOk, IfErr, OnErr};
+ghost use Rattle.ordup_holds.specs.Waiting.{EndsUnmet, StaysPending};
 
 use crossbeam_utils::Backoff;
 use ordup_objects::Refusal;
@@ -57,4 +57,30 @@ pub fn until<R: Wait, T: Turns>(
         store.turn(rt)?;
     }
     Ok(())
+}
+
+/// Makes turns until an update is acknowledged that was numbered in the hold of the first of these turns, with a pause before each
+/// further one, and at most so many in all.
+///
+/// The error is the number of the update, which stands: so many turns are made and it is not acknowledged, or a turn was refused a
+/// growth.
+pub fn until_acknowledged<R: Wait, T: Turns>(
+    rt: &R,
+    store: &mut T,
+    number: u64,
+    turns: u64,
+) -> Result<(), u64>
+    requires first { T.made_of store.old ≡ 1 }
+    requires some { 1 ≤ turns }
+    ensures ok { OnOk result ((T.refused_of store.new ≡ false) × (number ≤ T.acked_of store.new)) }
+    ensures number { IfErr result (λ n. n ≡ number) }
+    ensures err { OnErr result (StaysPending number turns (T.acked_of store.new) (T.made_of store.new) (T.refused_of store.new)) }
+{
+    if store.is_refused() {
+        return Err(number);
+    }
+    match until(rt, store, number, turns) {
+        Ok(()) => Ok(()),
+        Err(_) => Err(number),
+    }
 }

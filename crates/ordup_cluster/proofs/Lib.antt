@@ -1,1 +1,2 @@
 pub mod ClosedLemmas
+mod Examples

@@ -1,20 +1,31 @@
 -- Which refusals the calls of a cluster answer.
-use Rattle.std.specs.Prelude.{◌≡◌, ℕ, ◌<◌, ◌≤◌, ◌⊎◌, Option, Some, length, if◌then◌else◌, not, nat_lt}
+use Rattle.std.specs.Prelude.{◌≡◌, ℕ, ◌<◌, ◌≤◌, ◌⊎◌, Bool, List, Option, Some, length, if◌then◌else◌, not, nat_lt}
+use Rattle.ordup_objects.specs.declared.change.Change.{Change}
 use Rattle.ordup_objects.specs.Sizes.{most_updates}
 use Rattle.ordup_objects.specs.declared.refusal.Refusal.{Refusal}
 use Rattle.ordup_objects.specs.declared.refusal.Refusal.TheVariants.{UnknownObject, UnknownSite, OutOfRange, LogFull, Behind}
 use Rattle.ordup_objects.specs.declared.refusal.Refusal.TheVariants.{NotYet, Stopped, NoMemory}
+use Rattle.ordup_objects.specs.Serial.{History}
+use Rattle.ordup_objects.specs.Sets.{are_known}
+use Rattle.ordup_log.specs.Appending.{append_refusal}
 use Rattle.ordup_query.specs.Queries.{QueryState, begin_refusal, read_refusal}
 
 -- the number of an update in a log
 abbrev pub IsNumber : ℕ → Type 0
 IsNumber number = (0 < number) × (number ≤ most_updates)
 
--- of a proposal: before an update is numbered the first five, and after that only that it is not acknowledged yet
+-- why a set is not numbered as the next update of a log, if it is not, where the store was stopped or was not
+abbrev pub proposal_refusal : Bool → History → List Change → Option Refusal
+proposal_refusal stopped h set =
+    if stopped then Some Stopped else if not (are_known (length h.start) set) then Some UnknownObject else append_refusal h set
+
+-- of the hold in which an update is numbered
+abbrev pub IsNumberingRefusal : Refusal → Type 0
+IsNumberingRefusal e = (e ≡ Stopped) ⊎ (e ≡ UnknownObject) ⊎ (e ≡ LogFull) ⊎ (e ≡ OutOfRange) ⊎ (e ≡ NoMemory)
+
+-- of a proposal: of the hold in which it is numbered, and after that only that it is not acknowledged yet
 abbrev pub IsProposalRefusal : Refusal → Type 0
-IsProposalRefusal e =
-    (e ≡ Stopped) ⊎ (e ≡ UnknownObject) ⊎ (e ≡ LogFull) ⊎ (e ≡ OutOfRange) ⊎ (e ≡ NoMemory)
-    ⊎ ((number : ℕ) × (e ≡ NotYet number) × IsNumber number)
+IsProposalRefusal e = IsNumberingRefusal e ⊎ ((number : ℕ) × (e ≡ NotYet number) × IsNumber number)
 
 -- of a settlement: where the number is that of no update, only that it is out of range
 abbrev pub IsSettlementRefusal : ℕ → Refusal → Type 0

@@ -4,15 +4,19 @@ ghost use Rattle.ordup_primary.specs.Declarations.{start_refusal};
 ghost use Rattle.ordup_site.specs.Sites.{SiteState};
 ghost use Rattle.ordup_holds.specs.Books.{AreRooms};
 ghost use Rattle.ordup_holds.specs.Agreement.{Agrees};
+ghost use Rattle.ordup_holds.specs.Numbering.{IsTurn, with_numbered};
 ghost use Rattle.ordup_cluster.specs.Clusters.{IsClosed, IsFirstMixed};
-ghost use Rattle.ordup_cluster.specs.Refusals.{IsNumber, IsProposalRefusal, IsSettlementRefusal, IsReadRefusal, site_query_refusal};
+ghost use Rattle.ordup_cluster.specs.Refusals.{IsNumber, IsNumberingRefusal, IsProposalRefusal, IsSettlementRefusal, IsReadRefusal, proposal_refusal, site_query_refusal};
 
 use crate::book_turns::BookTurns;
 use crate::closed::Closed;
 use crate::gate::Gate;
 use crate::session::Session;
 use crate::site_query::SiteQuery;
-use ordup_holds::{Book, SeenValue, SiteCell, agree, begin, number, open, take, turn, until, view};
+use ordup_holds::{
+    Book, Numbered, SeenValue, SiteCell, agree, begin, number_and_turn, open, take, until,
+    until_acknowledged, view,
+};
 use ordup_objects::{MessageSet, ObjectId, Refusal, SiteId, Values};
 use ordup_primary::{Primary, Setup};
 use ordup_site::Site;
@@ -100,30 +104,42 @@ impl Cluster {
         ensures refused { IfErr result IsProposalRefusal }
         ensures err { OnErr result (session.new ≡ session.old) }
     {
-        if self.stopped.load(Ordering::SeqCst) {
-            return Err(Refusal::Stopped);
-        }
+        let numbered = self.number(rt, set)?;
+        self.wait(rt, session, numbered, turns)
+    }
+
+    /// The hold of a proposal: its set is numbered, and the first turn is made. Where it is refused, nothing was numbered.
+    fn number<R: Wait>(&self, rt: &R, set: MessageSet) -> Result<Numbered, Refusal>
+        ensures some { IfOk result (λ it. IsNumber it.number) }
+        ensures refused { IfErr result IsNumberingRefusal }
+    {
+        let stopped = self.stopped.load(Ordering::SeqCst);
         let mut book = self.book.lock(rt);
-        if !set.are_known(book.primary().log().objects()) {
-            return Err(Refusal::UnknownObject);
+        number_unless_stopped(rt, &mut book, set, stopped)
+    }
+
+    /// What is left of a proposal once its set is numbered: all that can be refused is that it is not acknowledged yet.
+    fn wait<R: Wait>(
+        &self,
+        rt: &R,
+        session: &mut Session,
+        numbered: Numbered,
+        turns: u64,
+    ) -> Result<u64, Refusal>
+        requires { 1 ≤ turns }
+        ensures seen { OnOk result (session.new.seen ≡ max session.old.seen numbered.number) }
+        ensures number { IfOk result (λ number. number ≡ numbered.number) }
+        ensures refused { IfErr result (λ e. e ≡ Refusal.NotYet numbered.number) }
+        ensures err { OnErr result (session.new ≡ session.old) }
+    {
+        let mut made = BookTurns::first(&self.book, numbered.turn);
+        match until_acknowledged(rt, &mut made, numbered.number, turns) {
+            Ok(()) => {
+                session.see(numbered.number);
+                Ok(numbered.number)
+            }
+            Err(number) => Err(Refusal::NotYet { number }),
         }
-        let number = number(&mut book, set)?;
-        let first = turn(rt, &mut book);
-        drop(book);
-        let Ok(acked) = first else {
-            return Err(Refusal::NotYet { number });
-        };
-        let mut made = BookTurns {
-            book: &self.book,
-            acked,
-            made: 1,
-            refused: false,
-        };
-        if until(rt, &mut made, number, turns).is_err() {
-            return Err(Refusal::NotYet { number });
-        }
-        session.see(number);
-        Ok(number)
     }
 
     /// Waits until the update with this number is acknowledged, by so many turns of the book at most, 1 or more.
@@ -150,12 +166,7 @@ impl Cluster {
         if number == 0 || number > last {
             return Err(Refusal::OutOfRange);
         }
-        let mut made = BookTurns {
-            book: &self.book,
-            acked,
-            made: 0,
-            refused: false,
-        };
+        let mut made = BookTurns::none(&self.book, acked);
         until(rt, &mut made, number, turns)?;
         session.see(number);
         Ok(())
@@ -270,6 +281,31 @@ impl Cluster {
             None => Ok(Closed { primary, sites }),
         }
     }
+}
+
+/// The hold in which a set is numbered, with the book that it lends: the set is numbered, and the first turn is made.
+///
+/// It is refused `Stopped` where the store was stopped, and else `UnknownObject`, `LogFull`, `OutOfRange` and `NoMemory`, in this order;
+/// then nothing was numbered.
+fn number_unless_stopped<R: Wait>(
+    rt: &R,
+    book: &mut Book,
+    set: MessageSet,
+    stopped: bool,
+) -> Result<Numbered, Refusal>
+    ensures some { IfOk result (λ it. IsNumber it.number) }
+    ensures turn { IfOk result (λ it. IsTurn (with_numbered book.old set) book.new it.turn) }
+    ensures allowed { IfOk result (λ _. proposal_refusal stopped book.old.primary.log set ≡ None) }
+    ensures refused { IfErr result (λ e. IsRefusal (proposal_refusal stopped book.old.primary.log set) e) }
+    ensures err { OnErr result (book.new ≡ book.old) }
+{
+    if stopped {
+        return Err(Refusal::Stopped);
+    }
+    if !set.are_known(book.primary().log().objects()) {
+        return Err(Refusal::UnknownObject);
+    }
+    number_and_turn(rt, book, set)
 }
 
 /// Each cell under a lock of its own.

@@ -1,0 +1,53 @@
+-- Refusals of the cluster's calls, worked out by hand: no definition can change its meaning unseen.
+use Rattle.std.proofs.Common.{◌≡◌, ℕ, ◌<◌, List, [], ◌∷◌, pos, inl, inr, refl, arith}
+use Rattle.std.specs.Prelude.{Some, None, true, false}
+use Rattle.ordup_objects.specs.declared.change.Change.{Change}
+use Rattle.ordup_objects.specs.declared.change.Op.TheVariants.{Add}
+use Rattle.ordup_objects.specs.declared.refusal.Refusal.TheVariants.{UnknownObject, UnknownSite, OutOfRange, Behind, Stopped}
+use Rattle.ordup_objects.specs.Serial.{History}
+use Rattle.ordup_cluster.specs.Refusals.{IsReadRefusal, proposal_refusal}
+
+-- ---- a read of the one object at the one site, by a session that has seen 1 update
+
+-- a site that applied 2 is not behind
+read-ahead : IsReadRefusal 1 0 1 0 1 (Behind 2) → ⊥
+read-ahead refused = elim refused [
+  | inl h ↦ absurd (let is = h.0 in cc)
+  | inr rest ↦ elim rest [
+    | inl h ↦ absurd (let is = h.0 in cc)
+    | inr last ↦ elim last [
+      | inl h ↦ absurd (let is : 2 ≡ h.0 = cc h.1 in let few = h.2 in omega arith)
+      | inr h ↦ absurd (let is = h.0 in cc)
+    ]
+  ]
+]
+
+-- a site that is there is not unknown
+read-known : IsReadRefusal 1 0 1 0 1 UnknownSite → ⊥
+read-known refused = elim refused [
+  | inl h ↦ absurd (let is = h.0 in cc)
+  | inr rest ↦ elim rest [
+    | inl h ↦ absurd (let there = h.2 in omega arith)
+    | inr last ↦ elim last [
+      | inl h ↦ absurd (let is = h.1 in cc)
+      | inr h ↦ absurd (let is = h.0 in cc)
+    ]
+  ]
+]
+
+-- ---- a proposal, in a store of one object at 1,000,000,000 and with no update yet
+
+abbrev full : History
+full = record { start = pos 1000000000 ∷ []; sets = [] }
+
+abbrev past_the_range : List Change
+past_the_range = record { object = 0; op = Add (pos 1) } ∷ []
+
+abbrev of_no_object : List Change
+of_no_object = record { object = 1; op = Add (pos 1) } ∷ []
+
+-- that the store was stopped is told first, then that an object is unknown, then what the log refuses
+proposals : (proposal_refusal true full of_no_object ≡ Some Stopped) × (proposal_refusal true full past_the_range ≡ Some Stopped)
+    × (proposal_refusal false full of_no_object ≡ Some UnknownObject) × (proposal_refusal false full past_the_range ≡ Some OutOfRange)
+    × (proposal_refusal true full [] ≡ Some Stopped) × (proposal_refusal false full [] ≡ None)
+proposals = (refl, refl, refl, refl, refl, refl)

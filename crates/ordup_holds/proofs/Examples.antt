@@ -1,7 +1,7 @@
 -- Ends of waiting and sends that the definitions refuse.
-use Rattle.std.proofs.Common.{◌≡◌, ℕ, ◌≤◌, arith, inl, inr}
-use Rattle.std.specs.Prelude.{true, false}
-use Rattle.ordup_objects.specs.declared.refusal.Refusal.TheVariants.{NoMemory, NotYet}
+use Rattle.std.proofs.Common.{◌≡◌, ◌≤◌, arith, inl, inr}
+use Rattle.std.specs.Prelude.{false}
+use Rattle.ordup_objects.specs.declared.refusal.Refusal.TheVariants.{NotYet}
 use Rattle.ordup_primary.specs.Primaries.{first_progress}
 use Rattle.ordup_feed.specs.Ends.{Sending}
 use Rattle.ordup_holds.specs.Turning.{SentOut}

@@ -1,11 +1,12 @@
 -- Verdicts on small records, worked out by hand.
-use Rattle.ordup_record.proofs.Common.{◌<◌, ◌∷◌, ◌≡◌, [], Add, arith, Bool, Change, false, List, Object, pos, RecordState, refl, true}
-use Rattle.ordup_record.proofs.Common.{Window, ℕ}
-use Rattle.std.specs.Prelude.{codes}
+use Rattle.ordup_record.proofs.Common.{◌<◌, ◌∷◌, ◌≡◌, ◌≤◌, [], Add, arith, Bool, Change, false, full_rounds, is_within, leb-true, List}
+use Rattle.ordup_record.proofs.Common.{Object, pos, RecordState, refl, report_at, StaysWithin, true, Window, ℕ}
+use Rattle.std.specs.Prelude.{codes, nat_le, unwrap_or}
 use Rattle.std.proofs.lemmas.Bool.{agree_below, agree_below_at}
+use Rattle.ordup_rounds.specs.Schedules.{IsSchedule, base}
 use Rattle.ordup_record.specs.declared.report_change.ReportChange.{ReportChange}
 use Rattle.ordup_verdict.specs.Passing.{PassesBelow, IsFirstFailure}
-use Rattle.ordup_verdict.specs.Verdicts.{IsVerdict}
+use Rattle.ordup_verdict.specs.Verdicts.{IsVerdict, NoFewerRounds}
 use Rattle.ordup_verdict.specs.declared.verdict.Verdict.TheVariants.{Fewest, No}
 use Rattle.ordup_verdict.specs.declared.verdict.Reason.TheVariants.{NotLegal, LimitsBroken, WindowLight, WindowsMeet, WindowBeforeReport}
 use Rattle.ordup_verdict.specs.declared.verdict.Reason.TheVariants.{CountDiffers}
@@ -50,6 +51,21 @@ told value sets changes rounds windows = record {
 forced : IsVerdict (told 0 (adds 5 ∷ adds 1 ∷ []) [] (2 ∷ []) (from_to 0 2 ∷ [])) (Fewest 1)
 forced = (passes _ 2 refl, passes _ 2 refl, passes _ 1 refl, passes _ 1 refl, passes _ 1 refl, refl, refl)
 
+-- the one round at place 2 is a schedule that keeps the limits, so no schedule has to have two
+one_round : IsSchedule 2 (full_rounds (2 ∷ []))
+one_round k m some le awaits =
+    let upto : nat_le (unwrap_or (full_rounds (2 ∷ []) k) 0) k ≡ true =
+    agree_below_at (λ i. nat_le (unwrap_or (full_rounds (2 ∷ []) i) 0) i) (λ i. true) 3 k refl (omega arith) in
+    leb-true m k (rw awaits at upto)
+
+one_round_keeps : StaysWithin (is_within (told 0 (adds 5 ∷ adds 1 ∷ []) [] [] [])) (report_at []) 2 (full_rounds (2 ∷ []))
+one_round_keeps k some le =
+    agree_below_at (λ i. is_within (told 0 (adds 5 ∷ adds 1 ∷ []) [] [] []) (base (report_at []) (full_rounds (2 ∷ [])) i) i)
+    (λ i. true) 3 k refl (omega arith)
+
+not_two : NoFewerRounds (told 0 (adds 5 ∷ adds 1 ∷ []) [] (2 ∷ []) (from_to 0 2 ∷ [])) 2 → ⊥
+not_two fewest = absurd (let le : 2 ≤ 1 = fewest (full_rounds (2 ∷ [])) one_round one_round_keeps in omega arith)
+
 -- no round is needed where the site had reported the first
 reported : IsVerdict (told 0 (adds 5 ∷ adds 1 ∷ []) (reports 2 1) [] []) (Fewest 0)
 reported = (passes _ 2 refl, passes _ 2 refl, passes _ 0 refl, passes _ 0 refl, passes _ 0 refl, refl, refl)
@@ -88,3 +104,19 @@ early = (passes _ 2 refl, passes _ 2 refl, passes _ 1 refl, passes _ 1 refl, (0,
 -- a round without a window, and the last row
 without_window : IsVerdict (told 0 (adds 5 ∷ adds 1 ∷ []) [] (2 ∷ []) []) (No 7 CountDiffers)
 without_window = (passes _ 2 refl, passes _ 2 refl, passes _ 0 refl, passes _ 0 refl, passes _ 0 refl, λ same. absurd (omega arith), refl)
+
+-- the same with the groups g of x and y and h of y: three rows of members more
+abbrev grouped : List (List Change) → List ℕ → List Window → RecordState
+grouped sets rounds windows = record (told 0 sets [] rounds windows) { groups = (codes "g", 0 ∷ 1 ∷ []) ∷ (codes "h", 1 ∷ []) ∷ [] }
+
+-- after an update of two changes the next is out of range, in row 10: the head, two objects, three members, the limit, two changes, and it
+out_of_range_later : IsVerdict (grouped ((change 1 1 ∷ change 0 1 ∷ []) ∷ adds 1000000000 ∷ []) [] []) (No 10 NotLegal)
+out_of_range_later = (1, 0, fails _ 2 1 (omega arith) refl refl, fails _ 1 0 (omega arith) refl refl, refl)
+
+-- an update that passes the limit is named by the first of its two rows
+without_round_later : IsVerdict (grouped (adds 5 ∷ (change 1 1 ∷ change 0 1 ∷ []) ∷ []) [] []) (No 9 LimitsBroken)
+without_round_later = (passes _ 2 refl, (1, fails _ 2 1 (omega arith) refl refl, refl))
+
+-- three rows of changes stand before the round and the window
+light_later : IsVerdict (grouped ((change 1 1 ∷ change 0 5 ∷ []) ∷ adds 1 ∷ []) (2 ∷ []) (from_to 1 2 ∷ [])) (No 12 WindowLight)
+light_later = (passes _ 2 refl, passes _ 2 refl, (0, fails _ 1 0 (omega arith) refl refl, refl))

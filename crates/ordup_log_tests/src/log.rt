@@ -5,10 +5,15 @@ use std::alloc::Global;
 use std::process::Abort;
 
 /// The objects x at 0 and y at 10, and a log over them.
-// Tests drop them by a call, which is proved once for all tests: docs/DECISIONS.md, Tests.
 pub(crate) fn x_and_y(rt: &impl Abort, alloc: Global) -> (ObjectTable, Log) {
+    x_at_and_y(rt, alloc, 0)
+}
+
+/// The objects x at this value and y at 10, and a log over them.
+// Tests drop them by a call, which is proved once for all tests: docs/DECISIONS.md, Tests.
+fn x_at_and_y(rt: &impl Abort, alloc: Global, value: i64) -> (ObjectTable, Log) {
     let mut objects = ObjectTable::new(alloc);
-    assert!(rt; objects.declare(b"x", 0).is_ok());
+    assert!(rt; objects.declare(b"x", value).is_ok());
     assert!(rt; objects.declare(b"y", 10).is_ok());
     let Ok(log) = Log::new(alloc, &objects) else {
         panic!(rt; "there is no memory for a log")
@@ -32,13 +37,18 @@ fn append(log: &mut Log, set: MessageSet) -> Result<u64, Refusal> {
     log.append(set)
 }
 
-/// Appends the update that adds a number to x.
-fn add(objects: &ObjectTable, log: &mut Log, n: i64) -> Result<u64, Refusal> {
+/// Appends the update that changes x so.
+fn append_to_x(objects: &ObjectTable, log: &mut Log, op: Op) -> Result<u64, Refusal> {
     let change = Change {
         object: ObjectId::new(0),
-        op: Op::Add(n),
+        op,
     };
     append(log, MessageSet::single(objects, change)?)
+}
+
+/// Appends the update that adds a number to x.
+fn add(objects: &ObjectTable, log: &mut Log, n: i64) -> Result<u64, Refusal> {
+    append_to_x(objects, log, Op::Add(n))
 }
 
 /// Appends the updates that add these numbers to x.
@@ -170,5 +180,25 @@ fn a_swap_weighs_the_way_of_each_value(rt: HostRuntime) {
     // x from 0 to 10, and y from 10 to 0.
     assert_eq!(rt; first_weights(&rt, &log, &groups), [10, 10, 20, 20, 1]);
     assert_eq!(rt; end(&rt, &log), [10, 0]);
+    drop((objects, log));
+}
+
+#[test]
+fn an_update_of_one_object_weighs_2000000000_at_most(rt: HostRuntime) {
+    let (objects, mut log) = x_at_and_y(&rt, rt.alloc(), 1_000_000_000);
+    assert_eq!(rt; add(&objects, &mut log, 1), Err(Refusal::OutOfRange));
+    assert_eq!(rt; append_to_x(&objects, &mut log, Op::Mul(-1)), Ok(1));
+    let mut groups = Groups::new(rt.alloc());
+    assert!(rt;
+        groups
+            .declare(&objects, b"alone", &[ObjectId::new(0)])
+            .is_ok()
+    );
+    // x from 1,000,000,000 to -1,000,000,000.
+    assert_eq!(rt;
+        first_weights(&rt, &log, &groups),
+        [2_000_000_000, 0, 2_000_000_000, 2_000_000_000, 1]
+    );
+    assert_eq!(rt; end(&rt, &log), [-1_000_000_000, 10]);
     drop((objects, log));
 }

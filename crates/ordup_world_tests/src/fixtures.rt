@@ -2,7 +2,7 @@
 //!
 //! Tests drop by a call what a run left, which is proved once for all of them: docs/DECISIONS.md, Tests.
 use ordup_limits::Scope;
-use ordup_objects::{Change, MessageSet, ObjectId, ObjectTable, Op, Refusal};
+use ordup_objects::{Change, MessageSet, ObjectId, ObjectTable, Op, Refusal, SiteId};
 use ordup_world::{Event, Run, Setup, run};
 use std::alloc::Global;
 use std::process::Abort;
@@ -80,6 +80,94 @@ pub(crate) fn run_there_and_back(rt: &impl Abort, alloc: Global) -> Result<Run, 
     let mut setup = Setup::new(alloc);
     assert_eq!(rt; declare_x_within_5(&mut setup), Ok(()));
     let Ok(events) = there_and_back(alloc, setup.objects()) else {
+        panic!(rt; "an update is refused")
+    };
+    run(alloc, setup, events)
+}
+
+/// Declares x at 0, y at 10 and the site a.
+fn declare_a(setup: &mut Setup) -> Result<SiteId, Refusal> {
+    declare_objects(setup)?;
+    setup.site(b"a", 4)
+}
+
+/// Declares the same, with 5 allowed on x.
+fn declare_a_within_5(setup: &mut Setup) -> Result<(), Refusal> {
+    let a = declare_a(setup)?;
+    setup.limit(a, Scope::Object(ObjectId::new(0)), 5)
+}
+
+/// 5 and then 1 is added to x. The second is settled until a has reported it, and a is shown.
+fn forced_and_awaited(alloc: Global, objects: &ObjectTable) -> Result<Vec<Event>, Refusal> {
+    let a = SiteId::new(0);
+    let five = set_of(objects, 0, Op::Add(5))?;
+    let one = set_of(objects, 0, Op::Add(1))?;
+    let events = [
+        Event::Propose(five),
+        Event::Settle,
+        Event::Propose(one),
+        Event::Settle,
+        Event::Settle,
+        Event::Send(a),
+        Event::Send(a),
+        Event::Apply(a),
+        Event::Report(a),
+        Event::Settle,
+        Event::Apply(a),
+        Event::Report(a),
+        Event::Settle,
+        Event::Show(a),
+    ];
+    Vec::from_array(alloc, events).or(Err(Refusal::NoMemory))
+}
+
+/// Runs these two updates, of which a is forced at the second.
+pub(crate) fn run_forced_and_awaited(rt: &impl Abort, alloc: Global) -> Result<Run, Refusal> {
+    let mut setup = Setup::new(alloc);
+    assert_eq!(rt; declare_a_within_5(&mut setup), Ok(()));
+    let Ok(events) = forced_and_awaited(alloc, setup.objects()) else {
+        panic!(rt; "an update is refused")
+    };
+    run(alloc, setup, events)
+}
+
+/// The set in which x and y take each other's value.
+fn swap(alloc: Global, objects: &ObjectTable) -> Result<MessageSet, Refusal> {
+    let (x, y) = (ObjectId::new(0), ObjectId::new(1));
+    let changes = [
+        Change {
+            object: x,
+            op: Op::Take(y),
+        },
+        Change {
+            object: y,
+            op: Op::Take(x),
+        },
+    ];
+    match Vec::from_array(alloc, changes) {
+        Ok(changes) => MessageSet::new(objects, changes),
+        Err(_) => Err(Refusal::NoMemory),
+    }
+}
+
+/// x and y swap their values, a applies it, and is shown.
+fn swapped(alloc: Global, objects: &ObjectTable) -> Result<Vec<Event>, Refusal> {
+    let a = SiteId::new(0);
+    let swap = swap(alloc, objects)?;
+    let events = [
+        Event::Propose(swap),
+        Event::Send(a),
+        Event::Apply(a),
+        Event::Show(a),
+    ];
+    Vec::from_array(alloc, events).or(Err(Refusal::NoMemory))
+}
+
+/// Runs the swap, at a site without limits.
+pub(crate) fn run_swapped(rt: &impl Abort, alloc: Global) -> Result<Run, Refusal> {
+    let mut setup = Setup::new(alloc);
+    assert!(rt; declare_a(&mut setup).is_ok());
+    let Ok(events) = swapped(alloc, setup.objects()) else {
         panic!(rt; "an update is refused")
     };
     run(alloc, setup, events)

@@ -1,11 +1,18 @@
-//! Tests of records as rows: each rule of the format broken once, spellings, sizes at their edges, and what is read by a limit.
+//! Tests of records: each rule of the format broken once, spellings, sizes at their edges, what is read by a limit, what a writer
+//! that fails has got, which records say the same, and sites that have none.
 #![tactic(auto)]
 
 #[cfg(test)]
 mod rules;
+#[cfg(test)]
+mod same;
+#[cfg(test)]
+mod sites;
 #[cfg(test)]
 mod sizes;
 #[cfg(test)]
 mod spellings;
 #[cfg(test)]
 mod told;
+#[cfg(test)]
+mod writing;

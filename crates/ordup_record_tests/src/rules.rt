@@ -531,6 +531,20 @@ const CHANGES: [&str; 8] = [
 ",
 ];
 
+/// Three rows of members, and two of the first update, stand before the row that is told.
+const GROUPED: &str = "\
+ordup,1,a,2
+object,1,x,0
+object,2,y,10
+member,1,g,x
+member,2,g,y
+member,3,h,y
+limit,1,object:x,5
+change,1,1,add:y:1
+change,1,2,add:x:1
+change,2,1,add:x:1000000000
+";
+
 #[test]
 fn a_broken_rule_is_found_at_its_row(rt: HostRuntime) -> Result<(), Fail> {
     assert_told(
@@ -542,5 +556,11 @@ fn a_broken_rule_is_found_at_its_row(rt: HostRuntime) -> Result<(), Fail> {
     for changes in CHANGES {
         assert_told(&rt, rt.alloc(), WHOLE, changes)?;
     }
+    assert_told(
+        &rt,
+        rt.alloc(),
+        GROUPED,
+        "- ordup,1,a,2\n+ ordup,1,a,2\n= no 10 NotLegal\n",
+    )?;
     Ok(())
 }

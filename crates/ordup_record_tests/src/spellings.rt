@@ -5,8 +5,8 @@ use ordup_record_reader::{RecordReadFault, read_record};
 use std::io::{self, Read};
 use std::test::Fail;
 
-/// A record of 121 bytes.
-const RECORD: &str = "\
+/// A record of 121 bytes. Its rows end after 12, 25, 39, 58, 77, 96, 108 and 121 of them.
+pub(crate) const RECORD: &str = "\
 ordup,1,a,2
 object,1,x,0
 object,2,y,10
@@ -158,6 +158,9 @@ fn other_spellings_are_read_as_the_same_rows(rt: HostRuntime) -> Result<(), Fail
 }
 
 /// The last of the cuts after which this is said: the record is cut after 0 bytes, 1 byte, 2 bytes, and so on.
+///
+/// A row is whole one byte before its end, without its line feed. `object,2,y,1` is a row too, so the third row is whole two bytes
+/// before its end.
 const CUTS: [(usize, &str); 11] = [
     (10, "malformed 1"),
     (23, "malformed 2"),

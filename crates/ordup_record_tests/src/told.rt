@@ -1,5 +1,5 @@
 //! What is said of a text.
-use ordup_check::{Verdict, check};
+use ordup_check::{Record, Verdict, check, read_record};
 use ordup_record_reader::{RecordReadFault, read_record_within};
 use std::alloc::{AllocError, Global};
 use std::io::{self, Read};
@@ -55,6 +55,15 @@ pub(crate) fn said_within(
 /// What is said of a text.
 pub(crate) fn said(alloc: Global, text: &str) -> Result<String, AllocError> {
     said_within(alloc, text, ALL, u64::MAX)
+}
+
+/// The record in a text.
+pub(crate) fn record_in(alloc: Global, text: &str) -> Result<Record, RecordReadFault> {
+    let mut input = ShortReader {
+        left: text.as_bytes(),
+        at_once: ALL,
+    };
+    read_record(alloc, &mut input)
 }
 
 /// What a change of a record writes as a word.

@@ -99,7 +99,7 @@ change,1,1,add:x:1
 ";
 
 /// Records, a text in them and what stands in its place, and what the check then says.
-const SAMPLES: [(&str, &str, &str, &[u8]); 12] = [
+const SAMPLES: [(&str, &str, &str, &[u8]); 13] = [
     (FORCED_ONCE, "ordup", "ordup", b"yes 1\n"),
     (
         FORCED_ONCE,
@@ -118,6 +118,12 @@ const SAMPLES: [(&str, &str, &str, &[u8]); 12] = [
     (
         FORCED_ONCE,
         "change,2,1,add:x:1\nround,1,2,-\nwindow,1,0,2\n",
+        "",
+        b"malformed 6\n",
+    ),
+    (
+        FORCED_ONCE,
+        ",add:x:1\nround,1,2,-\nwindow,1,0,2\n",
         "",
         b"malformed 6\n",
     ),

@@ -7,7 +7,7 @@
 ///
 /// Lines that begin with `| ` are the record of a site after the lines of the script up to there, and the line after them, which
 /// begins with `= `, is what the check says of that record.
-// One text: a table of 39 takes the prover minutes.
+// One text: a table of so many takes the prover minutes.
 pub(crate) const ROWS: &str = "\
 # An empty script
 
@@ -1200,6 +1200,92 @@ refused 1 Syntax
 refused 1 Syntax
 > end q
 ok end q place 0 sum 0 total 0 reads 0
+
+# A feed of one update
+> object x 0
+ok object x
+> object y 10
+ok object y
+> site a 1
+ok site a
+> limit a object x 5
+ok limit a
+> start
+ok start
+> propose add:x:1
+ok proposed 1
+> propose add:x:1
+ok proposed 2
+> send a
+ok sent a 1
+> send a
+refused 15 FeedFull
+> apply a
+ok applied a 1
+> send a
+ok sent a 2
+> apply a
+ok applied a 2
+> apply a
+refused 16 NothingToApply
+> send a
+refused 14 NothingToSend
+
+# Nothing to settle, and nothing new to report
+> propose add:x:1
+refused 2 NotStarted
+> object x 0
+ok object x
+> object y 10
+ok object y
+> site a 4
+ok site a
+> limit a object x 5
+ok limit a
+> start
+ok start
+> settle
+refused 17 NothingToSettle
+> report a
+ok reported a 0
+> report a
+ok reported a 0
+
+# Declarations that are refused
+> object 9x 1
+refused 4 BadName
+> object x 1000000001
+refused 9 OutOfRange
+> object x 1
+ok object x
+> object x 2
+refused 5 NameTaken
+> group g
+refused 11 Empty
+> group g x x
+refused 12 Repeated
+> group g x z
+refused 6 UnknownObject
+> start
+refused 11 Empty
+> site a 0
+refused 9 OutOfRange
+> site a 1024
+ok site a
+> limit a group h 1
+refused 7 UnknownGroup
+> limit b all 1
+refused 8 UnknownSite
+> limit a all 1000000000000000000
+ok limit a
+> limit a all 3
+refused 12 Repeated
+> limit a count -1
+refused 9 OutOfRange
+> start
+ok start
+> start
+refused 3 AlreadyStarted
 
 # A word that is no name is no query
 > object x 0

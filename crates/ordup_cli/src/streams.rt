@@ -2,6 +2,7 @@
 ghost use Rattle.std.specs.Prelude.{Some};
 
 use crate::act::act;
+use std::alloc::Global;
 use std::io::{self, ErrorKind, Read, Write};
 use std::sync::Wait;
 use std::thread::Threads;
@@ -9,25 +10,58 @@ use std::thread::Threads;
 /// More bytes than a test reads or writes.
 const ALL: usize = 1_000_000;
 
-/// How the reader and the writer of a run behave.
+/// How the reader and the writers of a run behave.
 #[derive(Clone, Copy)]
 pub(crate) struct Streams {
     /// The most bytes that a read gives.
     pub(crate) at_once: usize,
     /// How many bytes the reader gives before it fails.
     pub(crate) given: usize,
-    /// How many bytes the writer takes before it fails.
+    /// How many bytes the writer of the output takes before it fails.
     pub(crate) room: usize,
+    /// How many bytes the writer of the faults takes before it fails.
+    pub(crate) fault_room: usize,
     /// Whether a flush succeeds.
     pub(crate) can_flush: bool,
+    /// How what fails does so.
+    pub(crate) failure: Failure,
 }
 
-/// A reader that gives all, and a writer that takes all.
+/// How a reader or a writer fails.
+#[derive(Clone, Copy, Debug)]
+pub(crate) enum Failure {
+    /// By an error of this kind.
+    Error(ErrorKind),
+    /// By nothing: a write takes no bytes. Reads and flushes fail by an error.
+    Nothing,
+}
+
+impl Failure {
+    /// What a write comes to that fails.
+    fn of_write(self) -> io::Result<usize> {
+        match self {
+            Failure::Error(kind) => Err(io::Error::from(kind)),
+            Failure::Nothing => Ok(0),
+        }
+    }
+
+    /// The error of a read or of a flush that fails.
+    fn error(self) -> io::Error {
+        match self {
+            Failure::Error(kind) => io::Error::from(kind),
+            Failure::Nothing => io::Error::from(ErrorKind::Other),
+        }
+    }
+}
+
+/// A reader that gives all, and writers that take all.
 pub(crate) const SOUND: Streams = Streams {
     at_once: ALL,
     given: ALL,
     room: ALL,
+    fault_room: ALL,
     can_flush: true,
+    failure: Failure::Error(ErrorKind::Other),
 };
 
 /// What is left of a run of the program.
@@ -53,12 +87,13 @@ struct ShortReader<'a> {
     left: &'a [u8],
     at_once: usize,
     before_failure: usize,
+    failure: Failure,
 }
 
 impl<'a> Read for ShortReader<'a> {
     fn read(&mut self, buffer: &mut [u8]) -> io::Result<usize> {
         if self.before_failure == 0 {
-            return Err(io::Error::from(ErrorKind::Other));
+            return Err(self.failure.error());
         }
         let count = buffer
             .len()
@@ -79,6 +114,7 @@ struct ShortWriter {
     taken: Vec<u8>,
     room: usize,
     can_flush: bool,
+    failure: Failure,
 }
 
 impl Write for ShortWriter {
@@ -86,7 +122,7 @@ impl Write for ShortWriter {
 
     fn write(&mut self, bytes: &[u8]) -> io::Result<usize> {
         if self.room == 0 {
-            return Err(io::Error::from(ErrorKind::Other));
+            return self.failure.of_write();
         }
         let count = bytes.len().min(self.room);
         self.taken.extend_from_slice(&bytes[..count])?;
@@ -98,7 +134,19 @@ impl Write for ShortWriter {
         if self.can_flush {
             Ok(())
         } else {
-            Err(io::Error::from(ErrorKind::Other))
+            Err(self.failure.error())
+        }
+    }
+}
+
+impl ShortWriter {
+    /// A writer with room for so many bytes, which nothing was written to.
+    fn new(alloc: Global, room: usize, streams: Streams) -> Self {
+        ShortWriter {
+            taken: Vec::new(alloc),
+            room,
+            can_flush: streams.can_flush,
+            failure: streams.failure,
         }
     }
 }
@@ -115,18 +163,15 @@ pub(crate) fn run_over<T: Threads + Wait + Sync + AllocGlobal>(
         left: given,
         at_once: streams.at_once,
         before_failure: streams.given,
+        failure: streams.failure,
     };
-    let mut output = ShortWriter {
-        taken: Vec::new(alloc),
-        room: streams.room,
-        can_flush: streams.can_flush,
-    };
-    let mut faults: Vec<u8> = Vec::new(alloc);
+    let mut output = ShortWriter::new(alloc, streams.room, streams);
+    let mut faults = ShortWriter::new(alloc, streams.fault_room, streams);
     let status = act(rt, alloc, words, &mut input, &mut output, &mut faults);
     Ended {
         status,
         output: output.taken,
-        faults,
+        faults: faults.taken,
     }
 }
 

@@ -2,7 +2,7 @@
 
 use crate::fault::{Fault, tell};
 use crate::rows::ROWS;
-use crate::streams::{SOUND, Streams, run_on, run_over};
+use crate::streams::{Failure, SOUND, Streams, run_on, run_over};
 use crate::tell_lost_words;
 use ordup_words::FILE_TIP;
 use std::alloc::{AllocError, Global};
@@ -30,6 +30,13 @@ ok applied a 1
 ok show a sent 1 applied 1 reported 0 rounds 0 x=5
 ";
 
+/// The ways to fail: a call that a signal interrupted failed like any other.
+const FAILURES: [Failure; 3] = [
+    Failure::Error(ErrorKind::Other),
+    Failure::Error(ErrorKind::Interrupted),
+    Failure::Nothing,
+];
+
 /// The script of a transcript, and the answers in it.
 pub(crate) fn parts(alloc: Global, transcript: &str) -> Result<(Vec<u8>, Vec<u8>), Fail> {
     let mut script = Vec::new(alloc);
@@ -53,6 +60,7 @@ pub(crate) fn parts(alloc: Global, transcript: &str) -> Result<(Vec<u8>, Vec<u8>
 
 #[test]
 fn scripts_are_answered_as_their_transcripts_say(rt: HostRuntime) -> Result<(), Fail> {
+    assert_eq!(rt; ROWS.split("\n\n").count(), 42);
     for row in ROWS.split("\n\n") {
         let (script, wanted) = parts(rt.alloc(), row)?;
         for at_once in [SOUND.at_once, 1, 2, 3] {
@@ -241,10 +249,18 @@ fn a_writer_that_fails_has_got_a_front_of_the_answers(rt: HostRuntime) -> Result
         Streams { room: 7, ..SOUND },
     );
     assert!(rt; seven.output.as_slice() == b"ok obje".as_slice());
-    for room in 0..wanted.len() {
-        let ended = run_over(&rt, &["ordup", "run"], &script, Streams { room, ..SOUND });
-        let is_fault = ended.is(3, &wanted[..room], b"write fault\n");
-        assert!(rt; is_fault, "room for {room}");
+    for failure in FAILURES {
+        for room in 0..=wanted.len() {
+            let streams = Streams {
+                room,
+                can_flush: false,
+                failure,
+                ..SOUND
+            };
+            let ended = run_over(&rt, &["ordup", "run"], &script, streams);
+            let is_fault = ended.is(3, &wanted[..room], b"write fault\n");
+            assert!(rt; is_fault, "room for {room}, {failure:?}");
+        }
     }
     Ok(())
 }
@@ -341,6 +357,97 @@ fn each_fault_has_its_text_and_its_status(rt: HostRuntime) {
         let mut faults: Vec<u8> = Vec::new(rt.alloc());
         assert_eq!(rt; tell(&mut faults, fault), status);
         assert!(rt; faults.as_slice() == text);
+    }
+}
+
+/// Sees that a run ends with a fault before it prints anything, and with its status however much of its text can be written.
+fn assert_fault<T: Threads + Wait + Sync + AllocGlobal + Abort>(
+    rt: &T,
+    words: &[&str],
+    given: &[u8],
+    streams: Streams,
+    (status, text): (u8, &[u8]),
+) {
+    for fault_room in 0..=text.len() {
+        let streams = Streams {
+            fault_room,
+            ..streams
+        };
+        let ended = run_over(rt, words, given, streams);
+        let is_fault = ended.is(status, b"", &text[..fault_room]);
+        assert!(rt; is_fault, "{words:?}, {fault_room} bytes of {status}");
+    }
+}
+
+/// Each job, and an input for it: a script that is a plan too, and a record.
+const JOBS: [(&[&str], &[u8]); 4] = [
+    (&["ordup", "run"], b"object x 0\nsite a 4\nstart\n"),
+    (&["ordup", "record", "a"], b"object x 0\nsite a 4\nstart\n"),
+    (&["ordup", "check"], b"ordup,1,a,0\nobject,1,x,0\n"),
+    (&["ordup", "threads", "1"], b"object x 0\nsite a 4\nstart\n"),
+];
+
+#[test]
+fn each_job_keeps_its_status_where_its_fault_cannot_be_told(rt: HostRuntime) {
+    for failure in FAILURES {
+        let unread = Streams {
+            given: 0,
+            failure,
+            ..SOUND
+        };
+        let unwritten = Streams {
+            room: 0,
+            failure,
+            ..SOUND
+        };
+        for (words, given) in JOBS {
+            assert_fault(&rt, words, given, unread, (3, b"read fault\n"));
+            assert_fault(&rt, words, given, unwritten, (3, b"write fault\n"));
+        }
+    }
+    for (words, given, status, text) in [
+        (
+            ["ordup", "check"].as_slice(),
+            b"".as_slice(),
+            3,
+            b"malformed 1\n".as_slice(),
+        ),
+        (&["ordup", "threads", "1"], b"", 3, b"malformed 1\n"),
+        (&["ordup", "record", "a"], b"", 3, b"refused 2 NotStarted\n"),
+        (
+            &["ordup", "record", "b"],
+            b"object x 0\nsite a 4\nstart\n",
+            2,
+            b"refused 8 UnknownSite\n",
+        ),
+    ] {
+        assert_fault(&rt, words, given, SOUND, (status, text));
+    }
+    for fault_room in [0, 7] {
+        let streams = Streams {
+            fault_room,
+            ..SOUND
+        };
+        let ended = run_over(&rt, &["ordup", "nosuch"], b"", streams);
+        assert_eq!(rt; ended.status, 2, "{fault_room} bytes of what is wrong");
+    }
+}
+
+#[test]
+fn a_flush_that_is_interrupted_is_a_write_fault(rt: HostRuntime) {
+    let streams = Streams {
+        can_flush: false,
+        failure: Failure::Error(ErrorKind::Interrupted),
+        ..SOUND
+    };
+    for (words, given) in JOBS {
+        let ended = run_over(&rt, words, given, streams);
+        assert_eq!(rt; ended.status, 3, "{words:?}");
+        assert!(rt; !ended.output.is_empty(), "{words:?}");
+        assert!(rt;
+            ended.faults.as_slice() == b"write fault\n".as_slice(),
+            "{words:?}"
+        );
     }
 }
 

@@ -1,7 +1,9 @@
 -- What running a plan in threads reads and prints.
-use Rattle.std.specs.Prelude.{◌≡◌, ◌⊎◌, ℕ, List, length, Result, Ok, Err}
+use Rattle.std.specs.Prelude.{◌≡◌, ℕ, List, length, Result, Ok, Err}
 use Rattle.std.specs.Io.KnownBytes.{Appends}
 use Rattle.std.specs.declared.alloc.Global.{Global}
+use Rattle.ordup_objects.specs.declared.refusal.Refusal.{Refusal}
+use Rattle.ordup_objects.specs.declared.refusal.Refusal.TheVariants.{NoMemory}
 use Rattle.ordup_output.specs.Fronts.{AppendsFront}
 use Rattle.ordup_script.specs.PlanReadings.{ReadsPlan}
 use Rattle.ordup_script.specs.declared.plan.Plan.{Plan}
@@ -9,6 +11,7 @@ use Rattle.ordup_script.specs.declared.plan.PlanFault.{PlanFault}
 use Rattle.ordup_threads.specs.Outcomes.{IsOutcome}
 use Rattle.ordup_cli.specs.Faults.{Outcome, of_plan}
 use Rattle.ordup_cli.specs.Bytes.{Bytes, most_script_bytes}
+use Rattle.ordup_cli.specs.declared.fault.Fault.{Fault}
 use Rattle.ordup_cli.specs.declared.fault.Fault.TheVariants as fault
 
 -- the text was written: all of it, or a front of it where the writer failed
@@ -23,15 +26,20 @@ Prints text old new (Err fault.UnknownSite) = ⊥
 Prints text old new (Err fault.Mixed) = ⊥
 Prints text old new (Err fault.NoMemory) = ⊥
 
--- an outcome of so many sets was printed; or nothing was, for want of memory, or since a site did not agree with the log
-abbrev pub PrintsOutcome : ℕ → Bytes → Bytes → Outcome → Type 0
-PrintsOutcome sets old new outcome =
-    ((text : List ℕ) × IsOutcome sets text × Prints text old new outcome)
-    ⊎ (((outcome ≡ Err fault.NoMemory) ⊎ (outcome ≡ Err fault.Mixed)) × (new ≡ old))
+-- the fault of a plan that was run and has no outcome: want of memory, or else a site that does not agree with the log
+abbrev pub fault_of : Refusal → Fault
+fault_of NoMemory = fault.NoMemory
+fault_of e = fault.Mixed
 
--- after a plan was read the outcome of its sets was printed, or nothing where there was none
+-- what a run of so many sets printed that ended so: its outcome; or nothing, where it has none
+abbrev pub PrintsOutcome : Result (List ℕ) Refusal → ℕ → Bytes → Bytes → Outcome → Type 0
+PrintsOutcome (Ok text) sets old new outcome = IsOutcome sets text × Prints text old new outcome
+PrintsOutcome (Err e) sets old new outcome = (outcome ≡ Err (fault_of e)) × (new ≡ old)
+
+-- after a plan was read it was run, and what came of its sets was printed; or nothing, where no plan was read
 abbrev pub PrintsAfterPlan : Result (Plan Global) PlanFault → Bytes → Bytes → Outcome → Type 0
-PrintsAfterPlan (Ok plan) old new outcome = PrintsOutcome (length plan.sets.items) old new outcome
+PrintsAfterPlan (Ok plan) old new outcome =
+    (run : Result (List ℕ) Refusal) × PrintsOutcome run (length plan.sets.items) old new outcome
 PrintsAfterPlan (Err fault) old new outcome = (outcome ≡ Err (of_plan fault)) × (new ≡ old)
 
 -- a plan was read from these bytes, and its outcome printed

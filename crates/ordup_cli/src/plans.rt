@@ -1,5 +1,6 @@
 //! A plan is run in threads.
-ghost use Rattle.ordup_cli.specs.Plans.{Prints, RunsPlan};
+ghost use Rattle.std.specs.Prelude.{◌≡◌};
+ghost use Rattle.ordup_cli.specs.Plans.{Prints, RunsPlan, fault_of};
 
 use crate::fault::Fault;
 use crate::jobs::{DONE, Outcome, flush};
@@ -29,8 +30,17 @@ pub(crate) fn run_plan<T: Threads + Wait + Sync, R: Read, W: Write>(
     };
     match run_threads(rt, alloc, setup, sets, callers) {
         Ok(text) => print(text.as_slice(), output),
-        Err(Refusal::NoMemory) => Err(Fault::NoMemory),
-        Err(_) => Err(Fault::Mixed),
+        Err(refusal) => Err(fault_of(refusal)),
+    }
+}
+
+/// The fault of a plan that was run and has no outcome.
+fn fault_of(refusal: Refusal) -> Fault
+    ensures { result ≡ fault_of refusal }
+{
+    match refusal {
+        Refusal::NoMemory => Fault::NoMemory,
+        _ => Fault::Mixed,
     }
 }
 

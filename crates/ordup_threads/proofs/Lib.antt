@@ -1,1 +1,4 @@
 pub mod OutcomeLemmas
+pub mod DealingLemmas
+pub mod CountingLemmas
+mod Examples

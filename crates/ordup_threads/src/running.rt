@@ -6,7 +6,7 @@ ghost use Rattle.ordup_threads.specs.Outcomes.{IsOutcome, counted};
 use crate::caller::propose_all;
 use crate::dealing::deal;
 use crate::outcome::outcome_of;
-use crate::tally::{NONE, Tally};
+use crate::tally::{Tally, added_up};
 use ordup_cluster::{Cluster, OpenGate};
 use ordup_objects::{MessageSet, Refusal, SiteId};
 use ordup_primary::Setup;
@@ -14,6 +14,7 @@ use ordup_text::TextBuffer;
 use std::alloc::Global;
 use std::num::NonZeroU8;
 use std::sync::Wait;
+use std::sync::atomic::{AtomicBool, Ordering};
 use std::thread;
 use std::thread::{Promise, PromisedHandle, Threads};
 
@@ -33,6 +34,8 @@ impl Promise<Option<Tally>> for Proposes {
 /// has its applier in a thread of its own. All threads have ended when it returns.
 ///
 /// It is refused `NoMemory`, also where a thread cannot be started, and `Mixed` for the first site that does not agree with the log.
+/// Once a caller is refused memory before its set is numbered, or cannot be started, the plan is called off: each of the others ends
+/// after the proposal that it is in, for which it waits as ever, since the appliers are stopped only once all callers have ended.
 pub fn run_threads<R: Threads + Wait + Sync>(
     rt: &R,
     alloc: Global,
@@ -48,7 +51,7 @@ pub fn run_threads<R: Threads + Wait + Sync>(
     let _sites = setup.sites();
     let cluster = Cluster::new(alloc, setup)?;
     // A cluster is dropped by a call: where it goes out of scope, the proof takes it apart.
-    let Ok(hands) = deal(alloc, sets, callers) else {
+    let Ok(hands) = deal(alloc, sets, callers.get()) else {
         drop(cluster);
         return Err(Refusal::NoMemory);
     };
@@ -65,7 +68,7 @@ pub fn run_threads<R: Threads + Wait + Sync>(
     }
 }
 
-/// Starts the appliers, lets the callers propose, stops the cluster, and waits for all threads.
+/// Starts the appliers, lets the callers propose, stops the cluster once all of them have ended, and waits for all threads.
 fn with_appliers<R: Threads + Wait + Sync>(
     rt: &R,
     alloc: Global,
@@ -101,7 +104,8 @@ fn with_appliers<R: Threads + Wait + Sync>(
     )
 }
 
-/// Lets each caller propose its hand in a thread of its own, and waits for all of them.
+/// Lets each caller propose its hand in a thread of its own, and waits for all of them. Where one cannot be started, those that were
+/// end after the proposal that they are in.
 fn propose_in_threads<R: Threads + Wait + Sync>(
     rt: &R,
     alloc: Global,
@@ -111,6 +115,7 @@ fn propose_in_threads<R: Threads + Wait + Sync>(
     requires { sum_by vec_len hands.items < 18446744073709551616 }
     ensures { IfSome result (λ t. counted t ≤ sum_by vec_len hands.items) }
 {
+    let called_off = &AtomicBool::new(false);
     thread::scope(
         thread::scope_env(),
         rt,
@@ -125,14 +130,14 @@ fn propose_in_threads<R: Threads + Wait + Sync>(
                     promise,
                     move || -> Option<Tally>
                         ensures { IfSome result (λ t. counted t ≤ vec_len sets) }
-                    { propose_all(rt, cluster, sets) },
+                    { propose_all(rt, cluster, called_off, sets) },
                 );
                 let kept = match started {
                     Ok(caller) => callers.push(caller).is_ok(),
                     Err(_) => false,
                 };
                 if !kept {
-                    cluster.stop();
+                    called_off.store(true, Ordering::SeqCst);
                     return None;
                 }
             }
@@ -141,7 +146,7 @@ fn propose_in_threads<R: Threads + Wait + Sync>(
     )
 }
 
-/// Waits for the callers, and adds up what they count.
+/// Waits for the callers, and adds up what all of them count.
 fn gather<R: Threads>(
     rt: &R,
     callers: Vec<PromisedHandle<Option<Tally>, Proposes>>,
@@ -149,11 +154,8 @@ fn gather<R: Threads>(
     requires { sum_by (λ c. c.promise.sets) callers.items < 18446744073709551616 }
     ensures { IfSome result (λ t. counted t ≤ sum_by (λ c. c.promise.sets) callers.items) }
 {
-    let mut tally = NONE;
-    for caller in callers {
-        let counted = caller.join(rt)?;
-        tally.refused += counted.refused;
-        tally.pending += counted.pending;
+    match thread::join_promised(rt, callers) {
+        Ok(tallies) => added_up(tallies),
+        Err(_) => None,
     }
-    Some(tally)
 }

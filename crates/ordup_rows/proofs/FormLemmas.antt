@@ -3,7 +3,6 @@ use Rattle.ordup_record.proofs.Common.{◌++◌, ◌+◌, ◌<◌, ◌∙◌, �
 use Rattle.ordup_record.proofs.Common.{GroupList, length, List, map, names_of, None, Objects, Option, option_map, RecordState, refl}
 use Rattle.ordup_record.proofs.Common.{slice_get, Some, sym, ℕ}
 use Rattle.std.proofs.Common.{add-one, drop-cons}
-use Rattle.std.specs.Global.{Global}
 use Rattle.std.specs.Prelude.{Vec}
 use Rattle.std.proofs.lemmas.Option.{slice_get-map}
 use Rattle.csv.specs.Writing.{default_writer, row_text}
@@ -14,7 +13,7 @@ use Rattle.ordup_rows.specs.Rows.{report_row, round_row, window_row}
 use Rattle.ordup_rows.proofs.Growth.{rows_after}
 
 -- rows were written up to some rest of all of them
-abbrev pub IsUpto : Writer (Vec ℕ Global) → Writer (Vec ℕ Global) → List Row → List Row → Type 0
+abbrev pub IsUpto : {A : Type 0} → Writer (Vec ℕ A) → Writer (Vec ℕ A) → List Row → List Row → Type 0
 IsUpto old now rest all =
     IsClean now × (option_map (λ t. t ++ csv_text rest) (text_so_far now) ≡ option_map (λ t. t ++ csv_text all) (text_so_far old))
 
@@ -26,7 +25,7 @@ text_step None new all now rest e h = ap (option_map (λ t. t ++ rest)) e ∙ h
 text_step (Some t) new all now rest e h = ap (option_map (λ t. t ++ rest)) e ∙ ap (λ x. Some x) (append_assoc t now rest) ∙ h
 
 -- the next of the rest was written
-pub more_written : (mid new : Writer (Vec ℕ Global)) (now rest next : List ℕ) (all : Option (List ℕ))
+pub more_written : {A : Type 0} (mid new : Writer (Vec ℕ A)) (now rest next : List ℕ) (all : Option (List ℕ))
     → IsClean mid × (option_map (λ t. t ++ rest) (text_so_far mid) ≡ all) → IsClean new
     → text_so_far new ≡ option_map (λ t. t ++ now) (text_so_far mid) → rest ≡ now ++ next
     → IsClean new × (option_map (λ t. t ++ next) (text_so_far new) ≡ all)

@@ -15,11 +15,11 @@ use ordup_limits::{GroupId, Groups, Limit, LimitTable};
 use ordup_objects::{Change, Name, ObjectId, ObjectTable};
 use ordup_record::{Record, ReportChange};
 use ordup_rounds::Window;
-use std::alloc::{AllocError, Global};
+use std::alloc::{AllocError, Allocator};
 
 /// Writes a row.
-fn push_row(
-    rows: &mut Writer<Vec<u8>>,
+fn push_row<A: Allocator + Copy>(
+    rows: &mut Writer<Vec<u8, A>>,
     kind: &[u8],
     first: &[u8],
     second: &[u8],
@@ -36,7 +36,11 @@ fn push_row(
 }
 
 /// Writes the first row.
-fn push_head(rows: &mut Writer<Vec<u8>>, site: &[u8], decided: u64) -> Result<(), AllocError>
+fn push_head<A: Allocator + Copy>(
+    rows: &mut Writer<Vec<u8, A>>,
+    site: &[u8],
+    decided: u64,
+) -> Result<(), AllocError>
     requires { IsClean rows.old }
     ensures clean { OnOk result (IsClean rows.new) }
     ensures text { OnOk result (AddsRow rows.old rows.new (head_row site.now decided)) }
@@ -47,9 +51,9 @@ fn push_head(rows: &mut Writer<Vec<u8>>, site: &[u8], decided: u64) -> Result<()
 }
 
 /// Writes the row of an object.
-fn push_object(
-    rows: &mut Writer<Vec<u8>>,
-    objects: &ObjectTable,
+fn push_object<A: Allocator + Copy>(
+    rows: &mut Writer<Vec<u8, A>>,
+    objects: &ObjectTable<A>,
     object: ObjectId,
 ) -> Result<(), AllocError>
     requires clean { IsClean rows.old }
@@ -72,7 +76,10 @@ fn push_object(
 }
 
 /// Writes the rows of the objects.
-fn push_objects(rows: &mut Writer<Vec<u8>>, objects: &ObjectTable) -> Result<(), AllocError>
+fn push_objects<A: Allocator + Copy>(
+    rows: &mut Writer<Vec<u8, A>>,
+    objects: &ObjectTable<A>,
+) -> Result<(), AllocError>
     requires { IsClean rows.old }
     ensures clean { OnOk result (IsClean rows.new) }
     ensures text { OnOk result (AddsRows rows.old rows.new (counted object_row 1 objects.now)) }
@@ -84,9 +91,9 @@ fn push_objects(rows: &mut Writer<Vec<u8>>, objects: &ObjectTable) -> Result<(),
 }
 
 /// Writes the row of a member of a group.
-fn push_member(
-    rows: &mut Writer<Vec<u8>>,
-    objects: &ObjectTable,
+fn push_member<A: Allocator + Copy>(
+    rows: &mut Writer<Vec<u8, A>>,
+    objects: &ObjectTable<A>,
     group: &Name,
     counter: usize,
     object: ObjectId,
@@ -108,9 +115,9 @@ fn push_member(
 }
 
 /// Writes the rows of the members of a group, the first of which has this counter.
-fn push_members(
-    rows: &mut Writer<Vec<u8>>,
-    objects: &ObjectTable,
+fn push_members<A: Allocator + Copy>(
+    rows: &mut Writer<Vec<u8, A>>,
+    objects: &ObjectTable<A>,
     group: &Name,
     first: usize,
     members: &[ObjectId],
@@ -128,10 +135,10 @@ fn push_members(
 }
 
 /// Writes the rows of the members of all groups.
-fn push_groups(
-    rows: &mut Writer<Vec<u8>>,
-    objects: &ObjectTable,
-    groups: &Groups,
+fn push_groups<A: Allocator + Copy>(
+    rows: &mut Writer<Vec<u8, A>>,
+    objects: &ObjectTable<A>,
+    groups: &Groups<A>,
 ) -> Result<(), AllocError>
     requires clean { IsClean rows.old }
     requires known { AreGroupsKnown (length objects.now) groups.now }
@@ -149,11 +156,11 @@ fn push_groups(
 }
 
 /// Writes the row of a limit.
-fn push_limit(
-    rows: &mut Writer<Vec<u8>>,
-    column: &mut Vec<u8>,
-    objects: &ObjectTable,
-    groups: &Groups,
+fn push_limit<A: Allocator + Copy>(
+    rows: &mut Writer<Vec<u8, A>>,
+    column: &mut Vec<u8, A>,
+    objects: &ObjectTable<A>,
+    groups: &Groups<A>,
     counter: usize,
     limit: Limit,
 ) -> Result<(), AllocError>
@@ -177,12 +184,12 @@ fn push_limit(
 }
 
 /// Writes the rows of the limits.
-fn push_limits(
-    rows: &mut Writer<Vec<u8>>,
-    column: &mut Vec<u8>,
-    objects: &ObjectTable,
-    groups: &Groups,
-    limits: &LimitTable,
+fn push_limits<A: Allocator + Copy>(
+    rows: &mut Writer<Vec<u8, A>>,
+    column: &mut Vec<u8, A>,
+    objects: &ObjectTable<A>,
+    groups: &Groups<A>,
+    limits: &LimitTable<A>,
 ) -> Result<(), AllocError>
     requires clean { IsClean rows.old }
     requires known { AreScopesKnown (length objects.now) groups.now limits.now }
@@ -198,10 +205,10 @@ fn push_limits(
 }
 
 /// Writes the row of a change.
-fn push_change(
-    rows: &mut Writer<Vec<u8>>,
-    column: &mut Vec<u8>,
-    objects: &ObjectTable,
+fn push_change<A: Allocator + Copy>(
+    rows: &mut Writer<Vec<u8, A>>,
+    column: &mut Vec<u8, A>,
+    objects: &ObjectTable<A>,
     number: u64,
     position: usize,
     change: Change,
@@ -227,10 +234,10 @@ fn push_change(
 }
 
 /// Writes the rows of an update.
-fn push_set(
-    rows: &mut Writer<Vec<u8>>,
-    column: &mut Vec<u8>,
-    objects: &ObjectTable,
+fn push_set<A: Allocator + Copy>(
+    rows: &mut Writer<Vec<u8, A>>,
+    column: &mut Vec<u8, A>,
+    objects: &ObjectTable<A>,
     number: u64,
     changes: &[Change],
 ) -> Result<(), AllocError>
@@ -246,10 +253,10 @@ fn push_set(
 }
 
 /// Writes the rows of the decided updates.
-fn push_sets(
-    rows: &mut Writer<Vec<u8>>,
-    column: &mut Vec<u8>,
-    whole: &Record,
+fn push_sets<A: Allocator + Copy>(
+    rows: &mut Writer<Vec<u8, A>>,
+    column: &mut Vec<u8, A>,
+    whole: &Record<A>,
 ) -> Result<(), AllocError>
     requires { IsClean rows.old }
     ensures clean { OnOk result (IsClean rows.new) }
@@ -263,7 +270,10 @@ fn push_sets(
 }
 
 /// Writes the row of a report change.
-fn push_report(rows: &mut Writer<Vec<u8>>, change: ReportChange) -> Result<(), AllocError>
+fn push_report<A: Allocator + Copy>(
+    rows: &mut Writer<Vec<u8, A>>,
+    change: ReportChange,
+) -> Result<(), AllocError>
     requires { IsClean rows.old }
     ensures clean { OnOk result (IsClean rows.new) }
     ensures text { OnOk result (AddsRow rows.old rows.new (report_row change)) }
@@ -276,7 +286,10 @@ fn push_report(rows: &mut Writer<Vec<u8>>, change: ReportChange) -> Result<(), A
 }
 
 /// Writes the rows of the report changes.
-fn push_reports(rows: &mut Writer<Vec<u8>>, changes: &[ReportChange]) -> Result<(), AllocError>
+fn push_reports<A: Allocator + Copy>(
+    rows: &mut Writer<Vec<u8, A>>,
+    changes: &[ReportChange],
+) -> Result<(), AllocError>
     requires { IsClean rows.old }
     ensures clean { OnOk result (IsClean rows.new) }
     ensures text { OnOk result (AddsRows rows.old rows.new (map report_row changes.now)) }
@@ -288,7 +301,11 @@ fn push_reports(rows: &mut Writer<Vec<u8>>, changes: &[ReportChange]) -> Result<
 }
 
 /// Writes the row of a round.
-fn push_round(rows: &mut Writer<Vec<u8>>, counter: usize, place: u64) -> Result<(), AllocError>
+fn push_round<A: Allocator + Copy>(
+    rows: &mut Writer<Vec<u8, A>>,
+    counter: usize,
+    place: u64,
+) -> Result<(), AllocError>
     requires { IsClean rows.old }
     ensures clean { OnOk result (IsClean rows.new) }
     ensures text { OnOk result (AddsRow rows.old rows.new (round_row counter place)) }
@@ -301,7 +318,10 @@ fn push_round(rows: &mut Writer<Vec<u8>>, counter: usize, place: u64) -> Result<
 }
 
 /// Writes the rows of the rounds.
-fn push_rounds(rows: &mut Writer<Vec<u8>>, places: &[u64]) -> Result<(), AllocError>
+fn push_rounds<A: Allocator + Copy>(
+    rows: &mut Writer<Vec<u8, A>>,
+    places: &[u64],
+) -> Result<(), AllocError>
     requires { IsClean rows.old }
     ensures clean { OnOk result (IsClean rows.new) }
     ensures text { OnOk result (AddsRows rows.old rows.new (counted round_row 1 places.now)) }
@@ -313,7 +333,11 @@ fn push_rounds(rows: &mut Writer<Vec<u8>>, places: &[u64]) -> Result<(), AllocEr
 }
 
 /// Writes the row of a window.
-fn push_window(rows: &mut Writer<Vec<u8>>, counter: usize, window: Window) -> Result<(), AllocError>
+fn push_window<A: Allocator + Copy>(
+    rows: &mut Writer<Vec<u8, A>>,
+    counter: usize,
+    window: Window,
+) -> Result<(), AllocError>
     requires { IsClean rows.old }
     ensures clean { OnOk result (IsClean rows.new) }
     ensures text { OnOk result (AddsRow rows.old rows.new (window_row counter window)) }
@@ -334,7 +358,10 @@ fn push_window(rows: &mut Writer<Vec<u8>>, counter: usize, window: Window) -> Re
 }
 
 /// Writes the rows of the windows.
-fn push_windows(rows: &mut Writer<Vec<u8>>, windows: &[Window]) -> Result<(), AllocError>
+fn push_windows<A: Allocator + Copy>(
+    rows: &mut Writer<Vec<u8, A>>,
+    windows: &[Window],
+) -> Result<(), AllocError>
     requires { IsClean rows.old }
     ensures clean { OnOk result (IsClean rows.new) }
     ensures text { OnOk result (AddsRows rows.old rows.new (counted window_row 1 windows.now)) }
@@ -346,7 +373,7 @@ fn push_windows(rows: &mut Writer<Vec<u8>>, windows: &[Window]) -> Result<(), Al
 }
 
 /// The text of a record, with all of its rows.
-pub fn form(alloc: Global, whole: &Record) -> Result<Vec<u8>, AllocError>
+pub fn form<A: Allocator + Copy>(alloc: A, whole: &Record<A>) -> Result<Vec<u8, A>, AllocError>
     ensures { IfOk result (λ text. text.items ≡ rows_text (rows_of whole.now)) }
 {
     let mut column = Vec::new(alloc);

@@ -8,13 +8,13 @@ ghost use Rattle.ordup_rows.specs.Rows.{change_word, operation_text, scope_text}
 use itoa::Buffer;
 use ordup_limits::{Groups, Scope};
 use ordup_objects::{ObjectTable, Op};
-use std::alloc::AllocError;
+use std::alloc::{AllocError, Allocator};
 
 /// Fills a column with what a row tells a scope by.
-pub fn put_scope(
-    column: &mut Vec<u8>,
-    objects: &ObjectTable,
-    groups: &Groups,
+pub fn put_scope<A: Allocator + Copy>(
+    column: &mut Vec<u8, A>,
+    objects: &ObjectTable<A>,
+    groups: &Groups<A>,
     scope: Scope,
 ) -> Result<(), AllocError>
     requires { IsScopeKnown (length objects.now) groups.now scope }
@@ -36,8 +36,8 @@ pub fn put_scope(
 }
 
 /// Fills a column with the word of a change, by its parts.
-fn put_word(
-    column: &mut Vec<u8>,
+fn put_word<A: Allocator + Copy>(
+    column: &mut Vec<u8, A>,
     kind: &[u8],
     object: &[u8],
     operand: &[u8],
@@ -53,8 +53,8 @@ fn put_word(
 }
 
 /// Fills a column with the word of a change by a number.
-fn put_number_word(
-    column: &mut Vec<u8>,
+fn put_number_word<A: Allocator + Copy>(
+    column: &mut Vec<u8, A>,
     kind: &[u8],
     object: &[u8],
     number: i64,
@@ -66,9 +66,9 @@ fn put_number_word(
 }
 
 /// Fills a column with the word of a change of an object of this name.
-pub fn put_change(
-    column: &mut Vec<u8>,
-    objects: &ObjectTable,
+pub fn put_change<A: Allocator + Copy>(
+    column: &mut Vec<u8, A>,
+    objects: &ObjectTable<A>,
     object: &[u8],
     op: Op,
 ) -> Result<(), AllocError>

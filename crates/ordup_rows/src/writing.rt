@@ -6,7 +6,7 @@ ghost use Rattle.ordup_rows.specs.Rows.{rows_of, rows_text};
 use crate::forming::form;
 use ordup_output::send;
 use ordup_record::Record;
-use std::alloc::Global;
+use std::alloc::Allocator;
 use std::io::Write;
 
 /// Why not all of a record was written.
@@ -19,9 +19,9 @@ pub enum RecordWriteFault {
 }
 
 /// Writes a record: all of its text, or a front of it where the writer fails. It flushes nothing.
-pub fn write_record<W: Write>(
-    alloc: Global,
-    whole: &Record,
+pub fn write_record<A: Allocator + Copy, W: Write>(
+    alloc: A,
+    whole: &Record<A>,
     output: &mut W,
 ) -> Result<(), RecordWriteFault>
     ensures written { OnOk result (Appends (W.contents output.old) (W.contents output.new) (rows_text (rows_of whole.now))) }

@@ -6,7 +6,7 @@ use Rattle.ordup_rows.proofs.PlainLemmas.{lines_of}
 use Rattle.ordup_rows.proofs.forming.form.Goals as goal
 
 pub returns-in-Ok : goal.returns-in-Ok
-returns-in-Ok c =
+returns-in-Ok g c =
     let r = c.args.whole.now in
     let written = all_written (head_row r.site (length r.sets)) r (text_so_far c.from_writer-rows.result) _ _ _ _ _ _ _ _
     (search rules)

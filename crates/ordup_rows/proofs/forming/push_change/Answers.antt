@@ -4,7 +4,7 @@ use Rattle.ordup_rows.proofs.FormLemmas.{name_at-is}
 use Rattle.ordup_rows.proofs.forming.push_change.Goals as goal
 
 pub returns-clause-text : goal.returns-clause-text
-returns-clause-text c =
+returns-clause-text g c =
     let objects = c.args.objects.now in
     let name = name_at-is objects c.args.change.object c.name-object.result.now c.name-object.ensures in
     let word : c.put_change.new.column.items ≡ change_text objects c.args.change =

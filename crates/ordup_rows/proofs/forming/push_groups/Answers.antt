@@ -4,7 +4,7 @@ use Rattle.ordup_rows.proofs.FormLemmas.{member_rows-more, more_written}
 use Rattle.ordup_rows.proofs.forming.push_groups.Goals as goal
 
 pub loop-place-preserved : goal.loop-place-preserved
-loop-place-preserved c =
+loop-place-preserved g c =
     let place = c.loop-place.place in
     let groups = c.args.groups.now in
     let objects = c.args.objects.now in

@@ -4,7 +4,7 @@ use Rattle.ordup_rows.proofs.FormLemmas.{counted-more, more_written}
 use Rattle.ordup_rows.proofs.forming.push_limits.Goals as goal
 
 pub loop-place-preserved : goal.loop-place-preserved
-loop-place-preserved c =
+loop-place-preserved g c =
     let place = c.loop-place.place in
     let limit : Limit = record { scope = c.get-scope.result.0; amount = c.get-scope.result.1 } in
     let here = get_or_from_slice_get c.args.limits.now place limit limit c.get-scope.ensures in

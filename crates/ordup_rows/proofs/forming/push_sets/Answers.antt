@@ -3,7 +3,7 @@ use Rattle.ordup_rows.proofs.FormLemmas.{change_rows-more, more_written}
 use Rattle.ordup_rows.proofs.forming.push_sets.Goals as goal
 
 pub loop-place-preserved : goal.loop-place-preserved
-loop-place-preserved c =
+loop-place-preserved g c =
     let place = c.loop-place.place in
     let sets = c.args.whole.now.sets in
     let at : place + 1 - 1 ≡ place = omega arith in

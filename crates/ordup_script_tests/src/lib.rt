@@ -1,12 +1,20 @@
-//! Tests of scripts over writers that fail, of plans, of both where memory is refused, and of the windows of a script's sites.
+//! Tests of scripts over streams that fail, of plans, of the windows of a script's sites, and of all calls where memory is refused.
 #![tactic(auto)]
 
+#[cfg(test)]
+mod calls;
+#[cfg(test)]
+mod digests;
+#[cfg(test)]
+mod lines;
 #[cfg(test)]
 mod memory;
 #[cfg(test)]
 mod plans;
 #[cfg(test)]
 mod readers;
+#[cfg(test)]
+mod scarce;
 #[cfg(test)]
 mod script;
 #[cfg(test)]

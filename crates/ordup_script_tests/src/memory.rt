@@ -1,47 +1,10 @@
 //! Each growth refused in turn: a script writes a front of its answers, and it and a plan end in `NoMemory`.
 use crate::readers::PieceReader;
+use crate::scarce::Scarce;
+use crate::script::{FIRST_ANSWERS, FIRST_RUN};
 use ordup_script::{PlanFault, ScriptFault, read_plan, run_script};
-use std::alloc::{AllocError, Allocator, Global};
-use std::cell::Cell;
-
-/// Passes each call on, and refuses every allocation after the first so many.
-#[derive(Drop)]
-struct Scarce<A: Allocator> {
-    heap: A,
-    left: Cell<u64>,
-}
-
-impl<A: Allocator> Scarce<A> {
-    fn new(heap: A, allocations: u64) -> Self {
-        Scarce {
-            heap,
-            left: Cell::new(allocations),
-        }
-    }
-}
-
-/// Takes one of those that are left, where there is one.
-fn take_one(left: &Cell<u64>) -> bool {
-    let count = left.get();
-    left.set(count.saturating_sub(1));
-    count > 0
-}
-
-unsafe impl<A: Allocator> Allocator for Scarce<A> {
-    ghost dealloc_token = { λ scarce ty ptr. A.dealloc_token scarce.heap ty ptr };
-
-    fn allocate(&self, size: usize, align: usize) -> Result<*mut u8, AllocError> {
-        if take_one(&self.left) {
-            self.heap.allocate(size, align)
-        } else {
-            Err(AllocError)
-        }
-    }
-
-    unsafe fn deallocate(&self, ptr: *mut u8, size: usize, align: usize) {
-        self.heap.deallocate(ptr, size, align);
-    }
-}
+use std::alloc::Global;
+use std::process::Abort;
 
 const SCRIPT: &[u8] = b"# tea, rice and salt, in bags
 object tea 40
@@ -134,33 +97,48 @@ ok show shop sent 2 applied 2 reported 2 rounds 1 tea=37 rice=16 salt=10
 ok show depot sent 3 applied 3 reported 3 rounds 1 tea=37 rice=10 salt=16
 ";
 
-/// Runs the script with so many allocations: why it did not end, if it did not.
-fn run_with(alloc: Global, allocations: u64, output: &mut Vec<u8>) -> Option<ScriptFault> {
+/// Runs a script, which is read by so many bytes, with so many allocations: why it did not end, if it did not.
+fn run_with(
+    alloc: Global,
+    script: &[u8],
+    at_once: usize,
+    allocations: u64,
+    output: &mut Vec<u8>,
+) -> Option<ScriptFault> {
     let scarce = Scarce::new(alloc, allocations);
-    run_script(
-        &scarce,
-        &mut PieceReader::new(SCRIPT, 7, usize::MAX),
-        output,
-    )
-    .err()
+    let mut input = PieceReader::new(script, at_once, usize::MAX);
+    run_script(&scarce, &mut input, output).err()
+}
+
+/// How many growths a script meets, which is read by so many bytes: each of them is refused in turn, and a front of its answers is
+/// written then. How much of them was written at most.
+fn growths_of(
+    rt: &(impl Abort + AllocGlobal),
+    script: &[u8],
+    at_once: usize,
+    answers: &[u8],
+) -> (u64, usize) {
+    let mut most_written = 0;
+    for allocations in 0..400u64 {
+        let mut output: Vec<u8> = Vec::new(rt.alloc());
+        let Some(fault) = run_with(rt.alloc(), script, at_once, allocations, &mut output) else {
+            assert!(rt; output.as_slice() == answers);
+            return (allocations, most_written);
+        };
+        assert!(rt; fault == ScriptFault::NoMemory, "at {allocations}");
+        assert!(rt; answers.starts_with(&output), "at {allocations}");
+        most_written = most_written.max(output.len());
+    }
+    panic!(rt; "the script did not end")
 }
 
 #[test]
 fn a_script_with_each_growth_refused(rt: HostRuntime) {
-    let mut most_written = 0;
-    for allocations in 0..400u64 {
-        let mut output: Vec<u8> = Vec::new(rt.alloc());
-        let Some(fault) = run_with(rt.alloc(), allocations, &mut output) else {
-            assert!(rt; output.as_slice() == ANSWERS);
-            assert!(rt; allocations >= 20, "only {allocations} growths");
-            assert!(rt; most_written > 0);
-            return;
-        };
-        assert!(rt; fault == ScriptFault::NoMemory, "at {allocations}");
-        assert!(rt; ANSWERS.starts_with(&output), "at {allocations}");
-        most_written = most_written.max(output.len());
-    }
-    panic!(rt; "the script did not end");
+    let (growths, most_written) = growths_of(&rt, SCRIPT, 7, ANSWERS);
+    assert!(rt; growths >= 20 && most_written > 0, "{growths} growths");
+    // Read whole, it writes nothing before its last line is answered.
+    let (growths, most_written) = growths_of(&rt, FIRST_RUN, 64, FIRST_ANSWERS);
+    assert!(rt; growths >= 20 && most_written == 0, "{growths} growths");
 }
 
 const PLAN: &[u8] = b"object tea 40

@@ -1,4 +1,4 @@
-//! A reader that gives a little at a time.
+//! A reader that gives a little at a time, and one that has no end.
 use std::io::{self, ErrorKind, Read};
 
 /// Gives at most so many bytes a call, and fails once so many were given.
@@ -7,6 +7,7 @@ pub(crate) struct PieceReader<'a> {
     left: &'a [u8],
     at_once: usize,
     before_failure: usize,
+    failure: ErrorKind,
 }
 
 impl<'a> PieceReader<'a> {
@@ -15,6 +16,17 @@ impl<'a> PieceReader<'a> {
             left,
             at_once,
             before_failure,
+            failure: ErrorKind::Other,
+        }
+    }
+
+    /// Gives all at once, and fails so once so many bytes were given.
+    pub(crate) fn failing(left: &'a [u8], before_failure: usize, failure: ErrorKind) -> Self {
+        PieceReader {
+            left,
+            at_once: usize::MAX,
+            before_failure,
+            failure,
         }
     }
 }
@@ -22,7 +34,7 @@ impl<'a> PieceReader<'a> {
 impl Read for PieceReader<'_> {
     fn read(&mut self, buffer: &mut [u8]) -> io::Result<usize> {
         if self.before_failure == 0 {
-            return Err(io::Error::from(ErrorKind::Other));
+            return Err(io::Error::from(self.failure));
         }
         let count = buffer
             .len()
@@ -34,5 +46,16 @@ impl Read for PieceReader<'_> {
         self.left = left;
         self.before_failure -= count;
         Ok(count)
+    }
+}
+
+/// Gives the byte of a comment for ever.
+#[derive(Drop)]
+pub(crate) struct CommentReader;
+
+impl Read for CommentReader {
+    fn read(&mut self, buffer: &mut [u8]) -> io::Result<usize> {
+        buffer.fill(b'#');
+        Ok(buffer.len())
     }
 }

@@ -39,11 +39,11 @@ use denote.RawPtr.{Ptr, block_ptr, null_ptr, ptr_val, rawptr_vals, rawptr_Tells}
 use denote.Builtin.{usize, RawPtr, RefOf}
 use denote.Triple.Call.{calls_at}
 use Rattle.std.proofs.alloc.Calls.{Al, α, seen, token, gives_key, Gives, at_gives, Gives-goes, Gives-Gives}
-use Rattle.ordup_script_tests.specs.contracts.memory.Scarce as wrapper
-use Rattle.ordup_script_tests.specs.contracts.memory.ScarceAllocator.deallocate as F
-use Rattle.ordup_script_tests.specs.contracts.memory.ScarceAllocator.deallocate.Key as key
-use Rattle.ordup_script_tests.proofs.memory.ScarceAllocator.deallocate.Statement as stated
-use Rattle.ordup_script_tests.proofs.memory.ScarceAllocator.deallocate.Code as code
+use Rattle.ordup_script_tests.specs.contracts.scarce.Scarce as wrapper
+use Rattle.ordup_script_tests.specs.contracts.scarce.ScarceAllocator.deallocate as F
+use Rattle.ordup_script_tests.specs.contracts.scarce.ScarceAllocator.deallocate.Key as key
+use Rattle.ordup_script_tests.proofs.scarce.ScarceAllocator.deallocate.Statement as stated
+use Rattle.ordup_script_tests.proofs.scarce.ScarceAllocator.deallocate.Code as code
 
 module _ (Z : Al) where
   abbrev args : Args

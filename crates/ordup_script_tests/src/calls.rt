@@ -649,16 +649,13 @@ fn ledger_of<'a>(
     rt: &impl Abort,
     heap: Heap<'a>,
     primary: &Primary<Heap<'a>>,
-) -> LagLedger<Heap<'a>>
-    ensures places { (result.reported ≡ 0) × (result.extended ≡ 0) }
-    ensures stands { StandsFor result primary.now.log primary.now.setup.groups }
+) -> Result<LagLedger<Heap<'a>>, Refusal>
+    ensures places { IfOk result (λ ledger. (ledger.reported ≡ 0) × (ledger.extended ≡ 0)) }
+    ensures stands { IfOk result (λ ledger. StandsFor ledger primary.now.log primary.now.setup.groups) }
 {
     let setup = primary.setup();
     assert!(rt; setup.sites() > 0 && primary.log().objects() == setup.objects().len());
-    let Ok(ledger) = LagLedger::new(heap, setup.limits(SiteId::new(0))) else {
-        panic!(rt; "there is no ledger")
-    };
-    ledger
+    LagLedger::new(heap, setup.limits(SiteId::new(0)))
 }
 
 /// Whether a is over as updates are added and reported: 6 on g is not over 6, 6 + 1 is, and without the first 1 is not.
@@ -668,7 +665,9 @@ fn over_as_it_reports<'a>(
     primary: &Primary<Heap<'a>>,
 ) -> [bool; 3] {
     heap.allow_all();
-    let mut ledger = ledger_of(rt, heap, primary);
+    let Ok(mut ledger) = ledger_of(rt, heap, primary) else {
+        panic!(rt; "there is no ledger")
+    };
     let (log, groups) = (primary.log(), primary.setup().groups());
     assert!(rt; log.len() == 3);
     heap.allow(0);

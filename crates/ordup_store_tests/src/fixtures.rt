@@ -4,7 +4,7 @@ ghost use Rattle.std.specs.Prelude.{◌≡◌};
 use ordup_cluster::{Cluster, OpenGate, SeenValue, Session};
 use ordup_limits::Scope;
 use ordup_objects::{Change, MessageSet, ObjectId, ObjectTable, Op, Refusal, SiteId};
-use ordup_primary::Setup;
+use ordup_primary::{Setup, Window};
 use std::alloc::Global;
 use std::process::Abort;
 use std::sync::Wait;
@@ -98,6 +98,11 @@ pub fn add(rt: &impl Abort, alloc: Global, object: ObjectId, n: i64) -> MessageS
     set
 }
 
+/// The value of an object at a site that has applied so many updates.
+pub fn seen(value: i64, applied: u64) -> SeenValue {
+    SeenValue { value, applied }
+}
+
 /// Reads x at a site in a session, and sees this value, and that the site has applied so many updates.
 pub fn expect_seen<R: Wait + Abort>(
     rt: &R,
@@ -109,7 +114,7 @@ pub fn expect_seen<R: Wait + Abort>(
 ) {
     assert_eq!(rt;
         cluster.read(rt, session, site, x()),
-        Ok(SeenValue { value, applied })
+        Ok(seen(value, applied))
     );
 }
 
@@ -131,4 +136,31 @@ pub fn expect_behind<R: Wait + Abort>(
 pub fn apply_at<R: Wait + Abort>(rt: &R, cluster: &Cluster, site: SiteId) {
     assert!(rt; site.index() < cluster.sites());
     assert_eq!(rt; cluster.applier(rt, site, &OpenGate), 1);
+}
+
+/// Closes a cluster. Its log has so many updates; this is what the site a holds of x, and its windows are these.
+pub fn expect_closed(
+    rt: &impl Abort,
+    cluster: Cluster,
+    updates: u64,
+    at_a: SeenValue,
+    windows: &[Window],
+) {
+    let Ok(closed) = cluster.close() else {
+        panic!(rt; "a site does not agree with the log")
+    };
+    let primary = closed.primary();
+    // For the proof: there are as many sites as were declared.
+    let _acked = primary.acked();
+    assert_eq!(rt; primary.log().len(), updates);
+    assert!(rt; primary.setup().sites() > 0);
+    assert_eq!(rt; primary.windows(a()), windows);
+    let site = closed.site(a());
+    assert!(rt; site.len() > 0);
+    assert_eq!(rt;
+        (site.value(x()), site.applied()),
+        (at_a.value, at_a.applied)
+    );
+    // Dropped by a call, which is proved once for all tests: docs/DECISIONS.md, Tests.
+    drop(closed);
 }

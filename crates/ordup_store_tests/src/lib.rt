@@ -4,8 +4,14 @@
 #[cfg(test)]
 mod fixtures;
 #[cfg(test)]
+mod gates;
+#[cfg(test)]
 mod one_site;
+#[cfg(test)]
+mod open_rounds;
 #[cfg(test)]
 mod refusals;
 #[cfg(test)]
 mod two_sites;
+#[cfg(test)]
+mod unlike_sites;

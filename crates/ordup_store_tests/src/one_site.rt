@@ -1,5 +1,7 @@
 //! Updates at the one site of a cluster, from the proposal to what is left at the end.
-use crate::fixtures::{a, add, apply_at, expect_behind, expect_seen, opened, x};
+use crate::fixtures::{
+    a, add, apply_at, expect_behind, expect_closed, expect_seen, opened, seen, x,
+};
 use ordup_cluster::{Cluster, Session, SiteQuery};
 use ordup_limits::Scope;
 use ordup_objects::{MessageSet, Refusal};
@@ -102,20 +104,6 @@ fn wait_for_the_report<R: Wait + Abort>(rt: &R, cluster: &Cluster, set: MessageS
     assert_eq!(rt; session.seen(), 1);
 }
 
-/// The log of a cluster has one update at its end, of which the site a has applied so many, with these windows.
-fn close(rt: &impl Abort, cluster: Cluster, applied: u64, windows: &[Window]) {
-    let Ok(closed) = cluster.close() else {
-        panic!(rt; "a site does not agree with the log")
-    };
-    let primary = closed.primary();
-    let _acked = primary.acked();
-    assert_eq!(rt; primary.log().len(), 1);
-    assert!(rt; primary.setup().sites() > 0);
-    assert_eq!(rt; primary.windows(a()), windows);
-    assert_eq!(rt; closed.site(a()).applied(), applied);
-    drop(closed);
-}
-
 #[test]
 fn an_update_is_acknowledged_and_read(rt: HostRuntime) -> Result<(), Fail> {
     let alloc = rt.alloc();
@@ -123,7 +111,7 @@ fn an_update_is_acknowledged_and_read(rt: HostRuntime) -> Result<(), Fail> {
     let set = add(&rt, alloc, x(), 3);
     let other = add(&rt, alloc, x(), 1);
     follow(&rt, &cluster, set, other);
-    close(&rt, cluster, 1, &[]);
+    expect_closed(&rt, cluster, 1, seen(3, 1), &[]);
     Ok(())
 }
 
@@ -133,7 +121,7 @@ fn a_round_waits_for_its_report(rt: HostRuntime) -> Result<(), Fail> {
     let cluster = opened(&rt, alloc, Scope::All, 0)?;
     let set = add(&rt, alloc, x(), 1);
     wait_in_vain(&rt, &cluster, set);
-    close(&rt, cluster, 0, &[Window { from: 0, to: 1 }]);
+    expect_closed(&rt, cluster, 1, seen(0, 0), &[Window { from: 0, to: 1 }]);
     Ok(())
 }
 
@@ -143,6 +131,6 @@ fn a_round_ends_with_its_report(rt: HostRuntime) -> Result<(), Fail> {
     let cluster = opened(&rt, alloc, Scope::All, 0)?;
     let set = add(&rt, alloc, x(), 1);
     wait_for_the_report(&rt, &cluster, set);
-    close(&rt, cluster, 1, &[Window { from: 0, to: 1 }]);
+    expect_closed(&rt, cluster, 1, seen(1, 1), &[Window { from: 0, to: 1 }]);
     Ok(())
 }

@@ -142,6 +142,23 @@ fn what_is_refused_has_no_number(rt: HostRuntime) -> Result<(), Fail> {
 }
 
 #[test]
+fn a_stopped_cluster_says_so_of_each_proposal(rt: HostRuntime) -> Result<(), Fail> {
+    let alloc = rt.alloc();
+    let cluster = opened(&rt, alloc, Scope::Object(x()), 5)?;
+    let unknown = add(&rt, alloc, z(), 1);
+    let too_great = add(&rt, alloc, y(), 1_000_000_000);
+    let set = add(&rt, alloc, x(), 3);
+    cluster.stop();
+    expect_proposed(&rt, &cluster, unknown, Err(Refusal::Stopped));
+    expect_proposed(&rt, &cluster, too_great, Err(Refusal::Stopped));
+    expect_proposed(&rt, &cluster, set, Err(Refusal::Stopped));
+    // Nothing was numbered.
+    expect_settled(&rt, &cluster, 1, Err(Refusal::OutOfRange));
+    drop(cluster);
+    Ok(())
+}
+
+#[test]
 fn a_query_reads_within_its_limit(rt: HostRuntime) -> Result<(), Fail> {
     let alloc = rt.alloc();
     let cluster = opened(&rt, alloc, Scope::Object(x()), 5)?;

@@ -2,6 +2,7 @@
 use crate::fixtures::{a, add, apply_at, b, expect_behind, expect_seen, opened_pair, x};
 use ordup_cluster::{Cluster, Session};
 use ordup_objects::MessageSet;
+use ordup_query::ReadAnswer;
 use std::process::Abort;
 use std::sync::Wait;
 use std::test::Fail;
@@ -22,6 +23,21 @@ fn read_at_a_and_then_b<R: Wait + Abort>(rt: &R, cluster: &Cluster) {
     assert_eq!(rt; session.seen(), 1);
     apply_at(rt, cluster, b());
     expect_seen(rt, cluster, &mut session, b(), 3, 1);
+}
+
+/// A query at b reads what b holds, though a has applied the update that is its reference.
+fn query_at_b<R: Wait + Abort>(rt: &R, cluster: &Cluster) {
+    let Ok(mut query) = cluster.begin(rt, b(), 3) else {
+        panic!(rt; "the query is refused")
+    };
+    assert_eq!(rt;
+        query.read(rt, x()),
+        Ok(ReadAnswer {
+            value: 0,
+            import: 3,
+            total: 3
+        })
+    );
 }
 
 /// A session that has seen nothing reads at b what came before the update, and sees the update once it is settled.
@@ -52,6 +68,7 @@ fn a_session_never_goes_back(rt: HostRuntime) -> Result<(), Fail> {
     let cluster = opened_pair(&rt, alloc)?;
     let set = add(&rt, alloc, x(), 3);
     apply_at_a(&rt, &cluster, set);
+    query_at_b(&rt, &cluster);
     read_at_b_and_settle(&rt, &cluster);
     read_at_a_and_then_b(&rt, &cluster);
     close(&rt, cluster);

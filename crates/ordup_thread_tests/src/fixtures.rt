@@ -29,7 +29,14 @@ pub fn y() -> ObjectId
     ObjectId::new(1)
 }
 
-/// The objects that each cluster of these tests has.
+/// The first site.
+pub fn a() -> SiteId
+    ensures { result ≡ 0 }
+{
+    SiteId::new(0)
+}
+
+/// The objects of which the clusters of these tests have the first one, or both.
 pub fn x_and_y(rt: &impl Abort, alloc: Global) -> ObjectTable {
     let mut objects = ObjectTable::new(alloc);
     assert_eq!(rt; objects.declare(b"x", 0), Ok(x()));
@@ -81,9 +88,9 @@ pub fn apply_at<G: Gate, R: Wait + Abort>(rt: &R, cluster: &Cluster, site: u8, g
     cluster.applier(rt, site, gate)
 }
 
-/// Waits until a flag is raised, and answers whether it was within the tries.
-pub fn is_raised_in_time(flag: &AtomicBool) -> bool {
-    for _ in 0..TRIES {
+/// Waits until a flag is raised, and answers whether it was within so many tries.
+pub fn is_raised_within(flag: &AtomicBool, tries: u64) -> bool {
+    for _ in 0..tries {
         if flag.load(Ordering::SeqCst) {
             return true;
         }

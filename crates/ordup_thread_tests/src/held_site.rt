@@ -1,68 +1,15 @@
 //! A site that its gate holds up, while another site gets on.
-use crate::fixtures::{TRIES, adding, apply_at, is_raised_in_time, propose, set_of, x, x_and_y};
-use ordup_cluster::{Cluster, Gate, OpenGate, SeenValue, Session};
+use crate::fixtures::{TRIES, a, adding, apply_at, is_raised_within, propose, set_of, x, x_and_y};
+use crate::holding_gate::{Held, HoldingGate};
+use ordup_cluster::{Cluster, OpenGate, SeenValue, Session};
 use ordup_objects::{ObjectTable, Refusal, SiteId};
 use ordup_primary::Setup;
 use std::alloc::Global;
 use std::process::Abort;
 use std::sync::Wait;
-use std::sync::atomic::{AtomicBool, Ordering};
 use std::test::Fail;
 use std::thread;
 use std::thread::Threads;
-
-/// Which call of a gate holds the site a up.
-#[derive(Clone, Copy, PartialEq, Eq)]
-enum Held {
-    /// The one that no lock is held in.
-    BeforeApply,
-    /// The one under the lock of the site.
-    AtApply,
-}
-
-/// Holds the site a up at its first update until it is released.
-#[derive(Drop)]
-struct HoldingGate {
-    by: Held,
-    /// Whether it holds the site, or has held it.
-    holding: AtomicBool,
-    released: AtomicBool,
-    gave_up: AtomicBool,
-}
-
-impl HoldingGate {
-    fn new(by: Held) -> HoldingGate {
-        HoldingGate {
-            by,
-            holding: AtomicBool::new(false),
-            released: AtomicBool::new(false),
-            gave_up: AtomicBool::new(false),
-        }
-    }
-
-    fn hold(&self, site: SiteId, number: u64) {
-        if site.index() == 0 && number == 1 {
-            self.holding.store(true, Ordering::SeqCst);
-            if !is_raised_in_time(&self.released) {
-                self.gave_up.store(true, Ordering::SeqCst);
-            }
-        }
-    }
-}
-
-impl Gate for HoldingGate {
-    fn before_apply<R: Wait>(&self, _rt: &R, site: SiteId, number: u64) {
-        if self.by == Held::BeforeApply {
-            self.hold(site, number);
-        }
-    }
-
-    fn at_apply<R: Wait>(&self, _rt: &R, site: SiteId, number: u64) {
-        if self.by == Held::AtApply {
-            self.hold(site, number);
-        }
-    }
-}
 
 /// Declares x and y, and the sites a and b without limits, each with room for 4 updates.
 fn declare(setup: &mut Setup) -> Result<(), Refusal> {
@@ -103,7 +50,19 @@ fn wait_for_b<R: Wait + Abort>(rt: &R, cluster: &Cluster, session: &mut Session)
     panic!(rt; "the site b does not get on")
 }
 
-/// Proposes an update, sees that b gets it while a is held up, and then releases a.
+/// Proposes the one update, which adds 3 to x.
+fn propose_add_3<R: Wait + Abort>(
+    rt: &R,
+    alloc: Global,
+    objects: &ObjectTable,
+    cluster: &Cluster,
+    session: &mut Session,
+) {
+    let set = set_of(rt, alloc, objects, &[adding(x(), 3)]);
+    assert_eq!(rt; propose(rt, cluster, session, set), 1);
+}
+
+/// Proposes an update, sees that b gets it while a is held up, and then opens the gate.
 fn call<R: Wait + Abort>(
     rt: &R,
     alloc: Global,
@@ -112,15 +71,19 @@ fn call<R: Wait + Abort>(
     gate: &HoldingGate,
 ) {
     let mut session = Session::new();
-    assert!(rt; is_raised_in_time(&gate.holding));
-    let set = set_of(rt, alloc, objects, &[adding(x(), 3)]);
-    assert_eq!(rt; propose(rt, cluster, &mut session, set), 1);
-    if gate.by == Held::BeforeApply {
-        let at_a = cluster.read(rt, &mut session, SiteId::new(0), x());
+    assert!(rt; is_raised_within(gate.holding(), TRIES));
+    propose_add_3(rt, alloc, objects, cluster, &mut session);
+    if gate.by() == Held::BeforeApply {
+        let at_a = cluster.read(rt, &mut session, a(), x());
         assert_eq!(rt; at_a, Err(Refusal::Behind { applied: 0 }));
     }
     wait_for_b(rt, cluster, &mut session);
-    gate.released.store(true, Ordering::SeqCst);
+    // A query at a is begun without the lock of a.
+    let Ok(query) = cluster.begin(rt, a(), 0) else {
+        panic!(rt; "the query is refused")
+    };
+    drop(query);
+    gate.open();
     cluster.stop();
 }
 
@@ -148,6 +111,36 @@ fn run<R: Threads + Wait + Abort + Sync>(
     drop(table);
 }
 
+/// Proposes the update, which is sent to both sites, and stops the cluster.
+fn propose_and_stop<R: Wait + Abort>(rt: &R, alloc: Global, cluster: &Cluster) {
+    let objects = x_and_y(rt, alloc);
+    propose_add_3(rt, alloc, &objects, cluster, &mut Session::new());
+    cluster.stop();
+    drop(objects);
+}
+
+/// Reads x at a while a is held under its lock, and then lets the update pass. The read ends once the update is applied.
+fn read_at_a<R: Wait + Abort>(rt: &R, cluster: &Cluster, gate: &HoldingGate) {
+    assert!(rt; is_raised_within(gate.holding(), TRIES));
+    let at_a = cluster.read(rt, &mut Session::new(), a(), x());
+    gate.open();
+    let applied = SeenValue {
+        value: 3,
+        applied: 1,
+    };
+    assert_eq!(rt; at_a, Ok(applied));
+}
+
+/// The applier of a and the reader, each in a thread of its own. Then b applies the update too.
+fn apply_and_read<R: Threads + Wait + Abort + Sync>(rt: &R, cluster: &Cluster, gate: &HoldingGate) {
+    thread::join(
+        rt,
+        move || apply_at(rt, cluster, 0, gate),
+        move || read_at_a(rt, cluster, gate),
+    );
+    assert_eq!(rt; apply_at(rt, cluster, 1, &OpenGate), 1);
+}
+
 /// Both sites agree with the log, and have applied its one update.
 fn close(rt: &impl Abort, cluster: Cluster) {
     let Ok(closed) = cluster.close() else {
@@ -158,27 +151,39 @@ fn close(rt: &impl Abort, cluster: Cluster) {
     let _acked = primary.acked();
     assert_eq!(rt; primary.log().len(), 1);
     assert_eq!(rt; primary.setup().sites(), 2);
-    assert_eq!(rt; closed.site(SiteId::new(0)).applied(), 1);
+    assert_eq!(rt; closed.site(a()).applied(), 1);
     assert_eq!(rt; closed.site(SiteId::new(1)).applied(), 1);
     drop(closed);
 }
 
 #[test]
 fn a_site_that_is_held_before_it_applies_holds_up_nobody(rt: HostRuntime) -> Result<(), Fail> {
-    let gate = HoldingGate::new(Held::BeforeApply);
+    let gate = HoldingGate::new(Held::BeforeApply, TRIES);
     let cluster = opened(&rt, rt.alloc())?;
     run(&rt, rt.alloc(), &cluster, &gate);
-    assert!(rt; !gate.gave_up.load(Ordering::SeqCst));
+    assert!(rt; !gate.gave_up());
     close(&rt, cluster);
     Ok(())
 }
 
 #[test]
 fn a_site_that_is_held_under_its_lock_holds_up_nobody(rt: HostRuntime) -> Result<(), Fail> {
-    let gate = HoldingGate::new(Held::AtApply);
+    let gate = HoldingGate::new(Held::AtApply, TRIES);
     let cluster = opened(&rt, rt.alloc())?;
     run(&rt, rt.alloc(), &cluster, &gate);
-    assert!(rt; !gate.gave_up.load(Ordering::SeqCst));
+    assert!(rt; !gate.gave_up());
+    close(&rt, cluster);
+    Ok(())
+}
+
+#[test]
+fn a_read_waits_for_a_site_that_is_held_under_its_lock(rt: HostRuntime) -> Result<(), Fail> {
+    let gate = HoldingGate::new(Held::AtApply, 100_000);
+    let cluster = opened(&rt, rt.alloc())?;
+    propose_and_stop(&rt, rt.alloc(), &cluster);
+    apply_and_read(&rt, &cluster, &gate);
+    // The read did not end while the gate held the site.
+    assert!(rt; gate.gave_up());
     close(&rt, cluster);
     Ok(())
 }

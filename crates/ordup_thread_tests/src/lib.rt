@@ -8,6 +8,12 @@ mod fixtures;
 #[cfg(test)]
 mod held_site;
 #[cfg(test)]
+mod holding_gate;
+#[cfg(test)]
+mod lagging_site;
+#[cfg(test)]
 mod many_callers;
+#[cfg(test)]
+mod one_turn;
 #[cfg(test)]
 mod two_callers;

@@ -1,0 +1,120 @@
+//! A site that is held before its first update and may lag by three updates: the fourth proposal waits for it.
+use crate::fixtures::{TRIES, a, adding, apply_at, set_of, x, x_and_y};
+use crate::holding_gate::{Held, HoldingGate};
+use ordup_cluster::{Cluster, SeenValue, Session};
+use ordup_limits::Scope;
+use ordup_objects::{ObjectTable, Refusal};
+use ordup_primary::{Setup, Window};
+use std::alloc::Global;
+use std::process::Abort;
+use std::sync::Wait;
+use std::test::Fail;
+use std::thread;
+use std::thread::Threads;
+
+/// Declares x at 0 and the site a, which has room for one update.
+fn declare(setup: &mut Setup) -> Result<(), Refusal> {
+    setup.object(b"x", 0)?;
+    let a = setup.site(b"a", 1)?;
+    setup.limit(a, Scope::Count, 3)
+}
+
+fn opened(rt: &impl Abort, alloc: Global) -> Result<Cluster, Refusal> {
+    let mut setup = Setup::new(alloc);
+    let Ok(()) = declare(&mut setup) else {
+        panic!(rt; "the declarations are refused")
+    };
+    Cluster::new(alloc, setup)
+}
+
+/// Adds 1 to x four times, with 100 turns each. The fourth update waits for a.
+fn propose_four<R: Wait + Abort>(
+    rt: &R,
+    alloc: Global,
+    objects: &ObjectTable,
+    cluster: &Cluster,
+    session: &mut Session,
+) {
+    for number in 1..=4 {
+        let set = set_of(rt, alloc, objects, &[adding(x(), 1)]);
+        let answer = if number < 4 {
+            Ok(number)
+        } else {
+            Err(Refusal::NotYet { number })
+        };
+        assert_eq!(rt; cluster.propose(rt, session, set, 100), answer);
+    }
+}
+
+/// Reads x at a, which has applied nothing: it is behind this session, and not behind one that has seen nothing.
+fn read_at_a<R: Wait + Abort>(rt: &R, cluster: &Cluster, session: &mut Session) {
+    let behind = Err(Refusal::Behind { applied: 0 });
+    assert_eq!(rt; cluster.read(rt, session, a(), x()), behind);
+    let first = SeenValue {
+        value: 0,
+        applied: 0,
+    };
+    assert_eq!(rt; cluster.read(rt, &mut Session::new(), a(), x()), Ok(first));
+}
+
+/// Proposes while the gate holds a, opens the gate, and waits for the fourth update.
+fn call<R: Wait + Abort>(
+    rt: &R,
+    alloc: Global,
+    objects: &ObjectTable,
+    cluster: &Cluster,
+    gate: &HoldingGate,
+) {
+    let mut session = Session::new();
+    propose_four(rt, alloc, objects, cluster, &mut session);
+    read_at_a(rt, cluster, &mut session);
+    gate.open();
+    assert_eq!(rt; cluster.settle(rt, &mut session, 4, TRIES), Ok(()));
+    cluster.stop();
+}
+
+/// The applier and the caller, each in a thread of its own.
+fn run<R: Threads + Wait + Abort + Sync>(
+    rt: &R,
+    alloc: Global,
+    cluster: &Cluster,
+    gate: &HoldingGate,
+) {
+    let table = x_and_y(rt, alloc);
+    let objects = &table;
+    thread::join(
+        rt,
+        move || apply_at(rt, cluster, 0, gate),
+        move || call(rt, alloc, objects, cluster, gate),
+    );
+    drop(table);
+}
+
+/// The site has applied all four updates, in one round.
+fn close(rt: &impl Abort, cluster: Cluster) {
+    let Ok(closed) = cluster.close() else {
+        panic!(rt; "the site does not agree with the log")
+    };
+    let primary = closed.primary();
+    // For the proof: there are as many sites as were declared.
+    let _acked = primary.acked();
+    assert!(rt; primary.setup().sites() > 0);
+    assert_eq!(rt;
+        primary.windows(a()),
+        [Window { from: 0, to: 4 }].as_slice()
+    );
+    let site = closed.site(a());
+    assert!(rt; site.len() > 0);
+    assert_eq!(rt; (site.value(x()), site.applied()), (4, 4));
+    drop(closed);
+}
+
+#[test]
+fn the_fourth_proposal_waits_for_a_site_that_may_lag_by_three(rt: HostRuntime) -> Result<(), Fail> {
+    let gate = HoldingGate::new(Held::BeforeApply, TRIES);
+    let cluster = opened(&rt, rt.alloc())?;
+    run(&rt, rt.alloc(), &cluster, &gate);
+    assert!(rt; !gate.gave_up());
+    close(&rt, cluster);
+    Ok(())
+}

@@ -1,0 +1,161 @@
+//! Proposals and settlements that have one turn, while the site that they wait for applies.
+//!
+//! An update that waits for the site a is sent to it by the turn that decides it, so only a later turn acknowledges it. A call that has
+//! one turn is refused then, whatever the site does meanwhile. One that made a turn more would succeed where the site is quick.
+use crate::fixtures::{TRIES, TURNS, a, adding, apply_at, set_of, x, x_and_y};
+use crate::holding_gate::{Held, HoldingGate};
+use ordup_cluster::{Cluster, Session};
+use ordup_limits::Scope;
+use ordup_objects::{ObjectTable, Refusal};
+use ordup_primary::Setup;
+use std::alloc::Global;
+use std::process::Abort;
+use std::sync::Wait;
+use std::test::Fail;
+use std::thread;
+use std::thread::Threads;
+
+/// How many updates are proposed while the site is held, and how many after that.
+const UPDATES: u64 = 1_500;
+
+/// Declares x at 0, the site a, which may not lag, and 15 sites more. Nothing applies at these: they make each turn longer, between
+/// what it sends to a and its end.
+fn declare(setup: &mut Setup) -> Result<(), Refusal> {
+    setup.object(b"x", 0)?;
+    let a = setup.site(b"a", 1)?;
+    setup.limit(a, Scope::All, 0)?;
+    for place in 1..16 {
+        setup.site(&[b'a' + place], 4)?;
+    }
+    Ok(())
+}
+
+fn opened(rt: &impl Abort, alloc: Global) -> Result<Cluster, Refusal> {
+    let mut setup = Setup::new(alloc);
+    let Ok(()) = declare(&mut setup) else {
+        panic!(rt; "the declarations are refused")
+    };
+    Cluster::new(alloc, setup)
+}
+
+/// Proposes the update with this number by one turn, after which it waits.
+fn propose<R: Wait + Abort>(
+    rt: &R,
+    alloc: Global,
+    objects: &ObjectTable,
+    cluster: &Cluster,
+    number: u64,
+) {
+    let set = set_of(rt, alloc, objects, &[adding(x(), 1)]);
+    let answer = cluster.propose(rt, &mut Session::new(), set, 1);
+    assert_eq!(rt; answer, Err(Refusal::NotYet { number }));
+}
+
+/// Waits for an update by so many turns, and sees this answer.
+fn expect_settled<R: Wait + Abort>(
+    rt: &R,
+    cluster: &Cluster,
+    number: u64,
+    turns: u64,
+    answer: Result<(), Refusal>,
+) {
+    assert_eq!(rt;
+        cluster.settle(rt, &mut Session::new(), number, turns),
+        answer
+    );
+}
+
+/// Reads at a until it has applied so many updates.
+fn wait_for_a<R: Wait + Abort>(rt: &R, cluster: &Cluster, applied: u64) {
+    for _ in 0..TRIES {
+        let Ok(seen) = cluster.read(rt, &mut Session::new(), a(), x()) else {
+            panic!(rt; "a read is refused")
+        };
+        if seen.applied == applied {
+            return;
+        }
+        thread::yield_now();
+    }
+    panic!(rt; "the site a does not get on")
+}
+
+/// Proposes updates while a is held. The first is sent to it, and the others wait behind that.
+fn propose_all<R: Wait + Abort>(rt: &R, alloc: Global, objects: &ObjectTable, cluster: &Cluster) {
+    for i in 0..UPDATES {
+        propose(rt, alloc, objects, cluster, i + 1);
+    }
+}
+
+/// Waits for each of them but the first by one turn, which acknowledges the update before and sends this one.
+fn settle_all<R: Wait + Abort>(rt: &R, cluster: &Cluster) {
+    for number in 1..UPDATES {
+        wait_for_a(rt, cluster, number);
+        let waits = Err(Refusal::NotYet { number: number + 1 });
+        expect_settled(rt, cluster, number + 1, 1, waits);
+    }
+    expect_settled(rt, cluster, UPDATES, TURNS, Ok(()));
+}
+
+/// Proposes updates, and waits for each before the next one.
+fn propose_each<R: Wait + Abort>(rt: &R, alloc: Global, objects: &ObjectTable, cluster: &Cluster) {
+    for i in UPDATES..2 * UPDATES {
+        propose(rt, alloc, objects, cluster, i + 1);
+        expect_settled(rt, cluster, i + 1, TURNS, Ok(()));
+    }
+}
+
+/// All calls, and then the end of the applier.
+fn call<R: Wait + Abort>(
+    rt: &R,
+    alloc: Global,
+    objects: &ObjectTable,
+    cluster: &Cluster,
+    gate: &HoldingGate,
+) {
+    propose_all(rt, alloc, objects, cluster);
+    gate.open();
+    settle_all(rt, cluster);
+    propose_each(rt, alloc, objects, cluster);
+    cluster.stop();
+}
+
+/// The applier of a and the caller, each in a thread of its own.
+fn run<R: Threads + Wait + Abort + Sync>(
+    rt: &R,
+    alloc: Global,
+    cluster: &Cluster,
+    gate: &HoldingGate,
+) {
+    let table = x_and_y(rt, alloc);
+    let objects = &table;
+    thread::join(
+        rt,
+        move || apply_at(rt, cluster, 0, gate),
+        move || call(rt, alloc, objects, cluster, gate),
+    );
+    drop(table);
+}
+
+/// The site a has applied all updates, each in a round of its own.
+fn close(rt: &impl Abort, cluster: Cluster) {
+    let Ok(closed) = cluster.close() else {
+        panic!(rt; "a site does not agree with the log")
+    };
+    let primary = closed.primary();
+    // For the proof: there are as many sites as were declared.
+    let _acked = primary.acked();
+    assert!(rt; primary.setup().sites() > 0);
+    assert_eq!(rt; primary.rounds(a()).len(), 3_000);
+    assert_eq!(rt; closed.site(a()).applied(), 3_000);
+    drop(closed);
+}
+
+#[test]
+fn a_call_with_one_turn_makes_no_turn_more(rt: HostRuntime) -> Result<(), Fail> {
+    let gate = HoldingGate::new(Held::BeforeApply, TRIES);
+    let cluster = opened(&rt, rt.alloc())?;
+    run(&rt, rt.alloc(), &cluster, &gate);
+    assert!(rt; !gate.gave_up());
+    close(&rt, cluster);
+    Ok(())
+}

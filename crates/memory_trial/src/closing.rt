@@ -1,0 +1,61 @@
+//! What is left of a cluster.
+ghost use Rattle.std.specs.Prelude.{◌<◌, length};
+
+use crate::asking::tell_refused;
+use ordup_cluster::{Closed, Cluster};
+use ordup_objects::{ObjectId, SiteId};
+use std::io;
+
+/// x and y.
+const OBJECTS: u16 = 2;
+
+/// Closes a cluster, and prints what its log and its sites hold. It takes no memory.
+pub(crate) fn close(rt: &impl Print, cluster: Cluster) -> io::Result<()> {
+    match cluster.close() {
+        Ok(closed) => {
+            let told = tell(rt, &closed);
+            // By a call: where it goes out of scope, the proof takes it apart.
+            drop(closed);
+            told
+        }
+        Err(refusal) => tell_refused(rt, "close", refusal),
+    }
+}
+
+fn tell(rt: &impl Print, closed: &Closed) -> io::Result<()> {
+    tell_log(rt, closed)?;
+    // For the proof: there are as many sites as were declared.
+    let _acked = closed.primary().acked();
+    for place in 0..closed.primary().setup().sites() {
+        tell_site(rt, closed, SiteId::new(place as u8))?;
+    }
+    Ok(())
+}
+
+/// How many updates the log has, and the values after them.
+fn tell_log(rt: &impl Print, closed: &Closed) -> io::Result<()> {
+    let log = closed.primary().log();
+    print!(rt; "log {} values", log.len())?;
+    for place in 0..OBJECTS {
+        let object = ObjectId::new(place);
+        if object.index() < log.objects() {
+            print!(rt; " {}", log.end_value(object))?;
+        }
+    }
+    println!(rt)
+}
+
+/// How many updates a site applied, how many rounds it had, and the values that it holds.
+fn tell_site(rt: &impl Print, closed: &Closed, site: SiteId) -> io::Result<()>
+    requires { site < length closed.now.sites }
+{
+    // For the proof: there are as many sites as were declared.
+    let _acked = closed.primary().acked();
+    let rounds = closed.primary().rounds(site).len();
+    let held = closed.site(site);
+    print!(rt; "site applied {} rounds {rounds} values", held.applied())?;
+    for value in held.values().as_slice() {
+        print!(rt; " {value}")?;
+    }
+    println!(rt)
+}

@@ -1,0 +1,213 @@
+//! The calls of a cluster.
+use crate::asking::{Stop, TRIES, ask, tell_refused};
+use crate::closing::close;
+use crate::declarations::{declare_without_lag, declare_without_limits};
+use ordup_cluster::{Cluster, OpenGate, Session, SiteQuery};
+use ordup_objects::{MessageSet, ObjectId, Refusal, SiteId};
+use ordup_primary::Setup;
+use std::alloc::Global;
+use std::io;
+use std::sync::Wait;
+
+/// So many that the lists of what was decided grow once more.
+const UPDATES_THAT_WAIT: u64 = 5;
+
+/// Updates that no site makes wait: each is acknowledged in the hold that numbers it.
+pub(crate) fn try_cluster_without_limits<R: Wait + Print>(
+    rt: &R,
+    alloc: Global,
+    one: &MessageSet,
+    two: &MessageSet,
+) -> Result<(), Stop> {
+    let cluster = open(rt, alloc, Limits::None)?;
+    let tried = propose_three(rt, alloc, &cluster, one, two);
+    let closed = close(rt, cluster);
+    tried?;
+    closed?;
+    Ok(())
+}
+
+fn propose_three<R: Wait + Print>(
+    rt: &R,
+    alloc: Global,
+    cluster: &Cluster,
+    one: &MessageSet,
+    two: &MessageSet,
+) -> Result<(), Stop> {
+    begin(rt, cluster)?;
+    acknowledge(rt, alloc, cluster, one, 1)?;
+    begin(rt, cluster)?;
+    acknowledge(rt, alloc, cluster, two, 2)?;
+    acknowledge(rt, alloc, cluster, one, 3)?;
+    cluster.stop();
+    apply(rt, cluster, 0)?;
+    apply(rt, cluster, 1)?;
+    Ok(())
+}
+
+/// Updates of which each waits for the site, whose feed has room for one.
+pub(crate) fn try_cluster_that_waits<R: Wait + Print>(
+    rt: &R,
+    alloc: Global,
+    set: &MessageSet,
+) -> Result<(), Stop> {
+    let cluster = open(rt, alloc, Limits::NoLag)?;
+    let tried = propose_and_wait(rt, alloc, &cluster, set);
+    let closed = close(rt, cluster);
+    tried?;
+    closed?;
+    Ok(())
+}
+
+fn propose_and_wait<R: Wait + Print>(
+    rt: &R,
+    alloc: Global,
+    cluster: &Cluster,
+    set: &MessageSet,
+) -> Result<(), Stop> {
+    for number in 0..UPDATES_THAT_WAIT {
+        propose(rt, alloc, cluster, set, number + 1)?;
+    }
+    cluster.stop();
+    for number in 1..UPDATES_THAT_WAIT {
+        apply(rt, cluster, 0)?;
+        settle(rt, cluster, number + 1)?;
+    }
+    apply(rt, cluster, 0)?;
+    settle(rt, cluster, UPDATES_THAT_WAIT)
+}
+
+/// Which limits the sites of a cluster have.
+#[derive(Clone, Copy)]
+enum Limits {
+    None,
+    NoLag,
+}
+
+/// Opens a cluster. A setup that is refused with it is given up, so it is declared anew.
+fn open<R: Print>(rt: &R, alloc: Global, limits: Limits) -> Result<Cluster, Stop> {
+    for _ in 0..TRIES {
+        let setup = ask(rt, "setup", || declare(alloc, limits))?;
+        match Cluster::new(alloc, setup) {
+            Ok(cluster) => return opened(rt, cluster),
+            Err(refusal) => tell_refused(rt, "cluster", refusal)?,
+        }
+    }
+    Err(Stop::NoMemory)
+}
+
+fn opened(rt: &impl Print, cluster: Cluster) -> Result<Cluster, Stop> {
+    match println!(rt; "cluster ok") {
+        Ok(()) => Ok(cluster),
+        Err(_) => {
+            drop(cluster);
+            Err(Stop::Unprinted)
+        }
+    }
+}
+
+fn declare(alloc: Global, limits: Limits) -> Result<Setup, Refusal> {
+    match limits {
+        Limits::None => declare_without_limits(alloc),
+        Limits::NoLag => declare_without_lag(alloc),
+    }
+}
+
+/// Begins a query at the first site, which reads x there.
+fn begin<R: Wait + Print>(rt: &R, cluster: &Cluster) -> Result<(), Stop> {
+    for _ in 0..TRIES {
+        match cluster.begin(rt, SiteId::new(0), 100) {
+            Ok(query) => {
+                read(rt, query)?;
+                return Ok(());
+            }
+            Err(refusal) => tell_refused(rt, "begin", refusal)?,
+        }
+    }
+    Err(Stop::NoMemory)
+}
+
+/// Reads x by a query, which it ends.
+fn read<R: Wait + Print>(rt: &R, mut query: SiteQuery<'_>) -> io::Result<()> {
+    let read = query.read(rt, ObjectId::new(0));
+    let ended = query.end();
+    match read {
+        Ok(_) => println!(rt;
+            "begin ok place {} value {} import {}",
+            ended.place, ended.sum, ended.total
+        ),
+        Err(refusal) => tell_refused(rt, "read", refusal),
+    }
+}
+
+/// Proposes a copy of a set, which becomes the update of this number, and settles it where its proposal says that it waits.
+fn acknowledge<R: Wait + Print>(
+    rt: &R,
+    alloc: Global,
+    cluster: &Cluster,
+    set: &MessageSet,
+    number: u64,
+) -> Result<(), Stop> {
+    if propose(rt, alloc, cluster, set, number)? {
+        return Ok(());
+    }
+    settle(rt, cluster, number)
+}
+
+/// Proposes a copy of a set, which becomes the update of this number, with one turn. It answers whether it is acknowledged.
+fn propose<R: Wait + Print>(
+    rt: &R,
+    alloc: Global,
+    cluster: &Cluster,
+    set: &MessageSet,
+    number: u64,
+) -> Result<bool, Stop> {
+    for _ in 0..TRIES {
+        let copy = ask(rt, "copy", || set.copy(alloc))?;
+        match cluster.propose(rt, &mut Session::new(), copy, 1) {
+            Ok(number) => {
+                println!(rt; "propose ok {number}")?;
+                return Ok(true);
+            }
+            Err(Refusal::NotYet { number }) => {
+                tell_refused(rt, "propose", Refusal::NotYet { number })?;
+                return Ok(false);
+            }
+            Err(refusal) => {
+                tell_refused(rt, "propose", refusal)?;
+                // The log has no update of this number.
+                settle(rt, cluster, number)?;
+            }
+        }
+    }
+    Err(Stop::NoMemory)
+}
+
+/// Settles the update of this number, with one turn.
+fn settle<R: Wait + Print>(rt: &R, cluster: &Cluster, number: u64) -> Result<(), Stop> {
+    for _ in 0..TRIES {
+        match cluster.settle(rt, &mut Session::new(), number, 1) {
+            Ok(()) => {
+                println!(rt; "settle ok {number}")?;
+                return Ok(());
+            }
+            Err(refusal) => {
+                tell_refused(rt, "settle", refusal)?;
+                if refusal != Refusal::NoMemory {
+                    return Ok(());
+                }
+            }
+        }
+    }
+    Err(Stop::NoMemory)
+}
+
+/// A site applies all that it was sent. The cluster is stopped.
+fn apply<R: Wait + Print>(rt: &R, cluster: &Cluster, place: u8) -> io::Result<()> {
+    let site = SiteId::new(place);
+    if site.index() >= cluster.sites() {
+        return tell_refused(rt, "apply", Refusal::UnknownSite);
+    }
+    let applied = cluster.applier(rt, site, &OpenGate);
+    println!(rt; "apply ok {applied}")
+}

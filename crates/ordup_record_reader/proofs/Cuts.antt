@@ -61,25 +61,6 @@ reads_cut n count old new buffer more few fits room h =
       λ none given. end_cut (n - count) new (h.1 none (room given)),
     )
 
--- a read that fails leaves what is there as it is
-pub keeps_cut : (n : ℕ) (old new : Option (List ℕ)) → Keeps old new → Keeps (option_map (cut_at n) old) (option_map (cut_at n) new)
-keeps_cut n None new h = tt
-keeps_cut n (Some xs) None h = h
-keeps_cut n (Some xs) (Some ys) h = ap (cut_at n) h
-
--- a read at the end gives nothing
-pub ends_cut : (old new : Option (List ℕ)) → Consumes old new [] → IsAtEnd new
-    → Consumes (option_map (cut_at 0) old) (option_map (cut_at 0) new) [] × IsAtEnd (option_map (cut_at 0) new)
-ends_cut old new h end = (consumes_cut 0 0 old new [] refl (omega arith) h, end_cut 0 new end)
-
--- a byte more than may come
-pub one_over : (old new : Option (List ℕ)) (byte : List ℕ) → length byte ≡ 1 → Consumes old new byte
-    → Keeps (option_map (cut_at 0) old) (Some (never ∷ []))
-one_over None new byte one h = tt
-one_over (Some xs) None byte one h = absurd h
-one_over (Some xs) (Some ys) byte one h =
-    sym (long_is 0 xs (omega (arith, ap length h, length-append byte ys, one)))
-
 -- ---- a text that is read within a limit
 
 -- all bytes of a text that was taken to its end came

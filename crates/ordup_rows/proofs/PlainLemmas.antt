@@ -309,7 +309,3 @@ module _ (r : RecordState) (is : IsRecord r) where
   -- csv writes the rows of a record as their lines
   pub lines_of : csv_text (rows_of r) ≡ rows_text (rows_of r)
   lines_of = lines (rows_of r) all_lines
-
-  -- no row of a record has a byte that is 0
-  pub rows_without_zero : list_any has_zero (rows_of r) ≡ false
-  rows_without_zero = list_any_none has_zero (rows_of r) (λ k d lt. let line = all_lines k d lt in line.no_zero)

@@ -1,26 +1,12 @@
 -- How counts add up.
-use Rattle.std.proofs.Common.{◌≡◌, ℕ, zero, suc, ◌+◌, ◌<◌, ◌≤◌, List, [], ◌∷◌, length, Some, None, refl, sym, ap, arith, sum_by}
-use Rattle.std.specs.Prelude.{Option, option_map, slice_index_or, IfSome}
+use Rattle.std.proofs.Common.{◌≡◌, ℕ, suc, ◌+◌, ◌≤◌, List, [], ◌∷◌, length, Some, None, refl, arith, sum_by}
+use Rattle.std.specs.Prelude.{Option, option_map, IfSome}
 use Rattle.std.specs.declared.thread.PromisedHandle.{PromisedHandle}
 use Rattle.std.specs.declared.thread.Promise as Promise
-use Rattle.std.specs.PromisedHandle.{KeepsAt, KeepsEach}
+use Rattle.std.specs.PromisedHandle.{KeepsEach}
 use Rattle.std.proofs.lemmas.List.Sums.{sum_by-cons}
 use Rattle.ordup_threads.specs.declared.tally.Tally.{Tally}
 use Rattle.ordup_threads.specs.Counting.{plus, total, count_of}
-
-pub plus-none : (o : Option Tally) → option_map (plus (record { refused = 0; pending = 0 })) o ≡ o
-plus-none None = refl
-plus-none (Some t) =
-    let r : 0 + t.refused ≡ t.refused = omega arith in
-    let p : 0 + t.pending ≡ t.pending = omega arith in
-    λ i. Some (record { refused = r i; pending = p i })
-
-pub plus-both : (s t : Tally) (o : Option Tally) → option_map (plus (plus s t)) o ≡ option_map (plus s) (option_map (plus t) o)
-plus-both s t None = refl
-plus-both s t (Some u) =
-    let r : s.refused + t.refused + u.refused ≡ s.refused + (t.refused + u.refused) = omega arith in
-    let p : s.pending + t.pending + u.pending ≡ s.pending + (t.pending + u.pending) = omega arith in
-    λ i. Some (record { refused = r i; pending = p i })
 
 counts-more : (t : Tally) (o : Option Tally) (n : ℕ) → IfSome o (λ u. u.refused + u.pending ≡ n)
     → IfSome (option_map (plus t) o) (λ u. u.refused + u.pending ≡ t.refused + t.pending + n)

@@ -1,9 +1,9 @@
 -- Hands, counts and outcomes, worked out by hand: no definition can change its meaning unseen.
-use Rattle.std.proofs.Common.{◌≡◌, ℕ, ◌+◌, ◌≤◌, ◌<◌, List, [], ◌∷◌, length, refl, sym, arith}
-use Rattle.std.specs.Prelude.{Ok, Err, Option, Some, None, Vec, slice_get}
+use Rattle.std.proofs.Common.{◌≡◌, ℕ, List, [], ◌∷◌, refl, arith}
+use Rattle.std.specs.Prelude.{Ok, Err, Some, None, Vec, slice_get}
 use Rattle.ordup_objects.specs.declared.refusal.Refusal.TheVariants.{NotYet, NoMemory, Stopped, OutOfRange, LogFull, UnknownObject}
 use Rattle.ordup_threads.specs.declared.tally.Tally.{Tally}
-use Rattle.ordup_threads.specs.Counting.{counted_by, plus, total}
+use Rattle.ordup_threads.specs.Counting.{counted_by, total}
 use Rattle.ordup_threads.specs.Dealing.{AreDealt}
 use Rattle.ordup_threads.specs.Outcomes.{IsOutcome}
 

@@ -1,5 +1,5 @@
-use Rattle.std.proofs.Common.{◌≡◌, ℕ, ◌+◌, ◌<◌, [], sum_by, vec_len}
-use Rattle.std.specs.Prelude.{Vec, All}
+use Rattle.std.proofs.Common.{◌≡◌, ◌+◌, [], sum_by, vec_len}
+use Rattle.std.specs.Prelude.{All}
 use Rattle.std.specs.Vec.Iter.{into_iter_items, into_iter_len}
 use Rattle.ordup_threads.proofs.DealingLemmas.{Deals}
 use Rattle.ordup_threads.proofs.dealing.deal.Given as goal

@@ -1,5 +1,4 @@
-use Rattle.std.proofs.Common.{◌≤◌, length, sum_by, sym, arith}
-use Rattle.ordup_threads.specs.Counting.{count_of}
+use Rattle.std.proofs.Common.{arith}
 use Rattle.ordup_threads.proofs.CountingLemmas.{kept-sum, promised, total-few}
 use Rattle.ordup_threads.proofs.running.gather.Goals as goal
 

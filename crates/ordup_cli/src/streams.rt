@@ -1,5 +1,5 @@
 //! The program over a reader and two writers in memory.
-ghost use Rattle.std.specs.Prelude.{Some};
+ghost use Rattle.std.specs.Prelude.{◌≡◌, Some, IfOk};
 
 use crate::act::act;
 use std::alloc::Global;
@@ -38,7 +38,9 @@ pub(crate) enum Failure {
 
 impl Failure {
     /// What a write comes to that fails.
-    fn of_write(self) -> io::Result<usize> {
+    fn of_write(self) -> io::Result<usize>
+        ensures { IfOk result (λ count. count ≡ 0) }
+    {
         match self {
             Failure::Error(kind) => Err(io::Error::from(kind)),
             Failure::Nothing => Ok(0),

@@ -5,7 +5,7 @@
 use crate::digests::{Digest, add_primary, add_setup};
 use crate::scarce::{Heap, Scarce};
 use ordup_answers::{ScriptEnd, answer};
-use ordup_grammar::LineBuffer;
+use ordup_grammar::{LinePart, Request};
 use ordup_objects::SiteId;
 use ordup_record::{Record, record_of};
 use ordup_text::TextBuffer;
@@ -161,12 +161,10 @@ impl<'a> Session<'a> {
 /// Answers a line.
 fn answer_line(session: &mut Session<'_>, line: &str) -> Result<(), AllocError> {
     session.out.clear();
-    let mut held = LineBuffer::new();
-    held.hold(line.as_bytes());
     answer(
         session.scarce,
         &mut session.store,
-        &held.request(),
+        &Request::of(&LinePart::new(line.as_bytes())),
         &mut session.out,
     )
 }

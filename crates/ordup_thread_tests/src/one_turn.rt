@@ -2,6 +2,8 @@
 //!
 //! An update that waits for the site a is sent to it by the turn that decides it, so only a later turn acknowledges it. A call that has
 //! one turn is refused then, whatever the site does meanwhile. One that made a turn more would succeed where the site is quick.
+ghost use Rattle.std.specs.Prelude.{◌≤◌};
+
 use crate::fixtures::{TRIES, TURNS, a, adding, apply_at, set_of, x, x_and_y};
 use crate::holding_gate::{Held, HoldingGate};
 use ordup_cluster::{Cluster, Session};
@@ -58,7 +60,9 @@ fn expect_settled<R: Wait + Abort>(
     number: u64,
     turns: u64,
     answer: Result<(), Refusal>,
-) {
+)
+    requires { 1 ≤ turns }
+{
     assert_eq!(rt;
         cluster.settle(rt, &mut Session::new(), number, turns),
         answer

@@ -1,6 +1,9 @@
 pub mod LimitLemmas
+pub mod PutLemmas
+pub mod EntryLemmas
 mod TotalLemmas
 mod MaskLemmas
 pub mod LedgerLemmas
 mod PassedLemmas
+mod ChangeLemmas
 mod Examples

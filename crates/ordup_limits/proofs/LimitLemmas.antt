@@ -1,24 +1,20 @@
 -- Limits and spans.
-use Rattle.std.proofs.Common.{◌≡◌, ℕ, zero, suc, take, get_or, ◌-◌, ◌+◌, ◌<◌, ◌≤◌, true, false, not, [], ◌∷◌, ◌++◌, length, Some, None}
+use Rattle.std.proofs.Common.{◌≡◌, ℕ, zero, suc, take, get_or, ◌-◌, ◌+◌, ◌<◌, ◌≤◌, true, false, not, [], ◌∷◌, length, Some, None}
 use Rattle.std.proofs.Common.{arith, refl, sym, ◌∙◌}
 use Rattle.std.specs.Prelude.{nat_lt, nat_le, IsTrue, All}
-use Rattle.std.specs.List.{position_or_len, list_any}
-use Rattle.std.proofs.lemmas.List.{length_push}
-use Rattle.std.proofs.lemmas.List.Elements.{All-push}
+use Rattle.std.specs.List.{position_or_len}
 use Rattle.std.proofs.lemmas.Bool.{lt-ltb, le-leb, leb-true, and_parts, le-ltb, false≢true}
 use Rattle.std.proofs.lemmas.List.Folds.{list_all_at, list_all_more}
 use Rattle.ordup_objects.specs.Serial.{History}
-use Rattle.ordup_objects.proofs.RepeatLemmas.{repeats-push}
 use Rattle.ordup_log.specs.Groups.{GroupList, IsGroup}
 use Rattle.ordup_log.specs.Spans.{span, IsScopeKnown}
 use Rattle.ordup_log.specs.declared.scope.Scope.{Scope}
 use Rattle.ordup_log.specs.declared.scope.Scope.TheVariants.{Object, Group, All as Everything, Count}
 use Rattle.ordup_log.proofs.MostLemmas.{span-object-most, span-group-most}
 use Rattle.ordup_log.proofs.SpanLemmas.{span-inner, span-longer, span-count}
-use Rattle.ordup_limits.specs.Sizes.{most_limits, greatest_amount}
 use Rattle.ordup_limits.specs.declared.limit.Limit.{Limit}
-use Rattle.ordup_limits.specs.Limits.{Limits, keeps, within, first_passed, is_same_scope, are_on_one_scope, AreLimits}
-use Rattle.ordup_limits.specs.Limits.{LongerHistoriesKeepLimits, LaterSpansKeepLimits, EmptySpansKeepLimits, LimitsAreTests}
+use Rattle.ordup_limits.specs.Limits.{Limits, keeps, within, first_passed}
+use Rattle.ordup_limits.specs.Limits.{LongerHistoriesKeepLimits, LaterSpansKeepLimits, EmptySpansKeepLimits}
 
 -- an empty span weighs nothing, so it keeps each limit
 pub within-empty : EmptySpansKeepLimits
@@ -87,13 +83,6 @@ within-later h groups (limit ∷ limits) a b c later is =
     (omega (arith, span-inner h groups limit.scope a b c c later (omega arith), most)) in
     rw (first, within-later h groups limits a b c later both.1) refl
 
--- both are what is asked of a test of limits
-pub within-test : LimitsAreTests
-within-test h groups limits = record {
-  later = within-later h groups limits;
-  empty = within-empty h groups limits;
-}
-
 -- updates that are added later leave it as it was
 pub within-longer : LongerHistoriesKeepLimits
 within-longer h more groups [] a b le = refl
@@ -121,13 +110,3 @@ pub keeps-all : (h : History) (groups : GroupList) (a b : ℕ) (limit : Limit) �
 keeps-all h groups a b limit are known forward last all other =
     sym (le-leb (span h groups limit.scope a b) limit.amount
     (kept_by_all h groups limit.scope a b limit.amount are known forward last all other))
-
--- limits stay limits with one more, on a scope that none of them has
-pub AreLimits-push : (limits : Limits) (l : Limit) → AreLimits limits → length limits < most_limits → l.amount ≤ greatest_amount
-    → list_any (λ m. is_same_scope m.scope l.scope) limits ≡ false → (more : Limits) → more ≡ limits ++ l ∷ []
-    → AreLimits more
-AreLimits-push limits l are room few none more e = rw e (record {
-  few = omega (arith, length_push limits l);
-  amounts = All-push (λ (m : Limit). m.amount ≤ greatest_amount) limits l are.amounts few;
-  distinct = repeats-push are_on_one_scope limits l are.distinct none;
-})

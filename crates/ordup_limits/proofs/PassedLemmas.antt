@@ -83,7 +83,7 @@ lag-less u v added taken more_taken Count i fewer more = fewer
 lag-less u v added taken more_taken s i fewer more = omega (arith, more)
 
 -- The limits that a span passes are those of a mask that are found passed by it, where it keeps all others.
-IsMask-looked : (n : ℕ) (kept : ℕ → Bool) (mask looked : ℕ) → IsBelow n mask
+pub IsMask-looked : (n : ℕ) (kept : ℕ → Bool) (mask looked : ℕ) → IsBelow n mask
     → ((i : ℕ) → i < n → i < most_limits → (bit_at mask i == 1) ≡ false → kept i ≡ true)
     → ((i : ℕ) → i < most_limits → (bit_at looked i == 1) ≡ ((bit_at mask i == 1) && not (kept i)))
     → IsMask n (λ i. not (kept i)) looked
@@ -110,7 +110,7 @@ IsMask-new limits added taken none i few =
     rw (bit_at-zero i, kept) (sym (and_right (nat_lt i (length limits)) false refl))
 
 -- a limit without a bit among those that a span passes is kept
-kept-unpassed : (n : ℕ) (kept : ℕ → Bool) (passed i : ℕ) → IsMask n (λ i. not (kept i)) passed → i < n → i < most_limits
+pub kept-unpassed : (n : ℕ) (kept : ℕ → Bool) (passed i : ℕ) → IsMask n (λ i. not (kept i)) passed → i < n → i < most_limits
     → (bit_at passed i == 1) ≡ false → kept i ≡ true
 kept-unpassed n kept passed i is lt few none = not-false _ (rw (lt-ltb i n lt) at (sym (is i few) ∙ none))
 

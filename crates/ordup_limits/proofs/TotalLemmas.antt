@@ -243,7 +243,7 @@ HasBitsBelow-masks groups limits masks n same masked x i below past few =
 pub AreTotals-raised : {h : History} {groups : GroupList} {limits : Limits} (masks : List ℕ) {old new : List ℕ} {a b : ℕ}
     → IsLegalHistory h → All (λ g. IsGroup g.1) groups → AreScopesKnown (length h.start) groups limits
     → length h.start ≤ most_objects → length limits ≤ most_limits → AreMasks groups limits masks → a ≤ b → b ≤ length h.sets
-    → length old ≡ length limits → AreTotals h groups limits a old
+    → length limits ≤ length old → AreTotals h groups limits a old
     → ((i : ℕ) → get_or new i 0 ≤ greatest_weight * b)
     → ((i : ℕ) → i < length old → get_or new i 0 ≡ get_or old i 0 + sum_from (weight_where (has_bit masks i) h) a (b - a))
     → AreTotals h groups limits b new
@@ -266,3 +266,14 @@ pub none_at : (n x : ℕ) → get_or (replicate {A = ℕ} n 0) x 0 ≡ 0
 none_at zero x = refl
 none_at (suc n) zero = refl
 none_at (suc n) (suc x) = none_at n x
+
+-- the totals of no update
+weighed-start : (h : History) (groups : GroupList) (s : Scope) → weighed h groups s 0 ≡ 0
+weighed-start h groups Count = refl
+weighed-start h groups s = refl
+
+pub AreTotals-start : (h : History) (groups : GroupList) (limits : Limits) → AreTotals h groups limits 0 (replicate most_limits 0)
+AreTotals-start h groups limits = record {
+  few = λ i. omega (arith, none_at most_limits i);
+  each = λ i d lt. none_at most_limits i ∙ sym (weighed-start h groups (get_or limits i d).scope);
+}

@@ -8,7 +8,7 @@ use Rattle.ordup_limits.specs.Limits.{Limits, AreScopesKnown}
 use Rattle.ordup_limits.specs.Sizes.{most_limits}
 use Rattle.ordup_limits.specs.Totals.{AreTotals, AreMasks}
 
--- the limits of a site in order of declaration, two places of a log, for each limit the totals of the updates up to each of the
+-- the last limit of a site on each scope, two places of a log, for each limit the totals of the updates up to each of the
 -- places, and for each object the mask of the limits that its changes count on, once a call has seen the groups
 pub record LedgerState : Type 0 where
   pub limits : Limits
@@ -22,8 +22,8 @@ pub record LedgerState : Type 0 where
 -- what each ledger keeps
 pub record IsLedger (l : LedgerState) : Type 0 where
   pub few : length l.limits ≤ most_limits
-  pub taken : length l.taken ≡ length l.limits
-  pub added : length l.added ≡ length l.limits
+  pub taken : length l.taken ≡ most_limits
+  pub added : length l.added ≡ most_limits
   pub masks : length l.masks ≡ most_objects
   pub empty : l.has_masks ≡ false → (x : ℕ) → slice_index l.masks x ≡ 0
 

@@ -1,5 +1,8 @@
 pub mod Sizes
 pub mod Limits
+pub mod Entries
+pub mod LimitListInside
+pub mod LimitTableInside
 pub mod Totals
 pub mod PassedLimits
 pub mod Ledgers

@@ -6,17 +6,15 @@ use Rattle.std.specs.Option.{option_or}
 use Rattle.ordup_objects.specs.declared.refusal.Refusal.{Refusal}
 use Rattle.ordup_objects.specs.declared.refusal.Refusal.TheVariants.{UnknownObject, UnknownGroup, OutOfRange, TooMany, Repeated}
 use Rattle.ordup_objects.specs.declared.change.Change.{Change}
-use Rattle.ordup_objects.specs.Repeats.{repeats}
 use Rattle.ordup_objects.specs.Serial.{History, with_more}
 use Rattle.ordup_log.specs.Groups.{GroupList}
 use Rattle.ordup_log.specs.Spans.{span, IsScopeKnown}
 use Rattle.ordup_limits.specs.Sizes.{most_limits, greatest_amount}
-use Rattle.ordup_rounds.specs.Schedules.{IsLimitTest}
 use Rattle.ordup_limits.specs.declared.limit.Limit.{Limit}
 use Rattle.ordup_log.specs.declared.scope.Scope.{Scope}
 use Rattle.ordup_log.specs.declared.scope.Scope.TheVariants.{Object, Group, All as Everything, Count}
 
--- the limits of a site in order of declaration
+-- limits, each on a scope of its own
 abbrev pub Limits : Type 0
 Limits = List Limit
 
@@ -44,10 +42,6 @@ LaterSpansKeepLimits =
 -- an empty span keeps all limits
 abbrev pub EmptySpansKeepLimits : Type 0
 EmptySpansKeepLimits = (h : History) (groups : GroupList) (limits : Limits) (a b : ℕ) → b ≤ a → within h groups limits a b ≡ true
-
--- so the limits of a site are a test of spans, as the law of the fewest rounds asks for it
-abbrev pub LimitsAreTests : Type 0
-LimitsAreTests = (h : History) (groups : GroupList) (limits : Limits) → IsLimitTest (within h groups limits)
 
 -- the place of the first limit that the span from a to b passes
 abbrev pub first_passed : History → GroupList → Limits → ℕ → ℕ → Option ℕ
@@ -82,12 +76,6 @@ limit_refusal n groups limits scope amount = option_or (scope_refusal n groups s
 -- two limits are on one scope
 abbrev pub are_on_one_scope : Limit → Limit → Bool
 are_on_one_scope l m = is_same_scope l.scope m.scope
-
--- at most 64 limits of distinct scopes, with amounts from 0 to 10^18
-pub record AreLimits (limits : Limits) : Type 0 where
-  pub few : length limits ≤ most_limits
-  pub amounts : All (λ limit. limit.amount ≤ greatest_amount) limits
-  pub distinct : repeats are_on_one_scope limits ≡ false
 
 -- the objects and groups of the limits are there
 abbrev pub AreScopesKnown : ℕ → GroupList → Limits → Type 0

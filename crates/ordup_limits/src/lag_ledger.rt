@@ -2,13 +2,18 @@ ghost use Rattle.std.specs.Prelude.{◌≡◌, ◌≤◌, ℕ, IfOk, IfErr, leng
 ghost use Rattle.ordup_objects.specs.Serial.{History};
 ghost use Rattle.ordup_objects.specs.Sizes.{most_objects};
 ghost use Rattle.ordup_log.specs.Groups.{GroupList};
-ghost use Rattle.ordup_limits.specs.Limits.{within, AreScopesKnown};
+ghost use Rattle.ordup_log.specs.Spans.{IsScopeKnown};
+ghost use Rattle.ordup_limits.specs.Limits.{within, are_on_one_scope, AreScopesKnown};
+ghost use Rattle.ordup_limits.specs.Entries.{latest, put, AreEntriesKnown};
+ghost use Rattle.ordup_limits.specs.Sizes.{most_limits};
 
+use crate::limit::Limit;
+use crate::limit_list::LimitList;
 use crate::limit_table::LimitTable;
-use crate::masks::{fill, no_masks};
+use crate::masks::{fill, no_masks, put_scope};
 use crate::passed::{counts_of, passed_among};
-use crate::totals::{no_totals, raise_to};
-use ordup_log::{Groups, Log};
+use crate::totals::{no_totals, raise_to, weighed};
+use ordup_log::{Groups, Log, Scope};
 use ordup_objects::Refusal;
 use std::alloc::{Allocator, Global};
 use std::marker::Model;
@@ -23,7 +28,8 @@ use std::marker::Model;
 /// that it goes over, however long the span is.
 #[derive(Debug, Drop)]
 pub struct LagLedger<A: Allocator + Copy = Global> {
-    limits: LimitTable<A>,
+    /// The last limit on each scope.
+    limits: LimitList,
     reported: u64,
     extended: u64,
     /// For each limit what the updates up to the reported place weigh on its scope; nothing is kept on the count of updates.
@@ -58,17 +64,17 @@ impl<A: Allocator + Copy> LagLedger<A> {
     ///
     /// It takes all the room that it ever needs. It is refused `NoMemory` alone.
     pub fn new(alloc: A, limits: &LimitTable<A>) -> Result<Self, Refusal>
-        ensures limits { IfOk result (λ ledger. ledger.limits ≡ limits.now) }
+        ensures limits { IfOk result (λ ledger. ledger.limits ≡ latest limits.now) }
         ensures places { IfOk result (λ ledger. (ledger.reported ≡ 0) × (ledger.extended ≡ 0)) }
         ensures stands { IfOk result (λ ledger. (h : History) (groups : GroupList) → length h.start ≤ most_objects →
-            AreScopesKnown (length h.start) groups limits.now → StandsFor ledger h groups) }
+            AreEntriesKnown (length h.start) groups limits.now → StandsFor ledger h groups) }
         ensures refused { IfErr result (λ e. e ≡ Refusal.NoMemory) }
     {
-        let taken = no_totals(alloc, limits.len())?;
-        let added = no_totals(alloc, limits.len())?;
+        let taken = no_totals(alloc)?;
+        let added = no_totals(alloc)?;
         let masks = no_masks(alloc)?;
-        let limits = limits.copy(alloc)?;
-        let counts = counts_of(&limits);
+        let limits = limits.latest().copy();
+        let counts = counts_of(limits.as_slice());
         Ok(LagLedger {
             limits,
             reported: 0,
@@ -101,7 +107,7 @@ impl<A: Allocator + Copy> LagLedger<A> {
         let updates = to.saturating_sub(self.reported);
         let (added, taken) = (self.added.as_slice(), self.taken.as_slice());
         let mask = self.passed | touched | self.counts;
-        self.passed = passed_among(&self.limits, updates, added, taken, mask);
+        self.passed = passed_among(self.limits.as_slice(), updates, added, taken, mask);
     }
 
     /// Takes off the updates up to a place that the site has reported. It takes no memory.
@@ -122,7 +128,39 @@ impl<A: Allocator + Copy> LagLedger<A> {
         self.reported = to;
         let updates = self.extended.saturating_sub(to);
         let (added, taken) = (self.added.as_slice(), self.taken.as_slice());
-        self.passed = passed_among(&self.limits, updates, added, taken, self.passed);
+        self.passed = passed_among(self.limits.as_slice(), updates, added, taken, self.passed);
+    }
+
+    /// Changes the amount of the limit on a scope, or begins a limit there, with an amount from 0 to 10^18. It takes no memory.
+    pub fn change(&mut self, log: &Log<A>, groups: &Groups<A>, scope: Scope, amount: u64)
+        requires room { length (put are_on_one_scope self.old.limits (record { scope = scope; amount = amount })) ≤ most_limits }
+        requires known { IsScopeKnown (length log.now.start) groups.now scope }
+        requires stands { StandsFor self.old log.now groups.now }
+        ensures limits { self.new.limits ≡ put are_on_one_scope self.old.limits (record { scope = scope; amount = amount }) }
+        ensures places { (self.new.reported ≡ self.old.reported) × (self.new.extended ≡ self.old.extended) }
+        ensures stands { StandsFor self.new log.now groups.now }
+    {
+        // For the proof: each update is legal, and the members of a group are distinct.
+        let _updates = log.len();
+        let _groups = groups.len();
+        self.prepare(groups);
+        // The prover joins branches over a borrowed scope, not over a copied one.
+        let scope = &scope;
+        // What is kept of the scope is put down anew, also where nothing of it changes.
+        let place = self.limits.place_for(scope);
+        put_scope(&mut self.masks, groups, *scope, place);
+        self.taken[place] = weighed(log, groups, *scope, self.reported);
+        self.added[place] = weighed(log, groups, *scope, self.extended);
+        let limit = Limit {
+            scope: *scope,
+            amount,
+        };
+        self.limits.put(&limit);
+        self.counts = counts_of(self.limits.as_slice());
+        let updates = self.extended.saturating_sub(self.reported);
+        let (added, taken) = (self.added.as_slice(), self.taken.as_slice());
+        let mask = self.passed | 1 << place;
+        self.passed = passed_among(self.limits.as_slice(), updates, added, taken, mask);
     }
 
     /// Whether the span from the reported place to the extended one passes a limit. Equal is not over.
@@ -143,7 +181,7 @@ impl<A: Allocator + Copy> LagLedger<A> {
         if self.has_masks {
             return;
         }
-        fill(&mut self.masks, &self.limits, groups);
+        fill(&mut self.masks, self.limits.as_slice(), groups);
         self.has_masks = true;
     }
 }

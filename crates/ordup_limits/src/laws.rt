@@ -1,4 +1,5 @@
-ghost use Rattle.ordup_limits.specs.Limits.{LongerHistoriesKeepLimits, LaterSpansKeepLimits, EmptySpansKeepLimits, LimitsAreTests};
+ghost use Rattle.ordup_limits.specs.Limits.{LongerHistoriesKeepLimits, LaterSpansKeepLimits, EmptySpansKeepLimits};
+ghost use Rattle.ordup_limits.specs.Entries.{LimitsInForceAreTests};
 ghost use Rattle.ordup_limits.specs.Ledgers.{LongerHistoriesKeepLedgers};
 
 /// A law: updates that are added later leave it as it was whether a span passes a limit.
@@ -16,9 +17,9 @@ pub fn empty_spans_keep_limits()
     ensures { EmptySpansKeepLimits }
 {}
 
-/// A law: the limits of a site are a test of spans, as the law of the fewest rounds asks for it.
-pub fn limits_are_tests()
-    ensures { LimitsAreTests }
+/// A law: the limits that are in force at the end of a span are a test of spans, as the law of the fewest rounds asks for it.
+pub fn limits_in_force_are_tests()
+    ensures { LimitsInForceAreTests }
 {}
 
 /// A law: a ledger of a log is one of each longer log.

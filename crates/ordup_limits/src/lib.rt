@@ -4,9 +4,12 @@
 //! the log grows and the site reports, says whether the span that the site lags passes one.
 #![tactic(auto)]
 
+mod entries;
 mod lag_ledger;
 mod laws;
 mod limit;
+mod limit_entry;
+mod limit_list;
 mod limit_table;
 mod masks;
 mod passed;
@@ -15,9 +18,10 @@ mod totals;
 
 pub use lag_ledger::LagLedger;
 pub use laws::{
-    empty_spans_keep_limits, later_spans_keep_limits, limits_are_tests,
+    empty_spans_keep_limits, later_spans_keep_limits, limits_in_force_are_tests,
     longer_histories_keep_ledgers, longer_histories_keep_limits,
 };
 pub use limit::Limit;
+pub use limit_entry::LimitEntry;
 pub use limit_table::{LimitTable, check_scope};
 pub use ordup_log::{GroupId, Groups, Scope};

@@ -2,34 +2,40 @@ ghost use Rattle.std.specs.Prelude.{◌≡◌, ◌≤◌, ◌<◌, ◌↔◌, �
 ghost use Rattle.std.specs.List.{list_any};
 ghost use Rattle.ordup_objects.specs.Refusals.{IsRefusal};
 ghost use Rattle.ordup_log.specs.Spans.{span, IsScopeKnown};
-ghost use Rattle.ordup_limits.specs.Limits.{scope_refusal, limit_refusal, is_same_scope, keeps, within, first_passed, AreScopesKnown, AreLimits};
+ghost use Rattle.ordup_limits.specs.Limits.{scope_refusal, limit_refusal, is_same_scope, keeps, within, first_passed, AreScopesKnown};
+ghost use Rattle.ordup_limits.specs.Entries.{entry_of, changed, change_refusal, in_force, latest, HoldFrom, AreEntries, AreEntriesKnown};
 
+use crate::entries::{has_room, hold_from, in_force, put_entry};
 use crate::limit::Limit;
+use crate::limit_entry::LimitEntry;
+use crate::limit_list::LimitList;
 use crate::sizes::{GREATEST_AMOUNT, MOST_LIMITS};
 use ordup_log::{Groups, Log, Scope};
 use ordup_objects::{ObjectTable, Refusal};
 use std::alloc::{Allocator, Global};
 use std::marker::Model;
 
-/// The limits of a site in order of declaration, at most 64. `add` takes no second limit on a scope.
+/// The limits of a site, each with the first place for which it holds: on at most 64 scopes, in at most 1,088 entries.
 ///
 /// A limit is a scope and an amount, in the unit of the values, or in updates where the scope is `Count`. A span passes the
-/// limit where it weighs more than the amount; equal is not over.
+/// limit where it weighs more than the amount; equal is not over. At a place that limit of each scope is in force which is the
+/// last to hold from there or before.
 #[derive(Debug, Drop)]
 pub struct LimitTable<A: Allocator + Copy = Global> {
-    limits: Vec<Limit, A>,
+    entries: Vec<LimitEntry, A>,
+    /// The last limit on each scope, in the order in which the scopes were declared.
+    limits: LimitList,
 }
 
 impl<A: Allocator + Copy> Model for LimitTable<A> {
-    ghost use Rattle.std.specs.Prelude.{List, ℕ, ◌≤◌, length};
-    ghost use Rattle.ordup_limits.specs.declared.limit.Limit.{Limit};
-    ghost use Rattle.ordup_limits.specs.Limits.{AreLimits};
+    ghost use Rattle.ordup_limits.specs.Entries.{Entries};
+    ghost use Rattle.ordup_limits.specs.LimitTableInside.{KeepsEntries};
 
-    ghost Value = { List Limit };
+    ghost Value = { Entries };
 
-    ghost view = { λ t. t.limits.items };
+    ghost view = { λ t. t.entries.items };
 
-    ghost invariant = { λ t. AreLimits t.limits.items };
+    ghost invariant = { KeepsEntries };
 }
 
 impl<A: Allocator + Copy> LimitTable<A> {
@@ -38,22 +44,26 @@ impl<A: Allocator + Copy> LimitTable<A> {
         ensures { result ≡ [] }
     {
         LimitTable {
-            limits: Vec::new(alloc),
+            entries: Vec::new(alloc),
+            limits: LimitList::new(),
         }
     }
 
-    /// The same limits once more. It is refused `NoMemory` alone.
+    /// The same entries once more. It is refused `NoMemory` alone.
     pub fn copy(&self, alloc: A) -> Result<Self, Refusal>
         ensures copied { IfOk result (λ limits. limits ≡ self.now) }
         ensures refused { IfErr result (λ e. e ≡ Refusal.NoMemory) }
     {
-        match Vec::from_slice(alloc, self.limits.as_slice()) {
-            Ok(limits) => Ok(LimitTable { limits }),
+        match Vec::from_slice(alloc, self.entries.as_slice()) {
+            Ok(entries) => Ok(LimitTable {
+                entries,
+                limits: self.limits.copy(),
+            }),
             Err(_) => Err(Refusal::NoMemory),
         }
     }
 
-    /// Adds a limit, whose amount lies from 0 to 10^18.
+    /// Adds a limit that holds from the start, whose amount lies from 0 to 10^18. No entry holds from later.
     ///
     /// It is refused `UnknownObject` or `UnknownGroup` where the scope's is not there, `OutOfRange` for the amount, `TooMany`
     /// for a 65th limit, `Repeated` where the scope has a limit, and `NoMemory`.
@@ -64,60 +74,154 @@ impl<A: Allocator + Copy> LimitTable<A> {
         scope: Scope,
         amount: u64,
     ) -> Result<(), Refusal>
+        requires { HoldFrom 1 self.old }
         ensures known { OnOk result (IsScopeKnown (length objects.now) groups.now scope) }
-        ensures added { OnOk result (self.new ≡ self.old ++ (record { scope = scope; amount = amount }) ∷ []) }
-        ensures allowed { OnOk result (limit_refusal (length objects.now) groups.now self.old scope amount ≡ None) }
-        ensures refused { IfErr result (λ e. IsRefusal (limit_refusal (length objects.now) groups.now self.old scope amount) e) }
+        ensures added { OnOk result (self.new ≡ self.old ++ entry_of scope amount 1 ∷ []) }
+        ensures allowed { OnOk result (limit_refusal (length objects.now) groups.now (latest self.old) scope amount ≡ None) }
+        ensures refused { IfErr result (λ e. IsRefusal (limit_refusal (length objects.now) groups.now (latest self.old) scope amount) e) }
         ensures err { IfErr result (λ _. self.new ≡ self.old) }
     {
-        let limit = Limit { scope, amount };
-        check_scope(objects, groups, limit.scope)?;
+        // The prover joins branches over a borrowed scope, not over a copied one.
+        let scope = &scope;
+        check_scope(objects, groups, *scope)?;
         if amount > GREATEST_AMOUNT {
             return Err(Refusal::OutOfRange);
         }
         if self.limits.len() == MOST_LIMITS {
             return Err(Refusal::TooMany);
         }
-        if has_scope(self.limits.as_slice(), limit.scope) {
+        if has_scope(self.limits.as_slice(), scope) {
             return Err(Refusal::Repeated);
         }
-        match self.limits.push(limit) {
-            Ok(()) => Ok(()),
-            Err(_) => Err(Refusal::NoMemory),
-        }
+        let limit = Limit {
+            scope: *scope,
+            amount,
+        };
+        put_entry(&mut self.entries, &LimitEntry { limit, place: 1 })?;
+        self.limits.put(&limit);
+        Ok(())
     }
 
-    /// How many limits there are, at most 64.
+    /// Changes the limit on a scope from a place on, or begins one there, whose amount lies from 0 to 10^18. The place is at
+    /// least 1, and no entry holds from later.
+    ///
+    /// An entry of the scope and the place is replaced, any other is added as the last. It is refused as `check_change` is, and
+    /// `NoMemory`.
+    pub fn change(
+        &mut self,
+        objects: &ObjectTable<A>,
+        groups: &Groups<A>,
+        scope: Scope,
+        amount: u64,
+        place: u64,
+    ) -> Result<(), Refusal>
+        requires begun { 0 < place }
+        requires last { HoldFrom place self.old }
+        ensures known { OnOk result (IsScopeKnown (length objects.now) groups.now scope) }
+        ensures changed { OnOk result (self.new ≡ changed self.old (entry_of scope amount place)) }
+        ensures allowed { OnOk result (change_refusal (length objects.now) groups.now self.old (entry_of scope amount place) ≡ None) }
+        ensures refused { IfErr result (λ e. IsRefusal (change_refusal (length objects.now) groups.now self.old (entry_of scope amount place)) e) }
+        ensures err { IfErr result (λ _. self.new ≡ self.old) }
+    {
+        // The prover joins branches over a borrowed scope, not over a copied one.
+        let scope = &scope;
+        self.check_change(objects, groups, *scope, amount, place)?;
+        let limit = Limit {
+            scope: *scope,
+            amount,
+        };
+        put_entry(&mut self.entries, &LimitEntry { limit, place })?;
+        self.limits.put(&limit);
+        Ok(())
+    }
+
+    /// Tests whether a change is allowed, and makes none.
+    ///
+    /// It is refused `UnknownObject` or `UnknownGroup` where the scope's is not there, `OutOfRange` for the amount, and `TooMany`
+    /// where the change would make a 65th scope or a 1,089th entry.
+    pub fn check_change(
+        &self,
+        objects: &ObjectTable<A>,
+        groups: &Groups<A>,
+        scope: Scope,
+        amount: u64,
+        place: u64,
+    ) -> Result<(), Refusal>
+        requires { HoldFrom place self.now }
+        ensures known { OnOk result (IsScopeKnown (length objects.now) groups.now scope) }
+        ensures allowed { OnOk result (change_refusal (length objects.now) groups.now self.now (entry_of scope amount place) ≡ None) }
+        ensures refused { IfErr result (λ e. change_refusal (length objects.now) groups.now self.now (entry_of scope amount place) ≡ Some e) }
+    {
+        // The prover joins branches over a borrowed scope, not over a copied one.
+        let scope = &scope;
+        check_scope(objects, groups, *scope)?;
+        if amount > GREATEST_AMOUNT {
+            return Err(Refusal::OutOfRange);
+        }
+        let limit = Limit {
+            scope: *scope,
+            amount,
+        };
+        if !has_room(
+            self.entries.as_slice(),
+            &self.limits,
+            &LimitEntry { limit, place },
+        ) {
+            return Err(Refusal::TooMany);
+        }
+        Ok(())
+    }
+
+    /// How many scopes have a limit, at most 64.
     pub fn len(&self) -> usize
-        ensures len { result ≡ length self.now }
+        ensures len { result ≡ length (latest self.now) }
         // What each table keeps, for the proofs of its users.
-        ensures limits { AreLimits self.now }
+        ensures entries { AreEntries self.now }
     {
         self.limits.len()
     }
 
-    /// The scope and the amount of a limit, by its place in the order of declaration.
+    /// The scope and the last amount of a limit, by the place of the scope in the order of declaration.
     pub fn get(&self, place: usize) -> (Scope, u64)
-        requires { place < length self.now }
-        ensures { slice_get self.now place ≡ Some (record { scope = result.0; amount = result.1 }) }
+        requires { place < length (latest self.now) }
+        ensures { slice_get (latest self.now) place ≡ Some (record { scope = result.0; amount = result.1 }) }
     {
-        let limit = self.limits[place];
+        let limit = self.limits.as_slice()[place];
         (limit.scope, limit.amount)
     }
 
-    /// The place of the first limit that the span from a place of the log to another passes, if it passes one.
+    /// The last limit on each scope, in the order in which the scopes were declared.
+    pub(crate) fn latest(&self) -> &LimitList
+        ensures { result.now ≡ latest self.now }
+    {
+        &self.limits
+    }
+
+    /// The entries, in the order of the places from which they hold.
+    pub fn entries(&self) -> &[LimitEntry]
+        ensures { result.now ≡ self.now }
+    {
+        self.entries.as_slice()
+    }
+
+    /// The place in the order of declaration of the first limit that the span from a place of the log to another passes, if it
+    /// passes one. The limits are those in force at the second place.
     ///
     /// Where the first place is not before the second the span is empty, and passes none.
     pub fn over(&self, log: &Log<A>, groups: &Groups<A>, from: u64, to: u64) -> Option<usize>
         requires last { to ≤ length log.now.sets }
-        requires known { AreScopesKnown (length log.now.start) groups.now self.now }
-        ensures over { result ≡ first_passed log.now groups.now self.now from to }
-        ensures within { IsNone result ↔ IsTrue (within log.now groups.now self.now from to) }
+        requires known { AreEntriesKnown (length log.now.start) groups.now self.now }
+        ensures over { result ≡ first_passed log.now groups.now (in_force self.now to) from to }
+        ensures within { IsNone result ↔ IsTrue (within log.now groups.now (in_force self.now to) from to) }
     {
         if from >= to {
             return None;
         }
-        first_passed(self.limits.as_slice(), log, groups, from, to)
+        if hold_from(self.entries.as_slice(), to) {
+            return first_passed(self.limits.as_slice(), log, groups, from, to);
+        }
+        let limits = in_force(self.entries.as_slice(), to);
+        first_passed(limits.as_slice(), log, groups, from, to)
     }
 }
 
@@ -224,8 +328,8 @@ pub fn check_scope<A: Allocator + Copy>(
     Ok(())
 }
 
-fn has_scope(limits: &[Limit], scope: Scope) -> bool
-    ensures { result ≡ list_any (λ l. is_same_scope l.scope scope) limits.now }
+fn has_scope(limits: &[Limit], scope: &Scope) -> bool
+    ensures { result ≡ list_any (λ l. is_same_scope l.scope scope.now) limits.now }
 {
-    limits.iter().any(|l| l.scope == scope)
+    limits.iter().any(|limit| limit.scope == *scope)
 }

@@ -1,4 +1,4 @@
-ghost use Rattle.std.specs.Prelude.{◌≡◌, ◌==◌, ◌&&◌, ◌||◌, ◌<◌, ℕ, IfOk, IfErr, length, replicate, slice_index};
+ghost use Rattle.std.specs.Prelude.{◌≡◌, ◌==◌, ◌&&◌, ◌||◌, ◌<◌, ◌≤◌, ℕ, IfOk, IfErr, length, replicate, slice_index};
 ghost use Rattle.std.specs.List.{list_any};
 ghost use Rattle.ordup_objects.specs.Sizes.{most_objects};
 ghost use Rattle.ordup_log.specs.Spans.{IsScopeKnown};
@@ -6,7 +6,7 @@ ghost use Rattle.ordup_limits.specs.Limits.{AreScopesKnown};
 ghost use Rattle.ordup_limits.specs.Sizes.{most_limits};
 ghost use Rattle.ordup_limits.specs.Totals.{has_bit, counts_on, AreMasks};
 
-use crate::limit_table::LimitTable;
+use crate::limit::Limit;
 use ordup_log::{Groups, Scope};
 use ordup_objects::sizes::MOST_OBJECTS;
 use ordup_objects::{ObjectId, Refusal};
@@ -26,22 +26,23 @@ pub(crate) fn no_masks<A: Allocator + Copy>(alloc: A) -> Result<Vec<u64, A>, Ref
 /// Puts down for each object the limits on which its changes count.
 pub(crate) fn fill<A: Allocator + Copy>(
     masks: &mut Vec<u64, A>,
-    limits: &LimitTable<A>,
+    limits: &[Limit],
     groups: &Groups<A>,
 )
     requires count { length masks.old.items ≡ most_objects }
     requires empty { (x : ℕ) → slice_index masks.old.items x ≡ 0 }
+    requires few { length limits.now ≤ most_limits }
     requires known { (n : ℕ) × AreScopesKnown n groups.now limits.now }
     ensures count { length masks.new.items ≡ most_objects }
     ensures masks { AreMasks groups.now limits.now masks.new.items }
 {
-    for place in 0..limits.len() {
-        put_scope(masks, groups, limits.get(place).0, place);
+    for (place, limit) in limits.iter().enumerate() {
+        put_scope(masks, groups, limit.scope, place);
     }
 }
 
 /// Puts down a limit for the objects whose changes count on its scope.
-fn put_scope<A: Allocator + Copy>(
+pub(crate) fn put_scope<A: Allocator + Copy>(
     masks: &mut Vec<u64, A>,
     groups: &Groups<A>,
     scope: Scope,

@@ -3,20 +3,39 @@ ghost use Rattle.std.specs.Int.{bit_at};
 ghost use Rattle.ordup_objects.specs.Sizes.{greatest_weight, greatest_distance, most_objects, most_updates};
 ghost use Rattle.ordup_objects.specs.Sums.{sum_from};
 ghost use Rattle.ordup_limits.specs.Sizes.{most_limits};
-ghost use Rattle.ordup_limits.specs.Totals.{has_bit, AreUntouched, HasBitsBelow, IsBelow, share, weight_where};
+ghost use Rattle.ordup_log.specs.Spans.{IsScopeKnown};
+ghost use Rattle.ordup_limits.specs.Totals.{has_bit, AreUntouched, HasBitsBelow, IsBelow, share, weight_where, weighed};
 
-use ordup_log::Log;
+use crate::sizes::MOST_LIMITS;
+use ordup_log::{Groups, Log, Scope};
 use ordup_objects::Refusal;
 use std::alloc::Allocator;
 
-/// The totals of no update: 0 for each of so many limits.
-pub(crate) fn no_totals<A: Allocator + Copy>(alloc: A, count: usize) -> Result<Vec<u64, A>, Refusal>
-    ensures totals { IfOk result (λ totals. totals.items ≡ replicate count 0) }
+/// The totals of no update: 0 for each limit that there may be.
+pub(crate) fn no_totals<A: Allocator + Copy>(alloc: A) -> Result<Vec<u64, A>, Refusal>
+    ensures totals { IfOk result (λ totals. totals.items ≡ replicate most_limits 0) }
     ensures refused { IfErr result (λ e. e ≡ Refusal.NoMemory) }
 {
-    match Vec::from_elem(alloc, 0, count) {
+    match Vec::from_elem(alloc, 0, MOST_LIMITS) {
         Ok(totals) => Ok(totals),
         Err(_) => Err(Refusal::NoMemory),
+    }
+}
+
+/// What the updates up to a place weigh on a scope, by their changes: nothing on the count of updates.
+pub(crate) fn weighed<A: Allocator + Copy>(
+    log: &Log<A>,
+    groups: &Groups<A>,
+    scope: Scope,
+    place: u64,
+) -> u64
+    requires last { place ≤ length log.now.sets }
+    requires known { IsScopeKnown (length log.now.start) groups.now scope }
+    ensures { result ≡ weighed log.now groups.now scope place }
+{
+    match scope {
+        Scope::Count => 0,
+        Scope::Object(_) | Scope::Group(_) | Scope::All => log.span(scope, groups, 0, place),
     }
 }
 
@@ -33,15 +52,14 @@ pub(crate) fn raise_to<A: Allocator + Copy>(
     requires last { to ≤ length log.now.sets }
     requires objects { length log.now.start ≤ most_objects }
     requires masks { length masks.now ≡ most_objects }
-    requires count { length totals.old.items ≤ most_limits }
-    requires bits { HasBitsBelow (length totals.old.items) masks.now }
+    requires count { length totals.old.items ≡ most_limits }
     requires few { (i : ℕ) → slice_index totals.old.items i ≤ greatest_weight * from }
     ensures count { length totals.new.items ≡ length totals.old.items }
     ensures few { (i : ℕ) → slice_index totals.new.items i ≤ greatest_weight * to }
     ensures totals { (i : ℕ) → i < length totals.old.items →
         slice_index totals.new.items i ≡ slice_index totals.old.items i + sum_from
         (weight_where (has_bit masks.now i) log.now) from (to - from) }
-    ensures below { IsBelow (length totals.old.items) result }
+    ensures below { (n : ℕ) → HasBitsBelow n masks.now → IsBelow n result }
     ensures untouched { AreUntouched result totals.old.items totals.new.items }
 {
     let mut touched = 0;
@@ -65,14 +83,13 @@ fn raise<A: Allocator + Copy>(
     requires last { place ≤ length log.now.sets }
     requires objects { length log.now.start ≤ most_objects }
     requires masks { length masks.now ≡ most_objects }
-    requires count { length totals.old.items ≤ most_limits }
-    requires bits { HasBitsBelow (length totals.old.items) masks.now }
+    requires count { length totals.old.items ≡ most_limits }
     requires few { (i : ℕ) → slice_index totals.old.items i ≤ greatest_weight * (place - 1) }
     ensures count { length totals.new.items ≡ length totals.old.items }
     ensures few { (i : ℕ) → slice_index totals.new.items i ≤ greatest_weight * place }
     ensures totals { (i : ℕ) → i < length totals.old.items →
         slice_index totals.new.items i ≡ slice_index totals.old.items i + weight_where (has_bit masks.now i) log.now (place - 1) }
-    ensures below { IsBelow (length totals.old.items) result }
+    ensures below { (n : ℕ) → HasBitsBelow n masks.now → IsBelow n result }
     ensures untouched { AreUntouched result totals.old.items totals.new.items }
 {
     // For the proof: there are few enough updates for the totals to fit.

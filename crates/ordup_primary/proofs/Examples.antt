@@ -4,14 +4,15 @@ use Rattle.std.specs.Prelude.{Some, None, codes, nat_le, slice_index}
 use Rattle.ordup_objects.specs.declared.change.Change.{Change}
 use Rattle.ordup_objects.specs.declared.change.Op.TheVariants.{Add}
 use Rattle.ordup_objects.specs.declared.refusal.Refusal.TheVariants.{BadName, NameTaken, UnknownObject, UnknownSite, OutOfRange}
-use Rattle.ordup_objects.specs.declared.refusal.Refusal.TheVariants.{TooMany, Empty, NothingToSend, NothingToSettle}
+use Rattle.ordup_objects.specs.declared.refusal.Refusal.TheVariants.{TooMany, Empty, NothingToSend, NothingToSettle, HeadPending, LagOver}
 use Rattle.ordup_log.specs.declared.scope.Scope.TheVariants.{Object, Count}
+use Rattle.ordup_limits.specs.Entries.{entry_of}
 use Rattle.ordup_primary.specs.Declarations.{Declared, start_refusal, site_refusal, site_limit_refusal}
 use Rattle.ordup_primary.specs.Settling.{forced_sites, waiting_sites, last_place}
 use Rattle.ordup_rounds.specs.declared.window.Window.{Window}
 use Rattle.ordup_rounds.specs.Rounds.{rounds_upto, windows_upto}
-use Rattle.ordup_primary.specs.Primaries.{SiteProgress, PrimaryState, first_progress, reported_at, settled_as}
-use Rattle.ordup_primary.specs.Primaries.{decided_at, acked_after, send_refusal, settle_refusal}
+use Rattle.ordup_primary.specs.Primaries.{SiteProgress, PrimaryState, first_progress, reported_at, settled_as, is_within}
+use Rattle.ordup_primary.specs.Primaries.{decided_at, acked_after, send_refusal, settle_refusal, relimit_refusal, relimited}
 use Rattle.ordup_primary.specs.declared.settled.Settled.TheVariants.{Acked, Round, Waiting}
 
 -- a site may lag by one update more than its place says
@@ -70,7 +71,7 @@ setup = record {
   objects = (codes "x", pos 0) ∷ [];
   groups = [];
   sites = (codes "a", 4) ∷ [];
-  limits = (record { scope = Object 0; amount = 5 } ∷ []) ∷ [];
+  limits = (record { limit = record { scope = Object 0; amount = 5 }; place = 1 } ∷ []) ∷ [];
 }
 
 abbrev add : ℕ → List Change
@@ -84,6 +85,7 @@ primary acked decided s = record {
   acked = acked;
   decided = decided;
   sites = s ∷ [];
+  limits = setup.limits;
 }
 
 -- equal is not over; 6 is, unless 1 was reported in time; and a report that comes late is waited for up to the head
@@ -115,3 +117,22 @@ refusals : (site_refusal (replicate 16 (codes "a", 4)) (codes "A") 0 ≡ Some Ba
     × (start_refusal (record setup { objects = [] }) ≡ Some Empty)
     × (start_refusal setup ≡ None)
 refusals = (refl, refl, refl, refl, refl, refl, refl, refl, refl, refl, refl, refl)
+
+-- the order of the refusals of a change of a limit: 5 is acknowledged and not reported, so no less than 5 may be the limit on x
+relimit_refusals : (relimit_refusal (primary 1 2 (site 0 (0 ∷ 0 ∷ []) (2 ∷ []))) 0 (Object 1) 1000000000000000001 ≡ Some UnknownObject)
+    × (relimit_refusal (primary 1 2 (site 0 (0 ∷ 0 ∷ []) (2 ∷ []))) 0 Count 1000000000000000001 ≡ Some OutOfRange)
+    × (relimit_refusal (primary 1 2 (site 0 (0 ∷ 0 ∷ []) (2 ∷ []))) 0 (Object 0) 4 ≡ Some HeadPending)
+    × (relimit_refusal (primary 1 1 (site 0 (0 ∷ []) [])) 0 (Object 0) 4 ≡ Some LagOver)
+    × (relimit_refusal (primary 1 1 (site 0 (0 ∷ []) [])) 0 Count 0 ≡ Some LagOver)
+    × (relimit_refusal (primary 1 1 (site 0 (0 ∷ []) [])) 0 (Object 0) 5 ≡ None)
+    × (relimit_refusal (primary 1 1 (site 1 (0 ∷ []) [])) 0 (Object 0) 0 ≡ None)
+relimit_refusals = (refl, refl, refl, refl, refl, refl, refl)
+
+-- a change holds from the head on: with 1 reported the second update is within 5, and not within 0; at place 1 the limit stays 5
+relimits : ((relimited (primary 1 1 (site 1 (0 ∷ []) [])) 0 (Object 0) 0).limits
+    ≡ (entry_of (Object 0) 5 1 ∷ entry_of (Object 0) 0 2 ∷ []) ∷ [])
+    × ((relimited (primary 0 0 (site 0 [] [])) 0 (Object 0) 9).limits ≡ (entry_of (Object 0) 9 1 ∷ []) ∷ [])
+    × (settled_as (primary 1 1 (site 1 (0 ∷ []) [])) ≡ Acked 2)
+    × (settled_as (relimited (primary 1 1 (site 1 (0 ∷ []) [])) 0 (Object 0) 0) ≡ Round 2 (0 ∷ []))
+    × (is_within (relimited (primary 1 1 (site 1 (0 ∷ []) [])) 0 (Object 0) 0) 0 0 1 ≡ true)
+relimits = (refl, refl, refl, refl, refl)

@@ -10,14 +10,17 @@ use Rattle.ordup_objects.specs.Serial.{History, with_update}
 use Rattle.ordup_objects.specs.Sizes.{most_objects}
 use Rattle.ordup_objects.specs.Tables.{initial_state}
 use Rattle.ordup_log.specs.Groups.{GroupList}
-use Rattle.ordup_limits.specs.Limits.{within, AreScopesKnown}
+use Rattle.ordup_limits.specs.Limits.{within}
+use Rattle.ordup_limits.specs.Entries.{latest, AreEntriesKnown}
 use Rattle.ordup_limits.specs.Ledgers.{LedgerState, StandsFor}
 use Rattle.ordup_limits.proofs.LedgerLemmas.{StandsFor-longer}
 use Rattle.ordup_primary.specs.Declarations.{Declared, limits_of}
 use Rattle.ordup_primary.specs.Settling.{where_below}
-use Rattle.ordup_primary.specs.Primaries.{SiteProgress, PrimaryState, first_progress, progress_at, is_within, forced_now, Decides}
+use Rattle.ordup_primary.specs.Primaries.{SiteProgress, PrimaryState, first_progress, progress_at, limits_at, is_within, forced_now, Decides}
+use Rattle.ordup_primary.specs.Primaries.{IsPrimary}
 use Rattle.ordup_primary.specs.PrimaryInside.{IsLedgerOf, AreLedgers, first_state, IsExtended, is_over}
 use Rattle.ordup_primary.proofs.SettlingLemmas.{where_below-same}
+use Rattle.ordup_primary.proofs.PrimaryLemmas.{is_within-now}
 
 -- ---- lists
 
@@ -31,11 +34,11 @@ where_below-more test n b xs is before =
 -- ---- at the start
 
 -- a ledger of a site's limits is that of the site
-pub IsLedgerOf-first : (d : Declared) (s : ℕ) (l : LedgerState) → s < length d.sites → l.limits ≡ limits_of d s
+pub IsLedgerOf-first : (d : Declared) (s : ℕ) (l : LedgerState) → s < length d.sites → l.limits ≡ latest (limits_of d s)
     → (l.reported ≡ 0) × (l.extended ≡ 0)
-    → ((h : History) (groups : GroupList) → length h.start ≤ most_objects → AreScopesKnown (length h.start) groups (limits_of d s)
+    → ((h : History) (groups : GroupList) → length h.start ≤ most_objects → AreEntriesKnown (length h.start) groups (limits_of d s)
     → StandsFor l h groups)
-    → length d.objects ≤ most_objects → AreScopesKnown (length d.objects) d.groups (limits_of d s)
+    → length d.objects ≤ most_objects → AreEntriesKnown (length d.objects) d.groups (limits_of d s)
     → IsLedgerOf (first_state d) s l
 IsLedgerOf-first d s l lt limits places stands few known =
     let count : length (initial_state d.objects) ≡ length d.objects = length-map d.objects _ in
@@ -63,14 +66,14 @@ each-pushed p ledgers l each last s d lt = elim (cases_lt s (length ledgers)) [
 
 -- a state in which the same is declared and reported, with the same log
 pub AreLedgers-kept : (p q : PrimaryState) (ledgers : List LedgerState) → AreLedgers p ledgers → q.setup ≡ p.setup → q.log ≡ p.log
-    → p.acked ≤ q.acked → length q.sites ≡ length p.sites
+    → q.limits ≡ p.limits → p.acked ≤ q.acked → length q.sites ≡ length p.sites
     → ((s : ℕ) → s < length p.sites → (progress_at q s).reported ≡ (progress_at p s).reported)
     → AreLedgers q ledgers
-AreLedgers-kept p q ledgers are setup log acked count reported = record {
+AreLedgers-kept p q ledgers are setup log limits acked count reported = record {
   count = are.count ∙ sym count;
   each = λ s d lt. (let is = are.each s d lt in record {
     stands = rw (setup, log) is.stands;
-    limits = rw setup is.limits;
+    limits = rw limits is.limits;
     reported = is.reported ∙ sym (reported s (omega (arith, are.count)));
     extended = omega (arith, is.extended);
   });
@@ -81,7 +84,7 @@ pub AreLedgers-with_site : (p : PrimaryState) (ledgers : List LedgerState) (s : 
     → AreLedgers p ledgers → s < length p.sites → site.reported ≡ (progress_at p s).reported → sites ≡ set p.sites s site
     → AreLedgers (record p { sites = sites }) ledgers
 AreLedgers-with_site p ledgers s site sites are lt same e =
-    AreLedgers-kept p (record p { sites = sites }) ledgers are refl refl (omega arith)
+    AreLedgers-kept p (record p { sites = sites }) ledgers are refl refl refl (omega arith)
     (ap length e ∙ length-set p.sites s site)
     (λ t below. ap (λ (xs : List SiteProgress). (get_or xs t first_progress).reported) e ∙ elim (cases_eq t s) [
       | inl here ↦
@@ -94,7 +97,7 @@ AreLedgers-with_site p ledgers s site sites are lt same e =
 pub AreLedgers-decided : (p q : PrimaryState) (ledgers : List LedgerState) → AreLedgers p ledgers → p.acked ≤ q.acked → Decides p q
     → AreLedgers q ledgers
 AreLedgers-decided p q ledgers are acked decides =
-    AreLedgers-kept p q ledgers are decides.setup decides.log acked decides.count
+    AreLedgers-kept p q ledgers are decides.setup decides.log decides.limits acked decides.count
     (λ s lt. ap (λ (k : SiteProgress). k.reported) (decides.sites s first_progress lt))
 
 -- one update more
@@ -123,7 +126,7 @@ AreLedgers-reported p ledgers s place l site sites e are lt stands limits places
         | inl same ↦ (let before = are.each s l (rw same at there) in
             rw (get_or-set_at ledgers s t l d same (rw same at there)) (record {
               stands = stands;
-              limits = limits ∙ before.limits ∙ ap (limits_of p.setup) (sym same);
+              limits = limits ∙ before.limits ∙ ap (λ k. latest (limits_at p k)) (sym same);
               reported = places.0 ∙ sym is
                   ∙ sym (ap (λ (k : SiteProgress). k.reported) (get_or-set_at p.sites s t site first_progress same lt));
               extended = omega (arith, places.1, before.extended);
@@ -157,16 +160,17 @@ AreLedgers-extended p old new head are count here extended = record {
 }
 
 -- then those that are over are those of the sites that the head forces
-pub forced-by_ledgers : (p : PrimaryState) (old new : List LedgerState) (head : ℕ) (d : LedgerState) → AreLedgers p old
+pub forced-by_ledgers : (p : PrimaryState) (old new : List LedgerState) (head : ℕ) (d : LedgerState) → IsPrimary p → AreLedgers p old
     → length new ≡ length old → head ≡ p.acked + 1
     → ((s : ℕ) (d : LedgerState) → s < length old → IsExtended p.log p.setup.groups head (get_or old s d) (get_or new s d))
     → where_below (λ s. is_over p.log p.setup.groups (get_or new s d)) (length new) ≡ forced_now p
-forced-by_ledgers p old new head d are count here extended =
+forced-by_ledgers p old new head d sound are count here extended =
     let ledgers = AreLedgers-extended p old new head are count here extended in
     where_below-same _ (λ s. not (is_within p s (progress_at p s).reported (p.acked + 1))) (length new)
     (λ s lt. (let is = ledgers.each s d lt in
     let to = extended s d (omega arith) in
     ap (λ limits. not (within p.log p.setup.groups limits (get_or new s d).reported (get_or new s d).extended)) is.limits
-    ∙ ap (λ r. not (within p.log p.setup.groups (limits_of p.setup s) r (get_or new s d).extended)) is.reported
-    ∙ ap (λ e. not (within p.log p.setup.groups (limits_of p.setup s) (progress_at p s).reported e)) (to.extended ∙ here)))
+    ∙ ap (λ r. not (within p.log p.setup.groups (latest (limits_at p s)) r (get_or new s d).extended)) is.reported
+    ∙ ap (λ e. not (within p.log p.setup.groups (latest (limits_at p s)) (progress_at p s).reported e)) (to.extended ∙ here)
+    ∙ ap not (sym (is_within-now p s (progress_at p s).reported sound (omega (arith, count, are.count))))))
     ∙ ap (where_below (λ s. not (is_within p s (progress_at p s).reported (p.acked + 1)))) (count ∙ are.count)

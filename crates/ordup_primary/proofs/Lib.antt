@@ -1,6 +1,7 @@
 pub mod DecisionLemmas
 pub mod SettlingLemmas
 mod LedgerLemmas
+mod RelimitLemmas
 pub mod ReportLemmas
 pub mod PrimaryLemmas
 pub mod SetupLemmas

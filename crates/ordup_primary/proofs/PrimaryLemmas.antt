@@ -21,10 +21,14 @@ use Rattle.ordup_rounds.specs.Schedules.{IsLimitTest}
 use Rattle.ordup_rounds.specs.Rounds.{rounds_upto, windows_upto}
 use Rattle.ordup_rounds.specs.Fewest.{AreFewest}
 use Rattle.ordup_rounds.proofs.RoundLemmas.{rounds_upto-same, windows_upto-same, forced_rounds_are_fewest}
-use Rattle.ordup_limits.proofs.LimitLemmas.{within-empty, within-later, within-longer, within-test}
-use Rattle.ordup_primary.specs.Declarations.{Declared, AreDeclared, limits_of, is_ready, start_refusal}
+use Rattle.ordup_limits.proofs.LimitLemmas.{within-empty, within-later, within-longer}
+use Rattle.ordup_limits.proofs.EntryLemmas.{in_force-latest, in_force-test}
+use Rattle.ordup_limits.specs.Limits.{within}
+use Rattle.ordup_limits.specs.Entries.{in_force, latest}
+use Rattle.ordup_primary.specs.Declarations.{Declared, AreDeclared, is_ready, start_refusal}
 use Rattle.ordup_primary.specs.Settling.{last_place}
-use Rattle.ordup_primary.specs.Primaries.{SiteProgress, PrimaryState, first_progress, progress_at, reported_at, is_within, forced_now}
+use Rattle.ordup_primary.specs.Primaries.{SiteProgress, PrimaryState, first_progress, progress_at, reported_at, limits_at, is_within, forced_now}
+use Rattle.ordup_primary.specs.Primaries.{is_lag_within}
 use Rattle.ordup_primary.specs.Primaries.{waiting_now, acked_after, decided_at, send_refusal, settle_refusal, Decides, IsSiteSound}
 use Rattle.ordup_primary.specs.Primaries.{IsPrimary, HasFewestRounds, acked_or_round, acked_or_waiting, settled_as}
 use Rattle.ordup_primary.specs.declared.settled.Settled.TheVariants.{Acked, Round, Waiting}
@@ -36,17 +40,25 @@ use Rattle.ordup_primary.proofs.SettlingLemmas.{where_below-none, where_below-li
 -- ---- one site in the place of another
 
 pub IsPrimary-with_site : (p : PrimaryState) (s : ℕ) (site : SiteProgress) → IsPrimary p → s < length p.sites
-    → IsSiteSound (is_within p s) (length p.log.sets) p.acked p.decided site
+    → IsSiteSound (is_within p s) (length p.log.sets) p.acked p.decided site → is_lag_within p s site.reported ≡ true
     → IsPrimary (record p { sites = set p.sites s site })
-IsPrimary-with_site p s site is lt sound = record {
+IsPrimary-with_site p s site is lt sound lag = record {
   ready = is.ready;
   start = is.start;
   legal = is.legal;
   few = is.few;
   count = length-set p.sites s site ∙ is.count;
+  tables = is.tables ∙ sym (length-set p.sites s site);
   acked = is.acked;
   next = is.next;
   decided = is.decided;
+  known = is.known;
+  begun = is.begun;
+  lags = λ t below. elim (cases_eq t s) [
+    | inl same ↦ rw (get_or-set_at p.sites s t site first_progress same lt, same) lag
+    | inr other ↦
+        rw (get_or-set_other p.sites s t site first_progress other) (is.lags t (rw (length-set p.sites s site) at below))
+  ];
   sites = λ t d below. elim (cases_eq t s) [
     | inl same ↦ rw (get_or-set_at p.sites s t site d same lt, same) sound
     | inr other ↦ rw (get_or-set_other p.sites s t site d other) (is.sites t d (rw (length-set p.sites s site) at below))
@@ -65,7 +77,6 @@ IsSiteSound-sent keeps updates acked decided site is lt = record {
   rounds = is.rounds;
   windows = is.windows;
   answered = is.answered;
-  within = is.within;
   rising = is.rising;
   before = is.before;
 }
@@ -82,7 +93,6 @@ IsSiteSound-reported p s place site is risen sent = record {
   rounds = is.rounds;
   windows = is.windows;
   answered = λ k some le forced. omega (arith, is.answered k some le forced);
-  within = within-later p.log p.setup.groups (limits_of p.setup s) site.reported place p.acked risen is.within;
   rising = is.rising;
   before = is.before;
 }
@@ -111,7 +121,7 @@ room-from_allowed log m few allowed = elim (cases_eq (length log.sets) 1000000) 
 -- with one update more the same spans pass the same limits
 is_within-proposed : (p : PrimaryState) (m : List Change) (s a b : ℕ) → b ≤ length p.log.sets
     → is_within (record p { log = with_update p.log m }) s a b ≡ is_within p s a b
-is_within-proposed p m s a b le = within-longer p.log (m ∷ []) p.setup.groups (limits_of p.setup s) a b le
+is_within-proposed p m s a b le = within-longer p.log (m ∷ []) p.setup.groups (in_force (limits_at p s) b) a b le
 
 -- a primary with one update more
 pub IsPrimary-proposed : (p : PrimaryState) (m : List Change) → IsPrimary p → IsSet m → AreKnown (length p.log.start) m
@@ -123,9 +133,15 @@ IsPrimary-proposed p m is set known allowed = record {
   legal = IsLegalHistory-longer p.log m is.legal set known (legal-from_allowed p.log m allowed);
   few = omega (arith, length_push p.log.sets m, room-from_allowed p.log m is.few allowed);
   count = is.count;
+  tables = is.tables;
   acked = is.acked;
   next = is.next;
   decided = omega (arith, is.decided, length_push p.log.sets m);
+  known = is.known;
+  begun = is.begun;
+  lags = λ s lt.
+      within-longer p.log (m ∷ []) p.setup.groups (latest (limits_at p s)) (progress_at p s).reported p.acked
+      (omega (arith, is.acked, is.decided)) ∙ is.lags s lt;
   sites = λ s d lt. (let site = is.sites s d lt in record {
     reported = site.reported;
     sent = omega (arith, site.sent, length_push p.log.sets m);
@@ -143,7 +159,6 @@ IsPrimary-proposed p m is set known allowed = record {
     answered = λ k some le forced.
         site.answered k some le
         (sym (is_within-proposed p m s (reported_at (get_or p.sites s d) k) k (omega (arith, is.acked, is.decided))) ∙ forced);
-    within = is_within-proposed p m s (get_or p.sites s d).reported p.acked (omega (arith, is.acked, is.decided)) ∙ site.within;
     rising = site.rising;
     before = λ j k some lt le forced.
         site.before j k some lt le
@@ -176,11 +191,11 @@ done-at : (p : PrimaryState) (s : ℕ) (site : SiteProgress) (k : ℕ) → repor
     → (not (is_within p s (reported_at site k) k) && nat_lt site.reported k) ≡ false
     → is_within p s site.reported k ≡ true
 done-at p s site k risen none = elim (cases_Bool (is_within p s (reported_at site k) k)) [
-  | inl kept ↦ within-later p.log p.setup.groups (limits_of p.setup s) (reported_at site k) site.reported k risen kept
+  | inl kept ↦ within-later p.log p.setup.groups (in_force (limits_at p s) k) (reported_at site k) site.reported k risen kept
   | inr forced ↦ (let behind : nat_lt site.reported k ≡ false = rw forced at none in
       elim (cases_lt site.reported k) [
         | inl lt ↦ absurd (let is : nat_lt site.reported k ≡ true = lt-ltb site.reported k lt in cc)
-        | inr le ↦ within-empty p.log p.setup.groups (limits_of p.setup s) site.reported k le
+        | inr le ↦ within-empty p.log p.setup.groups (in_force (limits_at p s) k) site.reported k le
       ])
 ]
 
@@ -206,6 +221,13 @@ answered-more keeps acked site before here k some le forced = elim (cases_lt ack
   | inr within ↦ before k some within forced
 ]
 
+-- the limits that are in force at the head are those in force now
+pub is_within-now : (p : PrimaryState) (s a : ℕ) → IsPrimary p → s < length p.sites
+    → is_within p s a (p.acked + 1) ≡ within p.log p.setup.groups (latest (limits_at p s)) a (p.acked + 1)
+is_within-now p s a is lt =
+    ap (λ limits. within p.log p.setup.groups limits a (p.acked + 1))
+    (in_force-latest (limits_at p s) (p.acked + 1) (is.begun s [] (omega (arith, is.tables))))
+
 -- a primary after a later settlement of the head
 pub IsPrimary-waited : (p : PrimaryState) → IsPrimary p → p.acked < p.decided
     → IsPrimary (record p { acked = acked_after p.acked (waiting_now p) })
@@ -217,9 +239,16 @@ IsPrimary-waited p is later = elim (acked_after-some p.acked (waiting_now p)) [
     legal = is.legal;
     few = is.few;
     count = is.count;
+    tables = is.tables;
     acked = omega arith;
     next = omega (arith, is.next);
     decided = is.decided;
+    known = is.known;
+    begun = λ s d lt k e below. omega (arith, is.begun s d lt k e below);
+    lags = λ s lt.
+        sym (is_within-now p s (progress_at p s).reported is lt)
+        ∙ done-at p s (progress_at p s) (p.acked + 1) ((is.sites s first_progress lt).risen (p.acked + 1 - 1))
+        (where_below-none _ (length p.sites) s lt done.1);
     sites = λ s d lt. (let site = is.sites s d lt in record {
       reported = site.reported;
       sent = site.sent;
@@ -230,9 +259,6 @@ IsPrimary-waited p is later = elim (acked_after-some p.acked (waiting_now p)) [
       answered = answered-more (is_within p s) p.acked (get_or p.sites s d) site.answered
           (λ forced. reported-at p s (get_or p.sites s d) (p.acked + 1) forced
           (rw (get_or_default p.sites s d first_progress lt) (where_below-none _ (length p.sites) s lt done.1)));
-      within =
-          done-at p s (get_or p.sites s d) (p.acked + 1) (site.risen (p.acked + 1 - 1))
-          (rw (get_or_default p.sites s d first_progress lt) (where_below-none _ (length p.sites) s lt done.1));
       rising = site.rising;
       before = site.before;
     });
@@ -315,7 +341,8 @@ windows-decided keeps acked site count windows =
 
 -- a site after the decision of the head
 IsSiteSound-decided : (keeps : ℕ → ℕ → Bool) (updates acked later : ℕ) (site : SiteProgress)
-    → IsSiteSound keeps updates acked acked site → keeps site.reported later ≡ true → (later ≡ acked) ⊎ (later ≡ acked + 1)
+    → IsSiteSound keeps updates acked acked site → (later ≡ acked + 1 → keeps site.reported later ≡ true)
+    → (later ≡ acked) ⊎ (later ≡ acked + 1)
     → IsSiteSound keeps updates later (acked + 1) (decided_at (keeps site.reported (acked + 1)) (acked + 1) site)
 IsSiteSound-decided keeps updates acked later site is within step = record {
   reported = is.reported;
@@ -329,13 +356,12 @@ IsSiteSound-decided keeps updates acked later site is within step = record {
         let e : k ≡ later = elim step [ inl same ↦ omega (arith, same) | inr one ↦ next ∙ sym one ] in
         let here : get_or (site.reports ++ site.reported ∷ []) (k - 1) 0 ≡ site.reported =
         get_or_push site.reports site.reported 0 (k - 1) (omega (arith, is.count)) in
-        let kept : keeps site.reported k ≡ true = ap (keeps site.reported) e ∙ within in
+        let kept : keeps site.reported k ≡ true = ap (keeps site.reported) e ∙ within (sym e ∙ next) in
         false≢true (sym (rw here at forced) ∙ kept))
     | inr before ↦
         is.answered k some before
         (ap (λ r. keeps r k) (sym (get_or-append site.reports (site.reported ∷ []) 0 (k - 1) (omega (arith, is.count)))) ∙ forced)
   ];
-  within = within;
   rising = λ j k le lt.
       rising-push site.reports site.reported is.risen (λ i l le lt. is.rising i l le (omega (arith, is.count))) j k le
       (omega (arith, is.count));
@@ -346,13 +372,12 @@ IsSiteSound-decided keeps updates acked later site is within step = record {
 pub IsPrimary-decided : (p q : PrimaryState) → IsPrimary p → p.acked ≡ p.decided → p.acked < length p.log.sets → Decides p q
     → IsPrimary q
 IsPrimary-decided p q is first some decides =
-    let within_at : (s : ℕ) (d : SiteProgress) → s < length p.sites → is_within p s (get_or p.sites s d).reported q.acked ≡ true =
-    λ s d lt. rw decides.acked (elim (acked_after-some p.acked (forced_now p)) [
-      | inl done ↦
-          rw (done.0, get_or_default p.sites s d first_progress lt)
-          (not_false (is_within p s (progress_at p s).reported (p.acked + 1)) (where_below-none _ (length p.sites) s lt done.1))
-      | inr same ↦ rw same (is.sites s d lt).within
-    ]) in
+    let kept_at : (s : ℕ) → s < length p.sites → q.acked ≡ p.acked + 1
+    → is_within p s (progress_at p s).reported (p.acked + 1) ≡ true =
+    λ s lt next. elim (acked_after-some p.acked (forced_now p)) [
+      | inl done ↦ not_false (is_within p s (progress_at p s).reported (p.acked + 1)) (where_below-none _ (length p.sites) s lt done.1)
+      | inr same ↦ absurd (omega (arith, next, decides.acked, same))
+    ] in
     let acked : (p.acked ≤ q.acked) × (q.acked ≤ p.acked + 1) = rw decides.acked (acked_after-near p.acked (forced_now p)) in
     let step : (q.acked ≡ p.acked) ⊎ (q.acked ≡ p.acked + 1) =
     elim (acked_after-some p.acked (forced_now p)) [
@@ -365,13 +390,31 @@ IsPrimary-decided p q is first some decides =
       legal = rw decides.log is.legal;
       few = rw decides.log is.few;
       count = rw decides.setup (decides.count ∙ is.count);
+      tables = ap length decides.limits ∙ is.tables ∙ sym decides.count;
       acked = omega (arith, acked.1, decides.decided);
       next = omega (arith, acked.0, decides.decided);
       decided = rw decides.log (omega (arith, decides.decided));
+      known = rw (decides.setup, decides.limits) is.known;
+      begun = rw decides.limits (λ s d lt k e below. omega (arith, is.begun s d lt k e below, acked.0));
+      lags = λ s lt. (let before : s < length p.sites = omega (arith, decides.count) in
+          let same : (progress_at q s).reported ≡ (progress_at p s).reported =
+          ap (λ (k : SiteProgress). k.reported) (decides.sites s first_progress before) in
+          rw (decides.log, decides.setup, decides.limits, same) (elim step [
+            | inl stays ↦ rw stays (is.lags s before)
+            | inr next ↦ rw next (sym (is_within-now p s (progress_at p s).reported is before) ∙ kept_at s before next)
+          ]));
       sites = λ s d lt. (let before : s < length p.sites = omega (arith, decides.count) in
-          rw (decides.setup, decides.log, decides.decided, decides.sites s d before, get_or_default p.sites s first_progress d before)
+          rw (
+            decides.setup,
+            decides.log,
+            decides.limits,
+            decides.decided,
+            decides.sites s d before,
+            get_or_default p.sites s first_progress d before,
+          )
           (IsSiteSound-decided (is_within p s) (length p.log.sets) p.acked q.acked (get_or p.sites s d)
-          (rw (← first) at (is.sites s d before)) (within_at s d before) step));
+          (rw (← first) at (is.sites s d before))
+          (λ next. rw (next, get_or_default p.sites s d first_progress before) (kept_at s before next)) step));
     }
 
 -- elements that are related one by one stay so under a view
@@ -387,11 +430,12 @@ pub Decides-put_down : {A : Type 0} (p q : PrimaryState) (old new : List (Progre
     → p.sites ≡ map progress_of old → q.sites ≡ map progress_of new → forced ≡ forced_now p → length new ≡ length old
     → ((s : ℕ) (d : Progress A) → s < length old
     → progress_of (get_or new s d) ≡ decided_at (not (list_any (λ t. t == s) forced)) (p.acked + 1) (progress_of (get_or old s d)))
-    → q.setup ≡ p.setup → q.log ≡ p.log → q.acked ≡ acked_after p.acked forced → q.decided ≡ p.acked + 1
+    → q.setup ≡ p.setup → q.log ≡ p.log → q.limits ≡ p.limits → q.acked ≡ acked_after p.acked forced → q.decided ≡ p.acked + 1
     → Decides p q
-Decides-put_down p q old new forced before after listed count related setup log acked decided = record {
+Decides-put_down p q old new forced before after listed count related setup log limits acked decided = record {
   setup = setup;
   log = log;
+  limits = limits;
   acked = acked ∙ ap (acked_after p.acked) listed;
   decided = decided;
   count = ap length after ∙ length-map new progress_of ∙ count ∙ sym (length-map old progress_of) ∙ sym (ap length before);
@@ -415,17 +459,21 @@ ready-from_start d e = elim (cases_Bool (is_ready d)) [
 
 pub IsPrimary-new : (p : PrimaryState) → AreDeclared p.setup → start_refusal p.setup ≡ None
     → p.log ≡ record { start = initial_state p.setup.objects; sets = [] } → IsLegalHistory p.log → p.acked ≡ 0 → p.decided ≡ 0
-    → p.sites ≡ replicate (length p.setup.sites) first_progress
+    → p.sites ≡ replicate (length p.setup.sites) first_progress → p.limits ≡ p.setup.limits
     → IsPrimary p
-IsPrimary-new p declared ready log legal acked decided sites = record {
+IsPrimary-new p declared ready log legal acked decided sites limits = record {
   ready = ready-from_start p.setup ready;
   start = ap (λ (h : History). h.start) log;
   legal = legal;
   few = omega (arith, ap (λ (h : History). length h.sets) log);
   count = ap length sites ∙ length-replicate (length p.setup.sites) first_progress;
+  tables = ap length limits ∙ declared.count ∙ sym (ap length sites ∙ length-replicate (length p.setup.sites) first_progress);
   acked = omega (arith, acked);
   next = omega (arith, decided);
   decided = omega (arith, decided);
+  known = rw limits declared.known;
+  begun = rw limits (λ s d lt k e below. omega (arith, declared.first s d lt k e below));
+  lags = λ s lt. within-empty p.log p.setup.groups (latest (limits_at p s)) (progress_at p s).reported p.acked (omega (arith, acked));
   sites = λ s d lt. (let there : s < length p.setup.sites =
       omega (arith, ap length sites, length-replicate (length p.setup.sites) first_progress) in
       rw (acked, decided, sites, get_or-replicate (length p.setup.sites) s first_progress d there) (record {
@@ -436,7 +484,6 @@ IsPrimary-new p declared ready log legal acked decided sites = record {
         rounds = refl;
         windows = refl;
         answered = λ k some le forced. absurd (omega arith);
-        within = within-empty p.log p.setup.groups (limits_of p.setup s) 0 0 (omega arith);
         rising = λ j k le lt. absurd (omega arith);
         before = λ j k some lt le forced. absurd (omega arith);
       }));
@@ -520,7 +567,7 @@ module _ {A : Type 0} where
   IsPrimary-sent l sites s is lt unsent e =
       rw e (IsPrimary-with_site (state_of l) s (sent_more (progress_at (state_of l) s)) is lt
       (IsSiteSound-sent (is_within (state_of l) s) (length l.log.sets) l.acked l.decided (progress_at (state_of l) s)
-      (is.sites s first_progress lt) unsent))
+      (is.sites s first_progress lt) unsent) (is.lags s lt))
 
   -- a site reported a later place
   pub IsPrimary-reported : (l : Inside A) (sites : List SiteProgress) (s place : ℕ) → IsPrimary (state_of l)
@@ -529,7 +576,9 @@ module _ {A : Type 0} where
       → IsPrimary (record (state_of l) { sites = sites })
   IsPrimary-reported l sites s place is lt risen sent e =
       rw e (IsPrimary-with_site (state_of l) s (reported_as place (progress_at (state_of l) s)) is lt
-      (IsSiteSound-reported (state_of l) s place (progress_at (state_of l) s) (is.sites s first_progress lt) risen sent))
+      (IsSiteSound-reported (state_of l) s place (progress_at (state_of l) s) (is.sites s first_progress lt) risen sent)
+      (within-later l.log l.setup.groups (latest (limits_at (state_of l) s)) (progress_at (state_of l) s).reported place l.acked risen
+      (is.lags s lt)))
 
   -- the decision of the head, as it is put down
   pub Decides-at : (l : Inside A) (roomed new : List (Progress A)) (forced : List ℕ) (acked head : ℕ)
@@ -542,7 +591,7 @@ module _ {A : Type 0} where
       Decides-put_down (state_of l) (record (state_of l) { acked = acked; decided = head; sites = map progress_of new }) roomed new forced
       (sym same) refl listed count
       (λ s d lt. related s d lt ∙ ap (λ k. decided_at (not (list_any (λ t. t == s) forced)) k (progress_of (get_or roomed s d))) here)
-      refl refl e here
+      refl refl refl e here
 
 -- a list without elements
 pub nil-from_empty : (xs : List ℕ) → true ≡ (length xs == 0) → xs ≡ []
@@ -595,7 +644,7 @@ fewest-sound keeps updates acked decided site test is =
 pub HasFewestRounds-sound : (p : PrimaryState) → IsPrimary p → HasFewestRounds p
 HasFewestRounds-sound p is s lt =
     fewest-sound (is_within p s) (length p.log.sets) p.acked p.decided (progress_at p s)
-    (within-test p.log p.setup.groups (limits_of p.setup s)) (is.sites s first_progress lt)
+    (in_force-test p.log p.setup.groups (limits_at p s)) (is.sites s first_progress lt)
 
 -- there is an update to settle
 pub settle-allowed : (p : PrimaryState) (updates : ℕ) → updates ≡ length p.log.sets → (p.acked ≡ updates → ⊥)

@@ -10,7 +10,8 @@ use Rattle.ordup_objects.specs.Names.{is_name}
 use Rattle.ordup_objects.specs.Tables.{place_of}
 use Rattle.ordup_log.specs.Groups.{AreMembersKnown}
 use Rattle.ordup_log.specs.declared.scope.Scope.{Scope}
-use Rattle.ordup_limits.specs.Limits.{Limits, scope_refusal, amount_refusal, AreScopesKnown}
+use Rattle.ordup_limits.specs.Limits.{scope_refusal, amount_refusal}
+use Rattle.ordup_limits.specs.Entries.{Entries, latest, HoldFrom, AreEntriesKnown}
 
 -- the objects with their initial values, the groups with their members, the sites with the capacities of their feeds, and the
 -- limits of each site, in order of declaration
@@ -18,14 +19,14 @@ pub record Declared : Type 0 where
   pub objects : List (List ℕ × ℤ)
   pub groups : List (List ℕ × List ℕ)
   pub sites : List (List ℕ × ℕ)
-  pub limits : List Limits
+  pub limits : List Entries
 
 -- the capacity of a site's feed
 abbrev pub capacity_of : Declared → ℕ → ℕ
 capacity_of d s = (slice_index_or d.sites s ([], 0)).1
 
 -- the limits of a site
-abbrev pub limits_of : Declared → ℕ → Limits
+abbrev pub limits_of : Declared → ℕ → Entries
 limits_of d s = slice_index_or d.limits s []
 
 -- one object more
@@ -40,10 +41,10 @@ with_group d name members = record d { groups = d.groups ++ (name, members) ∷ 
 abbrev pub with_site : Declared → List ℕ → ℕ → Declared
 with_site d name capacity = record d { sites = d.sites ++ (name, capacity) ∷ []; limits = d.limits ++ [] ∷ [] }
 
--- one limit of a site more
+-- one limit of a site more, which holds from the start
 abbrev pub with_limit : Declared → ℕ → Scope → ℕ → Declared
 with_limit d s scope amount = record d {
-  limits = slice_set d.limits s (limits_of d s ++ (record { scope = scope; amount = amount }) ∷ []);
+  limits = slice_set d.limits s (limits_of d s ++ (record { limit = record { scope = scope; amount = amount }; place = 1 }) ∷ []);
 }
 
 -- the feeds of the sites have room for 1 to 1,024 updates
@@ -70,16 +71,17 @@ site_refusal sites name capacity =
 abbrev pub site_limit_refusal : Declared → ℕ → Scope → ℕ → Option Refusal
 site_limit_refusal d s scope amount =
     option_or (scope_refusal (length d.objects) d.groups scope) (
-    if not (nat_lt s (length d.sites)) then Some UnknownSite else amount_refusal (limits_of d s) scope amount)
+    if not (nat_lt s (length d.sites)) then Some UnknownSite else amount_refusal (latest (limits_of d s)) scope amount)
 
 -- the members of each group are among the first n objects
 abbrev pub AreGroupsKnown : ℕ → List (List ℕ × List ℕ) → Type 0
 AreGroupsKnown n groups = All (λ g. AreMembersKnown n g.1) groups
 
--- what the declarations keep: each site has its limits, and their objects and groups are there
+-- what the declarations keep: each site has its limits, which hold from the start, and their objects and groups are there
 pub record AreDeclared (d : Declared) : Type 0 where
   pub few : length d.sites ≤ most_sites
   pub capacities : AreCapacities d.sites
   pub count : length d.limits ≡ length d.sites
   pub members : AreGroupsKnown (length d.objects) d.groups
-  pub known : All (AreScopesKnown (length d.objects) d.groups) d.limits
+  pub first : All (HoldFrom 1) d.limits
+  pub known : All (AreEntriesKnown (length d.objects) d.groups) d.limits

@@ -1,16 +1,20 @@
 -- What a primary holds, and what a settlement makes of it.
 use Rattle.std.specs.Prelude.{◌≡◌, ℕ, ◌+◌, ◌<◌, ◌≤◌, ◌==◌, Bool, true, false}
 use Rattle.std.specs.Prelude.{if◌then◌else◌, Option, Some, None, List, [], ◌∷◌, ◌++◌}
-use Rattle.std.specs.Prelude.{length, slice_index_or}
+use Rattle.std.specs.Prelude.{length, slice_index_or, slice_set, nat_lt, not, All}
 use Rattle.ordup_objects.specs.declared.refusal.Refusal.{Refusal}
-use Rattle.ordup_objects.specs.declared.refusal.Refusal.TheVariants.{NothingToSend, NothingToSettle}
+use Rattle.ordup_objects.specs.declared.refusal.Refusal.TheVariants.{NothingToSend, NothingToSettle, HeadPending, LagOver}
 use Rattle.ordup_objects.specs.Tables.{initial_state}
 use Rattle.ordup_objects.specs.Serial.{History, IsLegalHistory}
 use Rattle.ordup_rounds.specs.declared.window.Window.{Window}
 use Rattle.ordup_rounds.specs.Rounds.{rounds_upto, windows_upto, AreRoundsReported}
 use Rattle.ordup_rounds.specs.Fewest.{AreFewest}
 use Rattle.ordup_limits.specs.Limits.{within}
-use Rattle.ordup_primary.specs.Declarations.{Declared, limits_of, is_ready}
+use Rattle.ordup_limits.specs.Entries.{Entries, entry_of, in_force, latest, changed, change_refusal, HoldFrom, AreEntriesKnown}
+use Rattle.ordup_log.specs.Spans.{span}
+use Rattle.ordup_log.specs.declared.scope.Scope.{Scope}
+use Rattle.std.specs.Option.{option_or}
+use Rattle.ordup_primary.specs.Declarations.{Declared, is_ready}
 use Rattle.ordup_primary.specs.Settling.{forced_sites, waiting_sites, report_at}
 use Rattle.ordup_primary.specs.declared.settled.Settled.{Settled}
 use Rattle.ordup_primary.specs.declared.settled.Settled.TheVariants.{Acked, Round, Waiting}
@@ -24,13 +28,15 @@ pub record SiteProgress : Type 0 where
   pub rounds : List ℕ
   pub windows : List Window
 
--- the declarations, the log, how many updates are acknowledged and how many are decided, and the sites in order of declaration
+-- the declarations, the log, how many updates are acknowledged and how many are decided, the sites in order of declaration, and the limits
+-- of each
 pub record PrimaryState : Type 0 where
   pub setup : Declared
   pub log : History
   pub acked : ℕ
   pub decided : ℕ
   pub sites : List SiteProgress
+  pub limits : List Entries
 
 -- a site at the start
 abbrev pub first_progress : SiteProgress
@@ -43,9 +49,17 @@ progress_at p s = slice_index_or p.sites s first_progress
 abbrev pub reported_at : SiteProgress → ℕ → ℕ
 reported_at site k = report_at site.reports k
 
--- the span from a to b passes no limit of site s
+-- the limits of site s
+abbrev pub limits_at : PrimaryState → ℕ → Entries
+limits_at p s = slice_index_or p.limits s []
+
+-- the span from a to b passes none of the limits of site s that are in force at b
 abbrev pub is_within : PrimaryState → ℕ → ℕ → ℕ → Bool
-is_within p s a b = within p.log p.setup.groups (limits_of p.setup s) a b
+is_within p s a b = within p.log p.setup.groups (in_force (limits_at p s) b) a b
+
+-- the acknowledged updates after place a pass none of the limits of site s that are in force now
+abbrev pub is_lag_within : PrimaryState → ℕ → ℕ → Bool
+is_lag_within p s a = within p.log p.setup.groups (latest (limits_at p s)) a p.acked
 
 -- the sites that hold the head up: at its first settlement those that it forces, later those that it waits for
 abbrev pub forced_now : PrimaryState → List ℕ
@@ -82,6 +96,18 @@ send_refusal p s = if (progress_at p s).sent == length p.log.sets then Some Noth
 abbrev pub settle_refusal : PrimaryState → Option Refusal
 settle_refusal p = if p.acked == length p.log.sets then Some NothingToSettle else None
 
+-- why a change of a limit of site s is refused, if it is: while the head is decided and not acknowledged there is none; and the amount is no
+-- less than what the acknowledged updates weigh that the site has not reported
+abbrev pub relimit_refusal : PrimaryState → ℕ → Scope → ℕ → Option Refusal
+relimit_refusal p s scope amount =
+    option_or (change_refusal (length p.setup.objects) p.setup.groups (limits_at p s) (entry_of scope amount (p.acked + 1))) (
+    if not (p.acked == p.decided) then Some HeadPending else
+    if nat_lt amount (span p.log p.setup.groups scope (progress_at p s).reported p.acked) then Some LagOver else None)
+
+-- the limit of site s on a scope is changed from the head on
+abbrev pub relimited : PrimaryState → ℕ → Scope → ℕ → PrimaryState
+relimited p s scope amount = record p { limits = slice_set p.limits s (changed (limits_at p s) (entry_of scope amount (p.acked + 1))) }
+
 -- a site once place k is decided
 abbrev pub decided_at : Bool → ℕ → SiteProgress → SiteProgress
 decided_at is_kept k site = record {
@@ -97,6 +123,7 @@ decided_at is_kept k site = record {
 pub record Decides (p q : PrimaryState) : Type 0 where
   pub setup : q.setup ≡ p.setup
   pub log : q.log ≡ p.log
+  pub limits : q.limits ≡ p.limits
   pub acked : q.acked ≡ acked_after p.acked (forced_now p)
   pub decided : q.decided ≡ p.acked + 1
   pub count : length q.sites ≡ length p.sites
@@ -104,8 +131,8 @@ pub record Decides (p q : PrimaryState) : Type 0 where
       → slice_index_or q.sites s d
       ≡ decided_at (is_within p s (progress_at p s).reported (p.acked + 1)) (p.acked + 1) (slice_index_or p.sites s d)
 
--- What a primary keeps of a site, where `keeps a b` says whether the span from a to b passes no limit of the site:
--- what is acknowledged and the site has not reported passes none, and each acknowledged round was reported.
+-- What a primary keeps of a site, where `keeps a b` says whether the span from a to b passes no limit of the site: each acknowledged round
+-- was reported.
 pub record IsSiteSound (keeps : ℕ → ℕ → Bool) (updates acked decided : ℕ) (site : SiteProgress) : Type 0 where
   pub reported : site.reported ≤ site.sent
   pub sent : site.sent ≤ updates
@@ -114,20 +141,24 @@ pub record IsSiteSound (keeps : ℕ → ℕ → Bool) (updates acked decided : �
   pub rounds : site.rounds ≡ rounds_upto keeps (reported_at site) decided
   pub windows : site.windows ≡ windows_upto keeps (reported_at site) decided
   pub answered : (k : ℕ) → 0 < k → k ≤ acked → keeps (reported_at site k) k ≡ false → k ≤ site.reported
-  pub within : keeps site.reported acked ≡ true
   pub rising : (j k : ℕ) → j ≤ k → k < decided → slice_index_or site.reports j 0 ≤ slice_index_or site.reports k 0
   pub before : AreRoundsReported keeps (reported_at site) decided
 
--- what each primary keeps
+-- What each primary keeps. The limits of a site hold from the head or before; what is acknowledged and the site has not reported passes
+-- none of them.
 pub record IsPrimary (p : PrimaryState) : Type 0 where
   pub ready : is_ready p.setup ≡ true
   pub start : p.log.start ≡ initial_state p.setup.objects
   pub legal : IsLegalHistory p.log
   pub few : length p.log.sets ≤ 1000000
   pub count : length p.sites ≡ length p.setup.sites
+  pub tables : length p.limits ≡ length p.sites
   pub acked : p.acked ≤ p.decided
   pub next : p.decided ≤ p.acked + 1
   pub decided : p.decided ≤ length p.log.sets
+  pub known : All (AreEntriesKnown (length p.setup.objects) p.setup.groups) p.limits
+  pub begun : All (HoldFrom (p.acked + 1)) p.limits
+  pub lags : (s : ℕ) → s < length p.sites → is_lag_within p s (progress_at p s).reported ≡ true
   pub sites : (s : ℕ) (d : SiteProgress) → s < length p.sites
       → IsSiteSound (is_within p s) (length p.log.sets) p.acked p.decided (slice_index_or p.sites s d)
 

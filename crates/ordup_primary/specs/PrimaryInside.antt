@@ -5,8 +5,9 @@ use Rattle.ordup_objects.specs.Tables.{initial_state}
 use Rattle.ordup_log.specs.Groups.{GroupList}
 use Rattle.ordup_limits.specs.Limits.{within}
 use Rattle.ordup_limits.specs.Ledgers.{LedgerState, StandsFor}
-use Rattle.ordup_primary.specs.Declarations.{Declared, limits_of}
-use Rattle.ordup_primary.specs.Primaries.{PrimaryState, SiteProgress, first_progress, progress_at, IsPrimary}
+use Rattle.ordup_limits.specs.Entries.{latest}
+use Rattle.ordup_primary.specs.Declarations.{Declared}
+use Rattle.ordup_primary.specs.Primaries.{PrimaryState, SiteProgress, first_progress, progress_at, limits_at, IsPrimary}
 use Rattle.ordup_primary.specs.declared.progress.Progress.{Progress}
 use Rattle.ordup_primary.specs.declared.primary.Primary.TheInside.{Inside}
 
@@ -16,7 +17,7 @@ use Rattle.ordup_primary.specs.declared.primary.Primary.TheInside.{Inside}
 -- to the head at most
 pub record IsLedgerOf (p : PrimaryState) (s : ℕ) (l : LedgerState) : Type 0 where
   pub stands : StandsFor l p.log p.setup.groups
-  pub limits : l.limits ≡ limits_of p.setup s
+  pub limits : l.limits ≡ latest (limits_at p s)
   pub reported : l.reported ≡ (progress_at p s).reported
   pub extended : l.extended ≤ p.acked + 1
 
@@ -33,6 +34,7 @@ first_state d = record {
   acked = 0;
   decided = 0;
   sites = replicate (length d.sites) first_progress;
+  limits = d.limits;
 }
 
 -- the same ledger, with the updates up to a place added
@@ -59,7 +61,7 @@ module _ {A : Type 0} where
   }
 
   abbrev pub state_of : Inside A → PrimaryState
-  state_of p = record { setup = p.setup; log = p.log; acked = p.acked; decided = p.decided; sites = map progress_of p.sites.items }
+  state_of p = record { setup = p.setup; log = p.log; acked = p.acked; decided = p.decided; sites = map progress_of p.sites.items; limits = p.limits.items }
 
   -- room for one report, one round and one window more
   abbrev pub HasRoom : Progress A → Type 0

@@ -11,8 +11,8 @@ use crate::progress::Progress;
 use crate::settled::Settled;
 use crate::setup::Setup;
 use crate::site_list::SiteList;
-use crate::starting::first_parts;
-use ordup_limits::LagLedger;
+use crate::starting::{first_limits, first_parts};
+use ordup_limits::{LagLedger, LimitTable, Scope};
 use ordup_log::Log;
 use ordup_objects::{MessageSet, Refusal, SiteId};
 use ordup_rounds::Window;
@@ -29,6 +29,8 @@ pub struct Primary<A: Allocator + Copy = Global> {
     acked: u64,
     decided: u64,
     sites: Vec<Progress<A>, A>,
+    /// The limits of each site: those that were declared.
+    limits: Vec<LimitTable<A>, A>,
     /// For each site what the updates up to the head weigh that it has not reported.
     ledgers: Vec<LagLedger<A>, A>,
 }
@@ -51,7 +53,9 @@ impl<A: Allocator + Copy> Primary<A> {
     ghost use Rattle.ordup_objects.specs.Tables.{initial_state};
     ghost use Rattle.ordup_objects.specs.Marks.{AreMarks};
     ghost use Rattle.ordup_log.specs.Appending.{append_refusal};
-    ghost use Rattle.ordup_primary.specs.Primaries.{PrimaryState, IsPrimary, progress_at, reported_at, is_within, send_refusal, settle_refusal, forced_now, waiting_now, settled_as, acked_or_round, acked_or_waiting, acked_after, Decides};
+    ghost use Rattle.ordup_log.specs.Spans.{span, IsScopeKnown};
+    ghost use Rattle.ordup_limits.specs.Entries.{AreEntriesKnown};
+    ghost use Rattle.ordup_primary.specs.Primaries.{PrimaryState, IsPrimary, progress_at, limits_at, reported_at, is_within, send_refusal, settle_refusal, forced_now, waiting_now, settled_as, acked_or_round, acked_or_waiting, acked_after, Decides, relimit_refusal, relimited};
     ghost use Rattle.ordup_primary.specs.Primaries.{HasFewestRounds};
     ghost use Rattle.ordup_primary.specs.Reports.{changes_of};
 
@@ -64,10 +68,12 @@ impl<A: Allocator + Copy> Primary<A> {
         ensures log { IfOk result (λ p. p.log ≡ record { start = initial_state setup.objects; sets = [] }) }
         ensures numbers { IfOk result (λ p. (p.acked ≡ 0) × (p.decided ≡ 0)) }
         ensures sites { IfOk result (λ p. p.sites ≡ replicate (length setup.sites) first_progress) }
+        ensures limits { IfOk result (λ p. p.limits ≡ setup.limits) }
         ensures sound { IfOk result (λ p. IsPrimary p) }
         ensures refused { IfErr result (λ e. e ≡ Refusal.NoMemory) }
     {
         let (log, sites) = first_parts(alloc, &setup)?;
+        let limits = first_limits(alloc, &setup)?;
         let ledgers = first_ledgers(alloc, &setup)?;
         Ok(Primary {
             setup,
@@ -75,6 +81,7 @@ impl<A: Allocator + Copy> Primary<A> {
             acked: 0,
             decided: 0,
             sites,
+            limits,
             ledgers,
         })
     }
@@ -167,11 +174,44 @@ impl<A: Allocator + Copy> Primary<A> {
         }
     }
 
+    /// Changes the limit of a site on a scope from the head on, or begins one there. It answers the place of the head.
+    ///
+    /// The limits that were in force at a place when it was decided stay so. It is refused `UnknownObject`, `UnknownGroup`,
+    /// `OutOfRange` for the amount, `TooMany` for a 65th scope or a 1,089th entry of the site, `HeadPending` where the head is
+    /// decided and not acknowledged, `LagOver` where the acknowledged updates that the site has not reported weigh more than
+    /// the amount, and `NoMemory`.
+    pub fn relimit(&mut self, site: SiteId, scope: Scope, amount: u64) -> Result<u64, Refusal>
+        requires { site < length self.old.sites }
+        ensures place { IfOk result (λ k. k ≡ self.old.acked + 1) }
+        ensures changed { IfOk result (λ _. self.new ≡ relimited self.old site scope amount) }
+        ensures allowed { IfOk result (λ _. relimit_refusal self.old site scope amount ≡ None) }
+        ensures refused { IfErr result (λ e. IsRefusal (relimit_refusal self.old site scope amount) e) }
+        ensures err { IfErr result (λ _. self.new ≡ self.old) }
+        ensures sound { IsPrimary self.new }
+    {
+        // The prover joins branches over a borrowed scope, not over a copied one.
+        let scope = &scope;
+        // For the proof: what each primary keeps.
+        let _acked = self.acked();
+        self.check_relimit(site, *scope, amount)?;
+        self.put_limit(site, *scope, amount)?;
+        Ok(self.acked + 1)
+    }
+
     /// What was declared.
     pub fn setup(&self) -> &Setup<A>
         ensures { result.now ≡ self.now.setup }
     {
         &self.setup
+    }
+
+    /// The limits of a site, each with the place from which it holds.
+    pub fn limits(&self, site: SiteId) -> &LimitTable<A>
+        requires { site < length self.now.sites }
+        ensures limits { result.now ≡ limits_at self.now site }
+        ensures known { AreEntriesKnown (length self.now.setup.objects) self.now.setup.groups result.now }
+    {
+        &self.limits[site.index()]
     }
 
     /// The updates in their order.
@@ -264,6 +304,71 @@ impl<A: Allocator + Copy> Primary<A> {
         // For the proof: there are few enough objects.
         let _objects = self.setup.objects().len();
         marks_of(*self.sites.allocator(), &self.log, self.acked)
+    }
+
+    /// Tests whether a change of a limit is allowed.
+    fn check_relimit(&self, site: SiteId, scope: Scope, amount: u64) -> Result<(), Refusal>
+        requires { site < length self.now.sites }
+        ensures known { OnOk result (IsScopeKnown (length self.now.setup.objects) self.now.setup.groups scope) }
+        ensures allowed { OnOk result (relimit_refusal self.now site scope amount ≡ None) }
+        ensures refused { IfErr result (λ e. relimit_refusal self.now site scope amount ≡ Some e) }
+    {
+        // The prover joins branches over a borrowed scope, not over a copied one.
+        let scope = &scope;
+        let limits = &self.limits[site.index()];
+        let head = self.acked + 1;
+        limits.check_change(
+            self.setup.objects(),
+            self.setup.groups(),
+            *scope,
+            amount,
+            head,
+        )?;
+        if self.acked != self.decided {
+            return Err(Refusal::HeadPending);
+        }
+        if self.lag_on(site, *scope) > amount {
+            return Err(Refusal::LagOver);
+        }
+        Ok(())
+    }
+
+    /// What the acknowledged updates weigh on a scope that a site has not reported.
+    fn lag_on(&self, site: SiteId, scope: Scope) -> u64
+        requires site { site < length self.now.sites }
+        requires known { IsScopeKnown (length self.now.setup.objects) self.now.setup.groups scope }
+        ensures { result ≡ span self.now.log self.now.setup.groups scope (progress_at self.now site).reported self.now.acked }
+    {
+        let reported = self.reported(site);
+        if reported >= self.acked {
+            return 0;
+        }
+        self.log
+            .span(scope, self.setup.groups(), reported, self.acked)
+    }
+
+    /// Changes the limit of a site on a scope from the head on, where that is allowed. It is refused `NoMemory` alone.
+    fn put_limit(&mut self, site: SiteId, scope: Scope, amount: u64) -> Result<(), Refusal>
+        requires site { site < length self.old.sites }
+        requires known { IsScopeKnown (length self.old.setup.objects) self.old.setup.groups scope }
+        requires allowed { relimit_refusal self.old site scope amount ≡ None }
+        ensures changed { OnOk result (self.new ≡ relimited self.old site scope amount) }
+        ensures refused { IfErr result (λ e. e ≡ Refusal.NoMemory) }
+        ensures err { IfErr result (λ _. self.new ≡ self.old) }
+        ensures sound { IsPrimary self.new }
+    {
+        // The prover joins branches over a borrowed scope, not over a copied one.
+        let scope = &scope;
+        let head = self.acked + 1;
+        let place = site.index();
+        // For the proof: what each table keeps.
+        let _scopes = self.limits[place].len();
+        let (objects, groups) = (self.setup.objects(), self.setup.groups());
+        let Ok(()) = self.limits[place].change(objects, groups, *scope, amount, head) else {
+            return Err(Refusal::NoMemory);
+        };
+        self.ledgers[place].change(&self.log, groups, *scope, amount);
+        Ok(())
     }
 
     /// The first settlement of the head, which decides it.

@@ -3,7 +3,7 @@ ghost use Rattle.ordup_objects.specs.Sizes.{most_sites, greatest_capacity};
 ghost use Rattle.ordup_objects.specs.Tables.{place_of, object_refusal};
 ghost use Rattle.ordup_objects.specs.Refusals.{IsRefusal};
 ghost use Rattle.ordup_log.specs.Groups.{group_refusal};
-ghost use Rattle.ordup_limits.specs.Limits.{AreScopesKnown};
+ghost use Rattle.ordup_limits.specs.Entries.{AreEntriesKnown, HoldFrom};
 ghost use Rattle.ordup_primary.specs.Declarations.{Declared, AreDeclared, AreGroupsKnown, with_object, with_group, with_site, with_limit, is_ready, site_refusal, site_limit_refusal, capacity_of, limits_of};
 
 use ordup_limits::{GroupId, Groups, LimitTable, Scope, check_scope};
@@ -146,6 +146,7 @@ impl<A: Allocator + Copy> Setup<A> {
     pub fn sites(&self) -> usize
         ensures sites { result ≡ length self.now.sites }
         ensures few { length self.now.sites ≤ most_sites }
+        ensures limits { length self.now.limits ≡ length self.now.sites }
     {
         self.capacities.len()
     }
@@ -179,11 +180,12 @@ impl<A: Allocator + Copy> Setup<A> {
         *self.capacities.at(site.index()).1
     }
 
-    /// The limits of a site.
+    /// The limits of a site, which hold from the start.
     pub fn limits(&self, site: SiteId) -> &LimitTable<A>
         requires { site < length self.now.sites }
         ensures limits { result.now ≡ limits_of self.now site }
-        ensures known { AreScopesKnown (length self.now.objects) self.now.groups result.now }
+        ensures first { HoldFrom 1 result.now }
+        ensures known { AreEntriesKnown (length self.now.objects) self.now.groups result.now }
     {
         &self.limits[site.index()]
     }

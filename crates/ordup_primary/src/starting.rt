@@ -7,8 +7,9 @@ ghost use Rattle.ordup_primary.specs.PrimaryInside.{progress_of};
 use crate::decisions::first_sites;
 use crate::progress::Progress;
 use crate::setup::Setup;
+use ordup_limits::LimitTable;
 use ordup_log::Log;
-use ordup_objects::Refusal;
+use ordup_objects::{Refusal, SiteId};
 use std::alloc::Allocator;
 
 /// The log and the sites of a primary at its start.
@@ -24,4 +25,22 @@ pub(crate) fn first_parts<A: Allocator + Copy>(
     let sites = first_sites(alloc, setup.sites())?;
     let log = Log::new(alloc, setup.objects())?;
     Ok((log, sites))
+}
+
+/// The limits of the sites as they were declared.
+pub(crate) fn first_limits<A: Allocator + Copy>(
+    alloc: A,
+    setup: &Setup<A>,
+) -> Result<Vec<LimitTable<A>, A>, Refusal>
+    ensures limits { IfOk result (λ limits. limits.items ≡ setup.now.limits) }
+    ensures refused { IfErr result (λ e. e ≡ Refusal.NoMemory) }
+{
+    let mut limits = Vec::new(alloc);
+    for site in 0..setup.sites() {
+        let table = setup.limits(SiteId::new(site as u8)).copy(alloc)?;
+        if limits.push(table).is_err() {
+            return Err(Refusal::NoMemory);
+        }
+    }
+    Ok(limits)
 }

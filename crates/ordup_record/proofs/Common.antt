@@ -45,7 +45,8 @@ pub use Rattle.ordup_log.specs.Groups.{AreMembersKnown, group_refusal, GroupList
 pub use Rattle.ordup_log.specs.Spans.{IsScopeKnown}
 pub use Rattle.ordup_log.specs.declared.scope.Scope.{Scope}
 pub use Rattle.ordup_log.specs.declared.scope.Scope.TheVariants.{All as Everything, Count, Group, Object}
-pub use Rattle.ordup_limits.specs.Limits.{AreLimits, AreScopesKnown, limit_refusal, Limits}
+pub use Rattle.ordup_limits.specs.Entries.{AreEntries, AreEntriesKnown, Entries, HoldFrom, in_force}
+pub use Rattle.ordup_limits.specs.Limits.{limit_refusal}
 pub use Rattle.ordup_limits.specs.Sizes.{greatest_amount, most_limits}
 pub use Rattle.ordup_limits.specs.declared.limit.Limit.{Limit}
 pub use Rattle.ordup_rounds.specs.Fewest.{IsCertificate}
@@ -53,8 +54,7 @@ pub use Rattle.ordup_rounds.specs.Rounds.{AreRoundPlaces, full_rounds}
 pub use Rattle.ordup_rounds.specs.Schedules.{awaited_place, base, StaysWithin}
 pub use Rattle.ordup_rounds.specs.Windows.{IsWindow}
 pub use Rattle.ordup_rounds.specs.declared.window.Window.{Window}
-pub use Rattle.ordup_primary.specs.Declarations.{limits_of}
-pub use Rattle.ordup_primary.specs.Primaries.{progress_at, reported_at}
+pub use Rattle.ordup_primary.specs.Primaries.{limits_at, progress_at, reported_at}
 pub use Rattle.ordup_record.specs.RecordInside.{AreParts, state_of}
 pub use Rattle.ordup_record.specs.Records.{AreGroups, AreReportChanges, history_of, is_within, IsRecord, most_windows, RecordState}
 pub use Rattle.ordup_record.specs.Records.{report_at}

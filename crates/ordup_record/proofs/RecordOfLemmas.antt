@@ -1,7 +1,7 @@
 -- The record of a site of a primary.
-use Rattle.ordup_record.proofs.Common.{◌-◌, ◌<◌, ◌∙◌, ◌≡◌, ◌≤◌, [], All, and_parts, ap, append-nil, AreDistinct, AreLimits, AreNames}
-use Rattle.ordup_record.proofs.Common.{AreParts, AreReportChanges, AreScopesKnown, arith, drop, History, history_of, initial_state, is_name}
-use Rattle.ordup_record.proofs.Common.{is_within, IsCertificate, IsGroup, IsLegalHistory, IsRecord, IsValid, length, length-map, limits_of}
+use Rattle.ordup_record.proofs.Common.{◌-◌, ◌<◌, ◌∙◌, ◌≡◌, ◌≤◌, [], All, and_parts, ap, append-nil, AreDistinct, AreEntries, AreNames}
+use Rattle.ordup_record.proofs.Common.{AreParts, AreReportChanges, arith, drop, History, history_of, initial_state, is_name}
+use Rattle.ordup_record.proofs.Common.{is_within, IsCertificate, IsGroup, IsLegalHistory, IsRecord, IsValid, length, length-map, limits_at, in_force}
 use Rattle.ordup_record.proofs.Common.{List, ltb-true, most_groups, most_objects, most_updates, nat_lt, progress_at, record_of, RecordState}
 use Rattle.ordup_record.proofs.Common.{refl, report_at, report_changes, reported_at, reported_before_or_at, state_of, suc, sym, take}
 use Rattle.ordup_record.proofs.Common.{take-append-drop, true, with_more, zero, ℕ, ℤ}
@@ -34,9 +34,9 @@ module _ (p : PrimaryState) (s : ℕ) (is : IsPrimary p) (there : s < length p.s
 
   tests-same : (a b : ℕ) → b ≤ p.decided → is_within (record_of p s) a b ≡ is_within_at p s a b
   tests-same a b le =
-      sym (within-longer (history_of (record_of p s)) (drop p.decided p.log.sets) p.setup.groups (limits_of p.setup s) a b
+      sym (within-longer (history_of (record_of p s)) (drop p.decided p.log.sets) p.setup.groups (in_force (limits_at p s) b) a b
       (omega (arith, updates-decided)))
-      ∙ ap (λ h. within h p.setup.groups (limits_of p.setup s) a b) (sym log-longer)
+      ∙ ap (λ h. within h p.setup.groups (in_force (limits_at p s) b) a b) (sym log-longer)
 
   reports-rising : AreReportsRising (reported_at (progress_at p s)) p.decided
   reports-rising j k some le last = site-sound.rising (j - 1) (k - 1) (omega arith) (omega arith)
@@ -64,9 +64,8 @@ module _ (p : PrimaryState) (s : ℕ) (is : IsPrimary p) (there : s < length p.s
   pub record-sound : is_name (record_of p s).site ≡ true → length p.setup.objects ≤ most_objects → AreNames p.setup.objects
       → AreDistinct p.setup.objects → length p.setup.groups ≤ most_groups → All (λ g. IsGroup g.1) p.setup.groups
       → AreNames p.setup.groups → AreDistinct p.setup.groups → AreGroupsKnown (length p.setup.objects) p.setup.groups
-      → AreLimits (limits_of p.setup s) → AreScopesKnown (length p.setup.objects) p.setup.groups (limits_of p.setup s)
-      → IsLegalHistory (history_of (record_of p s)) → IsRecord (record_of p s)
-  record-sound name objects names distinct groups each group_names groups_distinct members limits scopes legal = record {
+      → AreEntries (limits_at p s) → IsLegalHistory (history_of (record_of p s)) → IsRecord (record_of p s)
+  record-sound name objects names distinct groups each group_names groups_distinct members limits legal = record {
     site = name;
     objects = record {
       some = ltb-true 0 (length p.setup.objects) (and_parts (nat_lt 0 (length p.setup.objects)) (nat_lt 0 (length p.setup.sites))
@@ -78,7 +77,8 @@ module _ (p : PrimaryState) (s : ℕ) (is : IsPrimary p) (there : s < length p.s
     };
     groups = record { few = groups; each = each; known = members; names = group_names; distinct = groups_distinct };
     limits = limits;
-    scopes = scopes;
+    scopes = is.known s [] (omega (arith, is.tables));
+    begun = λ k d lt. omega (arith, is.begun s [] (omega (arith, is.tables)) k d lt, is.acked, updates-decided);
     few = omega (arith, updates-decided, is.decided, is.few);
     sets = legal.sets;
     known = rw (length-map p.setup.objects (λ (e : List ℕ × ℤ). e.1)) at legal.known;
@@ -91,7 +91,7 @@ module _ (p : PrimaryState) (s : ℕ) (is : IsPrimary p) (there : s < length p.s
 
 -- parts with what the primary has are those of the record
 pub parts-content : {A : Type 0} (p : PrimaryState) (s : ℕ) (q : RecordParts A) → q.site ≡ (record_of p s).site
-    → q.objects ≡ p.setup.objects → q.groups ≡ p.setup.groups → q.limits ≡ limits_of p.setup s
+    → q.objects ≡ p.setup.objects → q.groups ≡ p.setup.groups → q.limits ≡ limits_at p s
     → q.log.sets ≡ take p.decided p.log.sets → q.rest.items ≡ [] → q.reports.items ≡ (record_of p s).reports
     → q.rounds.items ≡ (record_of p s).rounds → q.windows.items ≡ (record_of p s).windows
     → state_of q ≡ record_of p s

@@ -1,5 +1,5 @@
 -- Records: what is told of a site.
-use Rattle.std.specs.Prelude.{◌≡◌, ℕ, ◌<◌, ◌≤◌, nat_le, Bool, true, if◌then◌else◌, List, length, map, fold, All}
+use Rattle.std.specs.Prelude.{◌≡◌, ℕ, ◌+◌, ◌<◌, ◌≤◌, nat_le, Bool, true, if◌then◌else◌, List, length, map, fold, All}
 use Rattle.std.specs.List.Sorted.{IsStrictlyIncreasing}
 use Rattle.ordup_objects.specs.declared.change.Change.{Change}
 use Rattle.ordup_objects.specs.Names.{is_name}
@@ -9,19 +9,20 @@ use Rattle.ordup_objects.specs.Sizes.{most_groups, most_objects, most_updates}
 use Rattle.ordup_objects.specs.States.{IsState}
 use Rattle.ordup_objects.specs.Tables.{AreDistinct, AreNames, Objects, initial_state}
 use Rattle.ordup_log.specs.Groups.{GroupList, IsGroup}
-use Rattle.ordup_limits.specs.Limits.{AreLimits, AreScopesKnown, Limits, within}
+use Rattle.ordup_limits.specs.Limits.{within}
+use Rattle.ordup_limits.specs.Entries.{Entries, in_force, HoldFrom, AreEntries, AreEntriesKnown}
 use Rattle.ordup_primary.specs.Declarations.{AreGroupsKnown}
 use Rattle.ordup_rounds.specs.Rounds.{AreRoundPlaces}
 use Rattle.ordup_rounds.specs.declared.window.Window.{Window}
 use Rattle.ordup_record.specs.declared.report_change.ReportChange.{ReportChange}
 
--- a site's name; the objects with their initial values; the groups; the limits of the site; the decided updates; where the
+-- a site's name; the objects with their initial values; the groups; the limits of the site by place; the decided updates; where the
 -- site's report changed; the places of its rounds; and its windows
 pub record RecordState : Type 0 where
   pub site : List ℕ
   pub objects : Objects
   pub groups : GroupList
-  pub limits : Limits
+  pub limits : Entries
   pub sets : List (List Change)
   pub reports : List ReportChange
   pub rounds : List ℕ
@@ -31,9 +32,9 @@ pub record RecordState : Type 0 where
 abbrev pub history_of : RecordState → History
 history_of r = record { start = initial_state r.objects; sets = r.sets }
 
--- the span from a to b passes no limit of the site
+-- the span from a to b passes none of the limits of the site that are in force at b
 abbrev pub is_within : RecordState → ℕ → ℕ → Bool
-is_within r a b = within (history_of r) r.groups r.limits a b
+is_within r a b = within (history_of r) r.groups (in_force r.limits b) a b
 
 -- what the site had reported at the decision of place k: by the last change at or before it, and 0 where there is none
 abbrev pub report_at : List ReportChange → ℕ → ℕ
@@ -71,8 +72,9 @@ pub record IsRecord (r : RecordState) : Type 0 where
   pub site : is_name r.site ≡ true
   pub objects : AreObjects r.objects
   pub groups : AreGroups (length r.objects) r.groups
-  pub limits : AreLimits r.limits
-  pub scopes : AreScopesKnown (length r.objects) r.groups r.limits
+  pub limits : AreEntries r.limits
+  pub scopes : AreEntriesKnown (length r.objects) r.groups r.limits
+  pub begun : HoldFrom (length r.sets + 1) r.limits
   pub few : length r.sets ≤ most_updates
   pub sets : All IsSet r.sets
   pub known : All (AreKnown (length r.objects)) r.sets

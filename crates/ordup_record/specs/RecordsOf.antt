@@ -3,8 +3,7 @@ use Rattle.std.specs.Prelude.{ℕ, zero, suc, ◌==◌, if◌then◌else◌, Opt
 use Rattle.std.specs.Prelude.{slice_index_or}
 use Rattle.ordup_objects.specs.declared.refusal.Refusal.{Refusal}
 use Rattle.ordup_objects.specs.declared.refusal.Refusal.TheVariants.{UnknownSite}
-use Rattle.ordup_primary.specs.Declarations.{limits_of}
-use Rattle.ordup_primary.specs.Primaries.{PrimaryState, progress_at, reported_at}
+use Rattle.ordup_primary.specs.Primaries.{PrimaryState, progress_at, limits_at, reported_at}
 use Rattle.ordup_record.specs.Records.{RecordState}
 use Rattle.ordup_record.specs.declared.report_change.ReportChange.{ReportChange}
 
@@ -26,7 +25,7 @@ record_of p s = record {
   site = (slice_index_or p.setup.sites s ([], 0)).0;
   objects = p.setup.objects;
   groups = p.setup.groups;
-  limits = limits_of p.setup s;
+  limits = limits_at p s;
   sets = take p.decided p.log.sets;
   reports = report_changes (reported_at (progress_at p s)) p.decided;
   rounds = (progress_at p s).rounds;

@@ -51,7 +51,7 @@ fn parts_of<A: Allocator + Copy>(
     let name = *setup.site_name(site);
     let objects = setup.objects().copy(alloc)?;
     let groups = setup.groups().copy(alloc)?;
-    let limits = setup.limits(site).copy(alloc)?;
+    let limits = primary.limits(site).copy(alloc)?;
     let log = primary.log().copy_prefix(alloc, primary.decided())?;
     let reports = report_changes(alloc, primary, site)?;
     let Ok(rounds) = Vec::from_slice(alloc, primary.rounds(site)) else {

@@ -67,16 +67,7 @@ pub(crate) fn are_same_limits<A: Allocator + Copy>(
 ) -> bool
     ensures { IsTrue result ↔ (these.now ≡ those.now) }
 {
-    let count = these.len();
-    if count != those.len() {
-        return false;
-    }
-    for place in 0..count {
-        if these.get(place) != those.get(place) {
-            return false;
-        }
-    }
-    true
+    these.entries() == those.entries()
 }
 
 pub(crate) fn is_same_set<A: Allocator + Copy>(these: &MessageSet<A>, those: &MessageSet<A>) -> bool

@@ -1,6 +1,6 @@
-use Rattle.std.proofs.Common.{ap, sym, ◌∙◌, ◌≡◌, ◌==◌, get_or}
+use Rattle.std.proofs.Common.{arith, ap, sym, ◌∙◌, ◌≡◌, ◌==◌, get_or}
 use Rattle.std.specs.Prelude.{◌&&◌, ◌||◌}
-use Rattle.std.proofs.lemmas.Option.{get_or_from_slice_get}
+use Rattle.std.proofs.lemmas.List.{get_or_read}
 use Rattle.ordup_limits.specs.declared.limit.Limit.{Limit}
 use Rattle.ordup_limits.specs.Totals.{counts_on, has_bit}
 use Rattle.ordup_limits.proofs.MaskLemmas.{bits-next}
@@ -11,11 +11,11 @@ loop-place-preserved g c =
     let limits = c.args.limits.now in
     let groups = c.args.groups.now in
     let place = c.loop-place.place in
-    let limit : Limit = record { scope = c.get.result.0; amount = c.get.result.1 } in
+    let limit = c.index-limits-place.result in
     let before = c.loop-place.invariant in
     record {
       count = c.put_scope.ensures.count;
-      bits = λ x i d below lt. (let at : get_or limits place d ≡ limit = get_or_from_slice_get limits place limit d c.get.ensures in
+      bits = λ x i d below lt. (let at : get_or limits place d ≡ limit = sym (get_or_read limits place limit (omega arith) c.index-limits-place.is d) in
           bits-next (λ k. counts_on groups (get_or limits k d).scope x) (has_bit c.loop-place.masks.items i x) _ i place
           (c.put_scope.ensures.bits x i below lt
           ∙ ap (λ (l : Limit). (counts_on groups l.scope x && (i == place)) || has_bit c.loop-place.masks.items i x) (sym at))

@@ -8,19 +8,19 @@ use Rattle.ordup_limits.proofs.passed.passed_among.Goals as goal
 use Rattle.ordup_limits.proofs.passed.passed_among.Goals.{then-is_kept, else-is_kept}
 
 pub is_kept-requires-clause-place : goal.is_kept-requires-clause-place
-is_kept-requires-clause-place g c =
+is_kept-requires-clause-place c =
     let rest = c.loop-rest.rest in
     let low = bit_at-trailing_zeros w64 rest (omega (arith, c.loop-rest-test.true)) (Fits-lt-pow c.loop-rest.auto.rest-fits) in
     bit-below rest _ _ low.1 low.0 c.loop-rest.invariant.below
 
 pub loop-rest-smaller : goal.loop-rest-smaller
-loop-rest-smaller g c =
+loop-rest-smaller c =
     let rest = c.loop-rest.rest in
     let low = bit_at-trailing_zeros w64 rest (omega (arith, c.loop-rest-test.true)) (Fits-lt-pow c.loop-rest.auto.rest-fits) in
     cleared-less rest _ low.0 low.1
 
 pub loop-rest-preserved : goal.loop-rest-preserved
-loop-rest-preserved g c =
+loop-rest-preserved c =
     let rest = c.loop-rest.rest in
     let before = c.loop-rest.invariant in
     let low = bit_at-trailing_zeros w64 rest (omega (arith, c.loop-rest-test.true)) (Fits-lt-pow c.loop-rest.auto.rest-fits) in

@@ -41,7 +41,8 @@ loop-i-preserved g c =
     ∙ sym (ap length (c.changes-changes.ensures.changes ∙ c.set.ensures.set)) in
     record {
       count = omega (arith, c.add.ensures.count, before.count);
-      below = IsBelow-either _ _ mask before.below (IsBelow-at _ c.args.masks.now c.index.result c.requires.masks c.requires.bits);
+      below = λ n bits.
+          IsBelow-either n _ mask (before.below n bits) (IsBelow-at n c.args.masks.now c.index.result c.requires.masks bits);
       untouched = λ k lt out. (let parts = or_parts (bit_at c.loop-i.touched k == 1) (bit_at mask k == 1)
           (sym (bit-either c.loop-i.touched mask k) ∙ out) in
           omega (

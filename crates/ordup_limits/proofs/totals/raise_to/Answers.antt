@@ -13,7 +13,7 @@ loop-place-preserved g c =
     record {
       count = omega (arith, c.raise-touched.ensures.count, before.count);
       few = c.raise-touched.ensures.few;
-      below = IsBelow-either _ c.loop-place.touched _ before.below (rw before.count at c.raise-touched.ensures.below);
+      below = λ n bits. IsBelow-either n c.loop-place.touched _ (before.below n bits) (c.raise-touched.ensures.below n bits);
       untouched = λ i lt out. (let parts = or_parts _ _ (sym (bit-either c.loop-place.touched c.raise-touched.result i) ∙ out) in
           c.raise-touched.ensures.untouched i (omega (arith, before.count)) parts.1 ∙ before.untouched i lt parts.0);
       totals = λ i lt. (let w = weight_where (has_bit c.args.masks.now i) c.args.log.now in

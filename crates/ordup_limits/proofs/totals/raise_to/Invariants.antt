@@ -2,7 +2,7 @@ use Rattle.std.proofs.Common.{◌≡◌, ◌≤◌, ◌<◌, ◌+◌, ◌-◌, �
 use Rattle.std.specs.Prelude.{slice_index}
 use Rattle.ordup_objects.specs.Sizes.{greatest_weight}
 use Rattle.ordup_objects.specs.Sums.{sum_from}
-use Rattle.ordup_limits.specs.Totals.{has_bit, AreUntouched, IsBelow, weight_where}
+use Rattle.ordup_limits.specs.Totals.{has_bit, AreUntouched, HasBitsBelow, IsBelow, weight_where}
 use Rattle.ordup_limits.proofs.totals.raise_to.Given as goal
 
 -- the updates so far are added
@@ -10,7 +10,7 @@ abbrev pub invariant-loop-place : goal.invariant-loop-place
 invariant-loop-place g l = record {
   count : length l.totals.items ≡ length l.fn.totals.items;
   few : (i : ℕ) → slice_index l.totals.items i ≤ greatest_weight * l.place;
-  below : IsBelow (length l.fn.totals.items) l.touched;
+  below : (n : ℕ) → HasBitsBelow n l.masks → IsBelow n l.touched;
   untouched : AreUntouched l.touched l.fn.totals.items l.totals.items;
   totals : (i : ℕ) → i < length l.fn.totals.items
       → slice_index l.totals.items i

@@ -1,5 +1,6 @@
-use Rattle.std.proofs.Common.{arith, rules, ◌∙◌, ◌≡◌, ◌++◌, ◌∷◌, [], length}
+use Rattle.std.proofs.Common.{arith, ap, rules, ◌∙◌, ◌≡◌, ◌++◌, ◌∷◌, [], length}
 use Rattle.std.proofs.lemmas.List.{length_push, length-replicate}
+use Rattle.ordup_limits.specs.Entries.{latest}
 use Rattle.ordup_primary.specs.Primaries.{first_progress}
 use Rattle.ordup_primary.specs.PrimaryInside.{first_state}
 use Rattle.ordup_primary.proofs.LedgerLemmas.{IsLedgerOf-first, each-pushed}
@@ -17,7 +18,7 @@ loop-site-preserved g c =
       count = omega (arith, length_push c.loop-site.ledgers.items ledger, before.count);
       each = each-pushed (first_state d) c.loop-site.ledgers.items ledger before.each
           (rw (← here) (IsLedgerOf-first d c.new.result ledger (omega (arith, c.new.ensures, c.sites-site-end.ensures.sites))
-          (made.limits ∙ c.limits.ensures.limits) made.places
+          (made.limits ∙ ap latest c.limits.ensures.limits) made.places
           (λ h groups few known. made.stands h groups few (rw c.limits.ensures.limits known))
           (rw c.objects.ensures at c.len-objects.ensures.few) (rw c.limits.ensures.limits at c.limits.ensures.known)));
     })

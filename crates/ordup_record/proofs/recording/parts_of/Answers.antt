@@ -1,5 +1,5 @@
 use Rattle.ordup_record.proofs.Common.{◌<◌, ◌∙◌, ◌≡◌, [], ap, History, history_of, initial_state, IsLegalHistory, IsRecord, length}
-use Rattle.ordup_record.proofs.Common.{limits_of, record_of, state_of, sym}
+use Rattle.ordup_record.proofs.Common.{limits_at, record_of, state_of, sym}
 use Rattle.ordup_objects.specs.Serial.{prefix_of}
 use Rattle.ordup_primary.specs.Declarations.{Declared}
 use Rattle.ordup_record.specs.declared.record.RecordParts.{RecordParts}
@@ -21,8 +21,7 @@ returns g c =
     c.in_ok-objects.ensures.copied ∙ c.objects.ensures ∙ ap (λ (d : Declared). d.objects) setup in
     let groups : c.in_ok-groups.groups ≡ p.setup.groups =
     c.in_ok-groups.ensures.copied ∙ c.groups.ensures.groups ∙ ap (λ (d : Declared). d.groups) setup in
-    let limits : c.in_ok-limits.limits ≡ limits_of p.setup s =
-    c.in_ok-limits.ensures.copied ∙ c.limits.ensures.limits ∙ ap (λ (d : Declared). limits_of d s) setup in
+    let limits : c.in_ok-limits.limits ≡ limits_at p s = c.in_ok-limits.ensures.copied ∙ c.limits.ensures.limits in
     let log : c.in_ok-log.log ≡ prefix_of p.log p.decided = rw (c.log.ensures, c.decided.ensures) at c.in_ok-log.ensures.copied in
     let prefix : IsLegalHistory (prefix_of p.log p.decided) = rw log at c.len-updates.ensures.legal in
     let legal : IsLegalHistory (history_of (record_of p s)) = rw sound.start at prefix in
@@ -37,8 +36,7 @@ returns g c =
     (rw groups at c.len-groups.ensures.names)
     (rw groups at c.len-groups.ensures.distinct)
     (rw setup at c.groups.ensures.members)
-    (rw limits at c.len-limits.ensures.limits)
-    (rw (c.limits.ensures.limits, setup) at c.limits.ensures.known)
+    (rw limits at c.len-limits.ensures.entries)
     legal in
     let q : RecordParts g.row.A.Denot = record {
       site = c.site_name.result.now;

@@ -1,18 +1,13 @@
-use Rattle.std.proofs.Common.{arith, ap, length, ◌-◌, ◌∙◌}
+use Rattle.std.proofs.Common.{arith, ap, ◌-◌, ◌∙◌}
 use Rattle.ordup_limits.specs.Ledgers.{LedgerState}
 use Rattle.ordup_limits.specs.LedgerInside.{ledger_of}
 use Rattle.ordup_limits.proofs.PassedLemmas.{IsMask-reported}
-use Rattle.ordup_limits.proofs.TotalLemmas.{HasBitsBelow-masks, AreTotals-raised}
+use Rattle.ordup_limits.proofs.TotalLemmas.{AreTotals-raised}
 use Rattle.ordup_limits.proofs.LedgerLemmas.{StandsFor-prepared}
 use Rattle.ordup_limits.proofs.lag_ledger.LagLedger.reported.Goals as goal
 
 pub raise_to-requires-clause-count : goal.raise_to-requires-clause-count
-raise_to-requires-clause-count g c = omega (arith, c.self.invariant.ledger.taken, c.self.invariant.ledger.few)
-
-pub raise_to-requires-clause-bits : goal.raise_to-requires-clause-bits
-raise_to-requires-clause-bits g c =
-    rw (← c.as_slice-masks.ensures.value) at (HasBitsBelow-masks c.args.groups.now c.self.inside.limits c.self.inside.masks.items
-    (length c.self.inside.taken.items) c.self.invariant.ledger.taken (rw (← c.self.view_is) at c.prepare.ensures.masks))
+raise_to-requires-clause-count g c = c.self.invariant.ledger.taken
 
 pub returns-clause-stands : goal.returns-clause-stands
 returns-clause-stands g c =
@@ -26,7 +21,7 @@ returns-clause-stands g c =
       extended = now.extended;
       taken = AreTotals-raised c.self.inside.masks.items c.len-updates.ensures.legal c.len-groups.ensures.groups now.known now.objects
           c.self.invariant.ledger.few masks (omega (arith, c.requires.forward, ap (λ (k : LedgerState). k.reported) rest)) c.requires.last
-          c.self.invariant.ledger.taken now.taken c.raise_to.ensures.few (rw c.as_slice-masks.ensures.value at c.raise_to.ensures.totals);
+          (omega (arith, c.self.invariant.ledger.few, c.self.invariant.ledger.taken)) now.taken c.raise_to.ensures.few (rw c.as_slice-masks.ensures.value at c.raise_to.ensures.totals);
       added = now.added;
       masks = now.masks;
     }
@@ -48,8 +43,8 @@ invariant_of-self g c =
       passed = IsMask-reported l.limits (l.extended - l.reported) (l.extended - c.args.to) l.added.items l.taken.items
           c.raise_to.new.totals.items l.passed c.passed_among-self-inside.result before.passed
           (omega (arith, c.requires.forward, ap (λ (k : LedgerState). k.reported) rest))
-          (λ i lt. omega (arith, c.raise_to.ensures.totals i (omega (arith, lt, before.ledger.taken))))
-          (rw (c.saturating_sub-updates.ensures, c.as_slice-added.ensures.value, c.as_slice-taken.ensures.value)
+          (λ i lt. omega (arith, c.raise_to.ensures.totals i (omega (arith, lt, before.ledger.few, before.ledger.taken))))
+          (rw (c.saturating_sub-updates.ensures, c.as_slice.ensures.limits, c.as_slice-added.ensures.value, c.as_slice-taken.ensures.value)
           at c.passed_among-self-inside.ensures);
       fits = c.passed_among-self-inside.type_inv;
     }

@@ -1,17 +1,55 @@
-use Rattle.std.proofs.Common.{arith, rules, ◌≡◌, ◌<◌, false, length}
-use Rattle.std.specs.List.{list_any}
-use Rattle.ordup_limits.specs.Sizes.{most_limits}
-use Rattle.ordup_limits.specs.Limits.{is_same_scope}
-use Rattle.ordup_limits.proofs.LimitLemmas.{AreLimits-push}
+use Rattle.std.proofs.Common.{arith, ap, sym, ◌≡◌, ◌<◌, ◌∙◌, length, false, true, refl}
+use Rattle.std.proofs.lemmas.Bool.{le-leb}
+use Rattle.ordup_limits.specs.declared.limit_entry.LimitEntry.{LimitEntry}
+use Rattle.ordup_limits.specs.Entries.{are_one_entry, changed, has_few, latest, put}
+use Rattle.ordup_limits.specs.Limits.{Limits, are_on_one_scope}
+use Rattle.ordup_limits.specs.Sizes.{most_entries, most_limits}
+use Rattle.ordup_limits.proofs.PutLemmas.{put-length}
+use Rattle.ordup_limits.proofs.EntryLemmas.{has_scope, changed-new, latest-changed, latest-first, AreEntries-changed}
 use Rattle.ordup_limits.proofs.limit_table.LimitTable.add.Goals as goal
-use Rattle.ordup_limits.proofs.limit_table.LimitTable.add.Goals.{in-Ok, in-Err}
 
-pub invariant_of-self : goal.invariant_of-self
-invariant_of-self g c =
-    let none : list_any (λ l. is_same_scope l.scope c.args.scope) c.self.inside.limits.items ≡ false = search rules in
-    let room : length c.self.inside.limits.items < most_limits = omega (arith, c.self.invariant.few) in
-    elim c.match-push.branch [
-      | in-Ok w ↦ AreLimits-push c.self.inside.limits.items (record { scope = c.args.scope; amount = c.args.amount })
-          c.self.invariant room (omega arith) none c.push.new.self.items (search rules)
-      | in-Err w ↦ (let same : c.push.new.self.items ≡ c.self.inside.limits.items = search rules in rw same c.self.invariant)
-    ]
+pub put-requires : goal.put-requires
+put-requires g c =
+    omega (
+      arith,
+      put-length are_on_one_scope c.self.inside.limits (record { scope = c.args.scope; amount = c.args.amount }),
+      c.if-len-eq-MOST_LIMITS.false,
+      c.len.ensures.len,
+      c.len.ensures.few,
+    )
+
+pub invariant_of-self-2 : goal.invariant_of-self-2
+invariant_of-self-2 g c =
+    let e : LimitEntry = record { limit = record { scope = c.args.scope; amount = c.args.amount }; place = 1 } in
+    let entries = c.self.inside.entries.items in
+    let are = c.self.invariant.entries in
+    let hold = rw (← c.self.view_is) at c.requires in
+    let room : length (latest entries) < most_limits =
+    omega (
+      arith,
+      c.if-len-eq-MOST_LIMITS.false,
+      c.len.ensures.len,
+      c.len.ensures.few,
+      ap (λ (ls : Limits). length ls) c.self.invariant.limits,
+    ) in
+    let more = latest-changed entries e are.distinct are.rising hold in
+    let few : has_few (changed entries e) ≡ true =
+    rw (
+      le-leb (length (latest (changed entries e))) most_limits
+          (omega (arith, ap (λ (ls : Limits). length ls) more, put-length are_on_one_scope (latest entries) e.limit)),
+      le-leb (length (changed entries e)) most_entries
+          (omega (arith, latest-first entries are hold, put-length are_one_entry entries e)),
+    ) refl in
+    let new = c.in_ok-put_entry.ensures.changed in
+    record {
+      entries = rw new (AreEntries-changed entries e are hold (omega arith) c.if-amount-gt-GREATEST_AMOUNT.false few);
+      limits = c.put.ensures ∙ ap (λ ls. put are_on_one_scope ls e.limit) c.self.invariant.limits ∙ sym more ∙ ap latest (sym new);
+    }
+
+pub returns-clause-added : goal.returns-clause-added
+returns-clause-added g c =
+    let e : LimitEntry = record { limit = record { scope = c.args.scope; amount = c.args.amount }; place = 1 } in
+    let entries = c.self.inside.entries.items in
+    let none : has_scope c.args.scope (latest entries) ≡ false =
+    rw (c.as_slice.ensures.limits, c.self.invariant.limits) at (sym c.if-has_scope.ensures) in
+    rw (← c.self.view_is) (c.in_ok-put_entry.ensures.changed ∙ changed-new entries e none)

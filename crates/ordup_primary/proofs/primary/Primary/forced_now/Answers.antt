@@ -30,4 +30,4 @@ returns-clause-sites g c =
     let are = AreLedgers-extended p old new c.args.head before c.extend_to.ensures.count here extended in
     rw (← c.self.view_is) (rw c.as_slice.ensures.value at (c.sites_over.ensures p.log p.setup.groups default)
     (λ s d lt. (are.each s d lt).stands)
-    ∙ forced-by_ledgers p old new c.args.head default before c.extend_to.ensures.count here extended)
+    ∙ forced-by_ledgers p old new c.args.head default c.self.invariant.primary before c.extend_to.ensures.count here extended)

@@ -16,12 +16,13 @@ invariant_of-result g c =
             acked = 0;
             decided = 0;
             sites = c.in_ok-log.sites;
+            limits = c.in_ok-limits.limits;
             ledgers = c.in_ok-ledgers.ledgers;
           }))
           (rw c.setup.view_is at c.setup.invariant) c.requires c.in_ok-log.ensures.log c.in_ok-log.ensures.legal
-          refl refl c.in_ok-log.ensures.sites;
+          refl refl c.in_ok-log.ensures.sites c.in_ok-limits.ensures.limits;
       ledgers = AreLedgers-kept (first_state c.args.setup) _ c.in_ok-ledgers.ledgers.items c.in_ok-ledgers.ensures.ledgers refl
-          c.in_ok-log.ensures.log (omega arith) (ap length c.in_ok-log.ensures.sites)
+          c.in_ok-log.ensures.log c.in_ok-limits.ensures.limits (omega arith) (ap length c.in_ok-log.ensures.sites)
           (λ s lt. ap (λ (sites : List SiteProgress). (get_or sites s first_progress).reported) c.in_ok-log.ensures.sites);
     }
 
@@ -35,7 +36,8 @@ returns-clause-sound g c =
       acked = 0;
       decided = 0;
       sites = c.in_ok-log.sites;
+      limits = c.in_ok-limits.limits;
       ledgers = c.in_ok-ledgers.ledgers;
     }))
     (rw c.setup.view_is at c.setup.invariant) c.requires c.in_ok-log.ensures.log c.in_ok-log.ensures.legal
-    refl refl c.in_ok-log.ensures.sites
+    refl refl c.in_ok-log.ensures.sites c.in_ok-limits.ensures.limits

@@ -1,0 +1,35 @@
+use Rattle.std.proofs.Common.{arith, ap, sym, ◌∙◌, length}
+use Rattle.std.specs.Prelude.{nat_le}
+use Rattle.std.proofs.lemmas.Bool.{and_parts, leb-true}
+use Rattle.ordup_limits.specs.Entries.{entry_of, changed, latest, put}
+use Rattle.ordup_limits.specs.Limits.{Limits, are_on_one_scope}
+use Rattle.ordup_limits.specs.Sizes.{most_entries, most_limits}
+use Rattle.ordup_limits.proofs.EntryLemmas.{change-allowed, latest-changed, AreEntries-changed}
+use Rattle.ordup_limits.proofs.limit_table.LimitTable.change.Goals as goal
+
+pub put-requires : goal.put-requires
+put-requires g c =
+    let e = entry_of c.args.scope c.args.amount c.args.place in
+    let entries = c.self.inside.entries.items in
+    let are = c.self.invariant.entries in
+    let few = (change-allowed _ _ entries e (rw (← c.self.view_is) at c.in_ok-check_change.ensures.allowed)).1 in
+    let room = and_parts (nat_le (length (latest (changed entries e))) most_limits) (nat_le (length (changed entries e)) most_entries) few in
+    rw c.self.invariant.limits (omega (
+      arith,
+      leb-true (length (latest (changed entries e))) most_limits room.0,
+      ap (λ (ls : Limits). length ls) (latest-changed entries e are.distinct are.rising (rw (← c.self.view_is) at c.requires.last)),
+    ))
+
+pub invariant_of-self-2 : goal.invariant_of-self-2
+invariant_of-self-2 g c =
+    let e = entry_of c.args.scope c.args.amount c.args.place in
+    let entries = c.self.inside.entries.items in
+    let are = c.self.invariant.entries in
+    let hold = rw (← c.self.view_is) at c.requires.last in
+    let may = change-allowed _ _ entries e (rw (← c.self.view_is) at c.in_ok-check_change.ensures.allowed) in
+    let new = c.in_ok-put_entry.ensures.changed in
+    record {
+      entries = rw new (AreEntries-changed entries e are hold c.requires.begun may.0 may.1);
+      limits = c.put.ensures ∙ ap (λ ls. put are_on_one_scope ls e.limit) c.self.invariant.limits
+          ∙ sym (latest-changed entries e are.distinct are.rising hold) ∙ ap latest (sym new);
+    }

@@ -1,0 +1,110 @@
+ghost use Rattle.std.specs.Prelude.{◌≡◌, ◌≤◌, ◌<◌, ◌++◌, ◌∷◌, [], length};
+ghost use Rattle.std.specs.List.{position, position_or_len};
+ghost use Rattle.ordup_limits.specs.Entries.{put};
+ghost use Rattle.ordup_limits.specs.Limits.{is_same_scope, are_on_one_scope};
+ghost use Rattle.ordup_limits.specs.Sizes.{most_limits};
+
+use crate::limit::Limit;
+use crate::sizes::MOST_LIMITS;
+use ordup_log::Scope;
+use std::marker::Model;
+
+/// At most 64 limits, each on a scope of its own. It takes no memory.
+#[derive(Debug, Drop)]
+pub(crate) struct LimitList {
+    limits: [Limit; MOST_LIMITS],
+    count: usize,
+}
+
+impl Model for LimitList {
+    ghost use Rattle.ordup_limits.specs.Limits.{Limits};
+    ghost use Rattle.ordup_limits.specs.LimitListInside.{limits_of, HasFewLimits};
+
+    ghost Value = { Limits };
+
+    ghost view = { limits_of };
+
+    ghost invariant = { HasFewLimits };
+}
+
+impl LimitList {
+    /// No limits.
+    pub(crate) fn new() -> Self
+        ensures { result ≡ [] }
+    {
+        let limit = Limit {
+            scope: Scope::Count,
+            amount: 0,
+        };
+        LimitList {
+            limits: [limit; MOST_LIMITS],
+            count: 0,
+        }
+    }
+
+    /// The same limits once more.
+    pub(crate) fn copy(&self) -> Self
+        ensures { result ≡ self.now }
+    {
+        let mut limits = LimitList::new();
+        for limit in self.as_slice() {
+            limits.push(limit);
+        }
+        limits
+    }
+
+    /// Puts a limit in the place of the one on its scope, or else as the last.
+    pub(crate) fn put(&mut self, limit: &Limit)
+        requires { length (put are_on_one_scope self.old limit.now) ≤ most_limits }
+        ensures { self.new ≡ put are_on_one_scope self.old limit.now }
+    {
+        match self.place_of(&limit.scope) {
+            Some(place) => self.limits[place] = *limit,
+            None => self.push(limit),
+        }
+    }
+
+    /// Adds a limit as the last.
+    fn push(&mut self, limit: &Limit)
+        requires { length self.old < most_limits }
+        ensures { self.new ≡ self.old ++ limit.now ∷ [] }
+    {
+        self.limits[self.count] = *limit;
+        self.count += 1;
+    }
+
+    /// The place of the limit on a scope, if there is one.
+    pub(crate) fn place_of(&self, scope: &Scope) -> Option<usize>
+        ensures { result ≡ position (λ l. is_same_scope l.scope scope.now) self.now }
+    {
+        self.as_slice()
+            .iter()
+            .position(|limit| limit.scope == *scope)
+    }
+
+    /// The place of the limit on a scope, or else the place after the last.
+    pub(crate) fn place_for(&self, scope: &Scope) -> usize
+        ensures { result ≡ position_or_len (λ l. is_same_scope l.scope scope.now) self.now }
+    {
+        match self.place_of(scope) {
+            Some(place) => place,
+            None => self.len(),
+        }
+    }
+
+    /// How many limits there are.
+    pub(crate) fn len(&self) -> usize
+        ensures len { result ≡ length self.now }
+        ensures few { length self.now ≤ most_limits }
+    {
+        self.count
+    }
+
+    /// The limits.
+    pub(crate) fn as_slice(&self) -> &[Limit]
+        ensures limits { result.now ≡ self.now }
+        ensures few { length self.now ≤ most_limits }
+    {
+        &self.limits[..self.count]
+    }
+}

@@ -1,0 +1,191 @@
+-- A primary whose limits change.
+use Rattle.std.proofs.Common.{◌≡◌, ℕ, ◌+◌, ◌<◌, ◌≤◌, ◌==◌, Bool, not, List, [], length, get_or}
+use Rattle.std.proofs.Common.{arith, refl, sym, ap, ◌∙◌, inl, inr}
+use Rattle.std.specs.Prelude.{Option, Some, None, nat_lt, nat_le, if◌then◌else◌}
+use Rattle.std.specs.Option.{option_or}
+use Rattle.std.proofs.Math.ListN.{set, length-set}
+use Rattle.std.proofs.lemmas.Bool.{and_parts, cases_Bool, cases_eq, ltb-false, le-leb, leb-true, eqb-true}
+use Rattle.std.proofs.lemmas.List.{get_or-set_other, length-map}
+use Rattle.std.proofs.lemmas.List.Elements.{All-set}
+use Rattle.std.proofs.lemmas.Grind.{get_or-set_at}
+use Rattle.ordup_objects.specs.declared.refusal.Refusal.{Refusal}
+use Rattle.ordup_objects.specs.declared.refusal.Refusal.TheVariants.{HeadPending, LagOver}
+use Rattle.ordup_log.specs.Spans.{span, IsScopeKnown}
+use Rattle.ordup_log.specs.declared.scope.Scope.{Scope}
+use Rattle.ordup_rounds.proofs.RoundLemmas.{rounds_upto-same, windows_upto-same}
+use Rattle.ordup_limits.specs.declared.limit_entry.LimitEntry.{LimitEntry}
+use Rattle.ordup_limits.specs.Limits.{Limits, keeps, within, are_on_one_scope}
+use Rattle.ordup_limits.specs.Entries.{entry_of, put, latest, in_force, are_one_entry, changed, change_refusal, HoldFrom, AreEntries}
+use Rattle.ordup_limits.specs.Entries.{AreEntriesKnown}
+use Rattle.ordup_limits.specs.Ledgers.{LedgerState, StandsFor}
+use Rattle.ordup_limits.proofs.PutLemmas.{All-put}
+use Rattle.ordup_limits.proofs.EntryLemmas.{change-allowed, in_force-before, latest-changed, within-put}
+use Rattle.ordup_limits.specs.Sizes.{most_limits, most_entries}
+use Rattle.ordup_primary.specs.Primaries.{SiteProgress, PrimaryState, progress_at, limits_at, reported_at, is_within}
+use Rattle.ordup_primary.specs.Primaries.{relimit_refusal, relimited, IsSiteSound, IsPrimary}
+use Rattle.ordup_primary.specs.PrimaryInside.{AreLedgers}
+
+-- ---- what an allowed change is
+
+either_none : (o p : Option Refusal) → option_or o p ≡ None → (o ≡ None) × (p ≡ None)
+either_none None p e = (refl, e)
+either_none (Some r) p e = absurd cc
+
+-- the table allows it, all decided updates are acknowledged, and what a site lags weighs no more than the amount
+pub relimit-allowed : (p : PrimaryState) (s : ℕ) (scope : Scope) (amount : ℕ) → relimit_refusal p s scope amount ≡ None
+    → (change_refusal (length p.setup.objects) p.setup.groups (limits_at p s) (entry_of scope amount (p.acked + 1)) ≡ None)
+    × (p.acked ≡ p.decided) × (span p.log p.setup.groups scope (progress_at p s).reported p.acked ≤ amount)
+relimit-allowed p s scope amount allowed =
+    let weight = span p.log p.setup.groups scope (progress_at p s).reported p.acked in
+    let both = either_none (change_refusal (length p.setup.objects) p.setup.groups (limits_at p s) (entry_of scope amount (p.acked + 1))) (
+    if not (p.acked == p.decided) then Some HeadPending else
+    if nat_lt amount weight then Some LagOver else None) allowed in
+    elim (cases_Bool (p.acked == p.decided)) [
+      | inr pending ↦ absurd (let no : Some HeadPending ≡ None = rw pending at both.1 in cc)
+      | inl settled ↦ elim (cases_Bool (nat_lt amount weight)) [
+        | inl over ↦ absurd (let no : Some LagOver ≡ None = rw (settled, over) at both.1 in cc)
+        | inr near ↦ (both.0, eqb-true p.acked p.decided settled, ltb-false amount weight near)
+      ]
+    ]
+
+-- there is room for the limit in the ledger of the site
+pub relimit-room : (p : PrimaryState) (s : ℕ) (scope : Scope) (amount : ℕ) → IsPrimary p → s < length p.sites → AreEntries (limits_at p s)
+    → relimit_refusal p s scope amount ≡ None
+    → length (put are_on_one_scope (latest (limits_at p s)) (record { scope = scope; amount = amount })) ≤ most_limits
+relimit-room p s scope amount is there are allowed =
+    let e = entry_of scope amount (p.acked + 1) in
+    let may = relimit-allowed p s scope amount allowed in
+    let few = (change-allowed (length p.setup.objects) p.setup.groups (limits_at p s) e may.0).1 in
+    let room = and_parts (nat_le (length (latest (changed (limits_at p s) e))) most_limits)
+    (nat_le (length (changed (limits_at p s) e)) most_entries) few in
+    omega (
+      arith,
+      leb-true (length (latest (changed (limits_at p s) e))) most_limits room.0,
+      ap (λ (ls : Limits). length ls)
+          (latest-changed (limits_at p s) e are.distinct are.rising (is.begun s [] (omega (arith, is.tables)))),
+    )
+
+-- a scope that is there is so for the log
+pub known-in_log : (p : PrimaryState) (scope : Scope) → IsPrimary p → IsScopeKnown (length p.setup.objects) p.setup.groups scope
+    → IsScopeKnown (length p.log.start) p.setup.groups scope
+known-in_log p scope is known =
+    rw (ap length is.start ∙ length-map p.setup.objects _) known
+
+-- ---- one site
+
+-- a site by a test that agrees at the decided places
+pub IsSiteSound-same : (keeps more : ℕ → ℕ → Bool) (updates acked decided : ℕ) (site : SiteProgress) → acked ≤ decided
+    → ((a k : ℕ) → k ≤ decided → keeps a k ≡ more a k) → IsSiteSound keeps updates acked decided site
+    → IsSiteSound more updates acked decided site
+IsSiteSound-same keeps more updates acked decided site le same is = record {
+  reported = is.reported;
+  sent = is.sent;
+  count = is.count;
+  risen = is.risen;
+  rounds = is.rounds
+      ∙ rounds_upto-same keeps more (reported_at site) (reported_at site) decided (λ k some few. same (reported_at site k) k few);
+  windows = is.windows
+      ∙ windows_upto-same keeps more (reported_at site) (reported_at site) decided (λ k some few. same (reported_at site k) k few)
+      (λ k some few. refl);
+  answered = λ k some few forced. is.answered k some few (same (reported_at site k) k (omega arith) ∙ forced);
+  rising = is.rising;
+  before = λ j k some lt few forced. is.before j k some lt few (same (reported_at site j) j (omega arith) ∙ forced);
+}
+
+-- ---- the primary
+
+-- the limits of a site after the change, and those of the others
+changed-at : (p : PrimaryState) (s t : ℕ) (scope : Scope) (amount : ℕ) → s < length p.limits
+    → (t ≡ s → limits_at (relimited p s scope amount) t ≡ changed (limits_at p s) (entry_of scope amount (p.acked + 1)))
+    × ((t ≡ s → ⊥) → limits_at (relimited p s scope amount) t ≡ limits_at p t)
+changed-at p s t scope amount lt =
+    let here : t ≡ s → limits_at (relimited p s scope amount) t ≡ changed (limits_at p s) (entry_of scope amount (p.acked + 1)) =
+    λ same. get_or-set_at p.limits s t (changed (limits_at p s) (entry_of scope amount (p.acked + 1))) [] same lt in
+    let there : (t ≡ s → ⊥) → limits_at (relimited p s scope amount) t ≡ limits_at p t =
+    λ other. get_or-set_other p.limits s t (changed (limits_at p s) (entry_of scope amount (p.acked + 1))) [] other in
+    (here, there)
+
+-- the limits that were in force at a decided place stay so
+pub is_within-relimited : (p : PrimaryState) (s t a k : ℕ) (scope : Scope) (amount : ℕ) → s < length p.limits → k ≤ p.acked
+    → is_within p t a k ≡ is_within (relimited p s scope amount) t a k
+is_within-relimited p s t a k scope amount lt le =
+    let at = changed-at p s t scope amount lt in
+    ap (λ limits. within p.log p.setup.groups limits a k) (elim (cases_eq t s) [
+      | inl same ↦
+          ap (λ i. in_force (limits_at p i) k) same
+          ∙ sym (in_force-before (limits_at p s) (entry_of scope amount (p.acked + 1)) k (omega arith))
+          ∙ ap (λ entries. in_force entries k) (sym (at.0 same))
+      | inr other ↦ ap (λ entries. in_force entries k) (sym (at.1 other))
+    ])
+
+-- a primary with a limit that is changed
+pub IsPrimary-relimited : (p : PrimaryState) (s : ℕ) (scope : Scope) (amount : ℕ) → IsPrimary p → s < length p.sites
+    → AreEntries (limits_at p s) → IsScopeKnown (length p.setup.objects) p.setup.groups scope → relimit_refusal p s scope amount ≡ None
+    → IsPrimary (relimited p s scope amount)
+IsPrimary-relimited p s scope amount is there are known allowed =
+    let e = entry_of scope amount (p.acked + 1) in
+    let old = limits_at p s in
+    let lt : s < length p.limits = omega (arith, is.tables) in
+    let may = relimit-allowed p s scope amount allowed in
+    let hold : HoldFrom (p.acked + 1) old = is.begun s [] lt in
+    record {
+      ready = is.ready;
+      start = is.start;
+      legal = is.legal;
+      few = is.few;
+      count = is.count;
+      tables = length-set p.limits s (changed old e) ∙ is.tables;
+      acked = is.acked;
+      next = is.next;
+      decided = is.decided;
+      known = All-set (AreEntriesKnown (length p.setup.objects) p.setup.groups) p.limits s (changed old e)
+          (All-put (λ (f : LimitEntry). IsScopeKnown (length p.setup.objects) p.setup.groups f.limit.scope) are_one_entry old e
+          (is.known s [] lt) known) is.known;
+      begun = All-set (HoldFrom (p.acked + 1)) p.limits s (changed old e)
+          (All-put (λ (f : LimitEntry). f.place ≤ p.acked + 1) are_one_entry old e hold (omega arith)) is.begun;
+      lags = λ t below. (let at = changed-at p s t scope amount lt in elim (cases_eq t s) [
+        | inl same ↦
+            rw (at.0 same, latest-changed old e are.distinct are.rising hold, same)
+            (within-put p.log p.setup.groups (latest old) e.limit (progress_at p s).reported p.acked (is.lags s there)
+            (le-leb (span p.log p.setup.groups scope (progress_at p s).reported p.acked) amount may.2))
+        | inr other ↦ rw (at.1 other) (is.lags t below)
+      ]);
+      sites = λ t d below.
+          IsSiteSound-same (is_within p t) (is_within (relimited p s scope amount) t) (length p.log.sets) p.acked p.decided (get_or p.sites t d)
+          is.acked (λ a k le. is_within-relimited p s t a k scope amount lt (omega (arith, le, may.1))) (is.sites t d below);
+    }
+
+-- ---- the ledgers
+
+-- the ledger of the site has the limit too
+pub AreLedgers-relimited : (p : PrimaryState) (s : ℕ) (scope : Scope) (amount : ℕ) (ledgers : List LedgerState) (l : LedgerState)
+    → IsPrimary p → AreLedgers p ledgers → s < length p.sites → AreEntries (limits_at p s) → StandsFor l p.log p.setup.groups
+    → l.limits ≡ put are_on_one_scope (get_or ledgers s l).limits (record { scope = scope; amount = amount })
+    → (l.reported ≡ (get_or ledgers s l).reported) × (l.extended ≡ (get_or ledgers s l).extended)
+    → AreLedgers (relimited p s scope amount) (set ledgers s l)
+AreLedgers-relimited p s scope amount ledgers l is are there keep stands limits places =
+    let e = entry_of scope amount (p.acked + 1) in
+    let lt : s < length p.limits = omega (arith, is.tables) in
+    record {
+      count = length-set ledgers s l ∙ are.count;
+      each = λ t d below. (let inside : t < length ledgers = rw (length-set ledgers s l) at below in
+          let at = changed-at p s t scope amount lt in
+          elim (cases_eq t s) [
+            | inl same ↦ (let before = are.each s l (rw same at inside) in
+                rw (get_or-set_at ledgers s t l d same (rw same at inside)) (record {
+                  stands = stands;
+                  limits = limits ∙ ap (λ ls. put are_on_one_scope ls e.limit) before.limits
+                      ∙ sym (latest-changed (limits_at p s) e keep.distinct keep.rising (is.begun s [] lt))
+                      ∙ ap latest (sym (at.0 same));
+                  reported = places.0 ∙ before.reported ∙ ap (λ k. (progress_at p k).reported) (sym same);
+                  extended = omega (arith, places.1, before.extended);
+                }))
+            | inr other ↦ (let before = are.each t d inside in
+                rw (get_or-set_other ledgers s t l d other) (record {
+                  stands = before.stands;
+                  limits = before.limits ∙ ap latest (sym (at.1 other));
+                  reported = before.reported;
+                  extended = before.extended;
+                }))
+          ]);
+    }

@@ -27,7 +27,7 @@ use Rattle.ordup_limits.specs.declared.limit_entry.LimitEntry.{LimitEntry}
 use Rattle.ordup_limits.specs.Limits.{Limits, is_same_scope, are_on_one_scope, AreScopesKnown, keeps, within, scope_refusal}
 use Rattle.ordup_limits.specs.Entries.{change_refusal}
 use Rattle.ordup_limits.specs.Entries.{Entries, put, latest, in_force, are_one_entry, changed, has_few, HoldFrom, AreEntries}
-use Rattle.ordup_limits.specs.Entries.{AreEntriesKnown, LimitsInForceAreTests}
+use Rattle.ordup_limits.specs.Entries.{AreEntriesKnown, LimitsInForceAreTests, LimitsInForceKeepTheirNumbers}
 use Rattle.ordup_limits.specs.Sizes.{most_limits, most_entries, greatest_amount}
 use Rattle.ordup_limits.proofs.PutLemmas.{put-length, put-found, put-new, position-absent, list_any-put, repeats-put, All-put}
 use Rattle.ordup_limits.proofs.LimitLemmas.{within-empty, within-later}
@@ -420,3 +420,44 @@ within-put h groups (m ∷ limits) l a b all here =
       | inl same ↦ rw same (rw (here, parts.1) refl)
       | inr other ↦ rw other (rw (parts.0, within-put h groups limits l a b parts.1 here) refl)
     ]
+
+-- ---- the numbers of the limits in force
+
+-- a limit that is put in leaves each scope where it was
+put-scope : (limits : Limits) (l : Limit) (i : ℕ) (d : Limit) → i < length limits
+    → (get_or (put are_on_one_scope limits l) i d).scope ≡ (get_or limits i d).scope
+put-scope [] l i d lt = absurd (omega arith)
+put-scope (k ∷ limits) l zero d lt = elim (cases_Bool (is_same_scope k.scope l.scope)) [
+  | inl here ↦ rw here (sym (same_scope k.scope l.scope here))
+  | inr there ↦ rw there refl
+]
+put-scope (k ∷ limits) l (suc i) d lt = elim (cases_Bool (is_same_scope k.scope l.scope)) [
+  | inl here ↦ rw here refl
+  | inr there ↦ rw there (put-scope limits l i d (omega arith))
+]
+
+latest-scope : (limits : Limits) (entries : Entries) (i : ℕ) (d : Limit) → i < length limits
+    → (get_or (latest_from limits entries) i d).scope ≡ (get_or limits i d).scope
+latest-scope limits [] i d lt = refl
+latest-scope limits (e ∷ entries) i d lt =
+    latest-scope (put are_on_one_scope limits e.limit) entries i d (omega (arith, put-length are_on_one_scope limits e.limit))
+    ∙ put-scope limits e.limit i d lt
+
+numbers-from : (limits : Limits) (entries : Entries) (k i : ℕ) (d : Limit) → IsNonDecreasingBy (λ e. e.place) entries
+    → i < length (latest_from limits (filter (λ e. nat_le e.place k) entries))
+    → (i < length (latest_from limits entries))
+    × ((get_or (latest_from limits (filter (λ e. nat_le e.place k) entries)) i d).scope ≡ (get_or (latest_from limits entries) i d).scope)
+numbers-from limits [] k i d rising lt = (lt, refl)
+numbers-from limits (e ∷ entries) k i d rising lt = elim (cases_lt k e.place) [
+  | inl later ↦ (let all : All (λ f. k < f.place) (e ∷ entries) = λ j f below. omega (arith, rising 0 j f (omega arith) below) in
+      let none : filter (λ (f : LimitEntry). nat_le f.place k) (e ∷ entries) ≡ [] = filter-none k (e ∷ entries) all in
+      let here : i < length limits = rw none at lt in
+      rw none (omega (arith, latest-length limits (e ∷ entries)), sym (latest-scope limits (e ∷ entries) i d here)))
+  | inr begun ↦ (let kept : nat_le e.place k ≡ true = le-leb e.place k begun in
+      let rest : IsNonDecreasingBy (λ (f : LimitEntry). f.place) entries =
+      λ m n f le below. rising (suc m) (suc n) f (omega arith) (omega arith) in
+      rw kept (numbers-from (put are_on_one_scope limits e.limit) entries k i d rest (rw kept at lt)))
+]
+
+pub in_force-numbers : LimitsInForceKeepTheirNumbers
+in_force-numbers entries k i d rising lt = numbers-from [] entries k i d rising lt

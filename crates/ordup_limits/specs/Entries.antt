@@ -1,6 +1,6 @@
 -- Limits by place: entries, each of which holds from a place on, and the limits that are in force at a place.
 use Rattle.std.specs.Prelude.{◌≡◌, ◌≤◌, ◌<◌, ℕ, ◌==◌, ◌&&◌, if◌then◌else◌, Option, Some, None, Bool, false}
-use Rattle.std.specs.Prelude.{List, [], ◌∷◌, length, nat_lt, nat_le, fold, filter, All}
+use Rattle.std.specs.Prelude.{List, [], ◌∷◌, length, nat_lt, nat_le, fold, filter, slice_index_or, All}
 use Rattle.std.specs.List.Sorted.{IsNonDecreasingBy}
 use Rattle.std.specs.Option.{option_or}
 use Rattle.ordup_objects.specs.declared.refusal.Refusal.{Refusal}
@@ -13,6 +13,7 @@ use Rattle.ordup_log.specs.declared.scope.Scope.{Scope}
 use Rattle.ordup_rounds.specs.Schedules.{IsLimitTest}
 use Rattle.ordup_limits.specs.Limits.{Limits, are_on_one_scope, scope_refusal, within}
 use Rattle.ordup_limits.specs.Sizes.{most_limits, most_entries, greatest_amount}
+use Rattle.ordup_limits.specs.declared.limit.Limit.{Limit}
 use Rattle.ordup_limits.specs.declared.limit_entry.LimitEntry.{LimitEntry}
 
 -- the limits of a site as they were declared and changed, in this order
@@ -40,6 +41,13 @@ in_force entries k = latest (filter (λ e. nat_le e.place k) entries)
 abbrev pub LimitsInForceAreTests : Type 0
 LimitsInForceAreTests =
     (h : History) (groups : GroupList) (entries : Entries) → IsLimitTest (λ a b. within h groups (in_force entries b) a b)
+
+-- the limits in force at a place are on the first of the scopes that have a limit now, in the same order: so a number among them is
+-- that of the same scope
+abbrev pub LimitsInForceKeepTheirNumbers : Type 0
+LimitsInForceKeepTheirNumbers =
+    (entries : Entries) (k i : ℕ) (d : Limit) → IsNonDecreasingBy (λ e. e.place) entries → i < length (in_force entries k)
+    → (i < length (latest entries)) × ((slice_index_or (in_force entries k) i d).scope ≡ (slice_index_or (latest entries) i d).scope)
 
 -- two entries are of one scope and one place
 abbrev pub are_one_entry : LimitEntry → LimitEntry → Bool

@@ -1,5 +1,5 @@
 ghost use Rattle.ordup_limits.specs.Limits.{LongerHistoriesKeepLimits, LaterSpansKeepLimits, EmptySpansKeepLimits};
-ghost use Rattle.ordup_limits.specs.Entries.{LimitsInForceAreTests};
+ghost use Rattle.ordup_limits.specs.Entries.{LimitsInForceAreTests, LimitsInForceKeepTheirNumbers};
 ghost use Rattle.ordup_limits.specs.Ledgers.{LongerHistoriesKeepLedgers};
 
 /// A law: updates that are added later leave it as it was whether a span passes a limit.
@@ -20,6 +20,12 @@ pub fn empty_spans_keep_limits()
 /// A law: the limits that are in force at the end of a span are a test of spans, as the law of the fewest rounds asks for it.
 pub fn limits_in_force_are_tests()
     ensures { LimitsInForceAreTests }
+{}
+
+/// A law: the number of a limit that is in force at a place, which `LimitTable::over` answers, is that of the same scope in
+/// `LimitTable::get`.
+pub fn limits_in_force_keep_their_numbers()
+    ensures { LimitsInForceKeepTheirNumbers }
 {}
 
 /// A law: a ledger of a log is one of each longer log.

@@ -19,7 +19,8 @@ mod totals;
 pub use lag_ledger::LagLedger;
 pub use laws::{
     empty_spans_keep_limits, later_spans_keep_limits, limits_in_force_are_tests,
-    longer_histories_keep_ledgers, longer_histories_keep_limits,
+    limits_in_force_keep_their_numbers, longer_histories_keep_ledgers,
+    longer_histories_keep_limits,
 };
 pub use limit::Limit;
 pub use limit_entry::LimitEntry;

@@ -122,6 +122,8 @@ impl<A: Allocator + Copy> LimitTable<A> {
         ensures allowed { OnOk result (change_refusal (length objects.now) groups.now self.old (entry_of scope amount place) ≡ None) }
         ensures refused { IfErr result (λ e. IsRefusal (change_refusal (length objects.now) groups.now self.old (entry_of scope amount place)) e) }
         ensures err { IfErr result (λ _. self.new ≡ self.old) }
+        // No entry holds from later, so the next change may be made at the place too, or at a later one.
+        ensures last { HoldFrom place self.new }
     {
         // The prover joins branches over a borrowed scope, not over a copied one.
         let scope = &scope;

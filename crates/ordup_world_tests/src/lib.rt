@@ -10,6 +10,8 @@ mod ledgers;
 #[cfg(test)]
 mod limits;
 #[cfg(test)]
+mod places;
+#[cfg(test)]
 mod primary;
 #[cfg(test)]
 mod running;

@@ -1,9 +1,11 @@
-use Rattle.std.proofs.Common.{arith, ap, sym, ◌∙◌, length}
+use Rattle.std.proofs.Common.{◌≤◌, arith, ap, sym, ◌∙◌, length}
 use Rattle.std.specs.Prelude.{nat_le}
 use Rattle.std.proofs.lemmas.Bool.{and_parts, leb-true}
-use Rattle.ordup_limits.specs.Entries.{entry_of, changed, latest, put}
+use Rattle.ordup_limits.specs.Entries.{are_one_entry, entry_of, changed, latest, put}
+use Rattle.ordup_limits.specs.declared.limit_entry.LimitEntry.{LimitEntry}
 use Rattle.ordup_limits.specs.Limits.{Limits, are_on_one_scope}
 use Rattle.ordup_limits.specs.Sizes.{most_entries, most_limits}
+use Rattle.ordup_limits.proofs.PutLemmas.{All-put}
 use Rattle.ordup_limits.proofs.EntryLemmas.{change-allowed, latest-changed, AreEntries-changed}
 use Rattle.ordup_limits.proofs.limit_table.LimitTable.change.Goals as goal
 
@@ -33,3 +35,8 @@ invariant_of-self-2 g c =
       limits = c.put.ensures ∙ ap (λ ls. put are_on_one_scope ls e.limit) c.self.invariant.limits
           ∙ sym (latest-changed entries e are.distinct are.rising hold) ∙ ap latest (sym new);
     }
+
+pub returns-clause-last : goal.returns-clause-last
+returns-clause-last g c =
+    rw c.in_ok-put_entry.ensures.changed (All-put (λ (e : LimitEntry). e.place ≤ c.args.place) are_one_entry c.self.inside.entries.items
+    (entry_of c.args.scope c.args.amount c.args.place) (rw (← c.self.view_is) at c.requires.last) (omega arith))

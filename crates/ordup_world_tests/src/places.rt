@@ -1,0 +1,193 @@
+//! Limits by place: a table at its sizes, and a primary whose limits change.
+ghost use Rattle.std.specs.Prelude.{◌≡◌, ◌≤◌, ◌<◌, ℕ, length};
+ghost use Rattle.ordup_limits.specs.Entries.{HoldFrom};
+
+use ordup_limits::{Groups, LimitTable, Scope};
+use ordup_objects::{Change, MessageSet, ObjectId, ObjectTable, Op, Refusal, SiteId};
+use ordup_primary::{Primary, Settled, Setup, Window};
+use std::alloc::Global;
+use std::process::Abort;
+use std::test::Fail;
+
+/// The first site.
+fn a() -> SiteId
+    ensures { result ≡ 0 }
+{
+    SiteId::new(0)
+}
+
+/// The first object.
+fn x() -> Scope {
+    Scope::Object(ObjectId::new(0))
+}
+
+/// Why a change of a limit to 5 from a place on is refused, if it is.
+fn refusal_of_change(
+    table: &mut LimitTable,
+    objects: &ObjectTable,
+    groups: &Groups,
+    scope: Scope,
+    place: u64,
+) -> Option<Refusal>
+    requires begun { 0 < place }
+    requires last { HoldFrom place table.old }
+    ensures last { HoldFrom place table.new }
+{
+    match table.change(objects, groups, scope, 5, place) {
+        Ok(()) => None,
+        Err(refusal) => Some(refusal),
+    }
+}
+
+/// Changes the limit on x at each place from 2 to 1,025.
+fn change_at_each_place(
+    rt: &impl Abort,
+    table: &mut LimitTable,
+    objects: &ObjectTable,
+    groups: &Groups,
+)
+    requires { HoldFrom 1 table.old }
+    ensures { HoldFrom 1025 table.new }
+{
+    for place in 2..1_026 {
+        assert_eq!(rt; refusal_of_change(table, objects, groups, x(), place), None, "at {place}");
+    }
+}
+
+/// Declares 63 objects, and a site with limits on 62 of them, on all and on the count: 64 in all.
+fn declare_64_limits(rt: &impl Abort, setup: &mut Setup) {
+    for number in 0..63 {
+        let name = [b'x', b'0' + number / 10, b'0' + number % 10];
+        assert!(rt; setup.object(&name, 0).is_ok());
+    }
+    assert!(rt; setup.site(b"a", 1).is_ok());
+    for number in 0..62 {
+        let scope = Scope::Object(ObjectId::new(number));
+        assert!(rt; setup.limit(a(), scope, 5).is_ok());
+    }
+    assert!(rt; setup.limit(a(), Scope::All, 5).is_ok());
+    assert!(rt; setup.limit(a(), Scope::Count, 5).is_ok());
+}
+
+#[test]
+fn a_table_has_64_scopes_and_1088_entries(rt: HostRuntime) -> Result<(), Fail> {
+    let mut setup = Setup::new(rt.alloc());
+    declare_64_limits(&rt, &mut setup);
+    assert!(rt; setup.sites() > 0);
+    let (objects, groups) = (setup.objects(), setup.groups());
+    let mut table = setup.limits(a()).copy(rt.alloc())?;
+    let another = Scope::Object(ObjectId::new(62));
+    let of_a_65th_scope = refusal_of_change(&mut table, objects, groups, another, 1);
+    assert_eq!(rt; of_a_65th_scope, Some(Refusal::TooMany));
+    change_at_each_place(&rt, &mut table, objects, groups);
+    assert_eq!(rt; (table.len(), table.entries().len()), (64, 1_088));
+    let of_another = refusal_of_change(&mut table, objects, groups, Scope::All, 1_025);
+    assert_eq!(rt; of_another, Some(Refusal::TooMany));
+    let of_a_replaced_one = refusal_of_change(&mut table, objects, groups, x(), 1_025);
+    assert_eq!(rt; of_a_replaced_one, None);
+    let of_one_more = refusal_of_change(&mut table, objects, groups, x(), 1_026);
+    assert_eq!(rt; of_one_more, Some(Refusal::TooMany));
+    assert_eq!(rt; (table.len(), table.entries().len()), (64, 1_088));
+    drop(table);
+    drop(setup);
+    Ok(())
+}
+
+/// Declares x at 0 and y at 10, and the site a with 5 allowed on x.
+fn declare_opening(rt: &impl Abort, setup: &mut Setup) {
+    assert!(rt; setup.object(b"x", 0).is_ok());
+    assert!(rt; setup.object(b"y", 10).is_ok());
+    assert!(rt; setup.site(b"a", 4).is_ok());
+    assert!(rt; setup.limit(a(), x(), 5).is_ok());
+}
+
+/// The primary of the opening.
+fn open(rt: &impl Abort, alloc: Global) -> Result<Primary, Refusal> {
+    let mut setup = Setup::new(alloc);
+    declare_opening(rt, &mut setup);
+    assert!(rt; setup.is_ready());
+    Primary::new(alloc, setup)
+}
+
+/// Adds to x, and sees that the update has this number.
+fn propose(rt: &impl Abort, primary: &mut Primary, added: i64, number: u64) {
+    let change = Change {
+        object: ObjectId::new(0),
+        op: Op::Add(added),
+    };
+    let Ok(set) = MessageSet::single(primary.setup().objects(), change) else {
+        panic!(rt; "the set is refused")
+    };
+    assert!(rt; set.are_known(primary.log().objects()));
+    assert_eq!(rt; primary.propose(set), Ok(number));
+}
+
+/// Sees that a settlement acknowledges this update.
+fn expect_acked(rt: &impl Abort, primary: &mut Primary, number: u64) {
+    match primary.settle() {
+        Ok(Settled::Acked(acked)) => assert_eq!(rt; acked, number),
+        _ => panic!(rt; "nothing is acknowledged"),
+    }
+}
+
+/// Sees that a settlement forces a round of a at this update.
+fn expect_round(rt: &impl Abort, primary: &mut Primary, number: u64) {
+    match primary.settle() {
+        Ok(Settled::Round { k, sites }) => {
+            assert_eq!(rt; (k, sites.as_slice()), (number, [a()].as_slice()));
+        }
+        _ => panic!(rt; "there is no round"),
+    }
+}
+
+/// Changes the limit of a on x.
+fn relimit(rt: &impl Abort, primary: &mut Primary, amount: u64) -> Result<u64, Refusal> {
+    // For the proof: what each primary keeps.
+    let _acked = primary.acked();
+    assert!(rt; primary.setup().sites() > 0);
+    primary.relimit(a(), x(), amount)
+}
+
+/// Marks all updates as sent to a, and notes that a reported them.
+fn report_all(rt: &impl Abort, primary: &mut Primary) {
+    // For the proof: what each primary keeps.
+    let _acked = primary.acked();
+    assert!(rt; primary.setup().sites() > 0);
+    let updates = primary.log().len();
+    while primary.sent(a()) < updates {
+        primary.mark_sent(a());
+    }
+    primary.report(a(), updates);
+}
+
+/// Sees which rounds and windows a has.
+fn expect_rounds(rt: &impl Abort, primary: &Primary, rounds: &[u64], windows: &[Window]) {
+    // For the proof: what each primary keeps.
+    let _acked = primary.acked();
+    assert!(rt; primary.setup().sites() > 0);
+    assert!(rt; primary.rounds(a()) == rounds);
+    assert!(rt; primary.windows(a()) == windows);
+}
+
+#[test]
+fn what_is_decided_goes_by_the_limits_of_its_place(rt: HostRuntime) -> Result<(), Fail> {
+    let mut primary = open(&rt, rt.alloc())?;
+    propose(&rt, &mut primary, 3, 1);
+    expect_acked(&rt, &mut primary, 1);
+    // Update 1 weighs 3, and a has not reported it.
+    assert_eq!(rt; relimit(&rt, &mut primary, 2), Err(Refusal::LagOver));
+    assert_eq!(rt; relimit(&rt, &mut primary, 3), Ok(2));
+    propose(&rt, &mut primary, 1, 2);
+    // 3 + 1 is over the 3 of place 2.
+    expect_round(&rt, &mut primary, 2);
+    assert_eq!(rt; relimit(&rt, &mut primary, 9), Err(Refusal::HeadPending));
+    report_all(&rt, &mut primary);
+    expect_acked(&rt, &mut primary, 2);
+    assert_eq!(rt; relimit(&rt, &mut primary, 0), Ok(3));
+    propose(&rt, &mut primary, 1, 3);
+    expect_round(&rt, &mut primary, 3);
+    let windows = [Window { from: 0, to: 2 }, Window { from: 2, to: 3 }];
+    expect_rounds(&rt, &primary, &[2, 3], &windows);
+    drop(primary);
+    Ok(())
+}

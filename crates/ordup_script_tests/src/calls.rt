@@ -29,7 +29,7 @@ fn adds(place: u16, number: i64) -> Change {
 
 /// A call that copies or makes something of what a primary holds.
 ///
-/// Growths that were met, in the order of the calls: 4, 5, 1, 1, 1, 12, 1, 1, 3, 4, 2, 1, 1, 25 and 2. So the record's 25 are those of
+/// Growths that were met, in the order of the calls: 4, 5, 1, 1, 1, 12, 1, 1, 3, 3, 2, 1, 1, 25 and 2. So the record's 25 are those of
 /// the objects, the groups, the limits and the log, and 3 lists. The copy of a set of a single change, which stands in its place,
 /// meets none.
 #[derive(Clone, Copy, Debug)]
@@ -535,8 +535,8 @@ fn primary_refusal(rt: &impl Abort, heap: Heap<'_>, allowed: u64) -> Option<Refu
     }
 }
 
-// It met 9: 3 of the log, which are its two states and the list of its postings, 1 of the list of sites, 1 of that of ledgers, and 4
-// of a's ledger, which are its two lists of totals, its masks and its limit.
+// It met 10: 3 of the log, which are its two states and the list of its postings, 1 of the list of sites, 1 of that of their limits,
+// 1 of a's limit, 1 of the list of ledgers, and 3 of a's ledger, which are its two lists of totals and its masks.
 #[test]
 fn each_growth_of_a_new_primary_is_refused(rt: HostRuntime) {
     let scarce = Scarce::new(rt.alloc(), 0);
@@ -613,7 +613,7 @@ fn push_answers<'a>(out: &mut TextBuffer<Heap<'a>>, run: &Run<Heap<'a>>) -> Resu
     Ok(())
 }
 
-// It met 22: 12 of the start, 1 of the list of answers, and 9 within events: 5 of the first proposal, 3 of the first settlement, and
+// It met 23: 13 of the start, 1 of the list of answers, and 9 within events: 5 of the first proposal, 3 of the first settlement, and
 // 1 of what is shown.
 #[test]
 fn each_growth_of_a_run_is_refused(rt: HostRuntime) {

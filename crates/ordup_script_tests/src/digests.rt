@@ -139,6 +139,11 @@ pub(crate) fn add_limits<A: Allocator + Copy>(digest: &mut Digest, limits: &Limi
         digest.add_scope(scope);
         digest.add(amount);
     }
+    for entry in limits.entries() {
+        digest.add_scope(entry.limit.scope);
+        digest.add(entry.limit.amount);
+        digest.add(entry.place);
+    }
 }
 
 /// What the readers of declarations answer.
@@ -200,6 +205,7 @@ fn add_site<A: Allocator + Copy>(digest: &mut Digest, primary: &Primary<A>, site
 {
     digest.add(primary.sent(site));
     digest.add(primary.reported(site));
+    add_limits(digest, primary.limits(site));
     for place in 0..primary.decided() {
         digest.add(primary.reported_at(site, place + 1));
     }

@@ -41,37 +41,38 @@ module _ {A : Type 0} where
   -- the rounds and the windows follow from the rest
   IsStoreAfter-made : {setup : Declared} {w : StoreState} {past : Past A} → w.primary.setup ≡ setup → IsStore w
       → w.primary.log ≡ log_of setup past → w.primary.acked ≡ (decisions setup past).acked
-      → w.primary.decided ≡ (decisions setup past).decided
+      → w.primary.decided ≡ (decisions setup past).decided → w.primary.limits ≡ (decisions setup past).limits
       → ((s : ℕ) (d : SiteState) → s < length w.sites → IsSiteAfter setup past s (progress_at w.primary s) (get_or w.sites s d))
       → IsStoreAfter setup w past
-  IsStoreAfter-made {w} declared is log acked decided sites = record {
+  IsStoreAfter-made {w} declared is log acked decided limits sites = record {
     declared = declared;
     log = log;
     acked = acked;
     decided = decided;
+    limits = limits;
     sites = sites;
     rounds = λ s lt.
         let known : (progress_at w.primary s).rounds
         ≡ rounds_upto (is_within w.primary s) (report_at (progress_at w.primary s).reports) w.primary.decided =
         (is.primary.sites s first_progress (omega (arith, is.count))).rounds in
-        rw (declared, log, (sites s no_site lt).reports, decided) at known;
+        rw (declared, log, limits, (sites s no_site lt).reports, decided) at known;
     windows = λ s lt.
         let known : (progress_at w.primary s).windows
         ≡ windows_upto (is_within w.primary s) (report_at (progress_at w.primary s).reports) w.primary.decided =
         (is.primary.sites s first_progress (omega (arith, is.count))).windows in
-        rw (declared, log, (sites s no_site lt).reports, decided) at known;
+        rw (declared, log, limits, (sites s no_site lt).reports, decided) at known;
   }
 
   -- at the start
   pub IsStoreAfter-start : (w : StoreState) → IsStore w
       → w.primary.log ≡ record { start = initial_state w.primary.setup.objects; sets = [] } → w.primary.acked ≡ 0
       → w.primary.decided ≡ 0 → w.primary.sites ≡ replicate (length w.primary.setup.sites) first_progress
-      → w.sites ≡ replicate (length w.primary.setup.sites) (first_site w.primary.setup)
+      → w.primary.limits ≡ w.primary.setup.limits → w.sites ≡ replicate (length w.primary.setup.sites) (first_site w.primary.setup)
       → IsStoreAfter {A = A} w.primary.setup w []
-  IsStoreAfter-start w is log acked decided known sites =
+  IsStoreAfter-start w is log acked decided known limits sites =
       let n = length w.primary.setup.sites in
       let count : length w.sites ≡ n = ap length sites ∙ length-replicate n (first_site w.primary.setup) in
-      IsStoreAfter-made refl is log acked decided (λ s d lt.
+      IsStoreAfter-made refl is log acked decided limits (λ s d lt.
       rw (
         known,
         sites,
@@ -101,6 +102,7 @@ module _ {A : Type 0} where
     log = is.log;
     acked = is.acked;
     decided = is.decided;
+    limits = is.limits;
     sites = λ s d lt. let b = is.sites s d lt in site-is b.values b.sent b.applied b.reported b.reports;
     rounds = is.rounds;
     windows = is.windows;
@@ -115,7 +117,7 @@ module _ {A : Type 0} where
     pub IsStoreAfter-proposed : (m : List Change) → IsStore (with_proposed w m)
         → IsStoreAfter w.primary.setup (with_proposed w m) (Propose m ∷ past)
     IsStoreAfter-proposed m new =
-        IsStoreAfter-made refl new (ap (λ (l : History). let longer : History = with_update l m in longer) is.log) is.acked is.decided
+        IsStoreAfter-made refl new (ap (λ (l : History). let longer : History = with_update l m in longer) is.log) is.acked is.decided is.limits
         (λ s d lt. let b = is.sites s d lt in
         let holds = sound.sites s d lt in
         let few : applied s past ≤ length (sets_of past) =
@@ -131,7 +133,7 @@ module _ {A : Type 0} where
       -- one update more was sent to it
       pub IsStoreAfter-sent : IsStore (with_progress w s (one_sent w s))
           → IsStoreAfter w.primary.setup (with_progress w s (one_sent w s)) (Send s ∷ past)
-      IsStoreAfter-sent new = IsStoreAfter-made refl new is.log is.acked is.decided (λ t d below. elim (cases_eq t s) [
+      IsStoreAfter-sent new = IsStoreAfter-made refl new is.log is.acked is.decided is.limits (λ t d below. elim (cases_eq t s) [
         | inl same ↦ (let b = is.sites s d lt in
             rw (get_or-set_at w.primary.sites s t (one_sent w s) first_progress same (omega (arith, sound.count)), same)
             (site-is b.values (rw (eq-eqb s s refl) (ap (λ n. n + 1) b.sent)) b.applied b.reported b.reports))
@@ -143,7 +145,7 @@ module _ {A : Type 0} where
       -- it reported what it applied
       pub IsStoreAfter-reported : IsStore (with_progress w s (now_reported w s site.applied))
           → IsStoreAfter w.primary.setup (with_progress w s (now_reported w s site.applied)) (Report s ∷ past)
-      IsStoreAfter-reported new = IsStoreAfter-made refl new is.log is.acked is.decided (λ t d below. elim (cases_eq t s) [
+      IsStoreAfter-reported new = IsStoreAfter-made refl new is.log is.acked is.decided is.limits (λ t d below. elim (cases_eq t s) [
         | inl same ↦ (let b = is.sites s d lt in
             rw (get_or-set_at w.primary.sites s t (now_reported w s site.applied) first_progress same (omega (arith, sound.count)), same)
             (site-is b.values b.sent b.applied (rw (eq-eqb s s refl) after-at.applied) b.reports))
@@ -156,7 +158,7 @@ module _ {A : Type 0} where
       pub IsStoreAfter-applied : (new : SiteState) → IsStore (record w { sites = set w.sites s new })
           → HasApplied new w.primary.log (site.applied + 1)
           → IsStoreAfter w.primary.setup (record w { sites = set w.sites s new }) (Apply s ∷ past)
-      IsStoreAfter-applied x new next = IsStoreAfter-made refl new is.log is.acked is.decided (λ t d below. elim (cases_eq t s) [
+      IsStoreAfter-applied x new next = IsStoreAfter-made refl new is.log is.acked is.decided is.limits (λ t d below. elim (cases_eq t s) [
         | inl same ↦ (let b = after-at in
             rw (get_or-set_at w.sites s t x d same lt, same)
             (site-is (rw (eq-eqb s s refl) (rw (is.log, b.applied) at next.values)) b.sent
@@ -171,11 +173,11 @@ module _ {A : Type 0} where
     -- the sites that hold the head up are those after the accepted events
     forced-same : forced_now w.primary ≡ forced_after w.primary.setup past (decisions w.primary.setup past)
     forced-same = rw (← sound.primary.count) (where_below-same _ _ (length w.primary.sites) (λ s lt.
-        let b = is.sites s no_site (omega (arith, sound.count)) in rw (is.log, b.reported, is.acked) refl))
+        let b = is.sites s no_site (omega (arith, sound.count)) in rw (is.log, is.limits, b.reported, is.acked) refl))
 
     waiting-same : waiting_now w.primary ≡ waiting_after w.primary.setup past (decisions w.primary.setup past)
     waiting-same = rw (← sound.primary.count) (where_below-same _ _ (length w.primary.sites) (λ s lt.
-        let b = is.sites s no_site (omega (arith, sound.count)) in rw (is.log, b.reported, b.reports, is.acked) refl))
+        let b = is.sites s no_site (omega (arith, sound.count)) in rw (is.log, is.limits, b.reported, b.reports, is.acked) refl))
 
     -- what a settlement answers is what it would answer after the accepted events
     pub settled-same : settled_as w.primary ≡ settlement_of w.primary.setup past (decisions w.primary.setup past)
@@ -189,7 +191,7 @@ module _ {A : Type 0} where
         let ds = decisions w.primary.setup past in
         let test : (ds.acked == ds.decided) ≡ true = eq-eqb ds.acked ds.decided (sym is.acked ∙ first ∙ is.decided) in
         IsStoreAfter-made decides.setup new (decides.log ∙ is.log) (rw (test, decides.acked, forced-same, is.acked) refl)
-        (rw test (decides.decided ∙ ap (λ a. a + 1) is.acked)) (λ s d lt.
+        (rw test (decides.decided ∙ ap (λ a. a + 1) is.acked)) (rw test (decides.limits ∙ is.limits)) (λ s d lt.
         let b = is.sites s d lt in
         rw (decides.sites s first_progress (omega (arith, sound.count)))
         (site-is b.values b.sent b.applied b.reported (rw (test, b.reports, b.reported) refl)))
@@ -201,6 +203,6 @@ module _ {A : Type 0} where
     IsStoreAfter-waited new later =
         let ds = decisions w.primary.setup past in
         let test : (ds.acked == ds.decided) ≡ false = ne_eqb ds.acked ds.decided (λ same. omega (arith, is.acked, is.decided, same)) in
-        IsStoreAfter-made refl new is.log (rw (test, waiting-same, is.acked) refl) (rw test is.decided) (λ s d lt.
+        IsStoreAfter-made refl new is.log (rw (test, waiting-same, is.acked) refl) (rw test is.decided) (rw test is.limits) (λ s d lt.
         let b = is.sites s d lt in
         site-is b.values b.sent b.applied b.reported (rw test b.reports))

@@ -24,7 +24,7 @@ module _ {A : Type 0} where
         got = omega (arith, here.applied, here.sent, holds.holds.got);
         logged = omega (arith, here.sent, holds.holds.logged, updates-are (store_of w) past sound.store stands.store);
         feed = omega (arith, here.sent, here.applied, holds.feed);
-        limits = rw (stands.store.log, here.applied, stands.store.acked) at (limits s d lt);
+        limits = rw (stands.store.log, stands.store.limits, here.applied, stands.store.acked) at (limits s d lt);
       }
 
   -- a sound world that keeps its limits: so do the accepted events that it stands for
@@ -40,7 +40,8 @@ module _ {A : Type 0} where
       let known = progress_at w.primary s in
       let fewest : AreFewest (is_within w.primary s) (report_at known.reports) w.primary.decided known.rounds known.windows =
       HasFewestRounds-sound w.primary sound.store.primary s (omega (arith, lt, sound.store.count)) in
-      rw (stands.store.rounds s lt, stands.store.windows s lt, here.reports, stands.store.decided, stands.store.log) at fewest
+      rw (stands.store.rounds s lt, stands.store.windows s lt, here.reports, stands.store.decided, stands.store.log, stands.store.limits)
+      at fewest
 
   -- the rounds of a sound world are the fewest: so are those after the accepted events that it stands for
   pub HaveFewest-stands : (setup : Declared) (w : WorldState) (past : Past A) → IsSound w → StandsFor setup w past

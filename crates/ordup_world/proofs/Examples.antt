@@ -6,10 +6,11 @@ use Rattle.ordup_objects.specs.declared.refusal.Refusal.TheVariants.{UnknownObje
 use Rattle.ordup_objects.specs.declared.refusal.Refusal.TheVariants.{NothingToSend, FeedFull, NothingToApply, NothingToSettle}
 use Rattle.ordup_objects.specs.declared.refusal.Refusal.TheVariants.{UnknownQuery, QueryOpen, OverImport}
 use Rattle.ordup_log.specs.declared.scope.Scope.TheVariants.{Object}
+use Rattle.ordup_limits.specs.Entries.{entry_of}
 use Rattle.ordup_primary.specs.Declarations.{Declared}
 use Rattle.ordup_primary.specs.declared.settled.Settled.TheVariants.{Acked, Round, Waiting}
 use Rattle.ordup_world.specs.Queries.{ReadMade, refusal_now}
-use Rattle.ordup_world.specs.Events.{Past, decisions, rounds, opened, open_count, reply, later}
+use Rattle.ordup_world.specs.Events.{Past, decisions, rounds, windows, opened, open_count, reply, later}
 use Rattle.ordup_world.specs.declared.event.Event.{Event}
 use Rattle.ordup_world.specs.declared.event.Event.TheVariants.{Propose, Send, Apply, Report, Settle, Begin, Read, End, Abandon, Show}
 use Rattle.ordup_world.specs.declared.event.Answer.{Answer}
@@ -22,8 +23,12 @@ setup = record {
   objects = (codes "x", pos 0) ∷ (codes "y", pos 10) ∷ [];
   groups = [];
   sites = (codes "a", 4) ∷ (codes "b", 1) ∷ [];
-  limits = (record { scope = Object 0; amount = 5 } ∷ []) ∷ [] ∷ [];
+  limits = (entry_of (Object 0) 5 1 ∷ []) ∷ [] ∷ [];
 }
+
+-- the same, but the limit on x is 0 from the second update on
+abbrev pub stricter : Declared
+stricter = record setup { limits = (entry_of (Object 0) 5 1 ∷ entry_of (Object 0) 0 2 ∷ []) ∷ [] ∷ [] }
 
 abbrev pub add_to_x : ℕ → Event ℕ
 add_to_x n = Propose (record { object = 0; op = Add (pos n) } ∷ [])
@@ -98,6 +103,22 @@ decided : ((decisions setup past).acked ≡ 2)
     × ((decisions setup past).reports 0 ≡ 0 ∷ 0 ∷ [])
     × (rounds setup 0 past ≡ 2 ∷ []) × (rounds setup 1 past ≡ [])
 decided = (refl, refl, refl, refl, refl)
+
+-- The limits that are in force at the head decide: 3 is within the 5 of the first update, and 3 and 1 are over the 0 of the second,
+-- which is waited for. The site 1 has no limit.
+abbrev first : Past ℕ
+first = Settle ∷ add_to_x 3 ∷ []
+
+abbrev second : Past ℕ
+second = Settle ∷ add_to_x 1 ∷ first
+
+by_place : (reply stricter (add_to_x 3 ∷ []) Settle ≡ Settlement (Acked 1))
+    × (reply stricter (add_to_x 1 ∷ first) Settle ≡ Settlement (Round 2 (0 ∷ [])))
+    × (reply stricter second Settle ≡ Settlement (Waiting 2 (0 ∷ [])))
+    × (rounds stricter 0 second ≡ 2 ∷ [])
+    × (windows stricter 0 second ≡ record { from = 0; to = 2 } ∷ [])
+    × (rounds stricter 1 second ≡ [])
+by_place = (refl, refl, refl, refl, refl, refl)
 
 -- q read x before a applied 3, and after
 abbrev reading : Past ℕ

@@ -6,6 +6,7 @@ use Rattle.std.proofs.lemmas.List.Elements.{All-nil, All-cons}
 use Rattle.ordup_objects.specs.declared.refusal.Refusal.TheVariants.{NoMemory}
 use Rattle.ordup_objects.specs.Weights.{distance}
 use Rattle.ordup_objects.specs.States.{State, value_at}
+use Rattle.ordup_primary.specs.Declarations.{Declared}
 use Rattle.ordup_primary.specs.declared.settled.Settled.TheVariants.{Acked}
 use Rattle.ordup_world.specs.Queries.{ReadMade, Opened}
 use Rattle.ordup_world.specs.Events.{log_of, takes_memory, IsAnswer, AreAnswers}
@@ -14,7 +15,7 @@ use Rattle.ordup_world.specs.Along.{KeepsSite}
 use Rattle.ordup_world.specs.Worlds.{WorldState, KeepsLimits}
 use Rattle.ordup_world.specs.declared.event.Event.TheVariants.{Send, Apply, Report, Settle, Begin, Read, End, Abandon, Show}
 use Rattle.ordup_world.specs.declared.event.Answer.TheVariants.{Proposed, Settlement, Refused}
-use Rattle.ordup_world.proofs.Examples.{setup, add_to_x, q}
+use Rattle.ordup_world.proofs.Examples.{setup, stricter, add_to_x, q}
 
 -- ---- answers
 
@@ -49,6 +50,10 @@ kept = record { told = omega arith; got = omega arith; logged = omega arith; fee
 over : KeepsSite {A = ℕ} setup (add_to_x 6 ∷ Settle ∷ []) 0 → ⊥
 over k = let e : false ≡ true = k.limits in cc
 
+-- what is in force now counts: where the limit is 0 from the second update on, the first one is over it once it is acknowledged
+over_now : KeepsSite {A = ℕ} stricter (Settle ∷ add_to_x 5 ∷ []) 0 → ⊥
+over_now k = let e : false ≡ true = k.limits in cc
+
 -- one more is applied than was sent, one more is sent than there is, or a feed of 1 holds 2
 applied_too_much : KeepsSite {A = ℕ} setup (Apply 0 ∷ add_to_x 1 ∷ []) 0 → ⊥
 applied_too_much k = let le : 1 ≤ 0 = k.got in omega arith
@@ -60,27 +65,32 @@ fed_too_much : KeepsSite {A = ℕ} setup (Send 1 ∷ Send 1 ∷ add_to_x 1 ∷ a
 fed_too_much k = let le : 2 ≤ 1 = k.feed in omega arith
 
 -- a world of the one update that adds so much to x, which is acknowledged; the sites have reported and applied so many
-abbrev world : ℕ → ℕ → ℕ → WorldState
-world n reported applied = record {
+abbrev world : Declared → ℕ → ℕ → ℕ → WorldState
+world declared n reported applied = record {
   primary = record {
-    setup = setup;
-    log = log_of setup (add_to_x n ∷ []);
+    setup = declared;
+    log = log_of declared (add_to_x n ∷ []);
     acked = 1;
     decided = 1;
     sites = replicate 2 (record { sent = 1; reported = reported; reports = 0 ∷ []; rounds = []; windows = [] });
+    limits = declared.limits;
   };
   sites = replicate 2 (record { applied = applied; values = []; travelled = [] });
   queries = [];
 }
 
 -- 5 is within the limit of 5, and 6 is not: what counts is what the site applied
-keeps_5 : KeepsLimits (world 5 0 0)
+keeps_5 : KeepsLimits (world setup 5 0 0)
 keeps_5 zero d h = refl
 keeps_5 (suc zero) d h = refl
 keeps_5 (suc (suc s)) d h = absurd (omega arith)
 
-keeps_no_6 : KeepsLimits (world 6 1 0) → ⊥
+keeps_no_6 : KeepsLimits (world setup 6 1 0) → ⊥
 keeps_no_6 k = let e : false ≡ true = k 0 (record { applied = 9; values = []; travelled = [] }) (omega arith) in cc
+
+-- what is in force now counts here too
+keeps_none_now : KeepsLimits (world stricter 5 0 0) → ⊥
+keeps_none_now k = let e : false ≡ true = k 0 (record { applied = 9; values = []; travelled = [] }) (omega arith) in cc
 
 -- ---- imports
 

@@ -13,8 +13,9 @@ use Rattle.ordup_objects.specs.Sets.{AreKnown}
 use Rattle.ordup_objects.specs.Serial.{History, set_at, with_more, with_update}
 use Rattle.ordup_objects.proofs.SerialLemmas.{length-serial}
 use Rattle.ordup_limits.proofs.LimitLemmas.{within-later}
-use Rattle.ordup_primary.specs.Declarations.{capacity_of, limits_of}
-use Rattle.ordup_primary.specs.Primaries.{PrimaryState, SiteProgress, IsPrimary, Decides, first_progress, progress_at, acked_after}
+use Rattle.ordup_limits.specs.Entries.{latest}
+use Rattle.ordup_primary.specs.Declarations.{capacity_of}
+use Rattle.ordup_primary.specs.Primaries.{PrimaryState, SiteProgress, IsPrimary, Decides, first_progress, progress_at, limits_at, acked_after}
 use Rattle.ordup_site.specs.Sites.{SiteState, HasApplied}
 use Rattle.ordup_site.proofs.SiteLemmas.{HasApplied-longer}
 use Rattle.ordup_world.specs.Steps.{Grows}
@@ -23,9 +24,8 @@ use Rattle.ordup_world.specs.Worlds.{StoreState, WorldState, store_of, first_sit
 -- a sound world keeps its limits
 pub KeepsLimits-sound : (w : WorldState) → IsStore (store_of w) → KeepsLimits w
 KeepsLimits-sound w is s d lt =
-    let known = is.primary.sites s first_progress (omega (arith, is.count)) in
-    within-later w.primary.log w.primary.setup.groups (limits_of w.primary.setup s) (progress_at w.primary s).reported
-    (get_or w.sites s d).applied w.primary.acked (is.sites s d lt).holds.told known.within
+    within-later w.primary.log w.primary.setup.groups (latest (limits_at w.primary s)) (progress_at w.primary s).reported
+    (get_or w.sites s d).applied w.primary.acked (is.sites s d lt).holds.told (is.primary.lags s (omega (arith, is.count)))
 
 -- what is read of a site that is not there
 abbrev pub no_site : SiteState

@@ -3,7 +3,8 @@ use Rattle.std.specs.Prelude.{◌≡◌, ℕ, ◌+◌, ◌<◌, ◌≤◌, true,
 use Rattle.ordup_rounds.specs.Fewest.{AreFewest}
 use Rattle.ordup_primary.specs.Declarations.{Declared, capacity_of}
 use Rattle.ordup_primary.specs.Settling.{report_at}
-use Rattle.ordup_world.specs.Events.{Past, sets_of, sent, applied, reported, is_within_after, decisions, rounds, windows, later}
+use Rattle.ordup_world.specs.Events.{Past, sets_of, sent, applied, reported, is_within_after, is_lag_within_after, decisions}
+use Rattle.ordup_world.specs.Events.{rounds, windows, later}
 use Rattle.ordup_world.specs.declared.event.Event.{Event}
 use Rattle.ordup_world.specs.declared.event.Answer.{Answer}
 
@@ -15,13 +16,13 @@ module _ {A : Type 0} where
   Along Holds past (e ∷ events) (a ∷ answers) = Holds past × Along Holds (later past e a) events answers
 
   -- a site has applied what it reported, and no more than was sent to it; its feed holds no more than it may;
-  -- and the acknowledged updates that it has not applied weigh at most each of its limits
+  -- and the acknowledged updates that it has not applied weigh at most each of its limits that are in force now
   pub record KeepsSite (setup : Declared) (past : Past A) (s : ℕ) : Type 0 where
     pub told : reported s past ≤ applied s past
     pub got : applied s past ≤ sent s past
     pub logged : sent s past ≤ length (sets_of past)
     pub feed : sent s past ≤ applied s past + capacity_of setup s
-    pub limits : is_within_after setup past s (applied s past) (decisions setup past).acked ≡ true
+    pub limits : is_lag_within_after setup past s (applied s past) ≡ true
 
   -- each site does
   abbrev pub KeepSites : Declared → Past A → Type 0

@@ -1,6 +1,6 @@
 -- Events, what they are answered, and the numbers of a list of accepted events.
 use Rattle.std.specs.Prelude.{◌≡◌, ◌⊎◌, ℕ, ◌+◌, ◌-◌, ◌==◌, not, if◌then◌else◌, nat_eq, nat_lt, Bool}
-use Rattle.std.specs.Prelude.{true, false, Option, Some, None, option_map, is_some, List, [], ◌∷◌, ◌++◌, length}
+use Rattle.std.specs.Prelude.{true, false, Option, Some, None, option_map, is_some, List, [], ◌∷◌, ◌++◌, length, slice_index_or}
 use Rattle.std.specs.Cmp.Lexicographic.{pointwise}
 use Rattle.ordup_objects.specs.declared.change.Change.{Change}
 use Rattle.ordup_objects.specs.declared.refusal.Refusal.{Refusal}
@@ -15,7 +15,8 @@ use Rattle.ordup_log.specs.Appending.{append_refusal}
 use Rattle.ordup_rounds.specs.declared.window.Window.{Window}
 use Rattle.ordup_rounds.specs.Rounds.{rounds_upto, windows_upto}
 use Rattle.ordup_limits.specs.Limits.{Limits, within}
-use Rattle.ordup_primary.specs.Declarations.{Declared, capacity_of, limits_of}
+use Rattle.ordup_limits.specs.Entries.{Entries, in_force, latest}
+use Rattle.ordup_primary.specs.Declarations.{Declared, capacity_of}
 use Rattle.ordup_primary.specs.Settling.{forced_sites, waiting_sites, report_at}
 use Rattle.ordup_primary.specs.Primaries.{acked_after, acked_or_round, acked_or_waiting}
 use Rattle.ordup_primary.specs.declared.settled.Settled.{Settled}
@@ -32,11 +33,13 @@ use Rattle.ordup_world.specs.declared.event.Answer.TheVariants.{ReadOut, Ended, 
 abbrev pub Past : Type 0 → Type 0
 Past A = List (Event A)
 
--- how many updates are acknowledged, how many are decided, and what each site had reported at the decision of each place
+-- how many updates are acknowledged, how many are decided, what each site had reported at the decision of each place, and the limits of
+-- each site, each with the place from which it holds
 pub record Decisions : Type 0 where
   pub acked : ℕ
   pub decided : ℕ
   pub reports : ℕ → List ℕ
+  pub limits : List Entries
 
 -- the same name
 abbrev pub is_same : List ℕ → List ℕ → Bool
@@ -71,38 +74,47 @@ module _ {A : Type 0} where
   abbrev pub log_of : Declared → Past A → History
   log_of setup past = record { start = initial_state setup.objects; sets = sets_of past }
 
-  -- the limits of site s in force at a place: those that were declared
-  abbrev pub limits_at : Declared → Past A → ℕ → ℕ → Limits
-  limits_at setup past s place = limits_of setup s
-
-  -- the span from a to b passes no limit of site s
-  abbrev pub is_within_after : Declared → Past A → ℕ → ℕ → ℕ → Bool
-  is_within_after setup past s a b = within (log_of setup past) setup.groups (limits_at setup past s b) a b
+  -- by the limits of these decisions the span from a to b passes none of those of site s that are in force at b
+  abbrev pub is_within_by : Declared → Past A → Decisions → ℕ → ℕ → ℕ → Bool
+  is_within_by setup past ds s a b = within (log_of setup past) setup.groups (in_force (slice_index_or ds.limits s []) b) a b
 
   -- the sites that a first settlement of the head would force
   abbrev pub forced_after : Declared → Past A → Decisions → List ℕ
-  forced_after setup past ds = forced_sites (is_within_after setup past) (λ s. reported s past) (length setup.sites) (ds.acked + 1)
+  forced_after setup past ds = forced_sites (is_within_by setup past ds) (λ s. reported s past) (length setup.sites) (ds.acked + 1)
 
   -- the sites that were forced at the decision of the head and have not reported it
   abbrev pub waiting_after : Declared → Past A → Decisions → List ℕ
   waiting_after setup past ds =
-      waiting_sites (is_within_after setup past) (λ s. report_at (ds.reports s) (ds.acked + 1)) (λ s. reported s past)
+      waiting_sites (is_within_by setup past ds) (λ s. report_at (ds.reports s) (ds.acked + 1)) (λ s. reported s past)
       (length setup.sites) (ds.acked + 1)
 
   -- The first settlement of the head decides it: what each site has reported then counts from now on.
   -- It is acknowledged where no site is forced, and later where no forced site is waited for.
   abbrev pub settled : Declared → Past A → Decisions → Decisions
-  settled setup past ds = if ds.acked == ds.decided then (record {
+  settled setup past ds = if ds.acked == ds.decided then (record ds {
     acked = acked_after ds.acked (forced_after setup past ds);
     decided = ds.acked + 1;
     reports = λ s. ds.reports s ++ reported s past ∷ [];
-  }) else (record { acked = acked_after ds.acked (waiting_after setup past ds); decided = ds.decided; reports = ds.reports })
+  }) else (record ds { acked = acked_after ds.acked (waiting_after setup past ds) })
 
-  -- the decisions of the settlements among the accepted events
+  -- the decisions of the settlements among the accepted events, and the limits, which begin as those that were declared
   abbrev pub decisions : Declared → Past A → Decisions
-  decisions setup [] = record { acked = 0; decided = 0; reports = λ s. [] }
+  decisions setup [] = record { acked = 0; decided = 0; reports = λ s. []; limits = setup.limits }
   decisions setup (Settle ∷ past) = settled setup past (decisions setup past)
   decisions setup (_ ∷ past) = decisions setup past
+
+  -- the limits of site s that are in force at a place
+  abbrev pub limits_at : Declared → Past A → ℕ → ℕ → Limits
+  limits_at setup past s place = in_force (slice_index_or (decisions setup past).limits s []) place
+
+  -- the span from a to b passes none of the limits of site s that are in force at b
+  abbrev pub is_within_after : Declared → Past A → ℕ → ℕ → ℕ → Bool
+  is_within_after setup past s a b = within (log_of setup past) setup.groups (limits_at setup past s b) a b
+
+  -- the acknowledged updates after place a pass none of the limits of site s that are in force now
+  abbrev pub is_lag_within_after : Declared → Past A → ℕ → ℕ → Bool
+  is_lag_within_after setup past s a =
+      within (log_of setup past) setup.groups (latest (slice_index_or (decisions setup past).limits s [])) a (decisions setup past).acked
 
   -- what a settlement answers
   abbrev pub settlement_of : Declared → Past A → Decisions → Settled

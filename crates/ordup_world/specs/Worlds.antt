@@ -5,7 +5,7 @@ use Rattle.std.specs.Map.{lookup}
 use Rattle.ordup_objects.specs.Tables.{initial_state}
 use Rattle.ordup_objects.specs.Serial.{History, serial}
 use Rattle.ordup_primary.specs.Declarations.{Declared, capacity_of}
-use Rattle.ordup_primary.specs.Primaries.{PrimaryState, SiteProgress, IsPrimary, progress_at, is_within}
+use Rattle.ordup_primary.specs.Primaries.{PrimaryState, SiteProgress, IsPrimary, progress_at, is_lag_within}
 use Rattle.ordup_site.specs.Sites.{SiteState, HoldsPrefix}
 use Rattle.ordup_objects.specs.Marks.{AreMarks}
 use Rattle.ordup_query.specs.Queries.{QueryState, value_sum}
@@ -75,10 +75,10 @@ pub record IsSound (w : WorldState) : Type 0 where
   pub few : length w.queries ≤ 64
   pub queries : (q : List ℕ) (o : OpenState) → find_query q w.queries ≡ Some o → IsOpenSound (store_of w) o
 
--- the acknowledged updates that a site has not applied weigh at most each of its limits
+-- the acknowledged updates that a site has not applied weigh at most each of its limits that are in force now
 abbrev pub KeepsLimits : WorldState → Type 0
 KeepsLimits w =
-    (s : ℕ) (d : SiteState) → s < length w.sites → is_within w.primary s (slice_index_or w.sites s d).applied w.primary.acked ≡ true
+    (s : ℕ) (d : SiteState) → s < length w.sites → is_lag_within w.primary s (slice_index_or w.sites s d).applied ≡ true
 
 -- what is known of an open query: its site, its reference, its limit, and what its reads added up to
 pub record OpenNumbers : Type 0 where
@@ -124,6 +124,7 @@ module _ {A : Type 0} where
     pub log : w.primary.log ≡ log_of setup past
     pub acked : w.primary.acked ≡ (decisions setup past).acked
     pub decided : w.primary.decided ≡ (decisions setup past).decided
+    pub limits : w.primary.limits ≡ (decisions setup past).limits
     pub sites : (s : ℕ) (d : SiteState) → s < length w.sites →
         IsSiteAfter setup past s (progress_at w.primary s) (slice_index_or w.sites s d)
     pub rounds : (s : ℕ) → s < length w.sites → (progress_at w.primary s).rounds ≡ rounds setup s past

@@ -8,9 +8,11 @@ returns-clause-state g c =
     let made = c.in_ok-primary.ensures in
     let log = rw (← made.setup) at made.log in
     let known = rw (← made.setup) at made.sites in
+    let limits = rw (← made.setup) at made.limits in
     let sites = rw (← made.setup) at c.in_ok-sites.ensures.sites in
     let w = state_of (record { primary = c.in_ok-primary.primary; sites = c.in_ok-sites.sites }) in
-    rw (← made.setup) (IsStoreAfter-start w (IsStore-start w made.sound log known sites) log made.numbers.0 made.numbers.1 known sites)
+    rw (← made.setup) (IsStoreAfter-start w (IsStore-start w made.sound log known sites) log made.numbers.0 made.numbers.1 known limits
+    sites)
 
 pub returns-clause-sound : goal.returns-clause-sound
 returns-clause-sound g c =

@@ -67,6 +67,6 @@ keeps-first d p ends cells is feeds = rw is (record {
 })
 
 pub first-is : (d : Declared) (p : PrimaryState) → p.setup ≡ d → p.log ≡ (first_primary d).log → (p.acked ≡ 0) × (p.decided ≡ 0)
-    → p.sites ≡ (first_primary d).sites → p ≡ first_primary d
-first-is d p setup log numbers sites =
-    λ i. record { setup = setup i; log = log i; acked = numbers.0 i; decided = numbers.1 i; sites = sites i }
+    → p.sites ≡ (first_primary d).sites → p.limits ≡ d.limits → p ≡ first_primary d
+first-is d p setup log numbers sites limits =
+    λ i. record { setup = setup i; log = log i; acked = numbers.0 i; decided = numbers.1 i; sites = sites i; limits = limits i }

@@ -15,7 +15,7 @@ pub record AreFirstFeeds (d : Declared) (n : ℕ) (ends : List Sending) (cells :
   pub each : (s : ℕ) (e : Sending) → slice_get ends s ≡ Some e
       → (c : CellState) × (slice_get cells s ≡ Some c) × AreNewEnds (initial_state d.objects) (capacity_of d s) e c.end
 
--- a primary in which nothing has happened
+-- a primary in which nothing has happened, whose limits are those that were declared
 abbrev pub first_primary : Declared → PrimaryState
 first_primary d = record {
   setup = d;
@@ -23,6 +23,7 @@ first_primary d = record {
   acked = 0;
   decided = 0;
   sites = replicate (length d.sites) first_progress;
+  limits = d.limits;
 }
 
 -- a store in which nothing has happened, as a book and cells

@@ -1,5 +1,5 @@
 ghost use Rattle.std.specs.Prelude.{◌≡◌, ◌≤◌, ◌<◌, ℕ, true, All, length};
-ghost use Rattle.ordup_primary.specs.Primaries.{IsPrimary, HasFewestRounds, is_within, progress_at};
+ghost use Rattle.ordup_primary.specs.Primaries.{IsPrimary, HasFewestRounds, is_lag_within, progress_at};
 ghost use Rattle.ordup_holds.specs.Books.{KeepsBook, AreRooms};
 
 use ordup_feed::SendEnd;
@@ -47,11 +47,12 @@ impl Book {
     pub fn primary(&self) -> &Primary
         ensures primary { result.now ≡ self.now.primary }
         // What each book keeps: the feeds belong to the primary, the primary is sound, each site's rounds are the fewest, and
-        // where a site applied at least what it reported, the acknowledged updates that it has not applied keep its limits.
+        // where a site applied at least what it reported, the acknowledged updates that it has not applied keep its limits,
+        // as they are now.
         ensures kept { KeepsBook self.now.primary self.now.ends }
         ensures sound { IsPrimary self.now.primary }
         ensures fewest { HasFewestRounds self.now.primary }
-        ensures within { (s applied : ℕ) → s < length self.now.primary.sites → (progress_at self.now.primary s).reported ≤ applied → is_within self.now.primary s applied self.now.primary.acked ≡ true }
+        ensures within { (s applied : ℕ) → s < length self.now.primary.sites → (progress_at self.now.primary s).reported ≤ applied → is_lag_within self.now.primary s applied ≡ true }
     {
         later_spans_keep_limits();
         let _acked = self.primary.acked();

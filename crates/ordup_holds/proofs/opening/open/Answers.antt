@@ -7,7 +7,7 @@ use Rattle.ordup_holds.proofs.opening.open.Goals as goal
 pub new-requires-2-clause-ends : goal.new-requires-2-clause-ends
 new-requires-2-clause-ends c =
     let made = c.in_ok-primary.ensures in
-    keeps-first c.args.setup _ _ c.in_ok-ends.cells.items (first-is _ _ made.setup made.log made.numbers made.sites)
+    keeps-first c.args.setup _ _ c.in_ok-ends.cells.items (first-is _ _ made.setup made.log made.numbers made.sites made.limits)
     c.in_ok-ends.ensures.feeds
 
 pub new-requires-2-clause-rooms : goal.new-requires-2-clause-rooms
@@ -22,4 +22,4 @@ pub returns-clause-opened : goal.returns-clause-opened
 returns-clause-opened c =
     let made = c.in_ok-primary.ensures in
     rw c.new-2.ensures
-    (record { primary = first-is _ _ made.setup made.log made.numbers made.sites; feeds = c.in_ok-ends.ensures.feeds })
+    (record { primary = first-is _ _ made.setup made.log made.numbers made.sites made.limits; feeds = c.in_ok-ends.ensures.feeds })

@@ -1,35 +1,22 @@
 -- What a reply is, by the parts that answered it.
-use Rattle.std.proofs.Common.{◌≡◌, ℕ, ◌<◌, true, List, [], ◌++◌, length, None}
-use Rattle.std.proofs.Common.{Some, ap, arith, refl, subst, sym, ◌∙◌, inl, inr}
-use Rattle.std.specs.Prelude.{nat_lt, Ok}
-use Rattle.std.proofs.lemmas.Bool.{cases_Bool}
-use Rattle.std.proofs.lemmas.Bool.Decides.{nat_tests}
-use Rattle.ordup_objects.specs.declared.refusal.Refusal.TheVariants.{NoMemory, UnknownSite}
+use Rattle.std.proofs.Common.{◌≡◌, ℕ, List, [], ◌++◌, None}
+use Rattle.std.proofs.Common.{ap, subst, sym, ◌∙◌, inl, inr}
+use Rattle.std.specs.Prelude.{Ok}
+use Rattle.ordup_objects.specs.declared.refusal.Refusal.TheVariants.{NoMemory}
 use Rattle.ordup_primary.specs.Declarations.{Declared, start_refusal}
-use Rattle.ordup_primary.specs.Primaries.{PrimaryState}
-use Rattle.ordup_record.specs.Records.{RecordState}
-use Rattle.ordup_record.specs.RecordsOf.{record_of, record_refusal}
-use Rattle.ordup_world.specs.Events.{later, Past, IsAnswer, rounds, windows}
+use Rattle.ordup_world.specs.Events.{later, Past, IsAnswer}
 use Rattle.ordup_world.specs.Events.{reply as event_answer}
-use Rattle.ordup_world.specs.Worlds.{WorldState, IsSound, StandsFor}
+use Rattle.ordup_world.specs.Worlds.{WorldState, StandsFor}
 use Rattle.ordup_world.specs.declared.event.Event.{Event}
 use Rattle.ordup_world.specs.declared.event.Answer.{Answer}
 use Rattle.ordup_world.specs.declared.event.Answer.TheVariants.{Refused}
 use Rattle.ordup_grammar.specs.declared.action.Action.{Action}
-use Rattle.ordup_grammar.specs.declared.command.Command.TheVariants.{Act, Certify, Start}
+use Rattle.ordup_grammar.specs.declared.command.Command.TheVariants.{Act, Start}
 use Rattle.ordup_answers.specs.Sessions.{Session, declaring, running, Declares, IsWorldOf}
 use Rattle.ordup_answers.specs.Answers.{Leaves}
 use Rattle.ordup_answers.specs.Events.{event_of, names_of}
-use Rattle.ordup_answers.specs.Places.{place_among}
 use Rattle.ordup_answers.specs.Replies.{event_reply, command_reply, reply_or_refusal}
-use Rattle.ordup_text.specs.Texts.{answer_text, certified_text, started_text}
-
--- a site of which there is a record is there
-known_site : (p : PrimaryState) (s : ℕ) → record_refusal p s ≡ None → nat_lt s (length p.sites) ≡ true
-known_site p s allowed = elim (cases_Bool (nat_lt s (length p.sites))) [
-  | inl is ↦ is
-  | inr other ↦ absurd (let refused : record_refusal p s ≡ Some UnknownSite = rw other refl in cc)
-]
+use Rattle.ordup_text.specs.Texts.{answer_text, started_text}
 
 module _ {A : Type 0} where
   -- what holds of the session that declares so holds of each session that does
@@ -76,27 +63,3 @@ module _ {A : Type 0} where
   left_by_start d w old new (ready, started) text s is =
       let wanted : Session A → Type 0 = λ s. Leaves (IsWorldOf w) old new (reply_or_refusal s (command_reply s Start)) in
       at_declaring wanted d (rw ready (started, text)) s is
-
-  -- what is left by a certificate
-  pub left_by_certificate : (w : WorldState) (r : RecordState) (name : List ℕ) (s n : ℕ) (old new : List ℕ) → IsSound w
-      → s ≡ place_among w.primary.setup.sites name → record_refusal w.primary s ≡ None → r ≡ record_of w.primary s
-      → n ≡ length r.rounds → new ≡ old ++ certified_text name n r.windows → (t : Session A) → IsWorldOf w t
-      → Leaves (IsWorldOf w) old new (reply_or_refusal t (command_reply t (Certify name)))
-  left_by_certificate w r name s n old new sound at allowed shows count text (declaring d) is = absurd is
-  left_by_certificate w r name s n old new sound at allowed shows count text (running d past) is =
-      let tested : nat_lt s (length w.primary.sites) ≡ true = known_site w.primary s allowed in
-      let there : s < length w.sites = grind (arith, nat_tests, sound.store.count, tested) in
-      let same : length w.primary.sites ≡ length d.sites =
-      sound.store.primary.count ∙ ap (λ (e : Declared). length e.sites) is.store.declared in
-      let place : s ≡ place_among d.sites name = at ∙ ap (λ (e : Declared). place_among e.sites name) is.store.declared in
-      let known : nat_lt (place_among d.sites name) (length d.sites) ≡ true =
-      ap (λ i. nat_lt i (length d.sites)) (sym place) ∙ ap (nat_lt s) (sym same) ∙ tested in
-      let its_rounds : r.rounds ≡ rounds d s past = ap (λ (q : RecordState). q.rounds) shows ∙ is.store.rounds s there in
-      let its_windows : r.windows ≡ windows d s past = ap (λ (q : RecordState). q.windows) shows ∙ is.store.windows s there in
-      rw known (
-        is,
-        text
-            ∙ ap (λ k. old ++ certified_text name k r.windows) (count ∙ ap length its_rounds)
-            ∙ ap (λ ws. old ++ certified_text name (length (rounds d s past)) ws) its_windows
-            ∙ ap (λ i. old ++ certified_text name (length (rounds d i past)) (windows d i past)) place,
-      )

@@ -12,9 +12,7 @@ use crate::places::find_site;
 use crate::script_end::ScriptEnd;
 use ordup_grammar::{Command, Declaration, Request, Word};
 use ordup_objects::Refusal;
-use ordup_record::record_of;
 use ordup_text::{TextBuffer, push_certified, push_named, push_refused, push_started};
-use ordup_verdict::{Verdict, check};
 use ordup_world::{Setup, World};
 use std::alloc::{AllocError, Allocator};
 use std::mem;
@@ -56,7 +54,7 @@ fn carry_out<A: Allocator + Copy>(
         Command::Start => answer_start(alloc, store, out),
         Command::Certify(site) => match store {
             ScriptEnd::Declared(_) => push_refused(out, Refusal::NotStarted),
-            ScriptEnd::Running(world) => certify(alloc, world, site, out),
+            ScriptEnd::Running(world) => certify(world, site, out),
         },
         Command::Act(action) => match store {
             ScriptEnd::Declared(_) => push_refused(out, Refusal::NotStarted),
@@ -115,7 +113,8 @@ fn answer_start<A: Allocator + Copy>(
     }
 }
 
-/// The store that starts with what is declared. Where it is refused, nothing changed.
+/// The store that starts with what is declared. Refused for want of memory it gives the declarations up, and for all else it
+/// leaves them.
 fn start<A: Allocator + Copy>(alloc: A, setup: &mut Setup<A>) -> Result<World<A>, Refusal>
     ensures started { IfOk result (λ w. (start_refusal setup.old ≡ None) × IsWorldOf {A = A} w (running setup.old [])) }
     ensures refused { IfErr result (λ e. (e ≡ Refusal.NoMemory → ⊥) → (start_refusal setup.old ≡ Some e) × (setup.new ≡ setup.old)) }
@@ -126,23 +125,23 @@ fn start<A: Allocator + Copy>(alloc: A, setup: &mut Setup<A>) -> Result<World<A>
     World::start(alloc, mem::replace(setup, Setup::new(alloc)))
 }
 
-/// Shows that the rounds of a site are the fewest, by the check of its record.
+/// Answers how many rounds a site has, which are the fewest, and the windows that show it.
+///
+/// That is what the check of the site's record would answer, and no record is formed for it: each record of a primary is valid,
+/// and of a valid record the check answers the number of its rounds.
 fn certify<A: Allocator + Copy>(
-    alloc: A,
     world: &World<A>,
-    site: &Word<'_>,
+    name: &Word<'_>,
     out: &mut TextBuffer<A>,
 ) -> Result<(), AllocError>
-    ensures { OnOk result ((s : Session A) → IsWorldOf world.now s → Leaves (IsWorldOf world.now) out.old.text out.new.text (reply_or_refusal s (command_reply s (Command.Certify site.now)))) }
+    ensures { OnOk result ((s : Session A) → IsWorldOf world.now s → Leaves (IsWorldOf world.now) out.old.text out.new.text (reply_or_refusal s (command_reply s (Command.Certify name.now)))) }
 {
     let primary = world.primary();
-    let shown = match record_of(alloc, primary, find_site(primary.setup(), site)) {
-        Ok(shown) => shown,
-        Err(refusal) => return push_refused(out, refusal),
-    };
-    match check(&shown) {
-        Verdict::Fewest(rounds) => push_certified(out, site.as_bytes(), rounds, shown.windows()),
-        // For the proof: no record of a primary is refused.
-        Verdict::No { .. } => push_named(out, b"ok uncertified ", site.as_bytes()),
+    let setup = primary.setup();
+    let site = find_site(setup, name);
+    if site.index() >= setup.sites() {
+        return push_refused(out, Refusal::UnknownSite);
     }
+    let rounds = primary.rounds(site).len() as u64;
+    push_certified(out, name.as_bytes(), rounds, primary.windows(site))
 }

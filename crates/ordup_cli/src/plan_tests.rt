@@ -161,3 +161,26 @@ fn a_plan_that_is_not_read_or_whose_outcome_is_not_written_is_a_fault(
     assert!(rt; ended.is(3, FIFTY_AT_ONE.as_bytes(), b"write fault\n"));
     Ok(())
 }
+
+/// Four sets, each of them out of range whoever proposes it.
+const FOUR_REFUSED: &str = "\
+log 0
+refused 4
+pending 0
+site a applied 0 rounds 0 x=1000000000
+certified a 0
+";
+
+#[test]
+fn what_is_refused_is_counted_of_each_caller(rt: HostRuntime) -> Result<(), Fail> {
+    let declarations = "object x 1000000000\nsite a 4\nstart\n";
+    let four = plan(rt.alloc(), declarations, "propose add:x:1\n", 4)?;
+    for callers in ["1", "2", "3", "16"] {
+        let ended = run_on(&rt, &["ordup", "threads", callers], &four);
+        assert!(rt;
+            ended.is(0, FOUR_REFUSED.as_bytes(), b""),
+            "{callers} callers"
+        );
+    }
+    Ok(())
+}

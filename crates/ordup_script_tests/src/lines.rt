@@ -21,9 +21,8 @@ use std::process::Abort;
 /// Of a `start` 12, with a limit 13, and with two sites of a limit each 19. Of a first `propose` of one change 5: the list of the
 /// sets, those of the distances and of where they begin, the postings of the object and those of all. With two changes 7: one
 /// posting more, and the list of the changes, which is the one growth of a later one. Of a first `settle` 3 for each site: what it
-/// reported, its rounds and its windows. Of a first `begin` 5, with its marks, and of a later one 1; of a `show` 1; of the first
-/// script's `certify` 15, which copies the declarations and the log, and 6 more for the two ledgers of its check, without which the
-/// check goes on.
+/// reported, its rounds and its windows. Of a first `begin` 5, with its marks, and of a later one 1; of a `show` 1. A `certify` meets
+/// none.
 const SCRIPTS: [&str; 4] = [
     // The first run, whole.
     "\
@@ -46,7 +45,7 @@ const SCRIPTS: [&str; 4] = [
 + settle -> ok acked 1
 ? propose add:x:1 -> ok proposed 2
 ? settle -> ok round 2 a
-+ certify a -> ok certified a 1 0-2
+- certify a -> ok certified a 1 0-2
 - settle -> ok waiting 2 a
 - send a -> ok sent a 1
 - send a -> ok sent a 2
@@ -56,7 +55,7 @@ const SCRIPTS: [&str; 4] = [
 - apply a -> ok applied a 2
 - report a -> ok reported a 2
 - settle -> ok acked 2
-+ certify a -> ok certified a 1 0-2
+- certify a -> ok certified a 1 0-2
 + show a -> ok show a sent 2 applied 2 reported 2 rounds 1 x=6 y=10
 ",
     // A query that imports 3 of the 4 that it may, and one that is given up.
@@ -106,8 +105,8 @@ pub(crate) const GROUPED: &str = "\
 - settle -> ok acked 2
 + propose add:x:4 add:y:3 -> ok proposed 3
 ? settle -> ok round 3 a
-+ certify a -> ok certified a 2 0-2 2-3
-+ certify b -> ok certified b 0
+- certify a -> ok certified a 2 0-2 2-3
+- certify b -> ok certified b 0
 ";
 
 /// A line of a script.
@@ -289,16 +288,14 @@ fn are_same<'a>(rt: &impl Abort, ample: Heap<'a>, before: &Shown<'a>, after: &Sh
     same
 }
 
-/// Answers a line with so many growths allowed. Where one is refused, there is no answer, and the store shows what it did before; but
-/// a check that is refused a ledger goes on without it.
+/// Answers a line with so many growths allowed. Where one is refused, there is no answer, and the store shows what it did before.
 fn is_refused(rt: &impl Abort, session: &mut Session<'_>, step: Step<'_>, allowed: u64) -> bool {
     let before = show(rt, session);
     session.scarce.allow(allowed);
     let answered = answer_line(session, step.line);
     let refused = session.scarce.has_refused();
     let (line, ample) = (step.line, session.ample);
-    let goes_on = answered.is_ok() && line.starts_with("certify ");
-    if refused && !goes_on {
+    if refused {
         assert!(rt; answered.is_err(), "{line} at {allowed}");
         assert!(rt; session.out.as_slice().is_empty(), "{line} at {allowed}");
         let after = show(rt, session);

@@ -169,6 +169,32 @@ fn expect_rounds(rt: &impl Abort, primary: &Primary, rounds: &[u64], windows: &[
     assert!(rt; primary.windows(a()) == windows);
 }
 
+/// The first limit of a that a span passes.
+fn first_passed(rt: &impl Abort, primary: &Primary, from: u64, to: u64) -> Option<usize> {
+    // For the proof: what each primary keeps.
+    let _acked = primary.acked();
+    let (setup, log) = (primary.setup(), primary.log());
+    assert!(rt; setup.sites() > 0 && log.objects() == setup.objects().len() && to <= log.len());
+    primary.limits(a()).over(log, setup.groups(), from, to)
+}
+
+/// Sees that a has a limit on x alone, whose entries have these amounts and places.
+fn expect_entries(rt: &impl Abort, primary: &Primary, wanted: &[(u64, u64)]) {
+    // For the proof: what each primary keeps.
+    let _acked = primary.acked();
+    assert!(rt; primary.setup().sites() > 0);
+    let limits = primary.limits(a());
+    assert!(rt; limits.len() == 1);
+    let (scope, last) = limits.get(0);
+    assert!(rt; scope == x());
+    assert_eq!(rt; limits.entries().len(), wanted.len());
+    for (place, entry) in limits.entries().iter().enumerate() {
+        assert!(rt; entry.limit.scope == x());
+        assert_eq!(rt; (entry.limit.amount, entry.place), wanted[place]);
+        assert!(rt; place + 1 < wanted.len() || last == entry.limit.amount);
+    }
+}
+
 #[test]
 fn what_is_decided_goes_by_the_limits_of_its_place(rt: HostRuntime) -> Result<(), Fail> {
     let mut primary = open(&rt, rt.alloc())?;
@@ -188,6 +214,16 @@ fn what_is_decided_goes_by_the_limits_of_its_place(rt: HostRuntime) -> Result<()
     expect_round(&rt, &mut primary, 3);
     let windows = [Window { from: 0, to: 2 }, Window { from: 2, to: 3 }];
     expect_rounds(&rt, &primary, &[2, 3], &windows);
+    // The updates weigh 3, 1 and 1; 5 is allowed from 1 on, 3 from 2 and 0 from 3.
+    let passed = [
+        first_passed(&rt, &primary, 0, 1),
+        first_passed(&rt, &primary, 0, 2),
+        first_passed(&rt, &primary, 1, 2),
+        first_passed(&rt, &primary, 2, 3),
+        first_passed(&rt, &primary, 3, 3),
+    ];
+    assert_eq!(rt; passed, [None, Some(0), None, Some(0), None]);
+    expect_entries(&rt, &primary, &[(5, 1), (3, 2), (0, 3)]);
     drop(primary);
     Ok(())
 }

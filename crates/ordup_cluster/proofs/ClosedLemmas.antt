@@ -4,7 +4,7 @@ use Rattle.std.proofs.Common.{sym, subst, arith, ⊎_elim}
 use Rattle.std.specs.Prelude.{slice_get, true}
 use Rattle.std.proofs.lemmas.Option.{slice_get_within}
 use Rattle.std.proofs.lemmas.Bool.{cases_eq}
-use Rattle.ordup_primary.specs.Primaries.{PrimaryState, IsPrimary, progress_at, is_within}
+use Rattle.ordup_primary.specs.Primaries.{PrimaryState, IsPrimary, progress_at, is_lag_within}
 use Rattle.ordup_site.specs.Sites.{SiteState}
 use Rattle.ordup_holds.specs.Agreement.{Agrees}
 use Rattle.ordup_cluster.specs.Clusters.{AgreeBelow, IsFirstMixed, IsClosed}
@@ -28,7 +28,7 @@ first-mixed n p sites y there before at differs = record {
 
 pub is-closed : (p : PrimaryState) (sites : List SiteState) → IsPrimary p → length sites ≡ length p.sites
     → ((s : ℕ) (x : SiteState) → slice_get sites s ≡ Some x → Agrees p s x)
-    → ((s applied : ℕ) → s < length p.sites → (progress_at p s).reported ≤ applied → is_within p s applied p.acked ≡ true)
+    → ((s applied : ℕ) → s < length p.sites → (progress_at p s).reported ≤ applied → is_lag_within p s applied ≡ true)
     → IsClosed (record { primary = p; sites = sites })
 is-closed p sites sound count agrees within = record {
   sound = sound;

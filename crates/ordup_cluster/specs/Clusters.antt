@@ -1,6 +1,6 @@
 -- What contracts see of a cluster, and of what is left of it.
 use Rattle.std.specs.Prelude.{◌≡◌, ℕ, ◌<◌, Some, List, length, slice_get, true}
-use Rattle.ordup_primary.specs.Primaries.{PrimaryState, IsPrimary, is_within}
+use Rattle.ordup_primary.specs.Primaries.{PrimaryState, IsPrimary, is_lag_within}
 use Rattle.ordup_site.specs.Sites.{SiteState}
 use Rattle.ordup_holds.specs.Agreement.{Agrees}
 
@@ -24,9 +24,10 @@ pub record IsFirstMixed (p : PrimaryState) (sites : List SiteState) (s : ℕ) : 
   pub before : AgreeBelow s p sites
   pub mixed : (x : SiteState) → slice_get sites s ≡ Some x → Agrees p s x → ⊥
 
--- There are the sites of the primary. Each agrees with it, and the acknowledged updates that a site has not applied keep its limits.
+-- There are the sites of the primary. Each agrees with it, and the acknowledged updates that a site has not applied keep its limits, as
+-- they are at the end.
 pub record IsClosed (c : ClosedState) : Type 0 where
   pub sound : IsPrimary c.primary
   pub count : length c.sites ≡ length c.primary.sites
   pub agrees : (s : ℕ) (x : SiteState) → slice_get c.sites s ≡ Some x → Agrees c.primary s x
-  pub within : (s : ℕ) (x : SiteState) → slice_get c.sites s ≡ Some x → is_within c.primary s x.applied c.primary.acked ≡ true
+  pub within : (s : ℕ) (x : SiteState) → slice_get c.sites s ≡ Some x → is_lag_within c.primary s x.applied ≡ true

@@ -10,6 +10,7 @@ use Rattle.csv.specs.declared.writer.Writer.{Writer}
 use Rattle.ordup_rows.specs.Forming.{IsClean, csv_text, text_so_far}
 use Rattle.ordup_rows.specs.Rows.{Row, change_row, change_rows, counted, limit_row, member_row, member_rows, name_at, object_row}
 use Rattle.ordup_rows.specs.Rows.{report_row, round_row, window_row}
+use Rattle.ordup_rows.specs.declared.version.Version.{Version}
 use Rattle.ordup_rows.proofs.Growth.{rows_after}
 
 -- rows were written up to some rest of all of them
@@ -76,10 +77,10 @@ abbrev Adds : Option (List ℕ) → List Row → Option (List ℕ) → Type 0
 Adds old rows new = new ≡ option_map (λ t. t ++ csv_text rows) old
 
 -- the rows of a record, written from nothing after a first row
-pub all_written : (head : Row) (r : RecordState) (t0 t1 t2 t3 t4 t5 t6 t7 t8 : Option (List ℕ)) → t0 ≡ Some []
+pub all_written : (version : Version) (head : Row) (r : RecordState) (t0 t1 t2 t3 t4 t5 t6 t7 t8 : Option (List ℕ)) → t0 ≡ Some []
     → t1 ≡ option_map (λ t. t ++ row_text default_writer head) t0 → Adds t1 (counted object_row 1 r.objects) t2
-    → Adds t2 (member_rows r.objects 1 r.groups) t3 → Adds t3 (counted (limit_row r.objects r.groups) 1 r.limits) t4
+    → Adds t2 (member_rows r.objects 1 r.groups) t3 → Adds t3 (counted (limit_row version r.objects r.groups) 1 r.limits) t4
     → Adds t4 (change_rows r.objects 1 r.sets) t5 → Adds t5 (map report_row r.reports) t6 → Adds t6 (counted round_row 1 r.rounds) t7
-    → Adds t7 (counted window_row 1 r.windows) t8 → t8 ≡ Some (csv_text (head ∷ rows_after (length r.sets) r))
-all_written head r t0 t1 t2 t3 t4 t5 t6 t7 t8 e0 e1 e2 e3 e4 e5 e6 e7 e8 =
+    → Adds t7 (counted window_row 1 r.windows) t8 → t8 ≡ Some (csv_text (head ∷ rows_after version (length r.sets) r))
+all_written version head r t0 t1 t2 t3 t4 t5 t6 t7 t8 e0 e1 e2 e3 e4 e5 e6 e7 e8 =
     rw (e8, e7, e6, e5, e4, e3, e2, e1, e0) (ap (λ t. Some t) (simp (csv_text-append, append_assoc)))

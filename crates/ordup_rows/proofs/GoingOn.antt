@@ -1,32 +1,30 @@
 -- Rows that were taken can go on; so the first row that is not taken is the first bad one.
 use Rattle.ordup_record.proofs.Common.{◌++◌, ◌+◌, ◌-◌, ◌<◌, ◌∙◌, ◌∷◌, ◌≡◌, [], Add, All-cons, All-nil, ap, append-nil, append_assoc}
-use Rattle.ordup_record.proofs.Common.{AreKnown, arith, cases_lt, Change, codes, decimal, inl, inr, IsKnown, IsRecord, IsSet, length}
+use Rattle.ordup_record.proofs.Common.{AreKnown, arith, cases_lt, Change, codes, decimal, inl, inr, IsKnown, IsSet, length}
 use Rattle.ordup_record.proofs.Common.{length-append, length_push, List, lt-ltb, nil_from_length, None, option_and_then, pos, RecordState}
 use Rattle.ordup_record.proofs.Common.{refl, same_Some, signed_decimal, Some, subst, suc, sym, take, zero, ℕ}
 use Rattle.std.proofs.Math.Seq.{take-append_seam}
 use Rattle.ordup_grammar.proofs.Decimals.{number_of-signed_decimal}
 use Rattle.ordup_rows.specs.Columns.{Columns}
 use Rattle.ordup_rows.specs.Laws.{WhatIsNotClosedIsMissing, WhatIsNotTakenIsBad, WhatIsTakenCanGoOn}
-use Rattle.ordup_rows.specs.Rows.{Row, change_text, rows_of, rows_so_far}
+use Rattle.ordup_rows.specs.Rows.{Row, change_text, rows_so_far}
 use Rattle.ordup_rows.specs.Stages.{Stage, closed, record_at, run, step, told, unread, with_change_row, with_object}
 use Rattle.ordup_rows.specs.Telling.{CanGoOn, Tells}
 use Rattle.ordup_rows.specs.declared.row_kind.RowKind.TheVariants as kind
+use Rattle.ordup_rows.specs.declared.version.Version.{Version}
+use Rattle.ordup_rows.specs.declared.version.Version.TheVariants.{First}
 use Rattle.ordup_rows.proofs.Columns.{bound, writes-decimal}
 use Rattle.ordup_rows.proofs.Growth.{IsBeforeMembers, IsBeforeReports}
 use Rattle.ordup_rows.proofs.ReadingBack.{HasNumber, what_is_told_is_read}
 use Rattle.ordup_rows.proofs.Refusals.{set_allowed}
-use Rattle.ordup_rows.proofs.Running.{IsRecord-told, IsStage, no_record, run_whole, stage_rows}
+use Rattle.ordup_rows.proofs.Running.{IsStage, no_record, run_whole, stage_rows, told_whole}
 use Rattle.ordup_rows.proofs.Taking.{take_row}
 use Rattle.ordup_rows.proofs.ToldSoFar.{IsTold}
 use Rattle.ordup_rows.proofs.Words.{change_by-text}
 
--- a record whose rows begin with these
-abbrev Begins : List Row → Type 0
-Begins rows = (r : RecordState) × (more : List Row) × IsRecord r × (rows_of r ≡ rows ++ more)
-
-one_before : (rows : List Row) (row : Row) (next : List Row) → next ≡ rows ++ row ∷ [] → Begins next → Begins rows
-one_before rows row next e (r, more, is, same) =
-    (r, row ∷ more, is, same ∙ ap (λ front. front ++ more) e ∙ append_assoc rows (row ∷ []) more)
+one_before : (rows : List Row) (row : Row) (next : List Row) → next ≡ rows ++ row ∷ [] → CanGoOn next → CanGoOn rows
+one_before rows row next e (r, more, tells) =
+    (r, row ∷ more, subst (λ l. Tells l r) (ap (λ front. front ++ more) e ∙ append_assoc rows (row ∷ []) more) tells)
 
 -- ---- updates that lack are filled by one that adds nothing to the first object
 
@@ -41,7 +39,7 @@ nothing_set = record {
   distinct = refl;
 }
 
-module _ (decided : ℕ) (q : RecordState) (is : IsTold decided q) (some : 0 < length q.objects) where
+module _ (version : Version) (decided : ℕ) (q : RecordState) (is : IsTold version decided q) (some : 0 < length q.objects) where
   abbrev fill_columns : Columns
   fill_columns = record {
     kind = codes "change";
@@ -69,17 +67,16 @@ module _ (decided : ℕ) (q : RecordState) (is : IsTold decided q) (some : 0 < l
         set_allowed (length q.objects) (nothing ∷ []) nothing_set known,
       ) refl
 
-fill : (k decided : ℕ) (q : RecordState) → IsTold decided q → 0 < length q.objects → length q.sets + k ≡ decided
-    → Begins (rows_so_far decided q)
-fill zero decided q is some count =
-    let all : length q.sets ≡ decided = omega arith in
-    (q, [], IsRecord-told decided q is some all, ap (λ d. rows_so_far d q) all ∙ sym (append-nil (rows_so_far decided q)))
-fill (suc k) decided q is some count = elim is.full [
+fill : (k : ℕ) (version : Version) (decided : ℕ) (q : RecordState) → IsTold version decided q → 0 < length q.objects
+    → length q.sets + k ≡ decided → CanGoOn (rows_so_far version decided q)
+fill zero version decided q is some count =
+    (q, [], subst (λ l. Tells l q) (sym (append-nil (rows_so_far version decided q))) (told_whole version decided q is some (omega arith)))
+fill (suc k) version decided q is some count = elim is.full [
   | inl all ↦ absurd (omega (arith, all))
-  | inr before ↦ (let more = take_row decided q is (fill_columns decided q is some) kind.Change (filled decided q is some) refl
-      (filled_by decided q is some before (omega arith)) in
-      one_before (rows_so_far decided q) _ _ more.rows
-      (fill k decided (filled decided q is some) more.told some (omega (arith, length_push q.sets (nothing ∷ [])))))
+  | inr before ↦ (let more = take_row version decided q is (fill_columns version decided q is some) kind.Change
+      (filled version decided q is some) refl (filled_by version decided q is some before (omega arith)) in
+      one_before (rows_so_far version decided q) _ _ more.rows
+      (fill k version decided (filled version decided q is some) more.told some (omega (arith, length_push q.sets (nothing ∷ [])))))
 ]
 
 -- ---- an object is added, where there is none
@@ -94,31 +91,31 @@ first_by : (q : RecordState) → q.objects ≡ [] → IsBeforeMembers q → with
 first_by q e0 (e1, (e2, (e3, (e4, (e5, e6))))) =
     rw (e0, e1, e2, e3, e4, e5, e6, number_of-signed_decimal (pos 0) (omega arith), writes-decimal 1 (omega arith)) refl
 
-begin_told : (decided : ℕ) (q : RecordState) → IsTold decided q → Begins (rows_so_far decided q)
-begin_told decided q is = elim is.begun [
-  | inl some ↦ (let count = is.sets.count in fill (decided - length q.sets) decided q is some (omega arith))
+begin_told : (version : Version) (decided : ℕ) (q : RecordState) → IsTold version decided q → CanGoOn (rows_so_far version decided q)
+begin_told version decided q is = elim is.begun [
+  | inl some ↦ (let count = is.sets.count in fill (decided - length q.sets) version decided q is some (omega arith))
   | inr before ↦ elim (cases_lt 0 (length q.objects)) [
-    | inl some ↦ (let count = is.sets.count in fill (decided - length q.sets) decided q is some (omega arith))
+    | inl some ↦ (let count = is.sets.count in fill (decided - length q.sets) version decided q is some (omega arith))
     | inr none ↦ (let e : q.objects ≡ [] = nil_from_length q.objects (omega arith) in
-        let more = take_row decided q is first_columns kind.Object (with_x q) refl (first_by q e before) in
+        let more = take_row version decided q is first_columns kind.Object (with_x q) refl (first_by q e before) in
         let count = is.sets.count in
-        one_before (rows_so_far decided q) _ _ more.rows
-        (fill (decided - length q.sets) decided (with_x q) more.told (omega (arith, length_push q.objects (codes "x", pos 0)))
+        one_before (rows_so_far version decided q) _ _ more.rows
+        (fill (decided - length q.sets) version decided (with_x q) more.told (omega (arith, length_push q.objects (codes "x", pos 0)))
         (omega arith)))
   ]
 ]
 
-begin_stage : (stage : Stage) → IsStage stage → Begins (stage_rows stage)
+begin_stage : (stage : Stage) → IsStage stage → CanGoOn (stage_rows stage)
 begin_stage unread is =
-    let (r, more, valid, same) = begin_told 0 (record_at (codes "x")) (no_record (codes "x") 0 refl (omega arith)) in
-    (r, rows_of r, valid, refl)
-begin_stage (told decided q) is = begin_told decided q is
+    let site = codes "x" in
+    let (r, more, tells) = begin_told First 0 (record_at site) (no_record First site 0 refl (omega arith)) in
+    (r, rows_so_far First 0 (record_at site) ++ more, tells)
+begin_stage (told version decided q) is = begin_told version decided q is
 
 pub what_is_taken_can_go_on : WhatIsTakenCanGoOn
 what_is_taken_can_go_on rows stage ran =
     let (is, same) = run_whole rows stage ran in
-    let (r, more, valid, all) = begin_stage stage is in
-    (r, more, record { valid = valid; same = ap (λ front. front ++ more) (sym same) ∙ sym all })
+    subst CanGoOn same (begin_stage stage is)
 
 -- ---- rows that are not taken
 

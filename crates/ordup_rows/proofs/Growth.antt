@@ -1,15 +1,17 @@
 -- The rows of a record that is told one row more.
 use Rattle.ordup_record.proofs.Common.{◌++◌, ◌+◌, ◌-◌, ◌<◌, ◌==◌, ◌∙◌, ◌∷◌, ◌≡◌, [], and_parts, ap, append-nil, append_assoc, arith, Change}
-use Rattle.ordup_record.proofs.Common.{drop, eqb-true, get_or-append_seam, GroupList, last_members, length, length_push, Limit, List}
+use Rattle.ordup_record.proofs.Common.{drop, eqb-true, get_or-append_seam, GroupList, last_members, length, length_push, List}
 use Rattle.ordup_record.proofs.Common.{map-append, nil_from_length, Objects, RecordState, refl, sym, true, Window, with_member, ℕ, ℤ}
 use Rattle.std.specs.Prelude.{slice_index_or, slice_set}
 use Rattle.std.proofs.Math.Seq.{set-append_seam}
 use Rattle.ordup_objects.specs.Tables.{with_entry}
+use Rattle.ordup_limits.specs.declared.limit_entry.LimitEntry.{LimitEntry}
 use Rattle.ordup_record.specs.declared.report_change.ReportChange.{ReportChange}
 use Rattle.ordup_rows.specs.Rows.{Row, change_row, change_rows, counted, limit_row, member_row, member_rows, object_row, report_row}
 use Rattle.ordup_rows.specs.Rows.{round_row, rows_so_far, window_row}
 use Rattle.ordup_rows.specs.Stages.{is_before_changes, is_before_limits, is_before_members, is_before_reports, is_before_rounds}
 use Rattle.ordup_rows.specs.Stages.{is_before_windows, last_name, last_set, member_count, with_change}
+use Rattle.ordup_rows.specs.declared.version.Version.{Version}
 
 -- ---- what was not told yet
 
@@ -152,44 +154,44 @@ change_rows-new objects sets c k is = change_rows-append objects 1 k sets ((c �
 -- ---- the rows so far, and one more
 
 -- the rows after the first
-abbrev pub rows_after : ℕ → RecordState → List Row
-rows_after decided r = drop 1 (rows_so_far decided r)
+abbrev pub rows_after : Version → ℕ → RecordState → List Row
+rows_after version decided r = drop 1 (rows_so_far version decided r)
 
-module _ (decided : ℕ) (r : RecordState) where
+module _ (version : Version) (decided : ℕ) (r : RecordState) where
   pub grow_object : (o : List ℕ × ℤ) → IsBeforeMembers r
-      → rows_after decided (record r { objects = r.objects ++ o ∷ [] }) ≡ rows_after decided r ++ object_row (length r.objects + 1) o ∷ []
+      → rows_after version decided (record r { objects = r.objects ++ o ∷ [] }) ≡ rows_after version decided r ++ object_row (length r.objects + 1) o ∷ []
   grow_object o (e1, (e2, (e3, (e4, (e5, e6))))) =
       rw (e1, e2, e3, e4, e5, e6, counted-push object_row 1 (length r.objects + 1) r.objects o (omega arith)) (simp append-nil)
 
   -- other groups, whose rows are one more
   pub grow_groups : (groups : GroupList) (x : Row) → IsBeforeLimits r
       → member_rows r.objects 1 groups ≡ member_rows r.objects 1 r.groups ++ x ∷ []
-      → rows_after decided (record r { groups = groups }) ≡ rows_after decided r ++ x ∷ []
+      → rows_after version decided (record r { groups = groups }) ≡ rows_after version decided r ++ x ∷ []
   grow_groups groups x (e2, (e3, (e4, (e5, e6)))) more = rw (e2, e3, e4, e5, e6, more) (simp (append-nil, append_assoc))
 
-  pub grow_limit : (l : Limit) → IsBeforeChanges r
-      → rows_after decided (record r { limits = r.limits ++ l ∷ [] })
-      ≡ rows_after decided r ++ limit_row r.objects r.groups (length r.limits + 1) l ∷ []
-  grow_limit l (e3, (e4, (e5, e6))) =
-      rw (e3, e4, e5, e6, counted-push (limit_row r.objects r.groups) 1 (length r.limits + 1) r.limits l (omega arith))
+  pub grow_limit : (e : LimitEntry) → IsBeforeChanges r
+      → rows_after version decided (record r { limits = r.limits ++ e ∷ [] })
+      ≡ rows_after version decided r ++ limit_row version r.objects r.groups (length r.limits + 1) e ∷ []
+  grow_limit e (e3, (e4, (e5, e6))) =
+      rw (e3, e4, e5, e6, counted-push (limit_row version r.objects r.groups) 1 (length r.limits + 1) r.limits e (omega arith))
       (simp (append-nil, append_assoc))
 
   -- other updates, whose rows are one more
   pub grow_sets : (sets : List (List Change)) (x : Row) → IsBeforeReports r
       → change_rows r.objects 1 sets ≡ change_rows r.objects 1 r.sets ++ x ∷ []
-      → rows_after decided (record r { sets = sets }) ≡ rows_after decided r ++ x ∷ []
+      → rows_after version decided (record r { sets = sets }) ≡ rows_after version decided r ++ x ∷ []
   grow_sets sets x (e4, (e5, e6)) more = rw (e4, e5, e6, more) (simp (append-nil, append_assoc))
 
   pub grow_report : (c : ReportChange) → IsBeforeRounds r
-      → rows_after decided (record r { reports = r.reports ++ c ∷ [] }) ≡ rows_after decided r ++ report_row c ∷ []
+      → rows_after version decided (record r { reports = r.reports ++ c ∷ [] }) ≡ rows_after version decided r ++ report_row c ∷ []
   grow_report c (e5, e6) = rw (e5, e6, map-append report_row r.reports (c ∷ [])) (simp (append-nil, append_assoc))
 
   pub grow_round : (place : ℕ) → IsBeforeWindows r
-      → rows_after decided (record r { rounds = r.rounds ++ place ∷ [] }) ≡ rows_after decided r
+      → rows_after version decided (record r { rounds = r.rounds ++ place ∷ [] }) ≡ rows_after version decided r
       ++ round_row (length r.rounds + 1) place ∷ []
   grow_round place e6 =
       rw (e6, counted-push round_row 1 (length r.rounds + 1) r.rounds place (omega arith)) (simp (append-nil, append_assoc))
 
-  pub grow_window : (w : Window) → rows_after decided (record r { windows = r.windows ++ w ∷ [] }) ≡ rows_after decided r
+  pub grow_window : (w : Window) → rows_after version decided (record r { windows = r.windows ++ w ∷ [] }) ≡ rows_after version decided r
       ++ window_row (length r.windows + 1) w ∷ []
   grow_window w = rw (counted-push window_row 1 (length r.windows + 1) r.windows w (omega arith)) (simp append_assoc)

@@ -2,6 +2,7 @@ pub mod Columns
 pub mod Names
 pub mod Words
 pub mod Refusals
+pub mod Versions
 pub mod Growth
 pub mod ToldSoFar
 pub mod Taking

@@ -3,7 +3,7 @@ use Rattle.ordup_record.proofs.Common.{◌++◌, ◌+◌, ◌<◌, ◌==◌, ◌
 use Rattle.ordup_record.proofs.Common.{All-tail, ap, append-nil, AreKnown, AreNames, arith, Bool, Change}
 use Rattle.ordup_record.proofs.Common.{codes, Count, decimal, Everything, false, get_or-map, greatest_amount, Group}
 use Rattle.ordup_record.proofs.Common.{GroupList, IfSome, initial_state, is_ascii_digit, is_name, is_name_byte, IsInRange, IsKnown}
-use Rattle.ordup_record.proofs.Common.{IsRecord, IsScopeKnown, IsSet, IsState, leb-true, length, length-append, length-map, Limit, List}
+use Rattle.ordup_record.proofs.Common.{IsRecord, IsScopeKnown, IsSet, IsState, leb-true, length, length-append, length-map, List}
 use Rattle.ordup_record.proofs.Common.{list_all, list_any, list_any-append, map, Max, Min, most_updates, Mul, nat_tests, negsuc}
 use Rattle.ordup_record.proofs.Common.{Object, Objects, Op, op_number, or_from, or_parts, pos, RecordState, refl, Scope, Set}
 use Rattle.ordup_record.proofs.Common.{signed_decimal, source_of, suc, Take, true, unsigned_abs, Window, ℕ, ℤ}
@@ -13,13 +13,17 @@ use Rattle.std.proofs.lemmas.List.Elements.{All-append}
 use Rattle.std.proofs.lemmas.List.Folds.{list_any_none}
 use Rattle.csv.specs.Quoting.{needs_byte}
 use Rattle.csv.specs.Writing.{default_writer, fields_text, is_blank, needs_quotes, row_text}
+use Rattle.ordup_limits.specs.declared.limit_entry.LimitEntry.{LimitEntry}
 use Rattle.ordup_record.specs.declared.report_change.ReportChange.{ReportChange}
 use Rattle.ordup_objects.specs.Sizes.{most_name_bytes}
 use Rattle.ordup_rows.specs.Forming.{csv_text}
-use Rattle.ordup_rows.specs.Rows.{Row, change_row, change_rows, change_word, counted, head_row, limit_row, member_row}
-use Rattle.ordup_rows.specs.Rows.{member_rows, name_at, object_row, operation_text, report_row, round_row, row_line, rows_of, rows_text}
+use Rattle.ordup_rows.specs.Rows.{Row, amount_text, change_row, change_rows, change_word, counted, head_row, limit_row, member_row}
+use Rattle.ordup_rows.specs.Rows.{member_rows, name_at, object_row, operation_text, report_row, round_row, row_line, rows_in, rows_text}
 use Rattle.ordup_rows.specs.Rows.{scope_text, window_row}
 use Rattle.ordup_rows.specs.Stages.{member_count}
+use Rattle.ordup_rows.specs.Versions.{version_text}
+use Rattle.ordup_rows.specs.declared.version.Version.{Version}
+use Rattle.ordup_rows.specs.declared.version.Version.TheVariants.{First, Second}
 use Rattle.ordup_record.proofs.AscendingLemmas.{rounds-few}
 use Rattle.ordup_rows.proofs.Columns.{parts_3}
 use Rattle.ordup_rows.proofs.ReadingBack.{HasNumber, member_count-few}
@@ -228,10 +232,24 @@ sets_lines objects k (m ∷ sets) names are known few =
 abbrev pub IsReportWithin : ℕ → ReportChange → Type 0
 IsReportWithin d c = (0 < c.place) × (c.place ≤ d)
 
--- a limit with its scope and amount
-record IsWrittenLimit (n : ℕ) (groups : GroupList) (l : Limit) : Type 0 where
-  known : IsScopeKnown n groups l.scope
-  amount : l.amount ≤ greatest_amount
+version_plain : (version : Version) → IsPlain 1 (version_text version)
+version_plain First = code (codes "1") refl
+version_plain Second = code (codes "2") refl
+
+-- a limit with its scope, amount and place
+record IsWrittenLimit (n : ℕ) (groups : GroupList) (e : LimitEntry) : Type 0 where
+  known : IsScopeKnown n groups e.limit.scope
+  amount : e.limit.amount ≤ greatest_amount
+  place : e.place ≤ most_updates + 1
+
+amount_plain : (version : Version) (e : LimitEntry) → e.limit.amount ≤ greatest_amount → e.place ≤ most_updates + 1
+    → IsPlain 39 (amount_text version e)
+amount_plain First e amount place =
+    wider 39 (decimal e.limit.amount) (decimal_plain e.limit.amount (omega arith)) (lit≤ tt)
+amount_plain Second e amount place =
+    let number = decimal_plain e.place (omega arith) in
+    let behind : IsPlain 20 (64 ∷ decimal e.place) = record { plain = number.plain; few = omega (arith, number.few) } in
+    join_plain (decimal e.limit.amount) (64 ∷ decimal e.place) (decimal_plain e.limit.amount (omega arith)) behind
 
 seven_lines : (a b c d e f g : List Row) → All IsLine a → All IsLine b → All IsLine c → All IsLine d → All IsLine e → All IsLine f
     → All IsLine g
@@ -265,14 +283,19 @@ module _ (r : RecordState) (is : IsRecord r) where
       groups_lines r.objects 1 r.groups is.objects.names is.groups.names is.groups.known
       (omega (arith, member_count-few r.groups is.groups.each))
 
-  limits_lines : All IsLine (counted (limit_row r.objects r.groups) 1 r.limits)
-  limits_lines =
+  limits_lines : (version : Version) → All IsLine (counted (limit_row version r.objects r.groups) 1 r.limits)
+  limits_lines version =
       let few = is.limits.few in
-      counted_lines (limit_row r.objects r.groups) (IsWrittenLimit (length r.objects) r.groups) 4096 (λ i l most w.
-      let amount = w.amount in
+      let updates = is.few in
+      counted_lines (limit_row version r.objects r.groups) (IsWrittenLimit (length r.objects) r.groups) 4096 (λ i e most w.
       IsLine-columns (code (codes "limit") refl) (decimal_plain i (omega arith))
-      (scope_plain r.objects r.groups l.scope is.objects.names is.groups.names w.known) (decimal_plain l.amount (omega arith)) (lit≤ tt))
-      1 r.limits (omega arith) (λ k l lt. record { known = is.scopes k l lt; amount = is.limits.amounts k l lt })
+      (scope_plain r.objects r.groups e.limit.scope is.objects.names is.groups.names w.known) (amount_plain version e w.amount w.place)
+      (lit≤ tt))
+      1 r.limits (omega arith) (λ k e lt. record {
+        known = is.scopes k e lt;
+        amount = is.limits.amounts k e lt;
+        place = omega (arith, is.begun k e lt, updates);
+      })
 
   changes_lines : All IsLine (change_rows r.objects 1 r.sets)
   changes_lines = let few = is.few in sets_lines r.objects 1 r.sets is.objects.names is.sets is.known (omega arith)
@@ -295,17 +318,17 @@ module _ (r : RecordState) (is : IsRecord r) where
       (decimal_plain w.from (omega (arith, within.0))) (decimal_plain w.to (omega (arith, within.1))) (lit≤ tt))
       1 r.windows (omega arith) is.windows
 
-  pub all_lines : All IsLine (rows_of r)
-  all_lines =
+  pub all_lines : (version : Version) → All IsLine (rows_in version r)
+  all_lines version =
       let few = is.few in
-      All-cons IsLine (head_row r.site (length r.sets)) _
-      (IsLine-columns (code (codes "ordup") refl) (code (codes "1") refl) (name_plain r.site is.site)
+      All-cons IsLine (head_row version r.site (length r.sets)) _
+      (IsLine-columns (code (codes "ordup") refl) (version_plain version) (name_plain r.site is.site)
       (decimal_plain (length r.sets) (omega arith)) (lit≤ tt))
-      (seven_lines (counted object_row 1 r.objects) (member_rows r.objects 1 r.groups) (counted (limit_row r.objects r.groups) 1 r.limits)
+      (seven_lines (counted object_row 1 r.objects) (member_rows r.objects 1 r.groups) (counted (limit_row version r.objects r.groups) 1 r.limits)
       (change_rows r.objects 1 r.sets) (map report_row r.reports) (counted round_row 1 r.rounds) (counted window_row 1 r.windows)
-      objects_lines members_lines limits_lines changes_lines
+      objects_lines members_lines (limits_lines version) changes_lines
       (reports_lines r.reports (length r.sets) few is.reports.each is.reports.reported) rounds_lines windows_lines)
 
   -- csv writes the rows of a record as their lines
-  pub lines_of : csv_text (rows_of r) ≡ rows_text (rows_of r)
-  lines_of = lines (rows_of r) all_lines
+  pub lines_of : (version : Version) → csv_text (rows_in version r) ≡ rows_text (rows_in version r)
+  lines_of version = lines (rows_in version r) (all_lines version)

@@ -1,10 +1,10 @@
 -- The rows of a record are read back as it.
 use Rattle.ordup_record.proofs.Common.{◌*◌, ◌++◌, ◌+◌, ◌<◌, ◌==◌, ◌^◌, ◌∙◌, ◌∷◌, ◌≡◌, ◌≤◌, [], All, All-cons, All-nil, All-tail, and_from}
-use Rattle.ordup_record.proofs.Common.{ap, append-nil, append_assoc, are_of_one_object, AreGroups, AreKnown, AreLimits, AreMembersKnown}
-use Rattle.ordup_record.proofs.Common.{AreReportChanges, AreRoundPlaces, AreScopesKnown, arith, Bool, bytes_eq, Change, decimal, eq-eqb}
+use Rattle.ordup_record.proofs.Common.{ap, append-nil, append_assoc, are_of_one_object, AreEntries, AreEntriesKnown, AreGroups, AreKnown}
+use Rattle.ordup_record.proofs.Common.{AreMembersKnown, AreReportChanges, AreRoundPlaces, arith, Bool, bytes_eq, Change, decimal, Entries, eq-eqb}
 use Rattle.ordup_record.proofs.Common.{false, get_or, get_or-append_seam, greatest_amount, group_refusal, GroupList, IfSome, initial_state}
 use Rattle.ordup_record.proofs.Common.{is_name, IsGroup, IsInRange, IsKnown, IsRecord, IsScopeKnown, IsSet, IsStrictlyIncreasing, le-leb}
-use Rattle.ordup_record.proofs.Common.{length, length-append, length_push, Limit, Limits, List, list_any, list_any-append}
+use Rattle.ordup_record.proofs.Common.{HoldFrom, length, length-append, length_push, List, list_any, list_any-append, most_limits, take}
 use Rattle.ordup_record.proofs.Common.{lt-ltb, map, map-append, member_refusal, most_changes, most_members}
 use Rattle.ordup_record.proofs.Common.{most_updates, most_windows, nat_eq, nat_lt, nat_tests, None, Objects, op_number}
 use Rattle.ordup_record.proofs.Common.{option_and_then, or_from, or_parts, place_of, RecordState, refl, repeats, same_Some, set_refusal}
@@ -12,23 +12,30 @@ use Rattle.ordup_record.proofs.Common.{Some, subst, suc, sym, true, Window, ℕ,
 use Rattle.std.proofs.lemmas.Bool.{and_right}
 use Rattle.ordup_grammar.proofs.Decimals.{number_of-signed_decimal}
 use Rattle.ordup_objects.specs.Sets.{AreInRange}
-use Rattle.ordup_limits.specs.Limits.{are_on_one_scope}
+use Rattle.std.proofs.Math.Seq.{take-append_seam}
+use Rattle.ordup_limits.specs.Entries.{are_one_entry, has_few, latest}
+use Rattle.ordup_limits.specs.Sizes.{most_entries}
+use Rattle.ordup_limits.specs.declared.limit_entry.LimitEntry.{LimitEntry}
+use Rattle.ordup_limits.proofs.EntryLemmas.{latest-take}
 use Rattle.ordup_record.specs.declared.report_change.ReportChange.{ReportChange}
 use Rattle.ordup_record.specs.Records.{AreObjects}
 use Rattle.ordup_rows.specs.Columns.{change_by, writes}
-use Rattle.ordup_rows.specs.Laws.{RowsTellOneRecord, WhatIsToldIsRead}
+use Rattle.ordup_rows.specs.Laws.{RowsOfEachVersionAreRead, RowsTellOneRecord, WhatIsToldIsRead}
 use Rattle.ordup_rows.specs.Rows.{Row, change_row, change_rows, change_text, counted, head_row, limit_row, member_row, member_rows, name_at}
-use Rattle.ordup_rows.specs.Rows.{object_row, report_row, round_row, rows_of, window_row}
+use Rattle.ordup_rows.specs.Rows.{object_row, report_row, round_row, rows_in, window_row}
 use Rattle.ordup_rows.specs.Stages.{Stage, closed, is_last_group, last_name, last_number, member_count, record_at, run, step, told, told_by}
 use Rattle.ordup_rows.specs.Stages.{unread}
+use Rattle.ordup_rows.specs.Versions.{CanTell, CanTellPlace}
+use Rattle.ordup_rows.specs.declared.version.Version.{Version}
 use Rattle.ordup_record.proofs.AscendingLemmas.{above}
 use Rattle.ordup_rows.proofs.Columns.{bound, bytes_same, natural_of-decimal, writes-decimal}
 use Rattle.ordup_rows.proofs.Growth.{ends, last_members-of, last_name-of, last_set-of, member_count-append, with_change-last}
 use Rattle.ordup_rows.proofs.Growth.{with_member-last}
 use Rattle.ordup_rows.proofs.Names.{absent_before, other_name, place_of-name}
-use Rattle.ordup_rows.proofs.Refusals.{IsNewGroup, IsNewLimit, IsNewMember, IsNewObject, group_allowed, limit_allowed, member_allowed}
+use Rattle.ordup_rows.proofs.Refusals.{IsNewEntry, IsNewGroup, IsNewMember, IsNewObject, entry_allowed, group_allowed, member_allowed}
 use Rattle.ordup_rows.proofs.Refusals.{object_allowed, set_allowed}
-use Rattle.ordup_rows.proofs.ToldSoFar.{HasGroup, HasKnown, HasName, above_last, all_at, all_front}
+use Rattle.ordup_rows.proofs.ToldSoFar.{HasGroup, HasKnown, HasName, above_last, all_at, all_front, changed-last, last_before}
+use Rattle.ordup_rows.proofs.Versions.{amount_by-text, version_of-text}
 use Rattle.ordup_rows.proofs.Words.{change_by-text, scope_of-text}
 
 -- ---- one after another
@@ -55,27 +62,27 @@ module _ {X : Type 0} (row : ℕ → X → Row) (at : List X → Stage) (start :
 
 -- ---- the record so far, at each kind of row
 
-module _ (d : ℕ) (r : RecordState) where
+module _ (v : Version) (d : ℕ) (r : RecordState) where
   abbrev pub at_objects : Objects → Stage
-  at_objects objects = told d (record (record_at r.site) { objects = objects })
+  at_objects objects = told v d (record (record_at r.site) { objects = objects })
 
   abbrev pub at_groups : GroupList → Stage
-  at_groups groups = told d (record (record_at r.site) { objects = r.objects; groups = groups })
+  at_groups groups = told v d (record (record_at r.site) { objects = r.objects; groups = groups })
 
-  abbrev pub at_limits : Limits → Stage
-  at_limits limits = told d (record (record_at r.site) { objects = r.objects; groups = r.groups; limits = limits })
+  abbrev pub at_limits : Entries → Stage
+  at_limits limits = told v d (record (record_at r.site) { objects = r.objects; groups = r.groups; limits = limits })
 
   abbrev pub at_sets : List (List Change) → Stage
-  at_sets sets = told d (record (record_at r.site) { objects = r.objects; groups = r.groups; limits = r.limits; sets = sets })
+  at_sets sets = told v d (record (record_at r.site) { objects = r.objects; groups = r.groups; limits = r.limits; sets = sets })
 
   abbrev pub at_reports : List ReportChange → Stage
-  at_reports reports = told d (record r { reports = reports; rounds = []; windows = [] })
+  at_reports reports = told v d (record r { reports = reports; rounds = []; windows = [] })
 
   abbrev pub at_rounds : List ℕ → Stage
-  at_rounds rounds = told d (record r { rounds = rounds; windows = [] })
+  at_rounds rounds = told v d (record r { rounds = rounds; windows = [] })
 
   abbrev pub at_windows : List Window → Stage
-  at_windows windows = told d (record r { windows = windows })
+  at_windows windows = told v d (record r { windows = windows })
 
 -- ---- objects
 
@@ -87,10 +94,10 @@ new_object xs o more are = record {
   room = let few = are.few in omega (arith, length-append xs (o ∷ more));
 }
 
-objects_run : (d : ℕ) (r : RecordState) → IsRecord r → run (at_objects d r []) (counted object_row 1 r.objects)
-    ≡ Some (at_objects d r r.objects)
-objects_run d r is =
-    counted_run object_row (at_objects d r) 1 r.objects (λ xs o more e.
+objects_run : (v : Version) (d : ℕ) (r : RecordState) → IsRecord r → run (at_objects v d r []) (counted object_row 1 r.objects)
+    ≡ Some (at_objects v d r r.objects)
+objects_run v d r is =
+    counted_run object_row (at_objects v d r) 1 r.objects (λ xs o more e.
     let new = new_object xs o more (subst AreObjects e is.objects) in
     let n : 1 + length xs ≡ length xs + 1 = omega arith in
     let range = new.range in
@@ -130,20 +137,20 @@ is_last front g =
     and_from _ _ (lt-ltb 0 (length (front ++ g ∷ [])) (omega (arith, length_push front g)))
     (ap (bytes_eq g.0) (last_name-of front g) ∙ bytes_same g.0)
 
-step_first_member : (d : ℕ) (r : RecordState) (groups : GroupList) (name : List ℕ) (x n : ℕ) → place_of (name_at r.objects x) r.objects
+step_first_member : (v : Version) (d : ℕ) (r : RecordState) (groups : GroupList) (name : List ℕ) (x n : ℕ) → place_of (name_at r.objects x) r.objects
     ≡ Some x
     → n ≡ member_count groups + 1 → n < 10 ^ 19 → is_last_group groups name ≡ false
     → group_refusal (length r.objects) groups name (x ∷ []) ≡ None
-    → step (at_groups d r groups) (member_row r.objects name n x) ≡ Some (at_groups d r (groups ++ (name, x ∷ []) ∷ []))
-step_first_member d r groups name x n found count small other free =
+    → step (at_groups v d r groups) (member_row r.objects name n x) ≡ Some (at_groups v d r (groups ++ (name, x ∷ []) ∷ []))
+step_first_member v d r groups name x n found count small other free =
     let reads : writes (decimal n) (member_count groups + 1) ≡ true = rw (← count) (writes-decimal n small) in
     rw (found, reads, other, free) refl
 
-step_more_member : (d : ℕ) (r : RecordState) (front : GroupList) (g : List ℕ × List ℕ) (x n : ℕ)
+step_more_member : (v : Version) (d : ℕ) (r : RecordState) (front : GroupList) (g : List ℕ × List ℕ) (x n : ℕ)
     → place_of (name_at r.objects x) r.objects ≡ Some x
     → n ≡ member_count (front ++ g ∷ []) + 1 → n < 10 ^ 19 → member_refusal (length r.objects) g.1 x ≡ None
-    → step (at_groups d r (front ++ g ∷ [])) (member_row r.objects g.0 n x) ≡ Some (at_groups d r (front ++ (g.0, g.1 ++ x ∷ []) ∷ []))
-step_more_member d r front g x n found count small free =
+    → step (at_groups v d r (front ++ g ∷ [])) (member_row r.objects g.0 n x) ≡ Some (at_groups v d r (front ++ (g.0, g.1 ++ x ∷ []) ∷ []))
+step_more_member v d r front g x n found count small free =
     let reads : writes (decimal n) (member_count (front ++ g ∷ []) + 1) ≡ true = rw (← count) (writes-decimal n small) in
     rw (found, reads, is_last front g, with_member-last front g x, last_members-of front g, free) refl
 
@@ -152,7 +159,7 @@ member_count-few [] are = omega arith
 member_count-few (g ∷ groups) are =
     omega (arith, member_count-few groups (All-tail HasGroup g groups are), (are 0 g (omega arith)).few)
 
-module _ (d : ℕ) (r : RecordState) (is : IsRecord r) where
+module _ (v : Version) (d : ℕ) (r : RecordState) (is : IsRecord r) where
   new_group : (done : GroupList) (name : List ℕ) (x : ℕ) (ms : List ℕ) (more : GroupList)
       → AreGroups (length r.objects) (done ++ (name, x ∷ ms) ∷ more)
       → IsNewGroup (length r.objects) done name (x ∷ [])
@@ -177,31 +184,31 @@ module _ (d : ℕ) (r : RecordState) (is : IsRecord r) where
   group_run : (done : GroupList) (name : List ℕ) (members : List ℕ) (more : GroupList) (n : ℕ)
       → AreGroups (length r.objects) (done ++ (name, members) ∷ more)
       → n ≡ member_count done + 1 → member_count done + length members ≤ 2048
-      → run (at_groups d r done) (counted (member_row r.objects name) n members) ≡ Some (at_groups d r (done ++ (name, members) ∷ []))
+      → run (at_groups v d r done) (counted (member_row r.objects name) n members) ≡ Some (at_groups v d r (done ++ (name, members) ∷ []))
   group_run done name [] more n are count few = absurd (omega (arith, (all_at HasGroup done (name, []) more are.each).some))
   group_run done name (x ∷ members) more n are count few =
       let group = all_at HasGroup done (name, x ∷ members) more are.each in
       let known = all_at (HasKnown (length r.objects)) done (name, x ∷ members) more are.known in
-      let at : List ℕ → Stage = λ ms. at_groups d r (done ++ (name, x ∷ ms) ∷ []) in
+      let at : List ℕ → Stage = λ ms. at_groups v d r (done ++ (name, x ∷ ms) ∷ []) in
       let new = new_group done name x members more are in
       let found : (y : ℕ) → y < length r.objects → place_of (name_at r.objects y) r.objects ≡ Some y =
       λ y lt. place_of-name r.objects y is.objects.distinct lt in
-      run_one (at_groups d r done) (at []) (at members) (member_row r.objects name n x)
+      run_one (at_groups v d r done) (at []) (at members) (member_row r.objects name n x)
       (counted (member_row r.objects name) (n + 1) members)
-      (step_first_member d r done name x n (found x (known 0 x (omega arith))) count (omega arith) (not_last done name new.new)
+      (step_first_member v d r done name x n (found x (known 0 x (omega arith))) count (omega arith) (not_last done name new.new)
       (group_allowed (length r.objects) done name (x ∷ []) new))
       (counted_run (member_row r.objects name) at (n + 1) members (λ ms y rest e.
       let whole : x ∷ members ≡ (x ∷ ms) ++ y ∷ rest = ap (λ l. x ∷ l) e in
       let fresh = new_member (x ∷ ms) y rest (subst IsGroup whole group) (subst (AreMembersKnown (length r.objects)) whole known) in
       let sizes : length members ≡ length ms + suc (length rest) = ap length e ∙ length-append ms (y ∷ rest) in
-      step_more_member d r done (name, x ∷ ms) y (n + 1 + length ms) (found y fresh.known)
+      step_more_member v d r done (name, x ∷ ms) y (n + 1 + length ms) (found y fresh.known)
       (omega (arith, member_count-append done ((name, x ∷ ms) ∷ []))) (omega arith)
       (member_allowed (length r.objects) (x ∷ ms) y fresh))
       members [] (n + 1) refl (omega arith))
 
   groups_run : (more done : GroupList) (n : ℕ) → r.groups ≡ done ++ more → n ≡ member_count done + 1
-      → run (at_groups d r done) (member_rows r.objects n more) ≡ Some (at_groups d r r.groups)
-  groups_run [] done n e count = ap (λ l. Some (at_groups d r l)) (sym (e ∙ append-nil done))
+      → run (at_groups v d r done) (member_rows r.objects n more) ≡ Some (at_groups v d r r.groups)
+  groups_run [] done n e count = ap (λ l. Some (at_groups v d r l)) (sym (e ∙ append-nil done))
   groups_run (g ∷ more) done n e count =
       let are : AreGroups (length r.objects) (done ++ g ∷ more) = subst (AreGroups (length r.objects)) e is.groups in
       let few = member_count-few (done ++ g ∷ more) are.each in
@@ -213,42 +220,60 @@ module _ (d : ℕ) (r : RecordState) (is : IsRecord r) where
 
 -- ---- limits
 
-new_limit : (n : ℕ) (groups : GroupList) (xs : Limits) (l : Limit) (more : Limits) → AreLimits (xs ++ l ∷ more)
-    → AreScopesKnown n groups (xs ++ l ∷ more)
-    → IsNewLimit n groups xs l.scope l.amount
-new_limit n groups xs l more are known = record {
-  known = all_at (λ (m : Limit). IsScopeKnown n groups m.scope) xs l more known;
-  few = all_at (λ (m : Limit). m.amount ≤ greatest_amount) xs l more are.amounts;
-  room = let few = are.few in omega (arith, length-append xs (l ∷ more));
-  new = repeats_new are_on_one_scope xs l more are.distinct;
-}
+new_entry : (n d : ℕ) (groups : GroupList) (xs : Entries) (e : LimitEntry) (more : Entries) → AreEntries (xs ++ e ∷ more)
+    → AreEntriesKnown n groups (xs ++ e ∷ more) → HoldFrom (d + 1) (xs ++ e ∷ more) → IsNewEntry n groups d xs e
+new_entry n d groups xs e more are known begun =
+    let all = xs ++ e ∷ more in
+    let new = repeats_new are_one_entry xs e more are.distinct in
+    let whole : all ≡ (xs ++ e ∷ []) ++ more = sym (append_assoc xs (e ∷ []) more) in
+    let front : take (length (xs ++ e ∷ [])) all ≡ xs ++ e ∷ [] = rw whole (take-append_seam (xs ++ e ∷ []) more) in
+    let scopes = latest-take all (length (xs ++ e ∷ [])) in
+    let few = are.few in
+    let most = are.scopes in
+    let room : has_few (xs ++ e ∷ []) ≡ true = and_from _ _
+    (le-leb (length (latest (xs ++ e ∷ []))) most_limits (omega (arith, scopes, ap (λ (l : Entries). length (latest l)) front, most)))
+    (le-leb (length (xs ++ e ∷ [])) most_entries (omega (arith, few, length_push xs e, length-append xs (e ∷ more)))) in
+    record {
+      known = all_at (λ (f : LimitEntry). IsScopeKnown n groups f.limit.scope) xs e more known;
+      few = all_at (λ (f : LimitEntry). f.limit.amount ≤ greatest_amount) xs e more are.amounts;
+      begun = all_at (λ (f : LimitEntry). 0 < f.place) xs e more are.begun;
+      within = all_at (λ (f : LimitEntry). f.place ≤ d + 1) xs e more begun;
+      later = last_before xs e more are.rising;
+      new = new;
+      room = ap has_few (changed-last xs e new) ∙ room;
+    }
 
-limits_run : (d : ℕ) (r : RecordState) → IsRecord r
-    → run (at_limits d r []) (counted (limit_row r.objects r.groups) 1 r.limits) ≡ Some (at_limits d r r.limits)
-limits_run d r is =
-    counted_run (limit_row r.objects r.groups) (at_limits d r) 1 r.limits (λ xs l more e.
-    let new = new_limit (length r.objects) r.groups xs l more (subst AreLimits e is.limits)
-    (subst (AreScopesKnown (length r.objects) r.groups) e is.scopes) in
-    let spelled = scope_of-text r.objects r.groups l.scope is.objects.distinct is.groups.distinct new.known in
+limits_run : (v : Version) (d : ℕ) (r : RecordState) → IsRecord r → length r.sets ≡ d → CanTell v r.limits
+    → run (at_limits v d r []) (counted (limit_row v r.objects r.groups) 1 r.limits) ≡ Some (at_limits v d r r.limits)
+limits_run v d r is all tells =
+    counted_run (limit_row v r.objects r.groups) (at_limits v d r) 1 r.limits (λ xs e more same.
+    let new = new_entry (length r.objects) d r.groups xs e more (subst AreEntries same is.limits)
+    (subst (AreEntriesKnown (length r.objects) r.groups) same is.scopes)
+    (subst (HoldFrom (d + 1)) same (subst (λ n. HoldFrom (n + 1) r.limits) all is.begun)) in
+    let spelled = scope_of-text r.objects r.groups e.limit.scope is.objects.distinct is.groups.distinct new.known in
     let n : 1 + length xs ≡ length xs + 1 = omega arith in
-    let room = new.room in
+    let place : CanTellPlace v e.place = all_at (λ (f : LimitEntry). CanTellPlace v f.place) xs e more (subst (CanTell v) same tells) in
+    let updates = is.few in
+    let few = is.limits.few in
+    let allowed = entry_allowed (length r.objects) r.groups d xs e new in
     rw (
       n,
       spelled,
-      natural_of-decimal l.amount (omega (arith, new.few)),
+      amount_by-text v e place (omega (arith, new.few)) (omega (arith, new.within, updates, all)),
       lt-ltb 0 (length r.objects) is.objects.some,
-      writes-decimal (length xs + 1) (omega arith),
-      limit_allowed (length r.objects) r.groups xs l.scope l.amount new,
+      writes-decimal (length xs + 1) (omega (arith, few, ap (λ (l : Entries). length l) same, length-append xs (e ∷ more))),
+      allowed.0,
+      allowed.1,
     ) refl)
     r.limits [] 1 refl refl
 
 -- ---- changes
 
-step_first : (d : ℕ) (r : RecordState) (sets : List (List Change)) (c : Change) (k : ℕ) → change_by r.objects (change_text r.objects c)
+step_first : (v : Version) (d : ℕ) (r : RecordState) (sets : List (List Change)) (c : Change) (k : ℕ) → change_by r.objects (change_text r.objects c)
     ≡ Some c
     → k ≡ length sets + 1 → length sets < d → k < 10 ^ 19 → set_refusal (length r.objects) (c ∷ []) ≡ None
-    → step (at_sets d r sets) (change_row r.objects k 1 c) ≡ Some (at_sets d r (sets ++ (c ∷ []) ∷ []))
-step_first d r sets c k spelled count room small free =
+    → step (at_sets v d r sets) (change_row r.objects k 1 c) ≡ Some (at_sets v d r (sets ++ (c ∷ []) ∷ []))
+step_first v d r sets c k spelled count room small free =
     let reads : writes (decimal k) (length sets + 1) ≡ true = rw (← count) (writes-decimal k small) in
     rw (spelled, writes-decimal 1 (omega arith), lt-ltb (length sets) d room, reads, free) refl
 
@@ -257,11 +282,11 @@ not_first n some small =
     let other : (n + 1 == 1) ≡ false = grind (arith, nat_tests) in
     rw (natural_of-decimal (n + 1) small) other
 
-step_next : (d : ℕ) (r : RecordState) (front : List (List Change)) (m : List Change) (c : Change) (k position : ℕ)
+step_next : (v : Version) (d : ℕ) (r : RecordState) (front : List (List Change)) (m : List Change) (c : Change) (k position : ℕ)
     → change_by r.objects (change_text r.objects c) ≡ Some c → k ≡ length (front ++ m ∷ []) → k < 10 ^ 19
     → position ≡ length m + 1 → 0 < length m → length m + 1 < 10 ^ 19 → set_refusal (length r.objects) (m ++ c ∷ []) ≡ None
-    → step (at_sets d r (front ++ m ∷ [])) (change_row r.objects k position c) ≡ Some (at_sets d r (front ++ (m ++ c ∷ []) ∷ []))
-step_next d r front m c k position spelled count small is some short free =
+    → step (at_sets v d r (front ++ m ∷ [])) (change_row r.objects k position c) ≡ Some (at_sets v d r (front ++ (m ++ c ∷ []) ∷ []))
+step_next v d r front m c k position spelled count small is some short free =
     let reads : writes (decimal k) (length (front ++ m ∷ [])) ≡ true = rw (← count) (writes-decimal k small) in
     let first : writes (decimal position) 1 ≡ false = rw is (not_first (length m) some short) in
     let next : writes (decimal position) (length m + 1) ≡ true = rw is (writes-decimal (length m + 1) short) in
@@ -273,7 +298,7 @@ HasNumber c = IfSome (op_number c.op) IsInRange
 abbrev IsWithin : ℕ → Window → Type 0
 IsWithin d w = (w.from ≤ d) × (w.to ≤ d)
 
-module _ (d : ℕ) (r : RecordState) (is : IsRecord r) (all : length r.sets ≡ d) where
+module _ (v : Version) (d : ℕ) (r : RecordState) (is : IsRecord r) (all : length r.sets ≡ d) where
   -- the front of a set is one
   front_set : (m : List Change) (c : Change) (more : List Change) → IsSet (m ++ c ∷ more) → IsSet (m ++ c ∷ [])
   front_set m c more set =
@@ -301,7 +326,7 @@ module _ (d : ℕ) (r : RecordState) (is : IsRecord r) (all : length r.sets ≡ 
 
   set_run : (done : List (List Change)) (m : List Change) (more : List (List Change)) (k : ℕ) → r.sets ≡ done ++ m ∷ more
       → k ≡ length done + 1
-      → run (at_sets d r done) (counted (change_row r.objects k) 1 m) ≡ Some (at_sets d r (done ++ m ∷ []))
+      → run (at_sets v d r done) (counted (change_row r.objects k) 1 m) ≡ Some (at_sets v d r (done ++ m ∷ []))
   set_run done [] more k e count =
       let sets : All IsSet (done ++ [] ∷ more) = subst (All IsSet) e is.sets in
       absurd (omega (arith, (all_at IsSet done [] more sets).some))
@@ -312,23 +337,23 @@ module _ (d : ℕ) (r : RecordState) (is : IsRecord r) (all : length r.sets ≡ 
       let known = all_at (AreKnown (length r.objects)) done (c ∷ m) more knowns in
       let sizes : length r.sets ≡ length done + suc (length more) = ap length e ∙ length-append done ((c ∷ m) ∷ more) in
       let few = is.few in
-      let at : List Change → Stage = λ l. at_sets d r (done ++ (c ∷ l) ∷ []) in
-      run_one (at_sets d r done) (at []) (at m) (change_row r.objects k 1 c) (counted (change_row r.objects k) 2 m)
-      (step_first d r done c k (change_read [] c m set known) count (omega arith) (omega arith) (front_allowed [] c m set known))
+      let at : List Change → Stage = λ l. at_sets v d r (done ++ (c ∷ l) ∷ []) in
+      run_one (at_sets v d r done) (at []) (at m) (change_row r.objects k 1 c) (counted (change_row r.objects k) 2 m)
+      (step_first v d r done c k (change_read [] c m set known) count (omega arith) (omega arith) (front_allowed [] c m set known))
       (counted_run (change_row r.objects k) at 2 m (λ l x rest e2.
       let whole : c ∷ m ≡ (c ∷ l) ++ x ∷ rest = ap (λ l. c ∷ l) e2 in
       let set2 = subst IsSet whole set in
       let known2 = subst (AreKnown (length r.objects)) whole known in
       let most : suc (length m) ≤ most_changes = set.few in
       let sizes2 : length m ≡ length l + suc (length rest) = ap length e2 ∙ length-append l (x ∷ rest) in
-      step_next d r done (c ∷ l) x k (2 + length l) (change_read (c ∷ l) x rest set2 known2)
+      step_next v d r done (c ∷ l) x k (2 + length l) (change_read (c ∷ l) x rest set2 known2)
       (omega (arith, length_push done (c ∷ l))) (omega arith) (omega arith) (omega arith) (omega arith)
       (front_allowed (c ∷ l) x rest set2 known2))
       m [] 2 refl refl)
 
   sets_run : (more done : List (List Change)) (k : ℕ) → r.sets ≡ done ++ more → k ≡ length done + 1
-      → run (at_sets d r done) (change_rows r.objects k more) ≡ Some (at_sets d r r.sets)
-  sets_run [] done k e count = ap (λ l. Some (at_sets d r l)) (sym (e ∙ append-nil done))
+      → run (at_sets v d r done) (change_rows r.objects k more) ≡ Some (at_sets v d r r.sets)
+  sets_run [] done k e count = ap (λ l. Some (at_sets v d r l)) (sym (e ∙ append-nil done))
   sets_run (m ∷ more) done k e count =
       run_on (counted (change_row r.objects k) 1 m) (change_rows r.objects (k + 1) more) _ _ _
       (set_run done m more k e count)
@@ -342,7 +367,7 @@ module _ (d : ℕ) (r : RecordState) (is : IsRecord r) (all : length r.sets ≡ 
   few_updates = let few = is.few in omega (arith, all)
 
   report_read : (xs : List ReportChange) (c : ReportChange) (more : List ReportChange) → r.reports ≡ xs ++ c ∷ more
-      → step (at_reports d r xs) (report_row c) ≡ Some (at_reports d r (xs ++ c ∷ []))
+      → step (at_reports v d r xs) (report_row c) ≡ Some (at_reports v d r (xs ++ c ∷ []))
   report_read xs c more e =
       let are : AreReportChanges d (xs ++ c ∷ more) =
       subst (AreReportChanges d) e (subst (λ n. AreReportChanges n r.reports) all is.reports) in
@@ -364,15 +389,15 @@ module _ (d : ℕ) (r : RecordState) (is : IsRecord r) (all : length r.sets ≡ 
         le-leb c.reported most_updates reported.1,
       ) refl
 
-  reports_run : (more xs : List ReportChange) → r.reports ≡ xs ++ more → run (at_reports d r xs) (map report_row more)
-      ≡ Some (at_reports d r r.reports)
-  reports_run [] xs e = ap (λ l. Some (at_reports d r l)) (sym (e ∙ append-nil xs))
+  reports_run : (more xs : List ReportChange) → r.reports ≡ xs ++ more → run (at_reports v d r xs) (map report_row more)
+      ≡ Some (at_reports v d r r.reports)
+  reports_run [] xs e = ap (λ l. Some (at_reports v d r l)) (sym (e ∙ append-nil xs))
   reports_run (c ∷ more) xs e =
-      run_one (at_reports d r xs) (at_reports d r (xs ++ c ∷ [])) (at_reports d r r.reports) (report_row c) (map report_row more)
+      run_one (at_reports v d r xs) (at_reports v d r (xs ++ c ∷ [])) (at_reports v d r r.reports) (report_row c) (map report_row more)
       (report_read xs c more e) (reports_run more (xs ++ c ∷ []) (e ∙ sym (append_assoc xs (c ∷ []) more)))
 
   round_read : (xs : List ℕ) (place : ℕ) (more : List ℕ) → r.rounds ≡ xs ++ place ∷ more
-      → step (at_rounds d r xs) (round_row (1 + length xs) place) ≡ Some (at_rounds d r (xs ++ place ∷ []))
+      → step (at_rounds v d r xs) (round_row (1 + length xs) place) ≡ Some (at_rounds v d r (xs ++ place ∷ []))
   round_read xs place more e =
       let are : AreRoundPlaces d (xs ++ place ∷ more) = subst (AreRoundPlaces d) e (subst (λ n. AreRoundPlaces n r.rounds) all is.rounds) in
       let within = all_at (λ k. (0 < k) × (k ≤ d)) xs place more are.each in
@@ -390,12 +415,12 @@ module _ (d : ℕ) (r : RecordState) (is : IsRecord r) (all : length r.sets ≡ 
         le-leb place d within.1,
       ) refl
 
-  rounds_run : run (at_rounds d r []) (counted round_row 1 r.rounds) ≡ Some (at_rounds d r r.rounds)
-  rounds_run = counted_run round_row (at_rounds d r) 1 r.rounds round_read r.rounds [] 1 refl refl
+  rounds_run : run (at_rounds v d r []) (counted round_row 1 r.rounds) ≡ Some (at_rounds v d r r.rounds)
+  rounds_run = counted_run round_row (at_rounds v d r) 1 r.rounds round_read r.rounds [] 1 refl refl
 
-  windows_run : run (at_windows d r []) (counted window_row 1 r.windows) ≡ Some (at_windows d r r.windows)
+  windows_run : run (at_windows v d r []) (counted window_row 1 r.windows) ≡ Some (at_windows v d r r.windows)
   windows_run =
-      counted_run window_row (at_windows d r) 1 r.windows (λ xs w more e.
+      counted_run window_row (at_windows v d r) 1 r.windows (λ xs w more e.
       let few = is.few_windows in
       let sizes : length r.windows ≡ length xs + suc (length more) = ap length e ∙ length-append xs (w ∷ more) in
       let each : All (IsWithin (length r.sets)) (xs ++ w ∷ more) = subst (All (IsWithin (length r.sets))) e is.windows in
@@ -416,9 +441,10 @@ module _ (d : ℕ) (r : RecordState) (is : IsRecord r) (all : length r.sets ≡ 
 
 -- ---- all rows
 
-step_first_row : (site : List ℕ) (d : ℕ) → is_name site ≡ true → d ≤ most_updates
-    → step unread (head_row site d) ≡ Some (told d (record_at site))
-step_first_row site d name few = rw (natural_of-decimal d (omega (arith, few)), name, le-leb d most_updates few) refl
+step_first_row : (v : Version) (site : List ℕ) (d : ℕ) → is_name site ≡ true → d ≤ most_updates
+    → step unread (head_row v site d) ≡ Some (told v d (record_at site))
+step_first_row v site d name few =
+    rw (version_of-text v, natural_of-decimal d (omega (arith, few)), name, le-leb d most_updates few) refl
 
 -- the rows of seven lists, one list after the other
 lists_run : (s t1 t2 t3 t4 t5 t6 t7 : Stage) (a b c d e f g : List Row) → run s a ≡ Some t1 → run t1 b ≡ Some t2 → run t2 c ≡ Some t3
@@ -430,27 +456,31 @@ lists_run s t1 t2 t3 t4 t5 t6 t7 a b c d e f g h1 h2 h3 h4 h5 h6 h7 =
     run_on (a ++ b ++ c) d s t3 t4 (
     run_on (a ++ b) c s t2 t3 (run_on a b s t1 t2 h1 h2) h3) h4) h5) h6) h7
 
-pub run-rows_of : (r : RecordState) → IsRecord r → run unread (rows_of r) ≡ Some (told (length r.sets) r)
-run-rows_of r is =
+run-rows : (v : Version) (r : RecordState) → IsRecord r → CanTell v r.limits → run unread (rows_in v r) ≡ Some (told v (length r.sets) r)
+run-rows v r is tells =
     let d = length r.sets in
-    run_one unread (told d (record_at r.site)) (told d r) (head_row r.site d) _ (step_first_row r.site d is.site is.few)
-    (lists_run (at_objects d r []) (at_objects d r r.objects) (at_groups d r r.groups) (at_limits d r r.limits) (at_sets d r r.sets)
-    (at_reports d r r.reports) (at_rounds d r r.rounds) (at_windows d r r.windows)
-    (counted object_row 1 r.objects) (member_rows r.objects 1 r.groups) (counted (limit_row r.objects r.groups) 1 r.limits)
+    run_one unread (told v d (record_at r.site)) (told v d r) (head_row v r.site d) _ (step_first_row v r.site d is.site is.few)
+    (lists_run (at_objects v d r []) (at_objects v d r r.objects) (at_groups v d r r.groups) (at_limits v d r r.limits) (at_sets v d r r.sets)
+    (at_reports v d r r.reports) (at_rounds v d r r.rounds) (at_windows v d r r.windows)
+    (counted object_row 1 r.objects) (member_rows r.objects 1 r.groups) (counted (limit_row v r.objects r.groups) 1 r.limits)
     (change_rows r.objects 1 r.sets)
     (map report_row r.reports) (counted round_row 1 r.rounds) (counted window_row 1 r.windows)
-    (objects_run d r is)
-    (groups_run d r is r.groups [] 1 refl refl)
-    (limits_run d r is)
-    (sets_run d r is refl r.sets [] 1 refl refl)
-    (reports_run d r is refl r.reports [] refl)
-    (rounds_run d r is refl)
-    (windows_run d r is refl))
+    (objects_run v d r is)
+    (groups_run v d r is r.groups [] 1 refl refl)
+    (limits_run v d r is refl tells)
+    (sets_run v d r is refl r.sets [] 1 refl refl)
+    (reports_run v d r is refl r.reports [] refl)
+    (rounds_run v d r is refl)
+    (windows_run v d r is refl))
 
 pub what_is_told_is_read : WhatIsToldIsRead
 what_is_told_is_read rows r tells =
-    let all = is_updated (length r.sets) r tells.valid refl in
-    ap told_by tells.same ∙ ap (option_and_then closed) (run-rows_of r tells.valid) ∙ rw (all.0, all.1) refl
+    let all = is_updated tells.version (length r.sets) r tells.valid refl in
+    ap told_by tells.same ∙ ap (option_and_then closed) (run-rows tells.version r tells.valid tells.limits) ∙ rw (all.0, all.1) refl
+
+pub rows_of_each_version_are_read : RowsOfEachVersionAreRead
+rows_of_each_version_are_read version r is tells =
+    what_is_told_is_read (rows_in version r) r (record { valid = is; version = version; limits = tells; same = refl })
 
 pub rows_tell_one_record : RowsTellOneRecord
 rows_tell_one_record rows r q first second =

@@ -3,8 +3,8 @@ use Rattle.ordup_record.proofs.Common.{◌<◌, ◌==◌, ◌||◌, ◌∙◌, �
 use Rattle.ordup_record.proofs.Common.{are_known, are_of_one_object, AreKnown, AreMembersKnown, arith, Bool, Change, Count, Everything}
 use Rattle.ordup_record.proofs.Common.{false, greatest_amount, Group, group_refusal, GroupList, IfSome, if◌then◌else◌, in_range, is_name}
 use Rattle.ordup_record.proofs.Common.{is_none, is_none_or, is_some, IsGroup, IsInRange, IsKnown, IsScopeKnown, IsSet, le-leb, leb-true}
-use Rattle.ordup_record.proofs.Common.{length, limit_refusal, Limits, List, list_all, list_any, lt-ltb, ltb-true, member_refusal}
-use Rattle.ordup_record.proofs.Common.{most_changes, most_groups, most_limits, most_members, most_objects, nat_eq, nat_lt, nat_tests, None}
+use Rattle.ordup_record.proofs.Common.{◌+◌, Entries, length, List, list_all, list_any, lt-ltb, ltb-true, member_refusal, nat_le}
+use Rattle.ordup_record.proofs.Common.{most_changes, most_groups, most_members, most_objects, nat_eq, nat_lt, nat_tests, None}
 use Rattle.ordup_record.proofs.Common.{not, Object, object_refusal, Objects, Option, or_parts, place_of, refl, repeats, Scope, set_refusal}
 use Rattle.ordup_record.proofs.Common.{Some, source_of, suc, sym, true, ℕ, ℤ}
 use Rattle.std.specs.List.{All}
@@ -14,7 +14,11 @@ use Rattle.ordup_objects.specs.Ops.{number_of}
 use Rattle.ordup_objects.specs.Sets.{is_known}
 use Rattle.ordup_objects.proofs.RepeatLemmas.{list_any-alike}
 use Rattle.ordup_log.specs.Groups.{are_members_known}
-use Rattle.ordup_limits.specs.Limits.{amount_refusal, is_same_scope, scope_refusal}
+use Rattle.ordup_limits.specs.Entries.{are_one_entry, change_refusal, changed, has_few}
+use Rattle.ordup_limits.specs.Limits.{scope_refusal}
+use Rattle.ordup_limits.specs.declared.limit_entry.LimitEntry.{LimitEntry}
+use Rattle.ordup_limits.proofs.EntryLemmas.{change-allowed}
+use Rattle.ordup_rows.specs.Stages.{last_place, may_limit}
 
 passes : {A : Type 0} (b : Bool) (x : A) (rest : Option A) → (if not b then Some x else rest) ≡ None → (b ≡ true) × (rest ≡ None)
 passes true x rest h = (refl, h)
@@ -166,32 +170,50 @@ neither : {A : Type 0} (a b : Option A) → option_or a b ≡ None → (a ≡ No
 neither None b h = (refl, h)
 neither (Some x) b h = absurd cc
 
-pub record IsNewLimit (n : ℕ) (groups : GroupList) (limits : Limits) (s : Scope) (amount : ℕ) : Type 0 where
-  pub known : IsScopeKnown n groups s
-  pub few : amount ≤ greatest_amount
-  pub room : length limits < most_limits
-  pub new : list_any (λ limit. is_same_scope limit.scope s) limits ≡ false
+-- a limit that may come after these, where so many updates are decided
+pub record IsNewEntry (n : ℕ) (groups : GroupList) (decided : ℕ) (entries : Entries) (e : LimitEntry) : Type 0 where
+  pub known : IsScopeKnown n groups e.limit.scope
+  pub few : e.limit.amount ≤ greatest_amount
+  pub begun : 0 < e.place
+  pub within : e.place ≤ decided + 1
+  pub later : last_place entries ≤ e.place
+  pub new : list_any (λ f. are_one_entry f e) entries ≡ false
+  pub room : has_few (changed entries e) ≡ true
 
-pub limit_taken : (n : ℕ) (groups : GroupList) (limits : Limits) (s : Scope) (amount : ℕ) → length limits ≤ most_limits
-    → limit_refusal n groups limits s amount ≡ None → IsNewLimit n groups limits s amount
-limit_taken n groups limits s amount most h =
-    let (known, h1) = neither (scope_refusal n groups s) (amount_refusal limits s amount) h in
-    let (small, h2) = avoids (nat_lt greatest_amount amount) _ _ h1 in
-    let (room, h3) = avoids (length limits == most_limits) _ _ h2 in
-    let (new, _) = avoids (list_any (λ limit. is_same_scope limit.scope s) limits) _ _ h3 in
+not_true : (b : Bool) → not b ≡ true → b ≡ false
+not_true true h = absurd cc
+not_true false h = refl
+
+pub entry_taken : (n : ℕ) (groups : GroupList) (decided : ℕ) (entries : Entries) (e : LimitEntry) → may_limit decided entries e ≡ true
+    → change_refusal n groups entries e ≡ None → IsNewEntry n groups decided entries e
+entry_taken n groups decided entries e may free =
+    let (places, new) = and_parts _ (not (list_any (λ f. are_one_entry f e) entries)) may in
+    let (place, later) = and_parts _ (nat_le (last_place entries) e.place) places in
+    let (begun, within) = and_parts (nat_lt 0 e.place) (nat_le e.place (decided + 1)) place in
+    let (known, _) = neither (scope_refusal n groups e.limit.scope) _ free in
+    let (few, room) = change-allowed n groups entries e free in
     record {
-      known = scope_taken n groups s known;
-      few = grind (arith, nat_tests);
-      room = grind (arith, nat_tests);
-      new = new;
+      known = scope_taken n groups e.limit.scope known;
+      few = few;
+      begun = ltb-true 0 e.place begun;
+      within = leb-true e.place (decided + 1) within;
+      later = leb-true (last_place entries) e.place later;
+      new = not_true _ new;
+      room = room;
     }
 
-pub limit_allowed : (n : ℕ) (groups : GroupList) (limits : Limits) (s : Scope) (amount : ℕ) → IsNewLimit n groups limits s amount
-    → limit_refusal n groups limits s amount ≡ None
-limit_allowed n groups limits s amount is =
-    let small : nat_lt greatest_amount amount ≡ false = let le = is.few in grind (arith, nat_tests) in
-    let room : (length limits == most_limits) ≡ false = let lt = is.room in grind (arith, nat_tests) in
-    rw (scope_allowed n groups s is.known, small, room, is.new) refl
+pub entry_allowed : (n : ℕ) (groups : GroupList) (decided : ℕ) (entries : Entries) (e : LimitEntry) → IsNewEntry n groups decided entries e
+    → (may_limit decided entries e ≡ true) × (change_refusal n groups entries e ≡ None)
+entry_allowed n groups decided entries e is =
+    let small : nat_lt greatest_amount e.limit.amount ≡ false = let le = is.few in grind (arith, nat_tests) in (
+      rw (
+        lt-ltb 0 e.place is.begun,
+        le-leb e.place (decided + 1) is.within,
+        le-leb (last_place entries) e.place is.later,
+        is.new,
+      ) refl,
+      rw (scope_allowed n groups e.limit.scope is.known, small, is.room) refl,
+    )
 
 -- ---- sets
 

@@ -1,41 +1,45 @@
 -- Rows that are read one after another: what was taken is what was told.
 use Rattle.ordup_record.proofs.Common.{◌++◌, ◌<◌, ◌==◌, ◌∙◌, ◌∷◌, ◌≡◌, ◌≤◌, [], All-nil, and_parts, ap, append-nil, append_assoc, AreKnown}
-use Rattle.ordup_record.proofs.Common.{arith, eqb-true, greatest_amount, inr, is_name, IsInRange, IsRecord, IsScopeKnown}
-use Rattle.ordup_record.proofs.Common.{IsSet, leb-true, length, Limit, List, ltb-true, most_updates, RecordState, refl, same_Some}
+use Rattle.ordup_record.proofs.Common.{arith, eqb-true, inr, is_name, IsInRange, IsRecord}
+use Rattle.ordup_record.proofs.Common.{IsSet, leb-true, length, List, ltb-true, most_updates, RecordState, refl, same_Some}
 use Rattle.ordup_record.proofs.Common.{Some, subst, sym, true, Window, ℕ, ℤ}
 use Rattle.ordup_record.specs.declared.report_change.ReportChange.{ReportChange}
 use Rattle.ordup_rows.specs.Columns.{Columns, columns_of, natural_of}
 use Rattle.ordup_rows.specs.Laws.{WhatIsReadIsTold}
 use Rattle.ordup_rows.specs.RowKinds.{kind_of}
-use Rattle.ordup_rows.specs.Rows.{Row, rows_of, rows_so_far}
+use Rattle.ordup_rows.specs.Rows.{Row, rows_so_far}
 use Rattle.ordup_rows.specs.Stages.{Stage, closed, has_objects, has_updates, head_of, record_at, run, step, told, unread, with_row}
-use Rattle.ordup_rows.proofs.Columns.{bound, four_columns, kept, kind_spelled, mapped, natural_spelled, parts_4, same_bytes}
+use Rattle.ordup_rows.specs.Telling.{Tells}
+use Rattle.ordup_rows.specs.Versions.{version_of}
+use Rattle.ordup_rows.specs.declared.version.Version.{Version}
+use Rattle.ordup_rows.proofs.Columns.{bound, four_columns, kept, kind_spelled, mapped, natural_spelled, parts_3, same_bytes}
 use Rattle.ordup_rows.proofs.Names.{AreDistinct-none}
 use Rattle.ordup_rows.proofs.Taking.{row_by, take_row}
-use Rattle.ordup_rows.proofs.ToldSoFar.{AreGroups-none, IsTold, told_by_parts}
+use Rattle.ordup_rows.proofs.ToldSoFar.{AreGroups-none, AreLimits-none, IsTold, told_by_parts}
+use Rattle.ordup_rows.proofs.Versions.{version_spelled}
 
 -- the rows that a stage was told
 abbrev pub stage_rows : Stage → List Row
 stage_rows unread = []
-stage_rows (told decided r) = rows_so_far decided r
+stage_rows (told version decided r) = rows_so_far version decided r
 
 -- what a stage keeps
 abbrev pub IsStage : Stage → Type 0
 IsStage unread = Unit {0}
-IsStage (told decided r) = IsTold decided r
+IsStage (told version decided r) = IsTold version decided r
 
 -- a stage that was told some rows more
 pub record Follows (stage : Stage) (more : List Row) (next : Stage) : Type 0 where
   pub is : IsStage next
   pub rows : stage_rows next ≡ stage_rows stage ++ more
 
-pub no_record : (site : List ℕ) (decided : ℕ) → is_name site ≡ true → decided ≤ most_updates → IsTold decided (record_at site)
-no_record site decided name few =
+pub no_record : (version : Version) (site : List ℕ) (decided : ℕ) → is_name site ≡ true → decided ≤ most_updates
+    → IsTold version decided (record_at site)
+no_record version site decided name few =
     let names = All-nil (λ (e : List ℕ × ℤ). is_name e.0 ≡ true) in
     told_by_parts name few (record { few = omega arith; values = All-nil IsInRange; names = names; distinct = AreDistinct-none ℤ })
     (AreGroups-none 0 [] refl)
-    (record { few = omega arith; amounts = All-nil (λ (l : Limit). l.amount ≤ greatest_amount); distinct = refl })
-    (All-nil (λ (l : Limit). IsScopeKnown 0 [] l.scope))
+    (AreLimits-none version decided 0 [] [] refl)
     (record { count = omega arith; each = All-nil IsSet; known = All-nil (AreKnown 0) })
     (record {
       places = λ k lt. absurd (omega arith);
@@ -49,14 +53,15 @@ no_record site decided name few =
 
 step_head : (c : Columns) (next : Stage) → head_of c ≡ Some next → Follows unread (row_by c ∷ []) next
 step_head c next h =
-    let (decided, read, rest) = bound _ (natural_of c.third) next h in
-    let (tests, same) = kept _ _ next rest in
-    let (kind, version, name, few) = parts_4 tests in
+    let (version, named, rest) = bound _ (version_of c.first) next h in
+    let (decided, read, rest2) = bound _ (natural_of c.third) next rest in
+    let (tests, same) = kept _ _ next rest2 in
+    let (kind, name, few) = parts_3 tests in
     let e1 = same_bytes c.kind _ kind in
-    let e2 = same_bytes c.first _ version in
+    let e2 = version_spelled c.first version named in
     let e3 = (natural_spelled c.third decided read).1 in
     subst (Follows unread (row_by c ∷ [])) same (record {
-      is = no_record c.second decided name (leb-true decided most_updates few);
+      is = no_record version c.second decided name (leb-true decided most_updates few);
       rows = cc;
     })
 
@@ -64,13 +69,13 @@ pub step_follows : (stage : Stage) (row : Row) (next : Stage) → IsStage stage 
 step_follows unread row next is h =
     let (c, columns, rest) = bound head_of (columns_of row) next h in
     subst (λ (r : Row). Follows unread (r ∷ []) next) (sym (four_columns row c columns)) (step_head c next rest)
-step_follows (told decided r) row next is h =
+step_follows (told version decided r) row next is h =
     let (c, columns, rest) = bound _ (columns_of row) next h in
     let (kind, read, rest2) = bound _ (kind_of c.kind) next rest in
-    let (q, taken, same) = mapped (λ (q : RecordState). told decided q) (with_row decided r kind c) next rest2 in
-    let more = take_row decided r is c kind q (kind_spelled c.kind kind read) taken in
-    subst (λ (r2 : Row). Follows (told decided r) (r2 ∷ []) next) (sym (four_columns row c columns))
-    (subst (Follows (told decided r) (row_by c ∷ [])) same (record { is = more.told; rows = more.rows }))
+    let (q, taken, same) = mapped (λ (q : RecordState). told version decided q) (with_row version decided r kind c) next rest2 in
+    let more = take_row version decided r is c kind q (kind_spelled c.kind kind read) taken in
+    subst (λ (r2 : Row). Follows (told version decided r) (r2 ∷ []) next) (sym (four_columns row c columns))
+    (subst (Follows (told version decided r) (row_by c ∷ [])) same (record { is = more.told; rows = more.rows }))
 
 pub run_follows : (rows : List Row) (stage next : Stage) → IsStage stage → run stage rows ≡ Some next → Follows stage rows next
 run_follows [] stage next is h =
@@ -89,8 +94,9 @@ pub run_whole : (rows : List Row) (stage : Stage) → run unread rows ≡ Some s
 run_whole rows stage h = let all = run_follows rows unread stage tt h in (all.is, all.rows)
 
 -- a record of which nothing is missing
-pub IsRecord-told : (decided : ℕ) (r : RecordState) → IsTold decided r → 0 < length r.objects → length r.sets ≡ decided → IsRecord r
-IsRecord-told decided r is some all = record {
+IsRecord-told : (version : Version) (decided : ℕ) (r : RecordState) → IsTold version decided r → 0 < length r.objects
+    → length r.sets ≡ decided → IsRecord r
+IsRecord-told version decided r is some all = record {
   site = is.site;
   objects = record {
     some = some;
@@ -100,8 +106,9 @@ IsRecord-told decided r is some all = record {
     distinct = is.objects.distinct;
   };
   groups = is.groups;
-  limits = is.limits;
-  scopes = is.scopes;
+  limits = is.limits.entries;
+  scopes = is.limits.known;
+  begun = rw all is.limits.begun;
   few = omega (arith, is.updates);
   sets = is.sets.each;
   known = is.sets.known;
@@ -111,20 +118,27 @@ IsRecord-told decided r is some all = record {
   windows = rw all is.windows.each;
 }
 
--- what is closed is a record
-pub closed_told : (stage : Stage) (r : RecordState) → IsStage stage → closed stage ≡ Some r → IsRecord r × (stage_rows stage ≡ rows_of r)
+-- a record of which nothing is missing is told
+pub told_whole : (version : Version) (decided : ℕ) (r : RecordState) → IsTold version decided r → 0 < length r.objects
+    → length r.sets ≡ decided → Tells (rows_so_far version decided r) r
+told_whole version decided r is some all = record {
+  valid = IsRecord-told version decided r is some all;
+  version = version;
+  limits = is.limits.told;
+  same = ap (λ d. rows_so_far version d r) (sym all);
+}
+
+-- so is what is closed
+closed_told : (stage : Stage) (r : RecordState) → IsStage stage → closed stage ≡ Some r → Tells (stage_rows stage) r
 closed_told unread r is h = absurd cc
-closed_told (told decided q) r is h =
+closed_told (told version decided q) r is h =
     let (tests, same) = kept (has_updates decided q) q r h in
     let (some, all) = and_parts (has_objects q) (length q.sets == decided) tests in
-    let count : length q.sets ≡ decided = eqb-true (length q.sets) decided all in (
-      subst IsRecord same (IsRecord-told decided q is (ltb-true 0 (length q.objects) some) count),
-      ap (λ d. rows_so_far d q) (sym count) ∙ ap rows_of same,
-    )
+    subst (Tells (rows_so_far version decided q)) same
+    (told_whole version decided q is (ltb-true 0 (length q.objects) some) (eqb-true (length q.sets) decided all))
 
 pub what_is_read_is_told : WhatIsReadIsTold
 what_is_read_is_told rows r h =
     let (stage, ran, end) = bound closed (run unread rows) r h in
     let (is, same) = run_whole rows stage ran in
-    let (valid, whole) = closed_told stage r is end in
-    record { valid = valid; same = sym same ∙ whole }
+    subst (λ l. Tells l r) same (closed_told stage r is end)

@@ -2,9 +2,11 @@
 use Rattle.ordup_record.proofs.Common.{◌*◌, ◌+◌, ◌∷◌, ◌≡◌, ◌≤◌, [], All, All-tail, ap, arith, Change, GroupList, IsRecord, IsSet}
 use Rattle.ordup_record.proofs.Common.{length, length-append, length-map, List, most_changes, Objects, RecordState, refl, suc, ℕ}
 use Rattle.ordup_rows.specs.Rows.{Row, change_row, change_rows, counted, member_row, member_rows}
-use Rattle.ordup_rows.specs.Rows.{row_line, rows_of, rows_text}
+use Rattle.ordup_rows.specs.Rows.{row_line, rows_in, rows_of, rows_text}
 use Rattle.ordup_rows.specs.Stages.{member_count}
 use Rattle.ordup_rows.specs.TextLaws.{WrittenRecordsAreShort}
+use Rattle.ordup_rows.specs.Versions.{version_for}
+use Rattle.ordup_rows.specs.declared.version.Version.{Version}
 use Rattle.ordup_record.proofs.AscendingLemmas.{reports-few, rounds-few}
 use Rattle.ordup_rows.proofs.PlainLemmas.{IsLine, all_lines}
 use Rattle.ordup_rows.proofs.ReadingBack.{member_count-few}
@@ -49,8 +51,8 @@ length-change_rows objects k (m ∷ sets) are =
       length-change_rows objects (k + 1) sets (λ i d lt. are (suc i) d (omega arith)),
     )
 
-rows_few : (r : RecordState) → IsRecord r → length (rows_of r) ≤ 67002369
-rows_few r is =
+rows_few : (version : Version) (r : RecordState) → IsRecord r → length (rows_in version r) ≤ 67003393
+rows_few version r is =
     let members = member_count-few r.groups is.groups.each in
     let changes = length-change_rows r.objects 1 r.sets is.sets in
     let reports = reports-few (length r.sets) r.reports is.reports in
@@ -59,4 +61,6 @@ rows_few r is =
     (omega (arith, members, changes, reports, rounds, is.objects.few, is.groups.few, is.limits.few, is.few, is.few_windows))
 
 pub written_records_are_short : WrittenRecordsAreShort
-written_records_are_short r is = omega (arith, text_short (rows_of r) (all_lines r is), rows_few r is)
+written_records_are_short r is =
+    let version = version_for r.limits in
+    omega (arith, text_short (rows_of r) (all_lines r is version), rows_few version r is)

@@ -2,15 +2,15 @@
 use Rattle.ordup_record.proofs.Common.{◌++◌, ◌+◌, ◌<◌, ◌∙◌, ◌∷◌, ◌≡◌, ◌≤◌, ◌⊎◌, [], All-push, and_parts, ap, AreGroups}
 use Rattle.ordup_record.proofs.Common.{AreKnown, AreReportChanges, AreRoundPlaces, arith, Bool, bytes_eq, cases_Bool, Change, codes}
 use Rattle.ordup_record.proofs.Common.{decimal, eqb-true, false, group_refusal, GroupList, if◌then◌else◌, inl, inr, IsKnown}
-use Rattle.ordup_record.proofs.Common.{IsScopeKnown, IsSet, last_members, leb-true, length, length_push, Limit, List}
+use Rattle.ordup_record.proofs.Common.{IsSet, last_members, leb-true, length, length_push, List}
 use Rattle.ordup_record.proofs.Common.{ltb-true, map, map-append, member_refusal, most_updates, most_windows, nat_lt, None}
 use Rattle.ordup_record.proofs.Common.{Objects, Option, place_of, RecordState, refl, set_refusal, Some, subst, sym, true}
 use Rattle.ordup_record.proofs.Common.{Window, with_member, ℕ}
 use Rattle.ordup_grammar.specs.Numbers.{number_of}
 use Rattle.ordup_grammar.proofs.Decimals.{signed_decimal-number_of}
-use Rattle.ordup_limits.proofs.LimitLemmas.{AreLimits-push}
+use Rattle.ordup_limits.specs.Entries.{entry_of}
 use Rattle.ordup_record.specs.declared.report_change.ReportChange.{ReportChange}
-use Rattle.ordup_rows.specs.Columns.{Columns, change_by, natural_of, scope_of, writes}
+use Rattle.ordup_rows.specs.Columns.{Columns, amount_by, change_by, natural_of, scope_of, writes}
 use Rattle.ordup_rows.specs.RowKinds.{kind_text}
 use Rattle.ordup_rows.specs.Rows.{Row, change_row, change_rows, change_text, head_row, member_row, member_rows, rows_so_far}
 use Rattle.ordup_rows.specs.Stages.{has_updates, is_before_reports}
@@ -20,14 +20,17 @@ use Rattle.ordup_rows.specs.Stages.{with_limit, with_member_row, with_membership
 use Rattle.ordup_rows.specs.Stages.{with_row, with_window}
 use Rattle.ordup_rows.specs.declared.row_kind.RowKind.{RowKind}
 use Rattle.ordup_rows.specs.declared.row_kind.RowKind.TheVariants as kind
+use Rattle.ordup_rows.specs.declared.version.Version.{Version}
 use Rattle.ordup_rows.proofs.Columns.{bound, kept, name_found, natural_spelled, parts_3, parts_4, same_bytes, written}
 use Rattle.ordup_rows.proofs.Growth.{before_changes, before_limits, before_members, before_reports, before_rounds, before_windows}
 use Rattle.ordup_rows.proofs.Growth.{change_rows-grow, change_rows-new, ends, grow_groups, grow_limit, grow_object, grow_report, grow_round}
 use Rattle.ordup_rows.proofs.Growth.{grow_sets, grow_window, rows_after, last_members-of, last_name-of, last_set-of, member_rows-grow}
 use Rattle.ordup_rows.proofs.Growth.{member_rows-new, with_change-last, with_member-last}
-use Rattle.ordup_rows.proofs.Refusals.{group_taken, limit_taken, member_taken, none_is, object_taken, set_taken}
-use Rattle.ordup_rows.proofs.ToldSoFar.{AreGroups-grow, AreGroups-none, AreGroups-push, AreObjects-push, AreSetsSoFar, AreWindowsSoFar}
+use Rattle.ordup_rows.proofs.Refusals.{entry_taken, group_taken, member_taken, none_is, object_taken, set_taken}
+use Rattle.ordup_rows.proofs.ToldSoFar.{AreGroups-grow, AreGroups-none, AreGroups-push, AreLimits-none, AreLimits-push, AreObjects-push}
+use Rattle.ordup_rows.proofs.ToldSoFar.{AreSetsSoFar, AreWindowsSoFar}
 use Rattle.ordup_rows.proofs.ToldSoFar.{HasGroup, IsTold, all_at, all_front, all_none, increasing-push, told_by_parts}
+use Rattle.ordup_rows.proofs.Versions.{amount_spelled, can_tell-read}
 use Rattle.ordup_rows.proofs.Words.{change_spelled, scope_spelled}
 
 either : {A : Type 0} (b : Bool) (o p : Option A) (y : A) → (if b then o else p) ≡ Some y
@@ -36,9 +39,9 @@ either true o p y h = inl (refl, h)
 either false o p y h = inr (refl, h)
 
 -- a record with a row more
-pub record Takes (decided : ℕ) (r : RecordState) (row : Row) (next : RecordState) : Type 0 where
-  pub told : IsTold decided next
-  pub rows : rows_so_far decided next ≡ rows_so_far decided r ++ row ∷ []
+pub record Takes (version : Version) (decided : ℕ) (r : RecordState) (row : Row) (next : RecordState) : Type 0 where
+  pub told : IsTold version decided next
+  pub rows : rows_so_far version decided next ≡ rows_so_far version decided r ++ row ∷ []
 
 abbrev pub row_by : Columns → Row
 row_by c = c.kind ∷ c.first ∷ c.second ∷ c.third ∷ []
@@ -138,17 +141,18 @@ change_next decided objects sets c are some free =
     → Changes decided objects l (change_row objects (length l) (length (last_set l) + 1) c) (with_change l c) in
     subst P (sym e) (change_last decided objects front m c) are free
 
-module _ (decided : ℕ) (r : RecordState) (is : IsTold decided r) (c : Columns) where
+module _ (version : Version) (decided : ℕ) (r : RecordState) (is : IsTold version decided r) (c : Columns) where
   -- a row of these columns is taken
   taken : (q next : RecordState) (k x y z : List ℕ) → q.site ≡ r.site → q ≡ next → c.kind ≡ k → c.first ≡ x → c.second ≡ y → c.third ≡ z
-      → rows_after decided q ≡ rows_after decided r ++ (k ∷ x ∷ y ∷ z ∷ []) ∷ [] → IsTold decided q → Takes decided r (row_by c) next
-  taken q next k x y z site same e1 e2 e3 e4 rows told = subst (Takes decided r (row_by c)) same (record {
+      → rows_after version decided q ≡ rows_after version decided r ++ (k ∷ x ∷ y ∷ z ∷ []) ∷ [] → IsTold version decided q
+      → Takes version decided r (row_by c) next
+  taken q next k x y z site same e1 e2 e3 e4 rows told = subst (Takes version decided r (row_by c)) same (record {
     told = told;
-    rows = rw (site, e1, e2, e3, e4) (ap (λ rows. head_row r.site decided ∷ rows) rows);
+    rows = rw (site, e1, e2, e3, e4) (ap (λ rows. head_row version r.site decided ∷ rows) rows);
   })
 
   -- ---- objects
-  take_object : (next : RecordState) → c.kind ≡ codes "object" → with_object r c ≡ Some next → Takes decided r (row_by c) next
+  take_object : (next : RecordState) → c.kind ≡ codes "object" → with_object r c ≡ Some next → Takes version decided r (row_by c) next
   take_object next kind h =
       let (value, read, rest) = bound _ (number_of c.third) next h in
       let (tests, same) = kept _ _ next rest in
@@ -157,14 +161,14 @@ module _ (decided : ℕ) (r : RecordState) (is : IsTold decided r) (c : Columns)
       let none = before_members r before in
       let n = length (r.objects ++ (c.second, value) ∷ []) in
       taken _ next _ _ _ _ refl same kind (written c.first _ count) refl (signed_decimal-number_of c.third value read).1
-      (grow_object decided r (c.second, value) none)
+      (grow_object version decided r (c.second, value) none)
       (told_by_parts is.site is.updates (AreObjects-push r.objects c.second value is.objects new) (AreGroups-none n r.groups none.0)
-      is.limits (all_none (λ (m : Limit). IsScopeKnown n r.groups m.scope) r.limits none.1.0)
+      (AreLimits-none version decided n r.groups r.limits none.1.0)
       (record { count = is.sets.count; each = is.sets.each; known = all_none (AreKnown n) r.sets none.1.1.0 })
       is.reports is.rounds is.windows (inl (omega (arith, length_push r.objects (c.second, value)))) is.full)
 
   -- ---- members
-  take_member : (next : RecordState) → c.kind ≡ codes "member" → with_member_row r c ≡ Some next → Takes decided r (row_by c) next
+  take_member : (next : RecordState) → c.kind ≡ codes "member" → with_member_row r c ≡ Some next → Takes version decided r (row_by c) next
   take_member next kind h =
       let (x, found, rest) = bound _ (place_of c.third r.objects) next h in
       let (tests, same) = kept _ _ next rest in
@@ -173,40 +177,41 @@ module _ (decided : ℕ) (r : RecordState) (is : IsTold decided r) (c : Columns)
       let named = name_found c.third r.objects x found in
       let joined = join r.objects r.groups c.second x is.groups (none_is _ free) in
       let groups = with_membership r.groups c.second x in
-      taken _ next _ _ _ _ refl same kind (written c.first _ count) refl (sym named.1) (grow_groups decided r groups _ none joined.rows)
-      (told_by_parts is.site is.updates is.objects joined.groups is.limits
-      (all_none (λ (m : Limit). IsScopeKnown (length r.objects) groups m.scope) r.limits none.0)
+      taken _ next _ _ _ _ refl same kind (written c.first _ count) refl (sym named.1) (grow_groups version decided r groups _ none joined.rows)
+      (told_by_parts is.site is.updates is.objects joined.groups
+      (AreLimits-none version decided (length r.objects) groups r.limits none.0)
       is.sets is.reports is.rounds is.windows (inl (omega (arith, named.0))) is.full)
 
   -- ---- limits
-  take_limit : (next : RecordState) → c.kind ≡ codes "limit" → with_limit r c ≡ Some next → Takes decided r (row_by c) next
+  take_limit : (next : RecordState) → c.kind ≡ codes "limit" → with_limit version decided r c ≡ Some next
+      → Takes version decided r (row_by c) next
   take_limit next kind h =
       let (scope, spelled, rest) = bound _ (scope_of r.objects r.groups c.second) next h in
-      let (amount, read, rest2) = bound _ (natural_of c.third) next rest in
+      let (limit, read, rest2) = bound _ (amount_by version c.third) next rest in
       let (tests, same) = kept _ _ next rest2 in
-      let (some, before, count, free) = parts_4 tests in
-      let new = limit_taken (length r.objects) r.groups r.limits scope amount is.limits.few (none_is _ free) in
-      let l : Limit = record { scope = scope; amount = amount } in
+      let (front, free) = and_parts _ _ tests in
+      let (some, before, count, may) = parts_4 front in
+      let e = entry_of scope limit.0 limit.1 in
+      let new = entry_taken (length r.objects) r.groups decided r.limits e may (none_is _ free) in
       taken _ next _ _ _ _ refl same kind (written c.first _ count) (scope_spelled r.objects r.groups c.second scope spelled)
-      (natural_spelled c.third amount read).1 (grow_limit decided r l (before_changes r before))
+      (amount_spelled version c.third limit scope read) (grow_limit version decided r e (before_changes r before))
       (told_by_parts is.site is.updates is.objects is.groups
-      (AreLimits-push r.limits l is.limits new.room new.few new.new (r.limits ++ l ∷ []) refl)
-      (All-push (λ (m : Limit). IsScopeKnown (length r.objects) r.groups m.scope) r.limits l is.scopes new.known)
+      (AreLimits-push version decided (length r.objects) r.groups r.limits e is.limits new (can_tell-read version c.third limit read))
       is.sets is.reports is.rounds is.windows (inl (ltb-true 0 (length r.objects) some)) is.full)
 
   -- ---- changes
   changed : (next : RecordState) (k x y z : List ℕ) (sets : List (List Change)) → c.kind ≡ k → c.first ≡ x → c.second ≡ y → c.third ≡ z
       → is_before_reports r ≡ true → 0 < length r.objects
-      → Changes decided r.objects r.sets (k ∷ x ∷ y ∷ z ∷ []) sets → record r { sets = sets } ≡ next → Takes decided r (row_by c) next
+      → Changes decided r.objects r.sets (k ∷ x ∷ y ∷ z ∷ []) sets → record r { sets = sets } ≡ next → Takes version decided r (row_by c) next
   changed next k x y z sets e1 e2 e3 e4 before some more same =
       let none = before_reports r before in
-      taken (record r { sets = sets }) next k x y z refl same e1 e2 e3 e4 (grow_sets decided r sets _ none more.rows)
-      (told_by_parts is.site is.updates is.objects is.groups is.limits is.scopes more.sets is.reports is.rounds is.windows
+      taken (record r { sets = sets }) next k x y z refl same e1 e2 e3 e4 (grow_sets version decided r sets _ none more.rows)
+      (told_by_parts is.site is.updates is.objects is.groups is.limits more.sets is.reports is.rounds is.windows
       (inl some) (inr none))
 
   take_first_change : (change : Change) (next : RecordState) → c.kind ≡ codes "change" → c.second ≡ decimal 1
       → c.third ≡ change_text r.objects change
-      → with_first_change decided r c change ≡ Some next → Takes decided r (row_by c) next
+      → with_first_change decided r c change ≡ Some next → Takes version decided r (row_by c) next
   take_first_change change next kind position text h =
       let (tests, same) = kept _ _ next h in
       let (before, room, count, free) = parts_4 tests in
@@ -217,7 +222,7 @@ module _ (decided : ℕ) (r : RecordState) (is : IsTold decided r) (c : Columns)
 
   take_next_change : (change : Change) (next : RecordState) → c.kind ≡ codes "change" → writes c.second 1 ≡ false
       → c.third ≡ change_text r.objects change
-      → with_next_change r c change ≡ Some next → Takes decided r (row_by c) next
+      → with_next_change r c change ≡ Some next → Takes version decided r (row_by c) next
   take_next_change change next kind other text h =
       let (tests, same) = kept _ _ next h in
       let (before, count, position, free) = parts_4 tests in
@@ -227,7 +232,7 @@ module _ (decided : ℕ) (r : RecordState) (is : IsTold decided r) (c : Columns)
       changed next _ _ _ _ _ kind (written c.first _ count) (written c.second _ position) text before (omega (arith, known))
       (change_next decided r.objects r.sets change is.sets (has_last r.sets c.second other position) allowed) same
 
-  take_change : (next : RecordState) → c.kind ≡ codes "change" → with_change_row decided r c ≡ Some next → Takes decided r (row_by c) next
+  take_change : (next : RecordState) → c.kind ≡ codes "change" → with_change_row decided r c ≡ Some next → Takes version decided r (row_by c) next
   take_change next kind h =
       let (change, spelled, rest) = bound _ (change_by r.objects c.third) next h in
       let text = change_spelled r.objects c.third change spelled in
@@ -245,11 +250,11 @@ module _ (decided : ℕ) (r : RecordState) (is : IsTold decided r) (c : Columns)
   -- what only the last lists of a record may change
   last_told : (reports : List ReportChange) (rounds : List ℕ) (windows : List Window)
       → (0 < length r.objects) × (length r.sets ≡ decided) → AreReportChanges decided reports → AreRoundPlaces decided rounds
-      → AreWindowsSoFar decided windows → IsTold decided (record r { reports = reports; rounds = rounds; windows = windows })
+      → AreWindowsSoFar decided windows → IsTold version decided (record r { reports = reports; rounds = rounds; windows = windows })
   last_told reports rounds windows (some, all) a b c =
-      told_by_parts is.site is.updates is.objects is.groups is.limits is.scopes is.sets a b c (inl some) (inl all)
+      told_by_parts is.site is.updates is.objects is.groups is.limits is.sets a b c (inl some) (inl all)
 
-  take_report : (next : RecordState) → c.kind ≡ codes "report" → with_report decided r c ≡ Some next → Takes decided r (row_by c) next
+  take_report : (next : RecordState) → c.kind ≡ codes "report" → with_report decided r c ≡ Some next → Takes version decided r (row_by c) next
   take_report next kind h =
       let (place, read, rest) = bound _ (natural_of c.first) next h in
       let (reported, read2, rest2) = bound _ (natural_of c.second) next rest in
@@ -263,7 +268,7 @@ module _ (decided : ℕ) (r : RecordState) (is : IsTold decided r) (c : Columns)
       let after = ltb-true (last_number places) place later in
       let above = ltb-true (last_number numbers) reported rises in
       taken _ next _ _ _ _ refl same kind (natural_spelled c.first place read).1 (natural_spelled c.second reported read2).1
-      (same_bytes c.third _ dash) (grow_report decided r l (before_rounds r before))
+      (same_bytes c.third _ dash) (grow_report version decided r l (before_rounds r before))
       (last_told (r.reports ++ l ∷ []) r.rounds r.windows (updated all) (record {
         places = rw map-append (increasing-push places place is.reports.places after);
         each = All-push (λ (c : ReportChange). (0 < c.place) × (c.place ≤ decided)) r.reports l is.reports.each
@@ -273,7 +278,7 @@ module _ (decided : ℕ) (r : RecordState) (is : IsTold decided r) (c : Columns)
             (omega (arith, above), leb-true reported most_updates few);
       }) is.rounds is.windows)
 
-  take_round : (next : RecordState) → c.kind ≡ codes "round" → with_round decided r c ≡ Some next → Takes decided r (row_by c) next
+  take_round : (next : RecordState) → c.kind ≡ codes "round" → with_round decided r c ≡ Some next → Takes version decided r (row_by c) next
   take_round next kind h =
       let (place, read, rest) = bound _ (natural_of c.second) next h in
       let (tests, same) = kept _ _ next rest in
@@ -281,14 +286,14 @@ module _ (decided : ℕ) (r : RecordState) (is : IsTold decided r) (c : Columns)
       let (all, before, later, within) = parts_4 may in
       let after = ltb-true (last_number r.rounds) place later in
       taken _ next _ _ _ _ refl same kind (written c.first _ count) (natural_spelled c.second place read).1 (same_bytes c.third _ dash)
-      (grow_round decided r place (before_windows r before))
+      (grow_round version decided r place (before_windows r before))
       (last_told r.reports (r.rounds ++ place ∷ []) r.windows (updated all) is.reports (record {
         ascending = increasing-push r.rounds place is.rounds.ascending after;
         each = All-push (λ k. (0 < k) × (k ≤ decided)) r.rounds place is.rounds.each
             (omega (arith, after), leb-true place decided within);
       }) is.windows)
 
-  take_window : (next : RecordState) → c.kind ≡ codes "window" → with_window decided r c ≡ Some next → Takes decided r (row_by c) next
+  take_window : (next : RecordState) → c.kind ≡ codes "window" → with_window decided r c ≡ Some next → Takes version decided r (row_by c) next
   take_window next kind h =
       let (from, read, rest) = bound _ (natural_of c.second) next h in
       let (to, read2, rest2) = bound _ (natural_of c.third) next rest in
@@ -297,7 +302,7 @@ module _ (decided : ℕ) (r : RecordState) (is : IsTold decided r) (c : Columns)
       let (all, count, room, start) = parts_4 front in
       let w : Window = record { from = from; to = to } in
       taken _ next _ _ _ _ refl same kind (written c.first _ count) (natural_spelled c.second from read).1
-      (natural_spelled c.third to read2).1 (grow_window decided r w)
+      (natural_spelled c.third to read2).1 (grow_window version decided r w)
       (last_told r.reports r.rounds (r.windows ++ w ∷ []) (updated all) is.reports is.rounds (record {
         few = omega (arith, ltb-true (length r.windows) most_windows room, length_push r.windows w);
         each = All-push (λ (w : Window). (w.from ≤ decided) × (w.to ≤ decided)) r.windows w is.windows.each
@@ -305,8 +310,8 @@ module _ (decided : ℕ) (r : RecordState) (is : IsTold decided r) (c : Columns)
       }))
 
   -- ---- any row
-  pub take_row : (kind : RowKind) (next : RecordState) → c.kind ≡ kind_text kind → with_row decided r kind c ≡ Some next
-      → Takes decided r (row_by c) next
+  pub take_row : (kind : RowKind) (next : RecordState) → c.kind ≡ kind_text kind → with_row version decided r kind c ≡ Some next
+      → Takes version decided r (row_by c) next
   take_row kind.Object next e h = take_object next e h
   take_row kind.Member next e h = take_member next e h
   take_row kind.Limit next e h = take_limit next e h

@@ -13,9 +13,11 @@ use Rattle.ordup_rows.specs.Telling.{CanGoOn, IsBadRow, IsFirstBadRow, Tells}
 use Rattle.ordup_rows.specs.TextLaws.{MalformedTextsAreOne, TextsHaveOneListOfRows, TextsTellOneRecord, ToldTextsAreNotMalformed}
 use Rattle.ordup_rows.specs.TextLaws.{WrittenRecordsAreTold, WrittenRowsAreRead}
 use Rattle.ordup_rows.specs.Texts.{HasRows}
+use Rattle.ordup_rows.specs.Versions.{version_for}
 use Rattle.ordup_rows.proofs.BadRows.{bad_rows_are_one, told_rows_are_not_bad}
 use Rattle.ordup_rows.proofs.PlainLemmas.{IsLine, all_lines, lines_of}
 use Rattle.ordup_rows.proofs.ReadingBack.{rows_tell_one_record}
+use Rattle.ordup_rows.proofs.Versions.{can_tell-for}
 
 -- ---- one way alone
 
@@ -131,8 +133,12 @@ no_mark r = refl
 
 pub written_rows_are_read : WrittenRowsAreRead
 written_rows_are_read r is =
-    rw (no_mark r) (subst (λ text. HasRows text (rows_of r)) (lines_of r is)
-    (st.StartRecord, [], reaches (rows_of r) (all_lines r is), no_more))
+    rw (no_mark r) (subst (λ text. HasRows text (rows_of r)) (lines_of r is (version_for r.limits))
+    (st.StartRecord, [], reaches (rows_of r) (all_lines r is (version_for r.limits)), no_more))
 
 pub written_records_are_told : WrittenRecordsAreTold
-written_records_are_told r is = (rows_of r, written_rows_are_read r is, record { valid = is; same = refl })
+written_records_are_told r is = (
+  rows_of r,
+  written_rows_are_read r is,
+  record { valid = is; version = version_for r.limits; limits = can_tell-for r.limits; same = refl },
+)

@@ -1,16 +1,24 @@
 -- What is kept of a record while rows tell it, and how its lists grow.
 use Rattle.ordup_record.proofs.Common.{◌++◌, ◌+◌, ◌-◌, ◌<◌, ◌∙◌, ◌∷◌, ◌≡◌, ◌≤◌, ◌⊎◌, [], All, All-nil, All-push, ap, AreDistinct, AreGroups}
-use Rattle.ordup_record.proofs.Common.{AreKnown, AreLimits, AreMembersKnown, AreNames, AreReportChanges, AreRoundPlaces, AreScopesKnown}
-use Rattle.ordup_record.proofs.Common.{arith, cases_lt, Change, get_or, get_or-append_seam, GroupList, initial_state, inl, inr, is_name}
+use Rattle.ordup_record.proofs.Common.{AreEntries, AreEntriesKnown, AreKnown, AreMembersKnown, AreNames, AreReportChanges, AreRoundPlaces}
+use Rattle.ordup_record.proofs.Common.{Entries, get_or-map, HoldFrom, IsScopeKnown, length-map, refl, subst, false}
+use Rattle.ordup_record.proofs.Common.{arith, cases_lt, Change, get_or, get_or-append_seam, greatest_amount, GroupList, initial_state, inl, inr, is_name, list_any}
 use Rattle.ordup_record.proofs.Common.{IsGroup, IsInRange, IsSet, IsState, IsStrictlyIncreasing, length, length-append, length_push, List}
 use Rattle.ordup_record.proofs.Common.{map-append, most_objects, most_updates, most_windows, nat_eq, Objects, RecordState, true, Window, ℕ}
 use Rattle.ordup_record.proofs.Common.{ℤ}
 use Rattle.std.proofs.Math.ListN.{get_or-append}
+use Rattle.std.specs.List.Sorted.{IsNonDecreasingBy}
+use Rattle.ordup_limits.specs.Entries.{are_one_entry, changed}
+use Rattle.ordup_limits.specs.declared.limit_entry.LimitEntry.{LimitEntry}
+use Rattle.ordup_limits.proofs.EntryLemmas.{AreEntries-changed}
+use Rattle.ordup_limits.proofs.PutLemmas.{position-absent, put-new}
 use Rattle.ordup_objects.proofs.RepeatLemmas.{repeats-push}
-use Rattle.ordup_rows.specs.Stages.{last_number}
+use Rattle.ordup_rows.specs.Stages.{last_number, last_place}
+use Rattle.ordup_rows.specs.Versions.{CanTell, CanTellPlace}
+use Rattle.ordup_rows.specs.declared.version.Version.{Version}
 use Rattle.ordup_rows.proofs.Growth.{IsBeforeMembers, IsBeforeReports}
 use Rattle.ordup_rows.proofs.Names.{AreDistinct-none, AreDistinct-push}
-use Rattle.ordup_rows.proofs.Refusals.{IsNewGroup, IsNewMember, IsNewObject}
+use Rattle.ordup_rows.proofs.Refusals.{IsNewEntry, IsNewGroup, IsNewMember, IsNewObject}
 
 -- the objects so far
 pub record AreObjectsSoFar (objects : Objects) : Type 0 where
@@ -18,6 +26,13 @@ pub record AreObjectsSoFar (objects : Objects) : Type 0 where
   pub values : IsState (initial_state objects)
   pub names : AreNames objects
   pub distinct : AreDistinct objects
+
+-- the limits so far, which rows of the version can tell
+pub record AreLimitsSoFar (version : Version) (decided n : ℕ) (groups : GroupList) (limits : Entries) : Type 0 where
+  pub entries : AreEntries limits
+  pub known : AreEntriesKnown n groups limits
+  pub begun : HoldFrom (decided + 1) limits
+  pub told : CanTell version limits
 
 -- the updates so far
 pub record AreSetsSoFar (decided n : ℕ) (sets : List (List Change)) : Type 0 where
@@ -30,13 +45,12 @@ pub record AreWindowsSoFar (decided : ℕ) (windows : List Window) : Type 0 wher
   pub each : All (λ (w : Window). (w.from ≤ decided) × (w.to ≤ decided)) windows
 
 -- what is kept
-pub record IsTold (decided : ℕ) (r : RecordState) : Type 0 where
+pub record IsTold (version : Version) (decided : ℕ) (r : RecordState) : Type 0 where
   pub site : is_name r.site ≡ true
   pub updates : decided ≤ most_updates
   pub objects : AreObjectsSoFar r.objects
   pub groups : AreGroups (length r.objects) r.groups
-  pub limits : AreLimits r.limits
-  pub scopes : AreScopesKnown (length r.objects) r.groups r.limits
+  pub limits : AreLimitsSoFar version decided (length r.objects) r.groups r.limits
   pub sets : AreSetsSoFar decided (length r.objects) r.sets
   pub reports : AreReportChanges decided r.reports
   pub rounds : AreRoundPlaces decided r.rounds
@@ -45,18 +59,17 @@ pub record IsTold (decided : ℕ) (r : RecordState) : Type 0 where
   pub full : (length r.sets ≡ decided) ⊎ IsBeforeReports r
 
 -- what is kept, part by part
-pub told_by_parts : {decided : ℕ} {r : RecordState} → is_name r.site ≡ true → decided ≤ most_updates → AreObjectsSoFar r.objects
-    → AreGroups (length r.objects) r.groups → AreLimits r.limits → AreScopesKnown (length r.objects) r.groups r.limits
+pub told_by_parts : {version : Version} {decided : ℕ} {r : RecordState} → is_name r.site ≡ true → decided ≤ most_updates → AreObjectsSoFar r.objects
+    → AreGroups (length r.objects) r.groups → AreLimitsSoFar version decided (length r.objects) r.groups r.limits
     → AreSetsSoFar decided (length r.objects) r.sets → AreReportChanges decided r.reports → AreRoundPlaces decided r.rounds
     → AreWindowsSoFar decided r.windows → (0 < length r.objects) ⊎ IsBeforeMembers r → (length r.sets ≡ decided) ⊎ IsBeforeReports r
-    → IsTold decided r
-told_by_parts a b c d e f g h i j k l = record {
+    → IsTold version decided r
+told_by_parts a b c d e g h i j k l = record {
   site = a;
   updates = b;
   objects = c;
   groups = d;
   limits = e;
-  scopes = f;
   sets = g;
   reports = h;
   rounds = i;
@@ -114,6 +127,73 @@ AreObjects-push objects name value are new = record {
   names = All-push (λ (e : List ℕ × ℤ). is_name e.0 ≡ true) objects (name, value) are.names new.is_a_name;
   distinct = AreDistinct-push objects (name, value) are.distinct new.new;
 }
+
+-- ---- limits
+
+pub last_place-at : (entries : Entries) (d : LimitEntry) → 0 < length entries
+    → last_place entries ≡ (get_or entries (length entries - 1) d).place
+last_place-at entries d some =
+    let count = length-map entries (λ (e : LimitEntry). e.place) in
+    rw count (get_or-map (λ (e : LimitEntry). e.place) entries (length entries - 1) d 0 (omega arith))
+
+-- where the last limit holds from a place or before, each does
+pub hold_last : (entries : Entries) (k : ℕ) → IsNonDecreasingBy (λ (e : LimitEntry). e.place) entries → last_place entries ≤ k
+    → HoldFrom k entries
+hold_last entries k rising last i d lt =
+    omega (arith, last, last_place-at entries d (omega arith), rising i (length entries - 1) d (omega arith) (omega arith))
+
+-- and back: what comes after limits does not hold from before the last of them
+pub last_before : (xs : Entries) (e : LimitEntry) (ys : Entries) → IsNonDecreasingBy (λ (e : LimitEntry). e.place) (xs ++ e ∷ ys)
+    → last_place xs ≤ e.place
+last_before [] e ys rising = omega arith
+last_before (x ∷ xs) e ys rising =
+    let k = length xs in
+    let before : get_or ((x ∷ xs) ++ e ∷ ys) k e ≡ get_or (x ∷ xs) k e = get_or-append (x ∷ xs) (e ∷ ys) e k (omega arith) in
+    let here : get_or ((x ∷ xs) ++ e ∷ ys) (length (x ∷ xs)) e ≡ e = get_or-append_seam (x ∷ xs) e ys e in
+    let at : last_place (x ∷ xs) ≡ (get_or (x ∷ xs) (length (x ∷ xs) - 1) e).place = last_place-at (x ∷ xs) e (omega arith) in
+    let end : length (x ∷ xs) - 1 ≡ k = omega arith in
+    omega (
+      arith,
+      at,
+      ap (λ i. (get_or (x ∷ xs) i e).place) end,
+      ap (λ (f : LimitEntry). f.place) before,
+      ap (λ (f : LimitEntry). f.place) here,
+      rising k (length (x ∷ xs)) e (omega arith) (omega (arith, length-append (x ∷ xs) (e ∷ ys))),
+    )
+
+-- a limit that is none of these comes as the last of them
+pub changed-last : (limits : Entries) (e : LimitEntry) → list_any (λ f. are_one_entry f e) limits ≡ false
+    → changed limits e ≡ limits ++ e ∷ []
+changed-last limits e new = put-new are_one_entry limits e (position-absent (λ f. are_one_entry f e) limits new)
+
+pub AreLimits-none : (version : Version) (decided n : ℕ) (groups : GroupList) (limits : Entries) → limits ≡ []
+    → AreLimitsSoFar version decided n groups limits
+AreLimits-none version decided n groups limits e = rw e (record {
+  entries = record {
+    scopes = omega arith;
+    few = omega arith;
+    amounts = All-nil (λ (e : LimitEntry). e.limit.amount ≤ greatest_amount);
+    begun = All-nil (λ (e : LimitEntry). 0 < e.place);
+    rising = λ i j d le lt. absurd (omega arith);
+    distinct = refl;
+  };
+  known = All-nil (λ (e : LimitEntry). IsScopeKnown n groups e.limit.scope);
+  begun = All-nil (λ (e : LimitEntry). e.place ≤ decided + 1);
+  told = All-nil (λ (e : LimitEntry). CanTellPlace version e.place);
+})
+
+pub AreLimits-push : (version : Version) (decided n : ℕ) (groups : GroupList) (limits : Entries) (e : LimitEntry)
+    → AreLimitsSoFar version decided n groups limits → IsNewEntry n groups decided limits e → CanTellPlace version e.place
+    → AreLimitsSoFar version decided n groups (limits ++ e ∷ [])
+AreLimits-push version decided n groups limits e are new tells =
+    let hold = hold_last limits e.place are.entries.rising new.later in
+    record {
+      entries = subst AreEntries (changed-last limits e new.new)
+          (AreEntries-changed limits e are.entries hold new.begun new.few new.room);
+      known = All-push (λ (f : LimitEntry). IsScopeKnown n groups f.limit.scope) limits e are.known new.known;
+      begun = All-push (λ (f : LimitEntry). f.place ≤ decided + 1) limits e are.begun new.within;
+      told = All-push (λ (f : LimitEntry). CanTellPlace version f.place) limits e are.told tells;
+    }
 
 -- ---- groups
 

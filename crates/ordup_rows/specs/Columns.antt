@@ -1,6 +1,7 @@
 -- The columns of a row, and what they spell.
 use Rattle.std.specs.Prelude.{ℕ, ℤ, pos, negsuc, ◌==◌, Bool, false, List, [], ◌∷◌, length, take, drop}
 use Rattle.std.specs.Prelude.{Option, Some, None, option_map, option_and_then, codes, if◌then◌else◌}
+use Rattle.std.specs.List.{slice_split}
 use Rattle.std.specs.Str.{bytes_eq}
 use Rattle.ordup_grammar.specs.ChangeWords.{change_of}
 use Rattle.ordup_grammar.specs.Numbers.{number_of}
@@ -16,6 +17,8 @@ use Rattle.ordup_log.specs.Groups.{GroupList}
 use Rattle.ordup_log.specs.declared.scope.Scope.{Scope}
 use Rattle.ordup_log.specs.declared.scope.Scope.TheVariants.{Object, Group, All as Everything, Count}
 use Rattle.ordup_rows.specs.Rows.{Row}
+use Rattle.ordup_rows.specs.declared.version.Version.{Version}
+use Rattle.ordup_rows.specs.declared.version.Version.TheVariants.{First, Second}
 
 infixl 10 ◌>>=◌
 abbrev pub ◌>>=◌ : {A B : Type 0} → Option A → (A → Option B) → Option B
@@ -66,6 +69,20 @@ scope_of objects groups column =
     else if bytes_eq column (codes "all") then Some Everything
     else if bytes_eq column (codes "count") then Some Count
     else None
+
+-- the amount and the place that exactly two parts write
+abbrev pub amount_and_place : List (List ℕ) → Option (ℕ × ℕ)
+amount_and_place (amount ∷ place ∷ []) = do
+  n ← natural_of amount
+  k ← natural_of place
+  Some (n, k)
+amount_and_place _ = None
+
+-- the amount of a limit and the place from which it holds, as a column tells them: by an amount alone, which holds from place 1 on, or
+-- in the second version by an amount and a place, with one `@` between them
+abbrev pub amount_by : Version → List ℕ → Option (ℕ × ℕ)
+amount_by First column = option_map (λ n. (n, 1)) (natural_of column)
+amount_by Second column = amount_and_place (slice_split (λ byte. byte == 64) column)
 
 -- the operation over these objects, where the object that it reads is one
 abbrev pub op_in : Objects → Operation → Option Op

@@ -1,4 +1,5 @@
 pub mod Sizes
+pub mod Versions
 pub mod Rows
 pub mod Telling
 pub mod RowKinds

@@ -9,10 +9,13 @@ use Rattle.ordup_objects.specs.declared.change.Op.TheVariants.{Add, Set, Mul, Ma
 use Rattle.ordup_log.specs.Groups.{GroupList}
 use Rattle.ordup_log.specs.declared.scope.Scope.{Scope}
 use Rattle.ordup_log.specs.declared.scope.Scope.TheVariants.{Object, Group, All as Everything, Count}
-use Rattle.ordup_limits.specs.declared.limit.Limit.{Limit}
+use Rattle.ordup_limits.specs.declared.limit_entry.LimitEntry.{LimitEntry}
 use Rattle.ordup_rounds.specs.declared.window.Window.{Window}
 use Rattle.ordup_record.specs.Records.{RecordState}
 use Rattle.ordup_record.specs.declared.report_change.ReportChange.{ReportChange}
+use Rattle.ordup_rows.specs.Versions.{version_for, version_text}
+use Rattle.ordup_rows.specs.declared.version.Version.{Version}
+use Rattle.ordup_rows.specs.declared.version.Version.TheVariants.{First, Second}
 
 -- a row, by the bytes of its columns
 abbrev pub Row : Type 0
@@ -27,9 +30,9 @@ abbrev pub counted : {X : Type 0} → (ℕ → X → Row) → ℕ → List X →
 counted row i [] = []
 counted row i (x ∷ xs) = row i x ∷ counted row (i + 1) xs
 
--- `ordup,1,SITE,DECIDED`
-abbrev pub head_row : List ℕ → ℕ → Row
-head_row site decided = codes "ordup" ∷ codes "1" ∷ site ∷ decimal decided ∷ []
+-- `ordup,1,SITE,DECIDED` or `ordup,2,SITE,DECIDED`
+abbrev pub head_row : Version → List ℕ → ℕ → Row
+head_row version site decided = codes "ordup" ∷ version_text version ∷ site ∷ decimal decided ∷ []
 
 -- `object,I,NAME,VALUE`
 abbrev pub object_row : ℕ → List ℕ × ℤ → Row
@@ -51,9 +54,15 @@ scope_text objects groups (Group g) = codes "group:" ++ name_at groups g
 scope_text objects groups Everything = codes "all"
 scope_text objects groups Count = codes "count"
 
--- `limit,I,SCOPE,N`
-abbrev pub limit_row : Objects → GroupList → ℕ → Limit → Row
-limit_row objects groups i limit = codes "limit" ∷ decimal i ∷ scope_text objects groups limit.scope ∷ decimal limit.amount ∷ []
+-- `N`, or in the second version `N@K`
+abbrev pub amount_text : Version → LimitEntry → List ℕ
+amount_text First e = decimal e.limit.amount
+amount_text Second e = join_with_byte 64 (decimal e.limit.amount ∷ decimal e.place ∷ [])
+
+-- `limit,I,SCOPE,N`, or in the second version `limit,I,SCOPE,N@K`
+abbrev pub limit_row : Version → Objects → GroupList → ℕ → LimitEntry → Row
+limit_row version objects groups i e =
+    codes "limit" ∷ decimal i ∷ scope_text objects groups e.limit.scope ∷ amount_text version e ∷ []
 
 -- the three parts of the word of a change, with a colon between each two
 abbrev pub change_word : List ℕ → List ℕ → List ℕ → List ℕ
@@ -93,21 +102,25 @@ round_row i place = codes "round" ∷ decimal i ∷ decimal place ∷ codes "-" 
 abbrev pub window_row : ℕ → Window → Row
 window_row i w = codes "window" ∷ decimal i ∷ decimal w.from ∷ decimal w.to ∷ []
 
--- the rows that tell what is there of a record that has so many decided updates
-abbrev pub rows_so_far : ℕ → RecordState → List Row
-rows_so_far decided r =
-    head_row r.site decided
+-- the rows of a version that tell what is there of a record that has so many decided updates
+abbrev pub rows_so_far : Version → ℕ → RecordState → List Row
+rows_so_far version decided r =
+    head_row version r.site decided
     ∷ (counted object_row 1 r.objects
     ++ member_rows r.objects 1 r.groups
-    ++ counted (limit_row r.objects r.groups) 1 r.limits
+    ++ counted (limit_row version r.objects r.groups) 1 r.limits
     ++ change_rows r.objects 1 r.sets
     ++ map report_row r.reports
     ++ counted round_row 1 r.rounds
     ++ counted window_row 1 r.windows)
 
--- the rows of a record
+-- the rows of a record in a version
+abbrev pub rows_in : Version → RecordState → List Row
+rows_in version r = rows_so_far version (length r.sets) r
+
+-- the rows of a record, as it is written: in the first version where all limits hold from place 1 on, else in the second
 abbrev pub rows_of : RecordState → List Row
-rows_of r = rows_so_far (length r.sets) r
+rows_of r = rows_in (version_for r.limits) r
 
 -- the line of a row: its columns, with a comma between each two, and a line feed
 abbrev pub row_line : Row → List ℕ

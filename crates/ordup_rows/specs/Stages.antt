@@ -1,7 +1,8 @@
 -- Rows that are read one after another.
-use Rattle.std.specs.Prelude.{ℕ, ℤ, ◌+◌, ◌-◌, ◌==◌, ◌&&◌, Bool, List, [], ◌∷◌, ◌++◌, length, map, nat_lt, nat_le, slice_index}
+use Rattle.std.specs.Prelude.{ℕ, ℤ, ◌+◌, ◌-◌, ◌==◌, ◌&&◌, not, Bool, List, [], ◌∷◌, ◌++◌, length, map, nat_lt, nat_le, slice_index}
 use Rattle.std.specs.Prelude.{slice_index_or, slice_set, Option, Some, None, option_map, option_and_then, codes, if◌then◌else◌}
 use Rattle.std.specs.Bool.{then_some}
+use Rattle.std.specs.List.{list_any}
 use Rattle.std.specs.Option.{is_none}
 use Rattle.std.specs.Str.{bytes_eq}
 use Rattle.ordup_grammar.specs.Numbers.{number_of}
@@ -12,16 +13,19 @@ use Rattle.ordup_objects.specs.Tables.{object_refusal, place_of}
 use Rattle.ordup_objects.specs.declared.change.Change.{Change}
 use Rattle.ordup_objects.specs.declared.refusal.Refusal.{Refusal}
 use Rattle.ordup_log.specs.Groups.{GroupList, group_refusal, last_members, member_refusal, with_member}
-use Rattle.ordup_limits.specs.Limits.{limit_refusal}
+use Rattle.ordup_limits.specs.Entries.{Entries, are_one_entry, change_refusal, entry_of}
+use Rattle.ordup_limits.specs.declared.limit_entry.LimitEntry.{LimitEntry}
 use Rattle.ordup_record.specs.Records.{RecordState, most_windows}
 use Rattle.ordup_record.specs.declared.report_change.ReportChange.{ReportChange}
-use Rattle.ordup_rows.specs.Columns.{◌>>=◌, Columns, columns_of, natural_of, writes, scope_of, change_by}
+use Rattle.ordup_rows.specs.Columns.{◌>>=◌, Columns, columns_of, amount_by, natural_of, writes, scope_of, change_by}
 use Rattle.ordup_rows.specs.RowKinds.{kind_of}
 use Rattle.ordup_rows.specs.Rows.{Row}
+use Rattle.ordup_rows.specs.Versions.{version_of}
 use Rattle.ordup_rows.specs.declared.row_kind.RowKind.{RowKind}
 use Rattle.ordup_rows.specs.declared.row_kind.RowKind.TheVariants as kind
+use Rattle.ordup_rows.specs.declared.version.Version.{Version}
 
--- what is known of a record after its first row: how many updates are decided, and what the rows so far told of it
+-- what is known of a record after its first row: the version, how many updates are decided, and what the rows so far told of it
 abbrev pub is_before_windows : RecordState → Bool
 is_before_windows r = length r.windows == 0
 
@@ -95,15 +99,40 @@ with_member_row r c = do
       (membership_refusal (length r.objects) r.groups c.second x))
       (record r { groups = with_membership r.groups c.second x })
 
+-- the last of ascending numbers, 0 where there is none
+abbrev pub last_number : List ℕ → ℕ
+last_number numbers = slice_index numbers (length numbers - 1)
+
+-- the place from which the last of these limits holds, 0 where there is none
+abbrev pub last_place : Entries → ℕ
+last_place entries = last_number (map (λ (e : LimitEntry). e.place) entries)
+
+-- the next limit may hold from a place: from 1 to the one after the last decided place, and not before the limit before it
+abbrev pub may_hold_from : ℕ → Entries → ℕ → Bool
+may_hold_from decided entries place = nat_lt 0 place && nat_le place (decided + 1) && nat_le (last_place entries) place
+
+-- one of these limits is of this one's scope and place
+abbrev pub has_entry : Entries → LimitEntry → Bool
+has_entry entries e = list_any (λ f. are_one_entry f e) entries
+
+-- a limit may come next: it may hold from its place, and none of the limits is of its scope and place
+abbrev pub may_limit : ℕ → Entries → LimitEntry → Bool
+may_limit decided entries e = may_hold_from decided entries e.place && not (has_entry entries e)
+
+-- the record with this limit of a row
+abbrev pub with_next_limit : ℕ → RecordState → Columns → LimitEntry → Option RecordState
+with_next_limit decided r c e =
+    then_some
+    (has_objects r && is_before_changes r && writes c.first (length r.limits + 1) && may_limit decided r.limits e
+    && is_none (change_refusal (length r.objects) r.groups r.limits e))
+    (record r { limits = r.limits ++ e ∷ [] })
+
 -- the record with the limit of a row
-abbrev pub with_limit : RecordState → Columns → Option RecordState
-with_limit r c = do
+abbrev pub with_limit : Version → ℕ → RecordState → Columns → Option RecordState
+with_limit version decided r c = do
   scope ← scope_of r.objects r.groups c.second
-  amount ← natural_of c.third
-  then_some
-      (has_objects r && is_before_changes r && writes c.first (length r.limits + 1)
-      && is_none (limit_refusal (length r.objects) r.groups r.limits scope amount))
-      (record r { limits = r.limits ++ (record { scope = scope; amount = amount }) ∷ [] })
+  limit ← amount_by version c.third
+  with_next_limit decided r c (entry_of scope limit.0 limit.1)
 
 -- the changes of the last update
 abbrev pub last_set : List (List Change) → List Change
@@ -137,10 +166,6 @@ with_any_change decided r c change =
 -- the record with the change of a row
 abbrev pub with_change_row : ℕ → RecordState → Columns → Option RecordState
 with_change_row decided r c = option_and_then (with_any_change decided r c) (change_by r.objects c.third)
-
--- the last of ascending numbers, 0 where there is none
-abbrev pub last_number : List ℕ → ℕ
-last_number numbers = slice_index numbers (length numbers - 1)
 
 -- a report change may come next
 abbrev pub may_report : ℕ → RecordState → ℕ → ℕ → Bool
@@ -182,19 +207,19 @@ with_window decided r c = do
       (record r { windows = r.windows ++ (record { from = from; to = to }) ∷ [] })
 
 -- the record with what a row of a kind tells, where the row may stand there
-abbrev pub with_row : ℕ → RecordState → RowKind → Columns → Option RecordState
-with_row decided r kind.Object c = with_object r c
-with_row decided r kind.Member c = with_member_row r c
-with_row decided r kind.Limit c = with_limit r c
-with_row decided r kind.Change c = with_change_row decided r c
-with_row decided r kind.Report c = with_report decided r c
-with_row decided r kind.Round c = with_round decided r c
-with_row decided r kind.Window c = with_window decided r c
+abbrev pub with_row : Version → ℕ → RecordState → RowKind → Columns → Option RecordState
+with_row version decided r kind.Object c = with_object r c
+with_row version decided r kind.Member c = with_member_row r c
+with_row version decided r kind.Limit c = with_limit version decided r c
+with_row version decided r kind.Change c = with_change_row decided r c
+with_row version decided r kind.Report c = with_report decided r c
+with_row version decided r kind.Round c = with_round decided r c
+with_row version decided r kind.Window c = with_window decided r c
 
--- how far a reading has come: no row yet, or so many decided updates, and what the rows told of the record
+-- how far a reading has come: no row yet, or the version, so many decided updates, and what the rows told of the record
 pub data Stage : Type 0 where
   unread : Stage
-  told : ℕ → RecordState → Stage
+  told : Version → ℕ → RecordState → Stage
 
 -- a record of which no more is told than the name of the site
 abbrev pub record_at : List ℕ → RecordState
@@ -212,18 +237,19 @@ record_at site = record {
 -- what the first row tells
 abbrev pub head_of : Columns → Option Stage
 head_of c = do
+  version ← version_of c.first
   decided ← natural_of c.third
   then_some
-      (bytes_eq c.kind (codes "ordup") && bytes_eq c.first (codes "1") && is_name c.second && nat_le decided most_updates)
-      (told decided (record_at c.second))
+      (bytes_eq c.kind (codes "ordup") && is_name c.second && nat_le decided most_updates)
+      (told version decided (record_at c.second))
 
 -- the stage after one row more, where the row may stand there
 abbrev pub step : Stage → Row → Option Stage
 step unread row = option_and_then head_of (columns_of row)
-step (told decided r) row = do
+step (told version decided r) row = do
   c ← columns_of row
   kind ← kind_of c.kind
-  option_map (λ next. told decided next) (with_row decided r kind c)
+  option_map (λ next. told version decided next) (with_row version decided r kind c)
 
 -- the stage after rows, where each may stand there
 abbrev pub run : Stage → List Row → Option Stage
@@ -233,7 +259,7 @@ run stage (row ∷ rows) = option_and_then (λ next. run next rows) (step stage 
 -- the record, where no row is missing
 abbrev pub closed : Stage → Option RecordState
 closed unread = None
-closed (told decided r) = then_some (has_updates decided r) r
+closed (told version decided r) = then_some (has_updates decided r) r
 
 -- the record that rows tell, as they are read one after another
 abbrev pub told_by : List Row → Option RecordState

@@ -1,12 +1,17 @@
 -- Which rows tell a record, and which row is the first that keeps rows from doing so.
 use Rattle.std.specs.Prelude.{◌≡◌, ◌⊎◌, ℕ, ◌+◌, ◌-◌, ◌<◌, ◌≤◌, List, length, take, ◌++◌}
 use Rattle.ordup_record.specs.Records.{RecordState, IsRecord}
-use Rattle.ordup_rows.specs.Rows.{Row, rows_of}
+use Rattle.ordup_rows.specs.Rows.{Row, rows_in}
+use Rattle.ordup_rows.specs.Versions.{CanTell}
+use Rattle.ordup_rows.specs.declared.version.Version.{Version}
 
--- The rows tell this record. Each value has one spelling as a column, so rows obey the format just where they tell a record.
+-- The rows tell this record, in a version that can tell its limits. Each value has one spelling as a column of a version, so rows
+-- obey the format just where they tell a record.
 pub record Tells (rows : List Row) (r : RecordState) : Type 0 where
   pub valid : IsRecord r
-  pub same : rows ≡ rows_of r
+  pub version : Version
+  pub limits : CanTell version r.limits
+  pub same : rows ≡ rows_in version r
 
 -- the rows break no rule: with some more rows they tell a record
 abbrev pub CanGoOn : List Row → Type 0

@@ -3,15 +3,16 @@ ghost use Rattle.std.specs.Prelude.{◌≡◌, ℕ, ℤ, ◌+◌, ◌<◌, ◌�
 ghost use Rattle.ordup_objects.specs.Sets.{AreKnown, IsKnown};
 ghost use Rattle.ordup_log.specs.Groups.{AreMembersKnown};
 ghost use Rattle.ordup_log.specs.Spans.{IsScopeKnown};
-ghost use Rattle.ordup_limits.specs.Limits.{AreScopesKnown};
+ghost use Rattle.ordup_limits.specs.Entries.{AreEntriesKnown};
 ghost use Rattle.ordup_rows.specs.Forming.{AddsRow, AddsRows, AreGroupsKnown, IsClean};
 ghost use Rattle.ordup_rows.specs.Rows.{change_row, change_rows, counted, head_row, limit_row, member_row, member_rows};
 ghost use Rattle.ordup_rows.specs.Rows.{object_row, report_row, round_row, rows_of, rows_text, window_row};
 
-use crate::spelling::{put_change, put_scope};
+use crate::spelling::{add_amount, put_change, put_scope};
+use crate::version::Version;
 use csv::{Writer, WriterBuilder};
 use itoa::Buffer;
-use ordup_limits::{GroupId, Groups, Limit, LimitTable};
+use ordup_limits::{GroupId, Groups, LimitEntry};
 use ordup_objects::{Change, Name, ObjectId, ObjectTable};
 use ordup_record::{Record, ReportChange};
 use ordup_rounds::Window;
@@ -38,16 +39,17 @@ fn push_row<A: Allocator + Copy>(
 /// Writes the first row.
 fn push_head<A: Allocator + Copy>(
     rows: &mut Writer<Vec<u8, A>>,
+    version: Version,
     site: &[u8],
     decided: u64,
 ) -> Result<(), AllocError>
     requires { IsClean rows.old }
     ensures clean { OnOk result (IsClean rows.new) }
-    ensures text { OnOk result (AddsRow rows.old rows.new (head_row site.now decided)) }
+    ensures text { OnOk result (AddsRow rows.old rows.new (head_row version site.now decided)) }
 {
     let mut decided_digits = Buffer::new();
     let decided = decided_digits.format(decided);
-    push_row(rows, b"ordup", b"1", site, decided.as_bytes())
+    push_row(rows, b"ordup", version.as_bytes(), site, decided.as_bytes())
 }
 
 /// Writes the row of an object.
@@ -159,47 +161,42 @@ fn push_groups<A: Allocator + Copy>(
 fn push_limit<A: Allocator + Copy>(
     rows: &mut Writer<Vec<u8, A>>,
     column: &mut Vec<u8, A>,
+    version: Version,
     objects: &ObjectTable<A>,
     groups: &Groups<A>,
     counter: usize,
-    limit: Limit,
+    entry: &LimitEntry,
 ) -> Result<(), AllocError>
     requires clean { IsClean rows.old }
-    requires known { IsScopeKnown (length objects.now) groups.now limit.scope }
+    requires known { IsScopeKnown (length objects.now) groups.now entry.now.limit.scope }
     ensures clean { OnOk result (IsClean rows.new) }
-    ensures text { OnOk result (AddsRow rows.old rows.new (limit_row objects.now groups.now counter limit)) }
+    ensures text { OnOk result (AddsRow rows.old rows.new (limit_row version objects.now groups.now counter entry.now)) }
 {
     let mut counter_digits = Buffer::new();
     let counter = counter_digits.format(counter);
-    put_scope(column, objects, groups, limit.scope)?;
-    let mut amount_digits = Buffer::new();
-    let amount = amount_digits.format(limit.amount);
-    push_row(
-        rows,
-        b"limit",
-        counter.as_bytes(),
-        column.as_slice(),
-        amount.as_bytes(),
-    )
+    put_scope(column, objects, groups, entry.limit.scope)?;
+    let end = column.len();
+    add_amount(column, version, entry)?;
+    let (scope, amount) = column.as_slice().split_at(end);
+    push_row(rows, b"limit", counter.as_bytes(), scope, amount)
 }
 
 /// Writes the rows of the limits.
 fn push_limits<A: Allocator + Copy>(
     rows: &mut Writer<Vec<u8, A>>,
     column: &mut Vec<u8, A>,
+    version: Version,
     objects: &ObjectTable<A>,
     groups: &Groups<A>,
-    limits: &LimitTable<A>,
+    entries: &[LimitEntry],
 ) -> Result<(), AllocError>
     requires clean { IsClean rows.old }
-    requires known { AreScopesKnown (length objects.now) groups.now limits.now }
+    requires known { AreEntriesKnown (length objects.now) groups.now entries.now }
     ensures clean { OnOk result (IsClean rows.new) }
-    ensures text { OnOk result (AddsRows rows.old rows.new (counted (limit_row objects.now groups.now) 1 limits.now)) }
+    ensures text { OnOk result (AddsRows rows.old rows.new (counted (limit_row version objects.now groups.now) 1 entries.now)) }
 {
-    for place in 0..limits.len() {
-        let (scope, amount) = limits.get(place);
-        let limit = Limit { scope, amount };
-        push_limit(rows, column, objects, groups, place + 1, limit)?;
+    for (i, entry) in entries.iter().enumerate() {
+        push_limit(rows, column, version, objects, groups, i + 1, entry)?;
     }
     Ok(())
 }
@@ -378,15 +375,18 @@ pub fn form<A: Allocator + Copy>(alloc: A, whole: &Record<A>) -> Result<Vec<u8, 
 {
     let mut column = Vec::new(alloc);
     let mut rows = WriterBuilder::new().from_writer(Vec::new(alloc));
-    push_head(&mut rows, whole.site().as_bytes(), whole.decided())?;
+    let entries = whole.limits().entries();
+    let version = Version::of(entries);
+    push_head(&mut rows, version, whole.site().as_bytes(), whole.decided())?;
     push_objects(&mut rows, whole.objects())?;
     push_groups(&mut rows, whole.objects(), whole.groups())?;
     push_limits(
         &mut rows,
         &mut column,
+        version,
         whole.objects(),
         whole.groups(),
-        whole.limits(),
+        entries,
     )?;
     push_sets(&mut rows, &mut column, whole)?;
     push_reports(&mut rows, whole.reports())?;

@@ -1,5 +1,6 @@
 ghost use Rattle.ordup_rows.specs.Laws.{
   BadRowsAreOne,
+  RowsOfEachVersionAreRead,
   RowsTellOneRecord,
   RowsTellOrAreBad,
   ToldRowsAreNotBad,
@@ -27,6 +28,11 @@ pub fn what_is_read_is_told()
 /// A law: rows that tell a record are read to the end as it. So the rows of a record are read back as that record.
 pub fn what_is_told_is_read()
     ensures { WhatIsToldIsRead }
+{}
+
+/// A law: the rows of a record are read as it in each version that can tell its limits.
+pub fn rows_of_each_version_are_read()
+    ensures { RowsOfEachVersionAreRead }
 {}
 
 /// A law: rows tell no two records.

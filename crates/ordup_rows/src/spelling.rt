@@ -1,12 +1,13 @@
 //! What the columns of a row spell.
-ghost use Rattle.std.specs.Prelude.{◌≡◌, ◌<◌, IfSome, OnOk, length};
+ghost use Rattle.std.specs.Prelude.{◌≡◌, ◌++◌, ◌<◌, IfSome, OnOk, length};
 ghost use Rattle.std.specs.Fmt.{signed_decimal};
 ghost use Rattle.ordup_objects.specs.Ops.{source_of};
 ghost use Rattle.ordup_log.specs.Spans.{IsScopeKnown};
-ghost use Rattle.ordup_rows.specs.Rows.{change_word, operation_text, scope_text};
+ghost use Rattle.ordup_rows.specs.Rows.{amount_text, change_word, operation_text, scope_text};
 
+use crate::version::Version;
 use itoa::Buffer;
-use ordup_limits::{Groups, Scope};
+use ordup_limits::{Groups, LimitEntry, Scope};
 use ordup_objects::{ObjectTable, Op};
 use std::alloc::{AllocError, Allocator};
 
@@ -32,6 +33,28 @@ pub fn put_scope<A: Allocator + Copy>(
         }
         Scope::All => column.extend_from_slice(b"all"),
         Scope::Count => column.extend_from_slice(b"count"),
+    }
+}
+
+/// Adds to a column what a row of a version tells the amount of a limit by, and the place from which it holds.
+pub fn add_amount<A: Allocator + Copy>(
+    column: &mut Vec<u8, A>,
+    version: Version,
+    entry: &LimitEntry,
+) -> Result<(), AllocError>
+    ensures { OnOk result (column.new.items ≡ column.old.items ++ amount_text version entry.now) }
+{
+    let mut amount_digits = Buffer::new();
+    let amount = amount_digits.format(entry.limit.amount);
+    column.extend_from_slice(amount.as_bytes())?;
+    match version {
+        Version::First => Ok(()),
+        Version::Second => {
+            let mut place_digits = Buffer::new();
+            let place = place_digits.format(entry.place);
+            column.push(b'@')?;
+            column.extend_from_slice(place.as_bytes())
+        }
     }
 }
 

@@ -2,7 +2,7 @@
 use Rattle.ordup_record.proofs.Common.{◌++◌, ◌+◌, ◌-◌, ◌<◌, ◌∙◌, ◌∷◌, ◌≡◌, ◌≤◌, [], ap, append_assoc, arith, cases_lt, false, IfSome, inl}
 use Rattle.ordup_record.proofs.Common.{inr, length, length-append, List, nat_le, nat_tests, None, Option, option_map, RecordState, refl}
 use Rattle.ordup_record.proofs.Common.{Some, subst, sym, take, take-append-le, true, ℕ}
-use Rattle.std.specs.Io.KnownBytes.{Consumes, IsAtEnd, Keeps}
+use Rattle.std.specs.Io.KnownBytes.{Consumes, IsAtEnd}
 use Rattle.std.proofs.Math.Seq.{take-append-add}
 use Rattle.std.proofs.lemmas.List.{length-take}
 use Rattle.csv.specs.Reading.{strip_bom}

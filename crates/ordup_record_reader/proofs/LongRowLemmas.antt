@@ -118,7 +118,7 @@ too_long : (rows init : List Row) (last : Row) → rows ≡ init ++ last ∷ [] 
 too_long rows init last is long (r, more, tells) =
     let there : (init ++ last ∷ []) ++ more ≡ init ++ last ∷ more = append_assoc init (last ∷ []) more in
     let line : IsLine last =
-    all_at IsLine init last more (subst (All IsLine) (sym tells.same ∙ (ap (λ l. l ++ more) is ∙ there)) (all_lines r tells.valid)) in
+    all_at IsLine init last more (subst (All IsLine) (sym tells.same ∙ (ap (λ l. l ++ more) is ∙ there)) (all_lines r tells.valid tells.version)) in
     omega (arith, line.short, line_size last long)
 
 -- ---- each byte of a row makes it longer, or is one of few

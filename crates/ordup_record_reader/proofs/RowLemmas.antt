@@ -1,12 +1,15 @@
 -- Rows that the code does not take, or takes by what their columns mean.
 use Rattle.ordup_record.proofs.Common.{◌++◌, ◌+◌, ◌==◌, ◌∙◌, ◌∷◌, ◌≡◌, [], ap, are_in_range, are_known, Bool, cases_Bool}
 use Rattle.ordup_record.proofs.Common.{Change, Err, false, group_refusal, GroupList, IfOk, if◌then◌else◌, in_range, inl, inr}
-use Rattle.ordup_record.proofs.Common.{is_name, is_none, is_none_or, is_some, IsRefusal, last_members, length, limit_refusal, List}
+use Rattle.ordup_record.proofs.Common.{arith, Entries, false≢true, is_name, is_none, is_none_or, is_some, IsRefusal, last_members, length, length_push, List, lt-ltb, suc}
 use Rattle.ordup_record.proofs.Common.{member_refusal, most_objects, nat_lt, nil_from_length, None, not, NumberOp, object_refusal, Objects}
-use Rattle.ordup_record.proofs.Common.{Ok, Op, op_with, Option, option_and_then, option_map, place_of, RecordState, refl, Result, Scope}
+use Rattle.ordup_record.proofs.Common.{Ok, Op, op_with, Option, option_and_then, option_map, place_of, RecordState, refl, Result}
 use Rattle.ordup_record.proofs.Common.{set_refusal, Some, sym, Take, then_some, true, ℕ, ℤ}
 use Rattle.std.proofs.Common.{◌≢◌, ◌&&◌}
 use Rattle.std.proofs.Math.Bool.{and-false}
+use Rattle.std.proofs.lemmas.Bool.{le-ltb}
+use Rattle.ordup_limits.specs.Entries.{are_one_entry, changed}
+use Rattle.ordup_limits.specs.declared.limit_entry.LimitEntry.{LimitEntry}
 use Rattle.ordup_grammar.specs.ChangeWords.{change_of}
 use Rattle.ordup_grammar.specs.Numbers.{number_of}
 use Rattle.ordup_grammar.specs.declared.change_words.ChangeWord.{ChangeWord}
@@ -17,11 +20,12 @@ use Rattle.ordup_objects.specs.Ops as ops
 use Rattle.ordup_objects.specs.declared.refusal.Refusal.{Refusal}
 use Rattle.ordup_objects.specs.declared.refusal.Refusal.TheVariants.{BadName, NameTaken, OutOfRange, TooMany, UnknownObject, NoMemory}
 use Rattle.ordup_record_reader.specs.ColumnViews.{change_in_range, op_in_range, sound_change, value_of}
-use Rattle.ordup_rows.specs.Columns.{Columns, change_by, change_in, op_in, natural_of, scope_of, writes}
-use Rattle.ordup_rows.specs.Stages.{has_objects, is_before_changes, is_before_limits, is_last_group, member_count, membership_refusal}
-use Rattle.ordup_rows.specs.Stages.{with_limit, with_member_row, with_membership, is_before_members, is_before_reports, last_set}
+use Rattle.ordup_rows.specs.Columns.{Columns, change_by, change_in, op_in, writes}
+use Rattle.ordup_rows.specs.Stages.{has_entry, is_before_limits, is_last_group, member_count, membership_refusal}
+use Rattle.ordup_rows.specs.Stages.{with_member_row, with_membership, is_before_members, is_before_reports, last_set}
 use Rattle.ordup_rows.specs.Stages.{with_any_change, with_change_row, with_object, with_value}
 use Rattle.ordup_rows.proofs.Columns.{kept}
+use Rattle.ordup_rows.proofs.ToldSoFar.{changed-last}
 
 -- what is refused is not taken
 pub refused_row : {X E : Type 0} (result : Result Bool E) (o : Option Refusal) (e : Refusal) (allowed : Bool) (old next : X)
@@ -177,10 +181,26 @@ pub refused_new : (n : ℕ) (groups : GroupList) (name : List ℕ) (x : ℕ) (e 
     → IsRefusal (group_refusal n groups name (x ∷ [])) e → IsRefusal (membership_refusal n groups name x) e
 refused_new n groups name x e other h = rw other h
 
-pub limit_by : (r : RecordState) (c : Columns) (s : Scope) (amount : ℕ) → scope_of r.objects r.groups c.second ≡ Some s
-    → natural_of c.third ≡ Some amount
-    → then_some (has_objects r && is_before_changes r && writes c.first (length r.limits + 1)
-    && is_none (limit_refusal (length r.objects) r.groups r.limits s amount))
-    (record r { limits = r.limits ++ (record { scope = s; amount = amount }) ∷ [] })
-    ≡ with_limit r c
-limit_by r c s amount e f = rw (e, f) refl
+-- ---- limits
+
+-- a limit that takes the place of another adds none
+kept_length : (limits : Entries) (e : LimitEntry) → has_entry limits e ≡ true → length (changed limits e) ≡ length limits
+kept_length [] e has = absurd (false≢true has)
+kept_length (f ∷ limits) e has = elim (cases_Bool (are_one_entry f e)) [
+  | inl one ↦ rw one refl
+  | inr other ↦ (let rest : has_entry limits e ≡ true = rw other at has in rw other (ap suc (kept_length limits e rest)))
+]
+
+-- a limit was added where there are more than before, and else it was one of a scope and place that were there
+pub entry_added : {X : Type 0} (limits : Entries) (e : LimitEntry) (count : ℕ) (q : Entries → X) (o : Option Refusal) → o ≡ None
+    → count ≡ length limits
+    → then_some (nat_lt count (length (changed limits e))) (q (changed limits e))
+    ≡ then_some (not (has_entry limits e) && is_none o) (q (limits ++ e ∷ []))
+entry_added limits e count q o free is = elim (cases_Bool (has_entry limits e)) [
+  | inl has ↦ (let same : nat_lt count (length (changed limits e)) ≡ false =
+      le-ltb count (length (changed limits e)) (omega (arith, kept_length limits e has, is)) in
+      rw (has, same) refl)
+  | inr new ↦ (let last = changed-last limits e new in
+      let more : nat_lt count (length (limits ++ e ∷ [])) ≡ true = lt-ltb count (length (limits ++ e ∷ [])) (omega (arith, length_push limits e, is)) in
+      rw (new, last, more, free) refl)
+]

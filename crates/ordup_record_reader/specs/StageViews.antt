@@ -8,9 +8,9 @@ use Rattle.ordup_record_reader.specs.declared.stage.Stage.TheVariants as at
 -- how far a reading has come
 abbrev pub stage_of : held.Stage → Stage
 stage_of at.Unread = unread
-stage_of (at.Told decided t) = told decided (told_of t)
+stage_of (at.Told version decided t) = told version decided (told_of t)
 
 -- the objects of each update are there
 abbrev pub AreStageUpdatesKnown : Stage → Type 0
 AreStageUpdatesKnown unread = ⊤
-AreStageUpdatesKnown (told decided r) = AreUpdatesKnown r
+AreStageUpdatesKnown (told version decided r) = AreUpdatesKnown r

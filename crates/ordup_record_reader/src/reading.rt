@@ -104,7 +104,11 @@ fn close(alloc: Global, stage: Stage) -> Result<Option<Record>, AllocError>
 {
     match stage {
         Stage::Unread => Ok(None),
-        Stage::Told { decided, told } => {
+        Stage::Told {
+            version: _,
+            decided,
+            told,
+        } => {
             if told.has_updates(decided) {
                 Ok(Some(record_of(alloc, told)?))
             } else {

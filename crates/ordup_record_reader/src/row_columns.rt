@@ -1,7 +1,8 @@
 //! The columns of a row, and what they spell.
-ghost use Rattle.std.specs.Prelude.{◌≡◌, option_map};
+ghost use Rattle.std.specs.Prelude.{◌≡◌, ◌==◌, option_map};
+ghost use Rattle.std.specs.List.{position, slice_split};
 ghost use Rattle.csv.specs.Records.{fields_of};
-ghost use Rattle.ordup_rows.specs.Columns.{columns_of, natural_of, writes, scope_of};
+ghost use Rattle.ordup_rows.specs.Columns.{columns_of, amount_and_place, amount_by, natural_of, writes, scope_of};
 ghost use Rattle.ordup_record_reader.specs.ColumnViews.{columns_at, columns_view, value_of, number_in_range, op_in_range, change_in_range};
 
 use csv::ByteRecord;
@@ -9,6 +10,7 @@ use ordup_grammar::{ChangeWord, Number, Operation, Word};
 use ordup_limits::{Groups, Scope};
 use ordup_objects::sizes::GREATEST_VALUE;
 use ordup_objects::{Change, ObjectTable, Op};
+use ordup_rows::Version;
 
 /// The four columns of a row.
 #[derive(Clone, Copy)]
@@ -103,6 +105,33 @@ pub fn scope(objects: &ObjectTable, groups: &Groups, column: &[u8]) -> Option<Sc
     } else {
         None
     }
+}
+
+/// The amount of a limit and the place from which it holds, as a column of a version tells them.
+pub fn amount(version: Version, column: &[u8]) -> Option<(u64, u64)>
+    ensures { result ≡ amount_by version column.now }
+{
+    match version {
+        Version::First => Some((natural(column)?, 1)),
+        Version::Second => amount_and_place(column),
+    }
+}
+
+/// The two numbers that a column writes, with one `@` between them.
+fn amount_and_place(column: &[u8]) -> Option<(u64, u64)>
+    ensures { result ≡ amount_and_place (slice_split (λ byte. byte == 64) column.now) }
+{
+    let end = place_of_at(column)?;
+    let amount = natural(&column[..end])?;
+    let place = natural(&column[end + 1..])?;
+    Some((amount, place))
+}
+
+/// The place of the first `@` of a column, if there is one.
+fn place_of_at(column: &[u8]) -> Option<usize>
+    ensures { result ≡ position (λ byte. byte == 64) column.now }
+{
+    column.iter().position(|byte| *byte == b'@')
 }
 
 /// The operation that is spelled, where its number is in range and its object is one.

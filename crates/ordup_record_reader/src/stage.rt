@@ -14,22 +14,27 @@ use csv::ByteRecord;
 use ordup_limits::{Groups, LimitTable};
 use ordup_objects::sizes::MOST_UPDATES;
 use ordup_objects::{Name, ObjectTable};
-use ordup_rows::RowKind;
+use ordup_rows::{RowKind, Version};
 use std::alloc::{AllocError, Global};
 
-/// No row yet, or how many updates are decided and what the rows so far told.
+/// No row yet, or the version, how many updates are decided and what the rows so far told.
 #[derive(Drop)]
 pub enum Stage {
     Unread,
-    Told { decided: u64, told: Told },
+    Told {
+        version: Version,
+        decided: u64,
+        told: Told,
+    },
 }
 
 /// What the first row tells.
 fn open(alloc: Global, c: &RowColumns<'_>) -> Option<Stage>
     ensures { option_map stage_of result ≡ head_of (columns_view c.now) }
 {
+    let version = Version::parse(c.first)?;
     let decided = natural(c.third)?;
-    if c.kind != b"ordup".as_slice() || c.first != b"1".as_slice() {
+    if c.kind != b"ordup".as_slice() {
         return None;
     }
     let Ok(site) = Name::new(c.second) else {
@@ -48,20 +53,30 @@ fn open(alloc: Global, c: &RowColumns<'_>) -> Option<Stage>
         rounds: Vec::new(alloc),
         windows: Vec::new(alloc),
     };
-    Some(Stage::Told { decided, told })
+    Some(Stage::Told {
+        version,
+        decided,
+        told,
+    })
 }
 
 /// Takes a row that is not the first, where it may stand there, and answers whether it did.
-fn go_on(decided: u64, so_far: &mut Told, c: &RowColumns<'_>) -> Result<bool, AllocError>
+fn go_on(
+    version: Version,
+    decided: u64,
+    so_far: &mut Told,
+    c: &RowColumns<'_>,
+) -> Result<bool, AllocError>
     requires { AreUpdatesKnown (told_of so_far.old) }
-    ensures { IfOk result (λ is_taken. then_some is_taken (told decided (told_of so_far.new))
-        ≡ option_and_then (λ kind. option_map (λ r. told decided r) (with_row decided (told_of so_far.old) kind (columns_view c.now)))
+    ensures { IfOk result (λ is_taken. then_some is_taken (told version decided (told_of so_far.new))
+        ≡ option_and_then (λ kind. option_map (λ r. told version decided r)
+        (with_row version decided (told_of so_far.old) kind (columns_view c.now)))
         (kind_of c.now.kind.now)) }
 {
     let Some(kind) = RowKind::parse(c.kind) else {
         return Ok(false);
     };
-    so_far.add_row(decided, kind, c)
+    so_far.add_row(version, decided, kind, c)
 }
 
 /// Takes a row, where it may stand there, and answers whether it did.
@@ -81,6 +96,10 @@ pub fn take_row(alloc: Global, stage: &mut Stage, row: &ByteRecord) -> Result<bo
             }
             None => Ok(false),
         },
-        Stage::Told { decided, told } => go_on(*decided, told, &columns),
+        Stage::Told {
+            version,
+            decided,
+            told,
+        } => go_on(*version, *decided, told, &columns),
     }
 }

@@ -1,21 +1,25 @@
 //! What rows tell of a record, row by row.
-ghost use Rattle.std.specs.Prelude.{◌≡◌, ◌≢◌, ◌<◌, ◌≤◌, false, IfOk, length, map};
+ghost use Rattle.std.specs.Prelude.{◌≡◌, ◌≢◌, ◌<◌, ◌≤◌, ◌&&◌, ◌++◌, ◌∷◌, [], false, not, IfOk, length, map};
+ghost use Rattle.std.specs.Bool.{then_some};
+ghost use Rattle.std.specs.Option.{is_none};
 ghost use Rattle.ordup_objects.specs.Sets.{AreKnown};
-ghost use Rattle.ordup_rows.specs.Stages.{has_objects, has_updates, is_before_changes, is_before_limits, is_before_members};
-ghost use Rattle.ordup_rows.specs.Stages.{is_before_reports, is_before_rounds, is_before_windows, is_last_group, last_number, last_set};
-ghost use Rattle.ordup_rows.specs.Stages.{may_report, may_round, member_count, with_any_change, with_change_row, with_first_change};
+ghost use Rattle.ordup_limits.specs.Entries.{change_refusal, entry_of};
+ghost use Rattle.ordup_rows.specs.Stages.{has_entry, has_objects, has_updates, is_before_changes, is_before_limits, is_before_members};
+ghost use Rattle.ordup_rows.specs.Stages.{is_before_reports, is_before_rounds, is_before_windows, is_last_group, last_number, last_place};
+ghost use Rattle.ordup_rows.specs.Stages.{last_set, may_hold_from, may_report, may_round, member_count, with_any_change, with_change_row};
+ghost use Rattle.ordup_rows.specs.Stages.{with_first_change};
 ghost use Rattle.ordup_rows.specs.Stages.{with_limit, with_member_row, with_next_change, with_object, with_report, with_round, with_row};
 ghost use Rattle.ordup_rows.specs.Stages.{with_value, with_window};
 ghost use Rattle.ordup_record_reader.specs.ColumnViews.{columns_view};
 ghost use Rattle.ordup_record_reader.specs.ToldViews.{AreUpdatesKnown, Takes, told_of};
 
-use crate::row_columns::{RowColumns, change, natural, scope, value, writes};
-use ordup_limits::{GroupId, Groups, LimitTable};
+use crate::row_columns::{RowColumns, amount, change, natural, scope, value, writes};
+use ordup_limits::{GroupId, Groups, LimitTable, Scope};
 use ordup_objects::sizes::MOST_UPDATES;
 use ordup_objects::{Change, MessageSet, Name, ObjectTable, Refusal};
 use ordup_record::ReportChange;
 use ordup_rounds::Window;
-use ordup_rows::RowKind;
+use ordup_rows::{RowKind, Version};
 use std::alloc::AllocError;
 
 /// The most windows of a record.
@@ -76,7 +80,7 @@ impl Told {
     fn is_before_limits(&self) -> bool
         ensures { result ≡ is_before_limits (told_of self.now) }
     {
-        self.limits.len() == 0 && self.is_before_changes()
+        self.limits.entries().is_empty() && self.is_before_changes()
     }
 
     fn is_before_members(&self) -> bool
@@ -144,26 +148,68 @@ impl Told {
         }
     }
 
+    /// The place from which the last limit holds, 0 where there is none.
+    fn last_place(&self) -> u64
+        ensures { result ≡ last_place self.now.limits }
+    {
+        match self.limits.entries().last() {
+            Some(entry) => entry.place,
+            None => 0,
+        }
+    }
+
+    /// Whether the next limit may hold from a place: from 1 to the one after the last decided place, and not before the limit
+    /// before it.
+    fn may_hold_from(&self, decided: u64, place: u64) -> bool
+        ensures { result ≡ may_hold_from decided self.now.limits place }
+    {
+        place > 0 && place - 1 <= decided && self.last_place() <= place
+    }
+
+    /// Takes a limit that may hold from its place, where none is of its scope and place.
+    fn add_entry(&mut self, scope: Scope, amount: u64, place: u64) -> Result<bool, AllocError>
+        requires begun { 0 < place }
+        requires later { last_place self.old.limits ≤ place }
+        ensures { let e = entry_of scope amount place in Takes result self.new (then_some
+            (not (has_entry self.old.limits e) && is_none (change_refusal (length self.old.objects) self.old.groups self.old.limits e))
+            (record (told_of self.old) { limits = self.old.limits ++ e ∷ [] })) }
+    {
+        // For the proof: the limits are in the order of their places.
+        let _scopes = self.limits.len();
+        let count = self.limits.entries().len();
+        match self
+            .limits
+            .change(&self.objects, &self.groups, scope, amount, place)
+        {
+            // One of the scope and place was replaced where there are no more than before.
+            Ok(()) => Ok(self.limits.entries().len() > count),
+            Err(refusal) => not_taken(refusal),
+        }
+    }
+
     /// Takes the limit of a row.
-    fn add_limit(&mut self, c: &RowColumns<'_>) -> Result<bool, AllocError>
-        ensures { Takes result self.new (with_limit (told_of self.old) (columns_view c.now)) }
+    fn add_limit(
+        &mut self,
+        version: Version,
+        decided: u64,
+        c: &RowColumns<'_>,
+    ) -> Result<bool, AllocError>
+        ensures { Takes result self.new (with_limit version decided (told_of self.old) (columns_view c.now)) }
     {
         let Some(scope) = scope(&self.objects, &self.groups, c.second) else {
             return Ok(false);
         };
-        let Some(amount) = natural(c.third) else {
+        let Some((amount, place)) = amount(version, c.third) else {
             return Ok(false);
         };
-        if !self.has_objects()
-            || !self.is_before_changes()
-            || !writes(c.first, self.limits.len() as u64 + 1)
-        {
+        let count = self.limits.entries().len() as u64;
+        if !self.has_objects() || !self.is_before_changes() || !writes(c.first, count + 1) {
             return Ok(false);
         }
-        match self.limits.add(&self.objects, &self.groups, scope, amount) {
-            Ok(()) => Ok(true),
-            Err(refusal) => not_taken(refusal),
+        if !self.may_hold_from(decided, place) {
+            return Ok(false);
         }
+        self.add_entry(scope, amount, place)
     }
 
     /// Takes the first change of an update.
@@ -237,7 +283,7 @@ impl Told {
     }
 
     /// The place of the last report change, 0 where there is none.
-    fn last_place(&self) -> u64
+    fn last_report_place(&self) -> u64
         ensures { result ≡ last_number (map (λ c. c.place) self.now.reports.items) }
     {
         match self.reports.last() {
@@ -262,7 +308,7 @@ impl Told {
     {
         self.has_updates(decided)
             && self.is_before_rounds()
-            && self.last_place() < place
+            && self.last_report_place() < place
             && place <= decided
             && self.last_reported() < reported
             && reported <= MOST_UPDATES as u64
@@ -349,17 +395,18 @@ impl Told {
     /// Takes a row of a kind.
     pub fn add_row(
         &mut self,
+        version: Version,
         decided: u64,
         kind: RowKind,
         c: &RowColumns<'_>,
     ) -> Result<bool, AllocError>
         requires { AreUpdatesKnown (told_of self.old) }
-        ensures { Takes result self.new (with_row decided (told_of self.old) kind (columns_view c.now)) }
+        ensures { Takes result self.new (with_row version decided (told_of self.old) kind (columns_view c.now)) }
     {
         match kind {
             RowKind::Object => self.add_object(c),
             RowKind::Member => self.add_member(c),
-            RowKind::Limit => self.add_limit(c),
+            RowKind::Limit => self.add_limit(version, decided, c),
             RowKind::Change => self.add_change(decided, c),
             RowKind::Report => self.add_report(decided, c),
             RowKind::Round => self.add_round(decided, c),

@@ -148,16 +148,23 @@ fn relimit(rt: &impl Abort, primary: &mut Primary, amount: u64) -> Result<u64, R
     primary.relimit(a(), x(), amount)
 }
 
-/// Marks all updates as sent to a, and notes that a reported them.
-fn report_all(rt: &impl Abort, primary: &mut Primary) {
+/// Marks the next update as sent to a.
+fn send(rt: &impl Abort, primary: &mut Primary) {
     // For the proof: what each primary keeps.
     let _acked = primary.acked();
     assert!(rt; primary.setup().sites() > 0);
-    let updates = primary.log().len();
-    while primary.sent(a()) < updates {
-        primary.mark_sent(a());
-    }
-    primary.report(a(), updates);
+    assert!(rt; primary.sent(a()) < primary.log().len());
+    primary.mark_sent(a());
+}
+
+/// Notes that a reported all that was sent to it.
+fn report(rt: &impl Abort, primary: &mut Primary) {
+    // For the proof: what each primary keeps.
+    let _acked = primary.acked();
+    assert!(rt; primary.setup().sites() > 0);
+    let sent = primary.sent(a());
+    assert!(rt; primary.reported(a()) <= sent);
+    primary.report(a(), sent);
 }
 
 /// Sees which rounds and windows a has.
@@ -207,7 +214,9 @@ fn what_is_decided_goes_by_the_limits_of_its_place(rt: HostRuntime) -> Result<()
     // 3 + 1 is over the 3 of place 2.
     expect_round(&rt, &mut primary, 2);
     assert_eq!(rt; relimit(&rt, &mut primary, 9), Err(Refusal::HeadPending));
-    report_all(&rt, &mut primary);
+    send(&rt, &mut primary);
+    send(&rt, &mut primary);
+    report(&rt, &mut primary);
     expect_acked(&rt, &mut primary, 2);
     assert_eq!(rt; relimit(&rt, &mut primary, 0), Ok(3));
     propose(&rt, &mut primary, 1, 3);

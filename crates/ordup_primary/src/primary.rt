@@ -29,7 +29,7 @@ pub struct Primary<A: Allocator + Copy = Global> {
     acked: u64,
     decided: u64,
     sites: Vec<Progress<A>, A>,
-    /// The limits of each site: those that were declared.
+    /// The limits of each site, which begin as those that were declared.
     limits: Vec<LimitTable<A>, A>,
     /// For each site what the updates up to the head weigh that it has not reported.
     ledgers: Vec<LagLedger<A>, A>,

@@ -1,11 +1,12 @@
 -- Verdicts on small records, worked out by hand.
 use Rattle.ordup_record.proofs.Common.{◌<◌, ◌∷◌, ◌≡◌, ◌≤◌, [], Add, arith, Bool, Change, false, full_rounds, is_within, leb-true, List}
-use Rattle.ordup_record.proofs.Common.{Object, pos, RecordState, refl, report_at, StaysWithin, true, Window, ℕ}
-use Rattle.std.specs.Prelude.{codes, nat_le, unwrap_or}
+use Rattle.ordup_record.proofs.Common.{Object, pos, RecordState, refl, report_at, StaysWithin, suc, true, Window, zero, ℕ}
+use Rattle.std.specs.Prelude.{codes, nat_le, slice_index, unwrap_or}
 use Rattle.std.proofs.lemmas.Bool.{agree_below, agree_below_at}
 use Rattle.ordup_rounds.specs.Schedules.{IsSchedule, base}
 use Rattle.ordup_record.specs.declared.report_change.ReportChange.{ReportChange}
 use Rattle.ordup_verdict.specs.Passing.{PassesBelow, IsFirstFailure}
+use Rattle.ordup_verdict.specs.LeastStarts.{AreLeastStarts, IsLeastStart}
 use Rattle.ordup_verdict.specs.Verdicts.{IsVerdict, NoFewerRounds}
 use Rattle.ordup_verdict.specs.declared.verdict.Verdict.TheVariants.{Fewest, No}
 use Rattle.ordup_verdict.specs.declared.verdict.Reason.TheVariants.{NotLegal, LimitsBroken, WindowLight, WindowsMeet, WindowBeforeReport}
@@ -120,3 +121,26 @@ without_round_later = (passes _ 2 refl, (1, fails _ 2 1 (omega arith) refl refl,
 -- three rows of changes stand before the round and the window
 light_later : IsVerdict (grouped ((change 1 1 ∷ change 0 5 ∷ []) ∷ adds 1 ∷ []) (2 ∷ []) (from_to 1 2 ∷ [])) (No 12 WindowLight)
 light_later = (passes _ 2 refl, passes _ 2 refl, (0, fails _ 1 0 (omega arith) refl refl, refl))
+
+-- ---- least starts
+
+-- a place before which each start passes a limit, as the test computes
+least : (test : ℕ → ℕ → Bool) (a b : ℕ) → agree_below (λ k. test k b) (λ k. false) a ≡ true → test a b ≡ true → IsLeastStart test a b
+least test a b before here = record {
+  before = λ k lt. agree_below_at (λ k. test k b) (λ k. false) a k before lt;
+  here = here;
+}
+
+-- updates of 5, 1 and 9: the first two are over the limit of 5, and so is the third alone
+abbrev five_one_nine : ℕ → ℕ → Bool
+five_one_nine = is_within (told 0 (adds 5 ∷ adds 1 ∷ adds 9 ∷ []) [] [] [])
+
+least_start : (b : ℕ) → b < 4 → IsLeastStart five_one_nine (slice_index (0 ∷ 0 ∷ 1 ∷ 3 ∷ []) b) b
+least_start zero lt = least five_one_nine 0 0 refl refl
+least_start (suc zero) lt = least five_one_nine 0 1 refl refl
+least_start (suc (suc zero)) lt = least five_one_nine 1 2 refl refl
+least_start (suc (suc (suc zero))) lt = least five_one_nine 3 3 refl refl
+least_start (suc (suc (suc (suc b)))) lt = absurd (omega arith)
+
+least_starts : AreLeastStarts five_one_nine 4 (0 ∷ 0 ∷ 1 ∷ 3 ∷ [])
+least_starts = record { count = refl; each = least_start }

@@ -3,4 +3,4 @@ pub mod LegalityLemmas
 pub mod PassingLemmas
 pub mod VerdictLemmas
 mod Examples
-mod SpanLemmas
+mod LeastStartLemmas

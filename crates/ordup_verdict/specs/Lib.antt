@@ -3,4 +3,4 @@ pub mod Rows
 pub mod Cursors
 pub mod Passing
 pub mod Verdicts
-pub mod Spans
+pub mod LeastStarts

@@ -2,6 +2,7 @@ ghost use Rattle.std.specs.Prelude.{◌≡◌, IfNone, IfSome, length};
 ghost use Rattle.ordup_record.specs.Validity.{IsValid};
 ghost use Rattle.ordup_verdict.specs.Verdicts.{IsVerdict, IfFewest, NoFewerRounds};
 
+use crate::least_starts::LeastStarts;
 use crate::legality::first_illegal;
 use crate::limits::first_broken;
 use crate::rows::last_row;
@@ -13,7 +14,7 @@ use std::alloc::Allocator;
 /// Whether a record shows that its rounds are the fewest: its updates are legal, its rounds keep the limits, and there are as
 /// many windows, each over a limit alone, apart from the others, and after what was reported.
 ///
-/// Each reason is looked for in the whole record before the next one. It takes no memory.
+/// Each reason is looked for in the whole record before the next one. It is never refused for memory.
 pub fn check<A: Allocator + Copy>(audited: &Record<A>) -> Verdict
     ensures verdict { IsVerdict audited.now result }
     ensures fewest { IfFewest result (λ n. IsValid audited.now × (n ≡ length audited.now.rounds)) }
@@ -38,10 +39,11 @@ fn first_reason<A: Allocator + Copy>(audited: &Record<A>) -> Option<(u64, Reason
     if let Some(row) = first_illegal(audited) {
         return Some((row, Reason::NotLegal));
     }
-    if let Some(row) = first_broken(audited) {
+    let starts = LeastStarts::of(audited);
+    if let Some(row) = first_broken(audited, &starts) {
         return Some((row, Reason::LimitsBroken));
     }
-    if let Some(row) = first_light(audited) {
+    if let Some(row) = first_light(audited, &starts) {
         return Some((row, Reason::WindowLight));
     }
     if let Some(row) = first_meeting(audited) {

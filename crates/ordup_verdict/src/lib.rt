@@ -6,10 +6,10 @@
 
 mod checking;
 mod cursors;
+mod least_starts;
 mod legality;
 mod limits;
 mod rows;
-mod spans;
 mod verdict;
 mod windows;
 

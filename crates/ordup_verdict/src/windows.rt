@@ -3,24 +3,28 @@
 ghost use Rattle.std.specs.Prelude.{IfNone, IfSome};
 ghost use Rattle.ordup_objects.specs.Serial.{IsLegalHistory};
 ghost use Rattle.ordup_record.specs.Records.{history_of};
+ghost use Rattle.ordup_verdict.specs.LeastStarts.{AreStartsOf};
 ghost use Rattle.ordup_verdict.specs.Verdicts.{AreWindowsOver, AreWindowsApart, AreWindowsUnreported, IsLightRow, IsMeetingRow, IsReportedRow};
 
+use crate::least_starts::LeastStarts;
 use crate::rows::window_row;
-use crate::spans::Spans;
 use ordup_record::Record;
 use std::alloc::Allocator;
 
 /// The row of the first window that is over no limit, if there is one.
-pub(crate) fn first_light<A: Allocator + Copy>(audited: &Record<A>) -> Option<u64>
-    requires { IsLegalHistory (history_of audited.now) }
+pub(crate) fn first_light<A: Allocator + Copy>(
+    audited: &Record<A>,
+    starts: &LeastStarts<A>,
+) -> Option<u64>
+    requires legal { IsLegalHistory (history_of audited.now) }
+    requires starts { AreStartsOf audited.now starts.now }
     ensures none { IfNone result (AreWindowsOver audited.now) }
     ensures some { IfSome result (λ row. IsLightRow audited.now row) }
 {
     // For the proof: each window ends at a decided place.
     let _decided = audited.decided();
-    let mut spans = Spans::of(audited);
     for (place, window) in audited.windows().iter().enumerate() {
-        if !spans.passes_a_limit(audited, window.from, window.to) {
+        if !starts.passes_a_limit(audited, window.from, window.to) {
             return Some(window_row(audited, place));
         }
     }

@@ -16,7 +16,6 @@ loop-updates-init g c =
           (All-map (λ k. 0 < k) (λ (c : ReportChange). c.place) r.reports (λ i d lt. (sound.reports.each i d lt).0));
       rounds = upto-none r.rounds (λ i d lt. (sound.rounds.each i d lt).0);
       within = λ k lt. absurd (omega arith);
-      spans = c.of-spans.ensures;
     }
 
 pub returns-then-passes_a_limit-clause-some : goal.returns-then-passes_a_limit-clause-some
@@ -27,7 +26,7 @@ returns-then-passes_a_limit-clause-some g c =
     let rounds : AreUpto (c.loop-updates.updates + 1) r.rounds c.pass_rounds-rounds_passed.result =
     rw c.rounds.ensures at c.pass_rounds-rounds_passed.ensures in
     let tested = place-tested r c.loop-updates.updates _ _ _ _ _ _ _ _ c.reports-in-loop-updates.ensures c.rounds-in-loop-updates.ensures
-    reports rounds c.reported-reported.ensures c.awaited.ensures c.max-base.ensures c.passes_a_limit.ensures.answer in (
+    reports rounds c.reported-reported.ensures c.awaited.ensures c.max-base.ensures c.passes_a_limit.ensures in (
       c.loop-updates.updates,
       record {
         there = omega arith;
@@ -45,11 +44,10 @@ loop-updates-preserved g c =
     let rounds : AreUpto (c.loop-updates.updates + 1) r.rounds c.pass_rounds-rounds_passed.result =
     rw c.rounds.ensures at c.pass_rounds-rounds_passed.ensures in
     let tested = place-tested r c.loop-updates.updates _ _ _ _ _ _ _ _ c.reports-in-loop-updates.ensures c.rounds-in-loop-updates.ensures
-    reports rounds c.reported-reported.ensures c.awaited.ensures c.max-base.ensures c.passes_a_limit.ensures.answer in
+    reports rounds c.reported-reported.ensures c.awaited.ensures c.max-base.ensures c.passes_a_limit.ensures in
     record {
       reports = reports;
       rounds = rounds;
       within = passes-more (is_place_within r) c.loop-updates.updates c.loop-updates.invariant.within
           (tested ∙ ap not c.if-passes_a_limit.false);
-      spans = c.passes_a_limit.ensures.spans;
     }

@@ -1,14 +1,12 @@
 use Rattle.ordup_verdict.specs.Cursors.{AreUpto}
 use Rattle.ordup_verdict.specs.Passing.{PassesBelow, is_place_within}
-use Rattle.ordup_verdict.specs.Spans.{AreSpansOf}
 use Rattle.ordup_verdict.proofs.CursorLemmas.{places_of}
 use Rattle.ordup_verdict.proofs.limits.first_broken.Given as goal
 
--- the places so far pass no limit; how many of the reports and of the rounds are up to the last of them; and the spans are those of the record
+-- the places so far pass no limit; and how many of the reports and of the rounds are up to the last of them
 abbrev pub invariant-loop-updates : goal.invariant-loop-updates
 invariant-loop-updates g l = record {
   reports : AreUpto l.updates (places_of l.audited.reports) l.reports_passed;
   rounds : AreUpto l.updates l.audited.rounds l.rounds_passed;
   within : PassesBelow (is_place_within l.audited) l.updates;
-  spans : AreSpansOf l.audited l.spans;
 }

@@ -4,11 +4,9 @@ use Rattle.ordup_verdict.proofs.LegalityLemmas.{passes-more}
 use Rattle.ordup_verdict.proofs.windows.first_light.Goals as goal
 
 pub loop-place-preserved : goal.loop-place-preserved
-loop-place-preserved g c = (
-  passes-more (is_window_over c.args.audited.now) c.loop-place.place c.loop-place.invariant.0
-      (rw (← c.windows-window-items.ensures) (sym c.passes_a_limit.ensures.answer ∙ c.if-not-passes_a_limit.false)),
-  c.passes_a_limit.ensures.spans,
-)
+loop-place-preserved g c =
+    passes-more (is_window_over c.args.audited.now) c.loop-place.place c.loop-place.invariant
+    (rw (← c.windows-window-items.ensures) (sym c.passes_a_limit.ensures ∙ c.if-not-passes_a_limit.false))
 
 pub returns-clause-none : goal.returns-clause-none
-returns-clause-none g c = λ k lt. c.loop-place.invariant.0 k (omega (arith, ap length c.windows-window-items.ensures))
+returns-clause-none g c = λ k lt. c.loop-place.invariant k (omega (arith, ap length c.windows-window-items.ensures))

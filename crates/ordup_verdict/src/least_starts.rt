@@ -1,0 +1,96 @@
+//! From which places the spans of a record pass no limit.
+
+ghost use Rattle.std.specs.Prelude.{◌≡◌, ◌≤◌, ◌+◌, IfSome, length, not};
+ghost use Rattle.ordup_objects.specs.Serial.{IsLegalHistory};
+ghost use Rattle.ordup_limits.specs.Limits.{within};
+ghost use Rattle.ordup_record.specs.Records.{history_of, is_within};
+ghost use Rattle.ordup_verdict.specs.LeastStarts.{AreLeastStarts, AreStartsOf, IsLeastStart, PassesBefore, StandsAt};
+
+use ordup_limits::{Groups, LagLedger};
+use ordup_log::Log;
+use ordup_record::Record;
+use std::alloc::{Allocator, Global};
+
+/// For each decided place the least place from which the span up to it passes no limit, and so for 0.
+///
+/// A span passes a limit where it begins before the least start of its end. Where no memory was given for the starts, each span
+/// is found in the log.
+#[derive(Drop)]
+pub(crate) struct LeastStarts<A: Allocator + Copy = Global> {
+    starts: Option<Vec<u64, A>>,
+}
+
+impl<A: Allocator + Copy> LeastStarts<A> {
+    /// Those of a record. They cost by its updates.
+    pub(crate) fn of(audited: &Record<A>) -> Self
+        requires { IsLegalHistory (history_of audited.now) }
+        ensures { AreStartsOf audited.now result }
+    {
+        LeastStarts {
+            starts: find_starts(audited),
+        }
+    }
+
+    /// Whether the span from a place to another passes a limit.
+    pub(crate) fn passes_a_limit(&self, audited: &Record<A>, from: u64, to: u64) -> bool
+        requires legal { IsLegalHistory (history_of audited.now) }
+        requires last { to ≤ length audited.now.sets }
+        requires starts { AreStartsOf audited.now self.now }
+        ensures { result ≡ not (is_within audited.now from to) }
+    {
+        // For the proof: the objects and groups of the limits are there.
+        let _decided = audited.decided();
+        match &self.starts {
+            Some(starts) => from < starts[to as usize],
+            None => {
+                let (log, groups) = (audited.log(), audited.groups());
+                audited.limits().over(log, groups, from, to).is_some()
+            }
+        }
+    }
+}
+
+/// The least starts of 0 and of each decided place; none where they are refused memory.
+fn find_starts<A: Allocator + Copy>(audited: &Record<A>) -> Option<Vec<u64, A>>
+    requires { IsLegalHistory (history_of audited.now) }
+    ensures { IfSome result (λ starts. AreLeastStarts (is_within audited.now) (length audited.now.sets + 1) starts.items) }
+{
+    let decided = audited.decided();
+    let (log, groups) = (audited.log(), audited.groups());
+    let Ok(mut ledger) = LagLedger::new(audited.allocator(), audited.limits()) else {
+        return None;
+    };
+    let Ok(mut starts) = Vec::with_capacity(audited.allocator(), decided as usize + 1) else {
+        return None;
+    };
+    starts.push_reserved(0);
+    let mut start = 0;
+    for place in 0..decided {
+        ledger.extend(log, groups, place + 1);
+        start = take_off(&mut ledger, log, groups, start, place + 1);
+        starts.push_reserved(start);
+    }
+    Some(starts)
+}
+
+/// Takes updates off the start of a ledger's span until it passes no limit, and answers where it begins then.
+fn take_off<A: Allocator + Copy>(
+    ledger: &mut LagLedger<A>,
+    log: &Log<A>,
+    groups: &Groups<A>,
+    from: u64,
+    to: u64,
+) -> u64
+    requires last { to ≤ length log.now.sets }
+    requires stands { StandsAt log.now groups.now ledger.old.limits from to ledger.old }
+    requires before { PassesBefore (within log.now groups.now ledger.old.limits) from to }
+    ensures least { IsLeastStart (within log.now groups.now ledger.old.limits) result to }
+    ensures stands { StandsAt log.now groups.now ledger.old.limits result to ledger.new }
+{
+    let mut start = from;
+    while ledger.over() {
+        start += 1;
+        ledger.reported(log, groups, start);
+    }
+    start
+}

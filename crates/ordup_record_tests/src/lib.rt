@@ -1,5 +1,5 @@
-//! Tests of records: each rule of the format broken once, spellings, sizes at their edges, what is read by a limit, what a writer
-//! that fails has got, which records say the same, and sites that have none.
+//! Tests of records: each rule of the format broken once, spellings, sizes at their edges, what is read by a limit, windows that
+//! go back and forth, what a writer that fails has got, which records say the same, and sites that have none.
 #![tactic(auto)]
 
 #[cfg(test)]
@@ -14,5 +14,7 @@ mod sizes;
 mod spellings;
 #[cfg(test)]
 mod told;
+#[cfg(test)]
+mod windows;
 #[cfg(test)]
 mod writing;

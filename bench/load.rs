@@ -690,6 +690,44 @@ fn checked_wide<W: Write>(script: &mut Script<W>) -> io::Result<()> {
     Ok(())
 }
 
+/// A record of so many updates of two changes, with as many limits, groups and members as a site may have. Two updates together
+/// pass the last limit, so there is a round at each second place. The windows are from both ends of the record in turn, so the
+/// second one meets the first. Each passes the last limit alone, and all objects weigh more than any limit allows.
+fn checked_back<W: Write>(script: &mut Script<W>) -> io::Result<()> {
+    let updates = std::mem::replace(&mut script.left, u64::MAX);
+    let mut random = Random(1);
+    script.line(format_args!("ordup,1,south,{updates}"))?;
+    for object in 0..256 {
+        script.line(format_args!("object,{},bin_{object},0", object + 1))?;
+    }
+    for place in 0..2048 {
+        let (group, member) = (place / 64, place % 64);
+        let object = if group == 31 { 192 + member } else { (group * 6 + member) % 192 };
+        script.line(format_args!("member,{},shelf_{group},bin_{object}", place + 1))?;
+    }
+    for object in 0..32 {
+        script.line(format_args!("limit,{},object:bin_{object},18", object + 1))?;
+    }
+    for group in 0..32 {
+        let amount = if group == 31 { 199 } else { 18 };
+        script.line(format_args!("limit,{},group:shelf_{group},{amount}", group + 33))?;
+    }
+    for place in 1..=updates {
+        let (object, amount) = (random.below(192), random.below(9) + 1);
+        script.line(format_args!("change,{place},1,add:bin_{}:100", 192 + random.below(64)))?;
+        script.line(format_args!("change,{place},2,add:bin_{object}:{amount}"))?;
+    }
+    let rounds = updates / 2;
+    for round in 1..=rounds {
+        script.line(format_args!("round,{round},{},-", 2 * round))?;
+    }
+    for window in 0..rounds {
+        let pair = if window % 2 == 0 { rounds - window / 2 } else { window / 2 + 1 };
+        script.line(format_args!("window,{},{},{}", window + 1, 2 * pair - 2, 2 * pair))?;
+    }
+    Ok(())
+}
+
 /// Updates of one change, each sent to, applied at, settled and reported by two sites; every hundredth line is a certificate.
 fn certified<W: Write>(script: &mut Script<W>) -> io::Result<()> {
     let limits = [(Scope::Object(10), 7_000), (Scope::Group(0), 24_000), (Scope::All, 48_000), (Scope::Count, 7)];
@@ -764,6 +802,7 @@ fn main() -> ExitCode {
         "spans" => spans(&mut script),
         "recorded" => recorded(&mut script),
         "checked-wide" => checked_wide(&mut script),
+        "checked-back" => checked_back(&mut script),
         "certified" => certified(&mut script),
         "planned" => planned(&mut script),
         kind => {

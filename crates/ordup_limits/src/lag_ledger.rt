@@ -11,8 +11,8 @@ use crate::limit::Limit;
 use crate::limit_list::LimitList;
 use crate::limit_table::LimitTable;
 use crate::masks::{fill, no_masks, put_scope};
-use crate::passed::{counts_of, passed_among};
-use crate::totals::{no_totals, raise_to, weighed};
+use crate::passed::{counts_of, passed_among, passed_of};
+use crate::totals::{move_to, no_totals, raise_to, weighed};
 use ordup_log::{Groups, Log, Scope};
 use ordup_objects::Refusal;
 use std::alloc::{Allocator, Global};
@@ -161,6 +161,41 @@ impl<A: Allocator + Copy> LagLedger<A> {
         let (added, taken) = (self.added.as_slice(), self.taken.as_slice());
         let mask = self.passed | 1 << place;
         self.passed = passed_among(self.limits.as_slice(), updates, added, taken, mask);
+    }
+
+    /// Puts the ledger at two places of the log, wherever it stood. It takes no memory.
+    ///
+    /// It costs by the limits, and not by the updates between the places: a search for each object on which they count.
+    pub fn stand_at(&mut self, log: &Log<A>, groups: &Groups<A>, reported: u64, extended: u64)
+        requires reported { reported ≤ length log.now.sets }
+        requires extended { extended ≤ length log.now.sets }
+        requires stands { StandsFor self.old log.now groups.now }
+        ensures limits { self.new.limits ≡ self.old.limits }
+        ensures places { (self.new.reported ≡ reported) × (self.new.extended ≡ extended) }
+        ensures stands { StandsFor self.new log.now groups.now }
+    {
+        let limits = self.limits.as_slice();
+        move_to(
+            &mut self.taken,
+            limits,
+            log,
+            groups,
+            self.reported,
+            reported,
+        );
+        move_to(
+            &mut self.added,
+            limits,
+            log,
+            groups,
+            self.extended,
+            extended,
+        );
+        self.reported = reported;
+        self.extended = extended;
+        let updates = extended.saturating_sub(reported);
+        let (added, taken) = (self.added.as_slice(), self.taken.as_slice());
+        self.passed = passed_of(limits, updates, added, taken);
     }
 
     /// Whether the span from the reported place to the extended one passes a limit. Equal is not over.

@@ -21,6 +21,22 @@ pub(crate) fn counts_of(limits: &[Limit]) -> u64
     counts
 }
 
+/// The limits that a span of so many updates passes, a bit for each.
+pub(crate) fn passed_of(limits: &[Limit], updates: u64, added: &[u64], taken: &[u64]) -> u64
+    requires few { length limits.now ≤ most_limits }
+    requires added { length added.now ≡ most_limits }
+    requires taken { length taken.now ≡ most_limits }
+    ensures { IsMask (length limits.now) (λ i. not (keeps_at limits.now updates added.now taken.now i)) result }
+{
+    let mut passed = 0;
+    for place in 0..limits.len() {
+        if !is_kept(limits, updates, added, taken, place) {
+            passed |= 1 << place;
+        }
+    }
+    passed
+}
+
 /// Those of a mask's limits that a span of so many updates passes, a bit for each.
 pub(crate) fn passed_among(
     limits: &[Limit],

@@ -1,11 +1,14 @@
-ghost use Rattle.std.specs.Prelude.{◌≡◌, ◌==◌, ◌≤◌, ◌<◌, ◌+◌, ◌-◌, ◌*◌, ℕ, IfOk, IfErr, length, replicate, slice_index};
+ghost use Rattle.std.specs.Prelude.{◌≡◌, ◌==◌, ◌≤◌, ◌<◌, ◌+◌, ◌-◌, ◌*◌, ℕ, IfOk, IfErr, length, replicate, slice_index, slice_index_or};
 ghost use Rattle.std.specs.Int.{bit_at};
 ghost use Rattle.ordup_objects.specs.Sizes.{greatest_weight, greatest_distance, most_objects, most_updates};
 ghost use Rattle.ordup_objects.specs.Sums.{sum_from};
 ghost use Rattle.ordup_limits.specs.Sizes.{most_limits};
 ghost use Rattle.ordup_log.specs.Spans.{IsScopeKnown};
-ghost use Rattle.ordup_limits.specs.Totals.{has_bit, AreUntouched, HasBitsBelow, IsBelow, share, weight_where, weighed};
+ghost use Rattle.ordup_limits.specs.Limits.{AreScopesKnown};
+ghost use Rattle.ordup_limits.specs.declared.limit.Limit.{Limit};
+ghost use Rattle.ordup_limits.specs.Totals.{has_bit, AreTotals, AreUntouched, HasBitsBelow, IsBelow, share, weight_where, weighed};
 
+use crate::limit::Limit;
 use crate::sizes::MOST_LIMITS;
 use ordup_log::{Groups, Log, Scope};
 use ordup_objects::Refusal;
@@ -37,6 +40,72 @@ pub(crate) fn weighed<A: Allocator + Copy>(
         Scope::Count => 0,
         Scope::Object(_) | Scope::Group(_) | Scope::All => log.span(scope, groups, 0, place),
     }
+}
+
+/// Puts down anew the totals of the updates up to a place, where they were those of the updates up to another one.
+pub(crate) fn move_to<A: Allocator + Copy>(
+    totals: &mut Vec<u64, A>,
+    limits: &[Limit],
+    log: &Log<A>,
+    groups: &Groups<A>,
+    from: u64,
+    to: u64,
+)
+    requires last { to ≤ length log.now.sets }
+    requires known { AreScopesKnown (length log.now.start) groups.now limits.now }
+    requires few { length limits.now ≤ most_limits }
+    requires count { length totals.old.items ≡ most_limits }
+    requires totals { AreTotals log.now groups.now limits.now from totals.old.items }
+    ensures count { length totals.new.items ≡ most_limits }
+    ensures totals { AreTotals log.now groups.now limits.now to totals.new.items }
+{
+    if from != to {
+        put_down(totals, limits, log, groups, to);
+    }
+}
+
+/// Puts down the totals of the updates up to a place, whatever they were: of each limit what these updates weigh, and else 0.
+fn put_down<A: Allocator + Copy>(
+    totals: &mut Vec<u64, A>,
+    limits: &[Limit],
+    log: &Log<A>,
+    groups: &Groups<A>,
+    place: u64,
+)
+    requires last { place ≤ length log.now.sets }
+    requires known { AreScopesKnown (length log.now.start) groups.now limits.now }
+    requires few { length limits.now ≤ most_limits }
+    requires count { length totals.old.items ≡ most_limits }
+    ensures count { length totals.new.items ≡ most_limits }
+    ensures totals { AreTotals log.now groups.now limits.now place totals.new.items }
+{
+    // For the proof: each update is legal, and the members of a group are distinct.
+    let _updates = log.len();
+    let _groups = groups.len();
+    for i in 0..MOST_LIMITS {
+        totals[i] = total_of(limits, log, groups, i, place);
+    }
+}
+
+/// What the updates up to a place weigh on the scope of the limit with this number, and 0 where there is none.
+fn total_of<A: Allocator + Copy>(
+    limits: &[Limit],
+    log: &Log<A>,
+    groups: &Groups<A>,
+    i: usize,
+    place: u64,
+) -> u64
+    requires last { place ≤ length log.now.sets }
+    requires known { AreScopesKnown (length log.now.start) groups.now limits.now }
+    ensures total { (d : Limit) → i < length limits.now → result ≡ weighed log.now groups.now (slice_index_or limits.now i d).scope place }
+    ensures none { length limits.now ≤ i → result ≡ 0 }
+{
+    if i >= limits.len() {
+        return 0;
+    }
+    // The prover joins branches over a borrowed scope, not over a copied one.
+    let scope = &limits[i].scope;
+    weighed(log, groups, *scope, place)
 }
 
 /// Raises the totals of the updates up to a place to those of the updates up to a later one. It answers a mask that has a bit for

@@ -1,11 +1,13 @@
 -- Verdicts on small records, worked out by hand.
-use Rattle.ordup_record.proofs.Common.{◌<◌, ◌∷◌, ◌≡◌, ◌≤◌, [], Add, arith, Bool, Change, false, full_rounds, is_within, leb-true, List}
+use Rattle.ordup_record.proofs.Common.{◌<◌, ◌∷◌, ◌≡◌, ◌≤◌, [], Add, All-cons, All-nil, arith, Bool, Change, false, full_rounds, is_within, leb-true, List}
 use Rattle.ordup_record.proofs.Common.{Object, pos, RecordState, refl, report_at, StaysWithin, suc, true, Window, zero, ℕ}
 use Rattle.std.specs.Prelude.{codes, nat_le, slice_index, unwrap_or}
 use Rattle.std.proofs.lemmas.Bool.{agree_below, agree_below_at}
 use Rattle.ordup_rounds.specs.Schedules.{IsSchedule, base}
+use Rattle.ordup_limits.specs.declared.limit_entry.LimitEntry.{LimitEntry}
 use Rattle.ordup_record.specs.declared.report_change.ReportChange.{ReportChange}
 use Rattle.ordup_verdict.specs.Passing.{PassesBelow, IsFirstFailure}
+use Rattle.ordup_verdict.specs.Beginning.{HaveBegun}
 use Rattle.ordup_verdict.specs.LeastStarts.{AreLeastStarts, IsLeastStart}
 use Rattle.ordup_verdict.specs.Verdicts.{IsVerdict, NoFewerRounds}
 use Rattle.ordup_verdict.specs.declared.verdict.Verdict.TheVariants.{Fewest, No}
@@ -41,7 +43,7 @@ told value sets changes rounds windows = record {
   site = codes "a";
   objects = (codes "x", pos value) ∷ (codes "y", pos 10) ∷ [];
   groups = [];
-  limits = record { scope = Object 0; amount = 5 } ∷ [];
+  limits = record { limit = record { scope = Object 0; amount = 5 }; place = 1 } ∷ [];
   sets = sets;
   reports = changes;
   rounds = rounds;
@@ -122,6 +124,36 @@ without_round_later = (passes _ 2 refl, (1, fails _ 2 1 (omega arith) refl refl,
 light_later : IsVerdict (grouped ((change 1 1 ∷ change 0 5 ∷ []) ∷ adds 1 ∷ []) (2 ∷ []) (from_to 1 2 ∷ [])) (No 12 WindowLight)
 light_later = (passes _ 2 refl, passes _ 2 refl, (0, fails _ 1 0 (omega arith) refl refl, refl))
 
+-- ---- limits by place
+
+-- a limit on x of this amount, from a place on
+abbrev from : ℕ → ℕ → LimitEntry
+from amount place = record { limit = record { scope = Object 0; amount = amount }; place = place }
+
+-- the same record with these limits
+abbrev limited : List LimitEntry → RecordState → RecordState
+limited limits r = record r { limits = limits }
+
+-- 3, 1 and 1 with a limit of 5, of 3 from place 2 on, and of 0 from place 3 on: two rounds, each with a window over the limit at its end
+abbrev lowered : List LimitEntry → List ℕ → List Window → RecordState
+lowered limits rounds windows = limited limits (told 0 (adds 3 ∷ adds 1 ∷ adds 1 ∷ []) (reports 3 2) rounds windows)
+
+lowered_twice : IsVerdict (lowered (from 5 1 ∷ from 3 2 ∷ from 0 3 ∷ []) (2 ∷ 3 ∷ []) (from_to 0 2 ∷ from_to 2 3 ∷ [])) (Fewest 2)
+lowered_twice = (passes _ 3 refl, passes _ 3 refl, passes _ 2 refl, passes _ 2 refl, passes _ 2 refl, refl, refl)
+
+-- a window of 4 is light where 4 is in force at its end, in row 13
+lowered_less : IsVerdict (lowered (from 5 1 ∷ from 4 2 ∷ from 0 3 ∷ []) (2 ∷ 3 ∷ []) (from_to 0 2 ∷ from_to 2 3 ∷ []))
+    (No 13 WindowLight)
+lowered_less = (passes _ 3 refl, passes _ 3 refl, (0, fails _ 2 0 (omega arith) refl refl, refl))
+
+-- the third update needs a round by the limit at its place, in row 9
+lowered_unseen : IsVerdict (lowered (from 5 1 ∷ from 3 2 ∷ from 0 3 ∷ []) (2 ∷ []) (from_to 0 2 ∷ [])) (No 9 LimitsBroken)
+lowered_unseen = (passes _ 3 refl, (2, fails _ 3 2 (omega arith) refl refl, refl))
+
+-- a limit that was raised later does not excuse the first update, nor make its window light
+raised : IsVerdict (limited (from 0 1 ∷ from 9 2 ∷ []) (told 0 (adds 1 ∷ adds 1 ∷ []) [] (1 ∷ []) (from_to 0 1 ∷ []))) (Fewest 1)
+raised = (passes _ 2 refl, passes _ 2 refl, passes _ 1 refl, passes _ 1 refl, passes _ 1 refl, refl, refl)
+
 -- ---- least starts
 
 -- a place before which each start passes a limit, as the test computes
@@ -144,3 +176,29 @@ least_start (suc (suc (suc (suc b)))) lt = absurd (omega arith)
 
 least_starts : AreLeastStarts five_one_nine 4 (0 ∷ 0 ∷ 1 ∷ 3 ∷ [])
 least_starts = record { count = refl; each = least_start }
+
+-- updates of 5, 1, 3 and 1: the limit is 5, then 9 from the third on, by which the least start falls, and 0 from the fourth on
+abbrev changing : List LimitEntry
+changing = from 5 1 ∷ from 9 3 ∷ from 0 4 ∷ []
+
+abbrev five_nine_none : ℕ → ℕ → Bool
+five_nine_none = is_within (limited changing (told 0 (adds 5 ∷ adds 1 ∷ adds 3 ∷ adds 1 ∷ []) [] [] []))
+
+falling_start : (b : ℕ) → b < 5 → IsLeastStart five_nine_none (slice_index (0 ∷ 0 ∷ 1 ∷ 0 ∷ 4 ∷ []) b) b
+falling_start zero lt = least five_nine_none 0 0 refl refl
+falling_start (suc zero) lt = least five_nine_none 0 1 refl refl
+falling_start (suc (suc zero)) lt = least five_nine_none 1 2 refl refl
+falling_start (suc (suc (suc zero))) lt = least five_nine_none 0 3 refl refl
+falling_start (suc (suc (suc (suc zero)))) lt = least five_nine_none 4 4 refl refl
+falling_start (suc (suc (suc (suc (suc b))))) lt = absurd (omega arith)
+
+falling_starts : AreLeastStarts five_nine_none 5 (0 ∷ 0 ∷ 1 ∷ 0 ∷ 4 ∷ [])
+falling_starts = record { count = refl; each = falling_start }
+
+-- two of the limits have begun at place 3
+two_have_begun : HaveBegun 3 changing 2
+two_have_begun = record {
+  upto = All-cons (λ e. e.place ≤ 3) (from 5 1) (from 9 3 ∷ []) (omega arith)
+      (All-cons (λ e. e.place ≤ 3) (from 9 3) [] (omega arith) (All-nil (λ e. e.place ≤ 3)));
+  later = All-cons (λ e. 3 < e.place) (from 0 4) [] (omega arith) (All-nil (λ e. 3 < e.place));
+}

@@ -8,7 +8,7 @@ use Rattle.std.proofs.lemmas.Bool.{true≢false}
 use Rattle.ordup_rounds.specs.Schedules.{IsLimitTest}
 use Rattle.ordup_rounds.specs.Windows.{AreDisjointWindows}
 use Rattle.ordup_rounds.proofs.RoundLemmas.{certified_rounds_are_fewest}
-use Rattle.ordup_limits.proofs.LimitLemmas.{within-test}
+use Rattle.ordup_limits.proofs.EntryLemmas.{in_force-test}
 use Rattle.ordup_verdict.specs.Passing.{PassesBelow, IsFirstFailure, is_update_legal, is_place_within, window_at, is_window_over}
 use Rattle.ordup_verdict.specs.Passing.{is_window_apart, is_window_unreported}
 use Rattle.ordup_verdict.specs.Verdicts.{AreUpdatesLegal, ArePlacesWithin, AreWindowsOver, AreWindowsApart, AreWindowsUnreported, IsVerdict}
@@ -32,7 +32,7 @@ contradiction test n k pass fails = true≢false (sym (pass k fails.there) ∙ f
 
 module _ (r : RecordState) (is : IsRecord r) where
   test : IsLimitTest (is_within r)
-  test = within-test (history_of r) r.groups r.limits
+  test = in_force-test (history_of r) r.groups r.limits
 
   -- ---- what passes in a valid record
 

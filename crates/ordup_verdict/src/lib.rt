@@ -4,6 +4,7 @@
 //! against a record, and its row.
 #![tactic(auto)]
 
+mod beginning;
 mod checking;
 mod cursors;
 mod least_starts;

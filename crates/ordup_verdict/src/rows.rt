@@ -45,7 +45,9 @@ fn rows_before_changes<A: Allocator + Copy>(audited: &Record<A>) -> u64
     ensures few { result ≤ 10000 }
 {
     let objects = audited.objects().len() as u64;
-    let limits = audited.limits().len() as u64;
+    // For the proof: there are few enough entries for the sum to be small.
+    let _scopes = audited.limits().len();
+    let limits = audited.limits().entries().len() as u64;
     1 + objects + member_count(audited.groups()) + limits
 }
 

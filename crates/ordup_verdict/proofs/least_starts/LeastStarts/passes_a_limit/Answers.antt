@@ -1,7 +1,7 @@
 use Rattle.ordup_record.proofs.Common.{◌≡◌, ◌+◌, arith, history_of, is_within, length}
 use Rattle.std.specs.Prelude.{slice_index}
 use Rattle.std.proofs.lemmas.List.{get_or_read}
-use Rattle.ordup_limits.proofs.LimitLemmas.{within-test}
+use Rattle.ordup_limits.proofs.EntryLemmas.{in_force-test}
 use Rattle.ordup_verdict.specs.LeastStarts.{AreLeastStarts}
 use Rattle.ordup_verdict.proofs.LeastStartLemmas.{told-by-start}
 use Rattle.ordup_verdict.proofs.least_starts.LeastStarts.passes_a_limit.Goals as goal
@@ -14,4 +14,4 @@ returns-in-Some g c =
     let here : c.index.result.now ≡ slice_index starts c.args.to =
     get_or_read starts c.args.to c.index.result.now (omega (arith, are.count, c.requires.last)) c.index.ensures 0 in
     rw here (told-by-start (is_within r) c.args.from (slice_index starts c.args.to) c.args.to
-    (within-test (history_of r) r.groups r.limits) (are.each c.args.to (omega (arith, c.requires.last))))
+    (in_force-test (history_of r) r.groups r.limits) (are.each c.args.to (omega (arith, c.requires.last))))

@@ -4,3 +4,4 @@ pub mod Splits
 pub mod PrintedLemmas
 pub mod PositionLemmas
 pub mod SpelledLemmas
+mod Examples

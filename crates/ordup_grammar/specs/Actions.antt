@@ -3,6 +3,7 @@ use Rattle.std.specs.Prelude.{ℕ, List, [], ◌∷◌, Option, Some, None, opti
 use Rattle.std.specs.Str.{bytes_eq}
 use Rattle.ordup_grammar.specs.Words.{only_word, two_words, name_and_number}
 use Rattle.ordup_grammar.specs.ChangeWords.{are_changes, changes_of}
+use Rattle.ordup_grammar.specs.Declarations.{limit_of}
 use Rattle.ordup_grammar.specs.declared.action.Action.{Action}
 use Rattle.ordup_grammar.specs.declared.action.Action.TheVariants.{
   Propose,
@@ -15,6 +16,7 @@ use Rattle.ordup_grammar.specs.declared.action.Action.TheVariants.{
   End,
   Abandon,
   Show,
+  Relimit,
 }
 
 -- the proposal that words spell, where each spells a change
@@ -39,4 +41,5 @@ action_of first rest =
     else if bytes_eq first (codes "end") then option_map (λ q. End q) (only_word rest)
     else if bytes_eq first (codes "abandon") then option_map (λ q. Abandon q) (only_word rest)
     else if bytes_eq first (codes "show") then option_map (λ s. Show s) (only_word rest)
+    else if bytes_eq first (codes "relimit") then option_map (λ (s, what, n). Relimit s what n) (limit_of rest)
     else None

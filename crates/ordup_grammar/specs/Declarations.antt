@@ -17,8 +17,8 @@ scope_and_amount kind rest =
     else None
 
 -- the limit that words spell: a site, what is weighed, and an amount
-abbrev pub limit_of : List (List ℕ) → Option Declaration
-limit_of (s ∷ kind ∷ rest) = option_map (λ (what, n). Limit s what n) (scope_and_amount kind rest)
+abbrev pub limit_of : List (List ℕ) → Option (List ℕ × ScopeWord × ℤ)
+limit_of (s ∷ kind ∷ rest) = option_map (λ (what, n). (s, what, n)) (scope_and_amount kind rest)
 limit_of _ = None
 
 -- the group that words spell: its name and its members
@@ -32,5 +32,5 @@ declaration_of first rest =
     if bytes_eq first (codes "object") then option_map (λ (name, initial). Object name initial) (name_and_number rest)
     else if bytes_eq first (codes "group") then group_of rest
     else if bytes_eq first (codes "site") then option_map (λ (name, capacity). Site name capacity) (name_and_number rest)
-    else if bytes_eq first (codes "limit") then limit_of rest
+    else if bytes_eq first (codes "limit") then option_map (λ (s, what, n). Limit s what n) (limit_of rest)
     else None

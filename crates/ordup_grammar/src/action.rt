@@ -1,8 +1,10 @@
 ghost use Rattle.std.specs.Prelude.{◌≡◌, option_map};
 ghost use Rattle.ordup_grammar.specs.Actions.{action_of, begin_of, proposal_of};
+ghost use Rattle.ordup_grammar.specs.Declarations.{limit_of};
 ghost use Rattle.ordup_grammar.specs.Words.{two_words};
 
 use crate::change_words::ChangeWords;
+use crate::declaration::ScopeWord;
 use crate::number::Number;
 use crate::spelled::is_spelled;
 use crate::word::Word;
@@ -38,6 +40,12 @@ pub enum Action<'a> {
     Abandon(Word<'a>),
     /// `show S`: the values at the site S.
     Show(Word<'a>),
+    /// `relimit S .. N`: the site S has a limit of N on what is named, from the place after the last acknowledged one on.
+    Relimit {
+        site: Word<'a>,
+        scope: ScopeWord<'a>,
+        amount: Number,
+    },
 }
 
 impl<'a> Action<'a> {
@@ -71,6 +79,8 @@ impl<'a> Action<'a> {
             Some(Action::Abandon(rest.only_word()?))
         } else if is_spelled(first, b"show") {
             Some(Action::Show(rest.only_word()?))
+        } else if is_spelled(first, b"relimit") {
+            Action::parse_relimit(rest)
         } else {
             None
         }
@@ -103,5 +113,17 @@ impl<'a> Action<'a> {
     {
         let (query, object) = rest.two_words()?;
         Some(Action::Read { query, object })
+    }
+
+    /// The change of a limit that words spell.
+    fn parse_relimit(rest: &Words<'a>) -> Option<Action<'a>>
+        ensures { result ≡ option_map (λ (s, what, n). Action.Relimit s what n) (limit_of rest.now) }
+    {
+        let (site, scope, amount) = ScopeWord::parse_limit(rest)?;
+        Some(Action::Relimit {
+            site,
+            scope,
+            amount,
+        })
     }
 }

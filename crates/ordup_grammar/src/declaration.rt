@@ -60,28 +60,29 @@ impl<'a> Declaration<'a> {
             let (name, capacity) = rest.name_and_number()?;
             Some(Declaration::Site { name, capacity })
         } else if first == b"limit".as_slice() {
-            Declaration::parse_limit(rest)
+            let (site, scope, amount) = ScopeWord::parse_limit(rest)?;
+            Some(Declaration::Limit {
+                site,
+                scope,
+                amount,
+            })
         } else {
             None
         }
     }
+}
 
-    /// `S object X N`, `S group G N`, `S all N` or `S count N`, after `limit`.
-    fn parse_limit(rest: &Words<'a>) -> Option<Declaration<'a>>
+impl<'a> ScopeWord<'a> {
+    /// A site, what is weighed there and the amount: `S object X N`, `S group G N`, `S all N` or `S count N`.
+    pub(crate) fn parse_limit(rest: &Words<'a>) -> Option<(Word<'a>, ScopeWord<'a>, Number)>
         ensures { result ≡ limit_of rest.now }
     {
         let (site, rest) = rest.split_first()?;
         let (kind, rest) = rest.split_first()?;
         let (scope, amount) = ScopeWord::parse(&kind, &rest)?;
-        Some(Declaration::Limit {
-            site,
-            scope,
-            amount,
-        })
+        Some((site, scope, amount))
     }
-}
 
-impl<'a> ScopeWord<'a> {
     /// What is weighed, and the amount.
     fn parse(kind: &Word<'_>, rest: &Words<'a>) -> Option<(ScopeWord<'a>, Number)>
         ensures { result ≡ scope_and_amount kind.now rest.now }

@@ -15,7 +15,7 @@ round,1,2,-
 
 /// The first rows; a row that stands there so many times, with its number from 1 on in the place of `#`; another one; and what
 /// is said.
-const SIZES: [(&str, &str, usize, &str, usize, &str); 16] = [
+const SIZES: [(&str, &str, usize, &str, usize, &str); 20] = [
     ("ordup,1,a,0\n", "object,#,o#,0\n", 256, "", 0, "yes 0"),
     (
         "ordup,1,a,0\n",
@@ -112,6 +112,38 @@ const SIZES: [(&str, &str, usize, &str, usize, &str); 16] = [
         "change,#,1,add:o1:1\n",
         10001,
         "malformed 10003",
+    ),
+    (
+        "ordup,2,a,0\n",
+        "object,#,o#,0\n",
+        65,
+        "limit,#,object:o#,5@1\n",
+        64,
+        "yes 0",
+    ),
+    (
+        "ordup,2,a,0\n",
+        "object,#,o#,0\n",
+        65,
+        "limit,#,object:o#,5@1\n",
+        65,
+        "malformed 131",
+    ),
+    (
+        "ordup,2,a,1088\nobject,1,x,0\n",
+        "limit,#,all,1000000000000000000@#\n",
+        1088,
+        "change,#,1,add:x:1\n",
+        1088,
+        "yes 0",
+    ),
+    (
+        "ordup,2,a,1088\nobject,1,x,0\n",
+        "limit,#,all,1000000000000000000@#\n",
+        1089,
+        "change,#,1,add:x:1\n",
+        1088,
+        "malformed 1091",
     ),
     (FORCED, "window,#,0,2\n", 10000, "", 0, "no 8 WindowsMeet"),
     (

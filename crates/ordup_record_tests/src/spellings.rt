@@ -2,7 +2,9 @@
 
 use crate::told::{ALL, assert_told, said, said_within};
 use ordup_record_reader::{RecordReadFault, read_record};
+use std::alloc::Global;
 use std::io::{self, Read};
+use std::process::Abort;
 use std::test::Fail;
 
 /// A record of 121 bytes. Its rows end after 12, 25, 39, 58, 77, 96, 108 and 121 of them.
@@ -175,19 +177,29 @@ const CUTS: [(usize, &str); 11] = [
     (121, "yes 1"),
 ];
 
-#[test]
-fn a_record_that_is_cut_is_told_at_its_row(rt: HostRuntime) -> Result<(), Fail> {
+/// Sees what is said of a record that is cut after each number of bytes: the last of the cuts after which this is said.
+pub(crate) fn assert_cuts_told<R: Abort>(
+    rt: &R,
+    alloc: Global,
+    record: &str,
+    cuts: &[(usize, &str)],
+) -> Result<(), Fail> {
     let mut cut = 0;
-    for (last, wanted) in CUTS {
+    for &(last, wanted) in cuts {
         for length in cut..=last {
-            let front = RECORD.get(..length).ok_or("no such cut")?;
-            let told = said(rt.alloc(), front)?;
+            let front = record.get(..length).ok_or("no such cut")?;
+            let told = said(alloc, front)?;
             assert_eq!(rt; told.as_str(), wanted, "after {length} bytes");
         }
         cut = last + 1;
     }
-    assert_eq!(rt; cut, RECORD.len() + 1);
+    assert_eq!(rt; cut, record.len() + 1);
     Ok(())
+}
+
+#[test]
+fn a_record_that_is_cut_is_told_at_its_row(rt: HostRuntime) -> Result<(), Fail> {
+    assert_cuts_told(&rt, rt.alloc(), RECORD, &CUTS)
 }
 
 #[test]

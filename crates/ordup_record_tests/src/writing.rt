@@ -1,6 +1,7 @@
-//! Records to a writer that fails.
+//! Records to a writer that fails, and the version in which a record is written.
 ghost use Rattle.std.specs.Prelude.{Some};
 
+use crate::places::{LATER, PLACED};
 use crate::spellings::RECORD;
 use crate::told::record_in;
 use ordup_check::Record;
@@ -76,4 +77,35 @@ fn a_writer_that_fails_has_got_a_front_of_the_record(rt: HostRuntime) {
         assert!(rt; is_whole, "room for all, and then nothing: {takes_nothing}");
     }
     drop(shown);
+}
+
+/// The same record as `RECORD`, in the second version.
+const RECORD_IN_THE_SECOND_VERSION: &str = "\
+ordup,2,a,2
+object,1,x,0
+object,2,y,10
+limit,1,object:x,5@1
+change,1,1,add:x:5
+change,2,1,add:x:1
+round,1,2,-
+window,1,0,2
+";
+
+#[test]
+fn a_record_is_written_in_the_first_version_where_that_can_tell_it(rt: HostRuntime) {
+    for (text, written) in [
+        (RECORD, RECORD),
+        (RECORD_IN_THE_SECOND_VERSION, RECORD),
+        ("ordup,2,a,0\nobject,1,x,0\n", "ordup,1,a,0\nobject,1,x,0\n"),
+        (PLACED, PLACED),
+        (LATER, LATER),
+    ] {
+        let Ok(shown) = record_in(rt.alloc(), text) else {
+            panic!(rt; "this is no record: {text}")
+        };
+        let wanted = (Ok(()), written.as_bytes());
+        let is_whole = is_written(rt.alloc(), &shown, written.len(), false, wanted);
+        drop(shown);
+        assert!(rt; is_whole, "{text}");
+    }
 }

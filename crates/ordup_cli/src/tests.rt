@@ -60,7 +60,7 @@ pub(crate) fn parts(alloc: Global, transcript: &str) -> Result<(Vec<u8>, Vec<u8>
 
 #[test]
 fn scripts_are_answered_as_their_transcripts_say(rt: HostRuntime) -> Result<(), Fail> {
-    assert_eq!(rt; ROWS.split("\n\n").count(), 42);
+    assert_eq!(rt; ROWS.split("\n\n").count(), 53);
     for row in ROWS.split("\n\n") {
         let (script, wanted) = parts(rt.alloc(), row)?;
         for at_once in [SOUND.at_once, 1, 2, 3] {
@@ -174,6 +174,25 @@ fn one_more_than_a_size_is_refused_in_its_order(rt: HostRuntime) -> Result<(), F
         &rt,
         "object x 5\nsite a 4\nstart\nbegin q a 0\n[read q x\n]propose add:x:1\nsend a\napply a\nread q x\n",
         256,
+        "10 TooMany\n",
+    )?;
+    assert_refused(
+        &rt,
+        "site a 4\n[object o# 0\nlimit a object o# 5\n]start\nrelimit a all 5\n",
+        64,
+        "10 TooMany\n",
+    )?;
+    // A limit with its place more than a site may have, where the head is settled, and where it waits for the site.
+    assert_refused(
+        &rt,
+        "object x 0\nsite a 4\nstart\n[relimit a all #\npropose set:x:0\nsettle\n]relimit a all 5\n",
+        1_088,
+        "10 TooMany\n",
+    )?;
+    assert_refused(
+        &rt,
+        "object x 0\nsite a 4\nstart\n[relimit a all #\npropose set:x:0\nsettle\n]propose add:x:2000\nsettle\nrelimit a all 5\n",
+        1_088,
         "10 TooMany\n",
     )?;
     Ok(())

@@ -121,6 +121,8 @@ and then makes things happen:
     limit S group G N   limit S all N   limit S count N   start
     propose C..   send S   apply S   report S   settle   show S
     begin Q S LIMIT   read Q X   end Q   abandon Q   certify S
+    relimit S object X N   relimit S group G N   relimit S all N
+    relimit S count N
 
 A change C is add:X:n, set:X:n, mul:X:n, max:X:n, min:X:n or take:X:Y.
 

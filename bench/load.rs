@@ -181,19 +181,19 @@ impl<'a, W: Write> Store<'a, W> {
         }
         for Replica { name, limits, .. } in &self.sites {
             for &(scope, amount) in limits {
-                match scope {
-                    Scope::Object(object) => {
-                        self.script.line(format_args!("limit {name} object {} {amount}", self.objects[object]))?
-                    }
-                    Scope::Group(group) => {
-                        self.script.line(format_args!("limit {name} group {} {amount}", self.groups[group].0))?
-                    }
-                    Scope::All => self.script.line(format_args!("limit {name} all {amount}"))?,
-                    Scope::Count => self.script.line(format_args!("limit {name} count {amount}"))?,
-                }
+                self.script.line(format_args!("limit {name} {} {amount}", self.words_of(scope)))?;
             }
         }
         self.script.line(format_args!("start"))
+    }
+
+    fn words_of(&self, scope: Scope) -> String {
+        match scope {
+            Scope::Object(object) => format!("object {}", self.objects[object]),
+            Scope::Group(group) => format!("group {}", self.groups[group].0),
+            Scope::All => "all".to_owned(),
+            Scope::Count => "count".to_owned(),
+        }
     }
 
     fn any_site(&mut self) -> usize {
@@ -351,6 +351,19 @@ impl<'a, W: Write> Store<'a, W> {
         Ok(())
     }
 
+    /// Changes a limit of some site to between half of what it was declared with and three halves. That is refused where the
+    /// site lags by more.
+    fn relimit(&mut self, declared: &[(Scope, u64)]) -> io::Result<()> {
+        let (site, limit) = (self.any_site(), self.random.below(declared.len() as u64) as usize);
+        let (scope, most) = declared[limit];
+        let amount = most / 2 + self.random.below(most + 1);
+        let lag: u64 = (self.sites[site].reported..self.acknowledged).map(|update| self.weight(update, scope)).sum();
+        if lag <= amount {
+            self.sites[site].limits[limit].1 = amount;
+        }
+        self.script.line(format_args!("relimit {} {} {amount}", self.sites[site].name, self.words_of(scope)))
+    }
+
     fn begin(&mut self, slot: usize, site: usize, left: u64) -> io::Result<()> {
         self.begun += 1;
         let name = format!("cart_{}", self.begun);
@@ -473,6 +486,38 @@ fn wide<W: Write>(script: &mut Script<W>) -> io::Result<()> {
         }
         if store.random.one_in(50) {
             store.show()?;
+        }
+    }
+    Ok(())
+}
+
+/// 16 objects, a group of four of them, and 16 sites with four limits each: so many that up to 1,000,000 lines no site has
+/// more limits with their places than a store keeps. An update of one to three changes is proposed, sent to and applied at
+/// every site, and settled. Then each site reports, or not, with the same chance. One line in a hundred changes a limit.
+fn limited<W: Write>(script: &mut Script<W>) -> io::Result<()> {
+    let lines = script.left;
+    let mut store = Store::new(script, goods(), 0);
+    store.group("drinks".to_owned(), vec![9, 10, 11, 12]);
+    let limits = [(Scope::Object(10), 7_000), (Scope::Group(0), 24_000), (Scope::All, 48_000), (Scope::Count, 7)];
+    for site in 0..16 {
+        store.site(format!("shop_{}", site + 1), 64, limits.to_vec());
+    }
+    store.start()?;
+    let mut changed = 0;
+    while store.script.left > 0 {
+        store.propose(3)?;
+        for site in 0..16 {
+            store.bring_up(site, 0)?;
+        }
+        store.settle()?;
+        for site in 0..16 {
+            if store.random.one_in(2) {
+                store.report(site)?;
+            }
+        }
+        while changed < (lines - store.script.left) / 100 {
+            changed += 1;
+            store.relimit(&limits)?;
         }
     }
     Ok(())
@@ -796,6 +841,7 @@ fn main() -> ExitCode {
         "mixed" => mixed(&mut script),
         "wide" => wide(&mut script),
         "queries" => queries(&mut script),
+        "limited" => limited(&mut script),
         "behind" => behind(&mut script),
         "waiting" => waiting(&mut script),
         "unmoved" => unmoved(&mut script),

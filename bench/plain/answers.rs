@@ -29,6 +29,8 @@ pub enum Refusal {
     UnknownQuery,
     QueryOpen,
     OverImport,
+    HeadPending,
+    LagOver,
 }
 
 impl Refusal {
@@ -62,6 +64,8 @@ impl Refusal {
             Refusal::UnknownQuery => b"refused 18 UnknownQuery\n",
             Refusal::QueryOpen => b"refused 19 QueryOpen\n",
             Refusal::OverImport => b"refused 20 OverImport\n",
+            Refusal::HeadPending => b"refused 24 HeadPending\n",
+            Refusal::LagOver => b"refused 25 LagOver\n",
         }
     }
 }

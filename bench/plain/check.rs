@@ -1,6 +1,6 @@
 //! The verdict on a record.
 
-use crate::lag::Lag;
+use crate::lag::{in_force, Lag};
 use crate::rows::Record;
 use crate::store::is_value;
 use crate::updates::Held;
@@ -11,17 +11,21 @@ pub fn check(mut record: Record) -> Result<usize, (usize, &'static str)> {
     if let Some(change) = first_illegal(&mut record) {
         return Err((first_change + change, "NotLegal"));
     }
-    let mut lag = Lag::new(&record.limits, record.values.len(), &record.members);
-    if let Some(place) = first_over(&record, &mut lag) {
+    if let Some(place) = first_over(&record) {
         return Err((first_change + record.log.ends[place - 1] as usize, "LimitsBroken"));
     }
     let first_window = first_change + record.log.changes.len() + record.reports.len() + record.rounds.len();
     let windows = &record.windows;
-    let is_light = |from: usize, to: usize, lag: &mut Lag| {
-        lag.clear();
-        !(from..to).any(|place| lag.extend(record.log.after(place)))
+    let mut lag = LagInForce::at(&record, 1);
+    let mut is_light = |from: usize, to: usize| {
+        if in_force(&record.limits, to) == lag.limits {
+            lag.lag.clear();
+        } else {
+            lag = LagInForce::at(&record, to);
+        }
+        !(from..to).any(|place| lag.lag.extend(record.log.after(place)))
     };
-    if let Some(place) = windows.iter().position(|window| is_light(window.from, window.to, &mut lag)) {
+    if let Some(place) = windows.iter().position(|window| is_light(window.from, window.to)) {
         return Err((first_window + place, "WindowLight"));
     }
     if let Some(place) = windows.windows(2).position(|pair| pair[1].from < pair[0].to) {
@@ -38,6 +42,19 @@ pub fn check(mut record: Record) -> Result<usize, (usize, &'static str)> {
         return Err((first_window + windows.len() - 1, "CountDiffers"));
     }
     Ok(record.rounds.len())
+}
+
+/// The lag by the limits in force at a place, which are the first ones of the record.
+struct LagInForce {
+    lag: Lag,
+    limits: usize,
+}
+
+impl LagInForce {
+    fn at(record: &Record, place: usize) -> LagInForce {
+        let limits = in_force(&record.limits, place);
+        LagInForce { lag: Lag::new(&record.limits[..limits], record.values.len(), &record.members), limits }
+    }
 }
 
 /// The first change with a result out of range. Of those before it the distances are put down.
@@ -62,8 +79,9 @@ fn first_illegal(record: &mut Record) -> Option<usize> {
 }
 
 /// The first decided place at which the span from its base passes a limit. Bases do not fall, so one span moves along.
-fn first_over(record: &Record, lag: &mut Lag) -> Option<usize> {
+fn first_over(record: &Record) -> Option<usize> {
     let (mut reports, mut rounds) = (record.reports.iter().peekable(), record.rounds.iter().peekable());
+    let LagInForce { mut lag, mut limits } = LagInForce::at(record, 1);
     let (mut base, mut start) = (0, 0);
     for place in 1..=record.decided {
         if let Some(&(_, report)) = reports.next_if(|&&(decided, _)| decided as usize == place) {
@@ -72,10 +90,21 @@ fn first_over(record: &Record, lag: &mut Lag) -> Option<usize> {
         if rounds.next_if(|&&round| round as usize == place).is_some() {
             base = base.max(place);
         }
+        let is_changed = record.limits.get(limits).is_some_and(|limit| limit.place as usize <= place);
+        if is_changed {
+            LagInForce { lag, limits } = LagInForce::at(record, place);
+        }
         if base >= place {
             lag.clear();
             start = place;
             continue;
+        }
+        if is_changed {
+            start = base;
+            let is_over = (start..place - 1).any(|update| lag.extend(record.log.after(update)));
+            if is_over {
+                return Some(place);
+            }
         }
         for passed in start..base {
             lag.shorten(record.log.after(passed));

@@ -1,5 +1,6 @@
 //! What each limit of a site has left.
 
+use crate::answers::Refusal;
 use crate::updates::Change;
 
 #[derive(Clone, Copy, PartialEq, Eq)]
@@ -10,10 +11,17 @@ pub enum Scope {
     Count,
 }
 
+/// An amount that a scope may weigh, from a place on.
 #[derive(Clone, Copy)]
 pub struct Limit {
     pub scope: Scope,
     pub amount: i64,
+    pub place: u32,
+}
+
+/// How many of a list of limits hold at a place: those that begin there or before.
+pub fn in_force(limits: &[Limit], place: usize) -> usize {
+    limits.partition_point(|limit| limit.place as usize <= place)
 }
 
 /// The places of the limits on all objects and on the count. Where the site has none of
@@ -26,6 +34,7 @@ const FREE: i64 = 1 << 62;
 /// reported to what is decided. Each weight is below 2^57, so nothing overflows.
 pub struct Lag {
     is_bounded: bool,
+    scopes: Vec<Scope>,
     amounts: Vec<i64>,
     left: Vec<i64>,
     /// The limits that an object concerns, on itself and on its groups: for object x the
@@ -35,29 +44,29 @@ pub struct Lag {
 }
 
 impl Lag {
+    /// Of several limits on one scope the last one counts.
     pub fn new(limits: &[Limit], objects: usize, groups: &[Vec<usize>]) -> Lag {
+        let mut scopes = vec![Scope::All, Scope::Count];
         let mut amounts = vec![FREE, FREE];
         let mut by_object = vec![Vec::new(); objects];
         for limit in limits {
+            if let Some(place) = scopes.iter().position(|&scope| scope == limit.scope) {
+                amounts[place] = limit.amount;
+                continue;
+            }
             let place = amounts.len() as u8;
             match limit.scope {
-                Scope::All => amounts[ALL] = limit.amount,
-                Scope::Count => amounts[COUNT] = limit.amount,
-                Scope::Object(object) => {
-                    by_object[object].push(place);
-                    amounts.push(limit.amount);
-                }
-                Scope::Group(group) => {
-                    for &object in &groups[group] {
-                        by_object[object].push(place);
-                    }
-                    amounts.push(limit.amount);
-                }
+                Scope::Object(object) => by_object[object].push(place),
+                Scope::Group(group) => groups[group].iter().for_each(|&object| by_object[object].push(place)),
+                Scope::All | Scope::Count => (),
             }
+            scopes.push(limit.scope);
+            amounts.push(limit.amount);
         }
         let mut lag = Lag {
             is_bounded: !limits.is_empty(),
             left: amounts.clone(),
+            scopes,
             amounts,
             starts: vec![0],
             concerned: Vec::new(),
@@ -67,6 +76,25 @@ impl Lag {
             lag.starts.push(lag.concerned.len() as u16);
         }
         lag
+    }
+
+    /// The place of the limit on a scope, where there is one.
+    pub fn find(&self, scope: Scope) -> Option<usize> {
+        self.scopes.iter().position(|&other| other == scope).filter(|&place| self.amounts[place] != FREE)
+    }
+
+    /// On how many scopes there is a limit.
+    pub fn count(&self) -> usize {
+        self.amounts.iter().filter(|&&amount| amount != FREE).count()
+    }
+
+    /// Gives the limit at a place another amount, where the span does not weigh more.
+    pub fn change(&mut self, place: usize, amount: i64) -> Result<(), Refusal> {
+        let left = amount - (self.amounts[place] - self.left[place]);
+        Refusal::LagOver.when(left < 0)?;
+        self.amounts[place] = amount;
+        self.left[place] = left;
+        Ok(())
     }
 
     /// The limits that the change concerns, but for those on all and on the count.

@@ -44,7 +44,8 @@ impl Store {
     /// Prints the record of a site. The buffer is written whenever it has so many bytes.
     pub fn record(&self, site: usize, most: usize, out: &mut Out, output: &mut impl Write) -> io::Result<()> {
         let site = &self.sites[site];
-        put!(out, b"ordup,1,", site.name, b",", self.decided, b"\n");
+        let has_places = site.limits.iter().any(|limit| limit.place > 1);
+        put!(out, b"ordup,", 1 + usize::from(has_places), b",", site.name, b",", self.decided, b"\n");
         for (place, (&name, &value)) in self.objects.words().iter().zip(&self.first_values).enumerate() {
             put!(out, b"object,", place + 1, b",", name, b",", value, b"\n");
         }
@@ -64,7 +65,11 @@ impl Store {
                 Scope::All => put!(out, b"all"),
                 Scope::Count => put!(out, b"count"),
             }
-            put!(out, b",", limit.amount, b"\n");
+            put!(out, b",", limit.amount);
+            if has_places {
+                put!(out, b"@", limit.place as usize);
+            }
+            put!(out, b"\n");
         }
         for place in 0..self.decided {
             for (position, change) in self.log.after(place).iter().enumerate() {

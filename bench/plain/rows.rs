@@ -5,7 +5,8 @@ use std::io;
 use crate::lag::{Limit, Scope};
 use crate::names::Names;
 use crate::store::{
-    repeats, LARGEST_AMOUNT, MOST_CHANGES, MOST_GROUPS, MOST_LIMITS, MOST_MEMBERS, MOST_OBJECTS, MOST_UPDATES,
+    repeats, LARGEST_AMOUNT, MOST_CHANGES, MOST_GROUPS, MOST_LIMITS, MOST_MEMBERS, MOST_OBJECTS, MOST_PLACED_LIMITS,
+    MOST_UPDATES,
 };
 use crate::updates::{Change, Log, Window};
 use crate::words::{Kind, Word};
@@ -47,8 +48,12 @@ enum Stage {
 pub struct Reader {
     stage: Stage,
     row: usize,
+    /// Whether the limits have places: so it is in version 2.
+    has_places: bool,
     groups: Names,
     member_rows: usize,
+    /// On how many scopes there are limits.
+    scopes: usize,
     record: Record,
 }
 
@@ -85,8 +90,10 @@ impl Reader {
         Reader {
             stage: Stage::Unread,
             row: 0,
+            has_places: false,
             groups: Names::new(MOST_GROUPS),
             member_rows: 0,
+            scopes: 0,
             record: Record {
                 decided: 0,
                 objects: Names::new(MOST_OBJECTS),
@@ -167,7 +174,8 @@ impl Reader {
             b"member" => self.member(first, second, third),
             b"limit" => self.limit(first, second, third),
             b"ordup" => {
-                holds(self.stage == Stage::Unread && first == b"1" && Word::new(second).is_name())?;
+                holds(self.stage == Stage::Unread && (first == b"1" || first == b"2") && Word::new(second).is_name())?;
+                self.has_places = first == b"2";
                 self.record.decided = place(third, 0, MOST_UPDATES)?;
                 self.stage = Stage::Head;
                 Some(())
@@ -209,7 +217,7 @@ impl Reader {
         self.go_on(Stage::Limits)?;
         let record = &mut self.record;
         let next = record.limits.len() + 1;
-        place(counter, next, next.min(MOST_LIMITS))?;
+        place(counter, next, next.min(MOST_PLACED_LIMITS))?;
         let scope = match scope {
             b"all" => Scope::All,
             b"count" => Scope::Count,
@@ -218,9 +226,19 @@ impl Reader {
                 None => Scope::Group(self.groups.find(Word::new(scope.strip_prefix(b"group:")?))?),
             },
         };
+        let (amount, from) = if self.has_places {
+            let at = amount.iter().position(|&byte| byte == b'@')?;
+            let least = record.limits.last().map_or(1, |last| last.place as usize);
+            (&amount[..at], place(&amount[at + 1..], least, record.decided + 1)? as u32)
+        } else {
+            (amount, 1)
+        };
         let amount = number(amount, 0, LARGEST_AMOUNT)?;
-        holds(!record.limits.iter().any(|limit| limit.scope == scope))?;
-        record.limits.push(Limit { scope, amount });
+        let earlier = record.limits.iter().rfind(|limit| limit.scope == scope);
+        holds(!earlier.is_some_and(|earlier| earlier.place >= from))?;
+        self.scopes += usize::from(earlier.is_none());
+        holds(self.scopes <= MOST_LIMITS)?;
+        record.limits.push(Limit { scope, amount, place: from });
         Some(())
     }
 

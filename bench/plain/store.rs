@@ -15,6 +15,8 @@ pub const MOST_GROUPS: usize = 32;
 pub const MOST_MEMBERS: usize = 64;
 pub const MOST_SITES: usize = 16;
 pub const MOST_LIMITS: usize = 64;
+/// So many limits of a site are kept with their places.
+pub const MOST_PLACED_LIMITS: usize = 1088;
 pub const MOST_UPDATES: usize = 1_000_000;
 pub const MOST_CHANGES: usize = 64;
 pub const MOST_QUERIES: usize = 64;
@@ -65,6 +67,12 @@ pub struct Store {
     pub unused: Vec<usize>,
 }
 
+struct ReadLimit {
+    site: Word,
+    scope: Result<Scope, Refusal>,
+    amount: i64,
+}
+
 const OBJECT: u64 = key(b"object");
 const GROUP: u64 = key(b"group");
 const SITE: u64 = key(b"site");
@@ -80,6 +88,7 @@ const READ: u64 = key(b"read");
 const END: u64 = key(b"end");
 const ABANDON: u64 = key(b"abandon");
 const SHOW: u64 = key(b"show");
+const RELIMIT: u64 = key(b"relimit");
 const ALL: u64 = key(b"all");
 const COUNT: u64 = key(b"count");
 
@@ -123,6 +132,7 @@ impl Store {
             END => self.end(last_word(words)?, out),
             ABANDON => self.abandon(last_word(words)?, out),
             SHOW => self.show(last_word(words)?, out),
+            RELIMIT => self.relimit(words, out),
             OBJECT => self.object(words.word()?, last_number(words)?, out),
             GROUP => self.group(words, out),
             SITE => self.site(words.word()?, last_number(words)?, out),
@@ -192,7 +202,49 @@ impl Store {
     }
 
     pub fn limit(&mut self, words: &mut Words, out: &mut Out) -> Result<(), Refusal> {
-        let name = words.word()?;
+        let read = self.read_limit(words)?;
+        self.before_start()?;
+        let (site, scope) = self.find_limit(&read)?;
+        let limits = &mut self.sites[site].limits;
+        Refusal::TooMany.when(limits.len() == MOST_LIMITS)?;
+        Refusal::Repeated.when(limits.iter().any(|limit| limit.scope == scope))?;
+        limits.push(Limit { scope, amount: read.amount, place: 1 });
+        answer!(out, b"ok limit ", read.site)
+    }
+
+    /// Changes a limit from the head on. No update is decided and not acknowledged then, so the lag of the site is that of
+    /// what is acknowledged.
+    fn relimit(&mut self, words: &mut Words, out: &mut Out) -> Result<(), Refusal> {
+        let read = self.read_limit(words)?;
+        self.after_start()?;
+        let (site, scope) = self.find_limit(&read)?;
+        let place = self.acknowledged + 1;
+        let limit = Limit { scope, amount: read.amount, place: place as u32 };
+        let site = &mut self.sites[site];
+        let known = site.lag.find(scope);
+        let same = site.limits.iter().rposition(|other| other.place == limit.place && other.scope == scope);
+        let is_full = known.is_none() && site.lag.count() == MOST_LIMITS || site.limits.len() == MOST_PLACED_LIMITS;
+        Refusal::TooMany.when(same.is_none() && is_full)?;
+        Refusal::HeadPending.when(self.decided > self.acknowledged)?;
+        if let Some(known) = known {
+            site.lag.change(known, limit.amount)?;
+        } else {
+            let limits = [&site.limits[..], &[limit]].concat();
+            let mut lag = Lag::new(&limits, self.objects.len(), &self.members);
+            let is_over = (site.reported..self.acknowledged).any(|update| lag.extend(self.log.after(update)));
+            Refusal::LagOver.when(is_over)?;
+            site.lag = lag;
+        }
+        match same {
+            Some(same) => site.limits[same] = limit,
+            None => site.limits.push(limit),
+        }
+        answer!(out, b"ok relimit ", read.site, b" ", place)
+    }
+
+    /// The words of a limit, after the command.
+    fn read_limit(&self, words: &mut Words) -> Result<ReadLimit, Refusal> {
+        let site = words.word()?;
         let scope = match words.word()?.short_key() {
             OBJECT => self.objects.find(words.word()?).map(Scope::Object).ok_or(Refusal::UnknownObject),
             GROUP => self.groups.find(words.word()?).map(Scope::Group).ok_or(Refusal::UnknownGroup),
@@ -200,16 +252,15 @@ impl Store {
             COUNT => Ok(Scope::Count),
             _ => return Err(Refusal::Syntax),
         };
-        let amount = last_number(words)?;
-        self.before_start()?;
-        let scope = scope?;
-        let site = self.site_names.find(name).ok_or(Refusal::UnknownSite)?;
-        let limits = &mut self.sites[site].limits;
-        Refusal::OutOfRange.when(!is_amount(amount))?;
-        Refusal::TooMany.when(limits.len() == MOST_LIMITS)?;
-        Refusal::Repeated.when(limits.iter().any(|limit| limit.scope == scope))?;
-        limits.push(Limit { scope, amount });
-        answer!(out, b"ok limit ", name)
+        Ok(ReadLimit { site, scope, amount: last_number(words)? })
+    }
+
+    /// The site and the scope of a limit, whose amount is in range.
+    fn find_limit(&self, read: &ReadLimit) -> Result<(usize, Scope), Refusal> {
+        let scope = read.scope?;
+        let site = self.site_names.find(read.site).ok_or(Refusal::UnknownSite)?;
+        Refusal::OutOfRange.when(!is_amount(read.amount))?;
+        Ok((site, scope))
     }
 
     pub fn start(&mut self, out: &mut Out) -> Result<(), Refusal> {

@@ -9,6 +9,7 @@ use Rattle.ordup_objects.specs.declared.change.Change.{Change}
 use Rattle.ordup_objects.specs.Tables.{initial_state}
 use Rattle.ordup_objects.specs.Serial.{History, serial, with_update}
 use Rattle.ordup_objects.proofs.SerialLemmas.{serial-longer}
+use Rattle.ordup_log.specs.declared.scope.Scope.{Scope}
 use Rattle.ordup_rounds.specs.Rounds.{rounds_upto, windows_upto}
 use Rattle.ordup_primary.specs.Declarations.{Declared}
 use Rattle.ordup_primary.specs.Settling.{report_at}
@@ -20,10 +21,10 @@ use Rattle.ordup_world.specs.Events.{later, is_refused}
 use Rattle.ordup_site.specs.Sites.{SiteState, HasApplied}
 use Rattle.ordup_world.specs.Worlds.{StoreState, first_site, IsStore, IsSiteAfter, IsStoreAfter}
 use Rattle.ordup_world.specs.declared.event.Event.{Event}
-use Rattle.ordup_world.specs.declared.event.Event.TheVariants.{Propose, Send, Apply, Report, Settle}
+use Rattle.ordup_world.specs.declared.event.Event.TheVariants.{Propose, Send, Apply, Report, Settle, Relimit}
 use Rattle.ordup_world.specs.declared.event.Answer.{Answer}
 use Rattle.ordup_world.specs.declared.event.Answer.TheVariants.{Refused}
-use Rattle.ordup_world.proofs.StoreLemmas.{no_site, with_proposed, with_acked, with_progress, one_sent, now_reported}
+use Rattle.ordup_world.proofs.StoreLemmas.{no_site, with_proposed, with_acked, with_relimited, with_progress, one_sent, now_reported}
 
 module _ {A : Type 0} where
   -- the past after an event that is not refused
@@ -87,6 +88,7 @@ module _ {A : Type 0} where
   stays_aside (Apply s) = false
   stays_aside (Report s) = false
   stays_aside Settle = false
+  stays_aside (Relimit s scope amount) = false
   stays_aside _ = true
 
   pub IsStoreAfter-aside : (setup : Declared) (w : StoreState) (past : Past A) (e : Event A) → stays_aside e ≡ true
@@ -97,6 +99,7 @@ module _ {A : Type 0} where
   IsStoreAfter-aside setup w past (Apply s) aside is = absurd (cc)
   IsStoreAfter-aside setup w past (Report s) aside is = absurd (cc)
   IsStoreAfter-aside setup w past Settle aside is = absurd (cc)
+  IsStoreAfter-aside setup w past (Relimit s scope amount) aside is = absurd (cc)
   IsStoreAfter-aside setup w past e aside is = record {
     declared = is.declared;
     log = is.log;
@@ -206,3 +209,13 @@ module _ {A : Type 0} where
         IsStoreAfter-made refl new is.log (rw (test, waiting-same, is.acked) refl) (rw test is.decided) (rw test is.limits) (λ s d lt.
         let b = is.sites s d lt in
         site-is b.values b.sent b.applied b.reported (rw test b.reports))
+
+    -- ---- limits
+
+    -- a limit of a site was changed
+    pub IsStoreAfter-relimited : (s : ℕ) (scope : Scope) (amount : ℕ) → IsStore (with_relimited w s scope amount)
+        → IsStoreAfter w.primary.setup (with_relimited w s scope amount) (Relimit s scope amount ∷ past)
+    IsStoreAfter-relimited s scope amount new =
+        IsStoreAfter-made refl new is.log is.acked is.decided (rw (is.limits, is.acked) refl) (λ t d lt.
+        let b = is.sites t d lt in
+        site-is b.values b.sent b.applied b.reported b.reports)

@@ -1,20 +1,24 @@
 -- The definitions after short pasts, worked out by hand: no definition can change its meaning unseen.
 use Rattle.std.proofs.Common.{◌≡◌, ℕ, pos, List, [], ◌∷◌, replicate, map, refl}
 use Rattle.std.specs.Prelude.{Some, None, codes}
+use Rattle.std.specs.List.{range_with_len}
 use Rattle.ordup_objects.specs.declared.change.Op.TheVariants.{Add, Set}
-use Rattle.ordup_objects.specs.declared.refusal.Refusal.TheVariants.{UnknownObject, UnknownSite, OutOfRange, TooMany}
+use Rattle.ordup_objects.specs.declared.refusal.Refusal.TheVariants.{UnknownObject, UnknownGroup, UnknownSite, OutOfRange, TooMany}
 use Rattle.ordup_objects.specs.declared.refusal.Refusal.TheVariants.{NothingToSend, FeedFull, NothingToApply, NothingToSettle}
-use Rattle.ordup_objects.specs.declared.refusal.Refusal.TheVariants.{UnknownQuery, QueryOpen, OverImport}
-use Rattle.ordup_log.specs.declared.scope.Scope.TheVariants.{Object}
+use Rattle.ordup_objects.specs.declared.refusal.Refusal.TheVariants.{UnknownQuery, QueryOpen, OverImport, HeadPending, LagOver}
+use Rattle.ordup_log.specs.declared.scope.Scope.{Scope}
+use Rattle.ordup_log.specs.declared.scope.Scope.TheVariants.{Object, Group, All as Everything, Count}
+use Rattle.ordup_limits.specs.declared.limit.Limit.{Limit}
 use Rattle.ordup_limits.specs.Entries.{entry_of}
 use Rattle.ordup_primary.specs.Declarations.{Declared}
 use Rattle.ordup_primary.specs.declared.settled.Settled.TheVariants.{Acked, Round, Waiting}
 use Rattle.ordup_world.specs.Queries.{ReadMade, refusal_now}
-use Rattle.ordup_world.specs.Events.{Past, decisions, rounds, windows, opened, open_count, reply, later}
+use Rattle.ordup_world.specs.Events.{Past, decisions, limits_at, rounds, windows, opened, open_count, reply, later}
 use Rattle.ordup_world.specs.declared.event.Event.{Event}
-use Rattle.ordup_world.specs.declared.event.Event.TheVariants.{Propose, Send, Apply, Report, Settle, Begin, Read, End, Abandon, Show}
+use Rattle.ordup_world.specs.declared.event.Event.TheVariants.{Propose, Send, Apply, Report, Settle, Relimit}
+use Rattle.ordup_world.specs.declared.event.Event.TheVariants.{Begin, Read, End, Abandon, Show}
 use Rattle.ordup_world.specs.declared.event.Answer.{Answer}
-use Rattle.ordup_world.specs.declared.event.Answer.TheVariants.{Proposed, Sent, Applied, Reported, Settlement, Begun}
+use Rattle.ordup_world.specs.declared.event.Answer.TheVariants.{Proposed, Sent, Applied, Reported, Settlement, Relimited, Begun}
 use Rattle.ordup_world.specs.declared.event.Answer.TheVariants.{ReadOut, Ended, Abandoned, Shown, Refused}
 
 -- x at 0 and y at 10; the site 0 has a feed of 4 and a limit of 5 on x, the site 1 a feed of 1 and no limit
@@ -65,6 +69,61 @@ in_time : IsTold [] (
     (Report 0, Reported 0 1) ∷ (add_to_x 1, Proposed 2) ∷ (Settle, Settlement (Acked 2)) ∷
     (Show 0, Shown 1 1 1 0 (pos 5 ∷ pos 10 ∷ [])) ∷ [])
 in_time = refl
+
+-- The limit on x is lowered while 3 is acknowledged and not reported, from the head on: to 3, and not to 2. So 3 and 1 are over it, and
+-- nothing is changed while that is pending, also once it is reported.
+lowered : IsTold [] (
+    (add_to_x 3, Proposed 1) ∷ (Settle, Settlement (Acked 1)) ∷ (Relimit 0 (Object 0) 2, Refused LagOver) ∷
+    (Relimit 0 (Object 0) 3, Relimited 0 2) ∷ (add_to_x 1, Proposed 2) ∷ (Settle, Settlement (Round 2 (0 ∷ []))) ∷
+    (Relimit 0 (Object 0) 9, Refused HeadPending) ∷ (Send 0, Sent 0 1) ∷ (Send 0, Sent 0 2) ∷ (Apply 0, Applied 0 1) ∷
+    (Apply 0, Applied 0 2) ∷ (Relimit 1 Count 9, Refused HeadPending) ∷ (Report 0, Reported 0 2) ∷
+    (Relimit 0 (Object 0) 9, Refused HeadPending) ∷ (Settle, Settlement (Acked 2)) ∷ (Relimit 0 (Object 0) 0, Relimited 0 3) ∷
+    (add_to_x 1, Proposed 3) ∷ (Settle, Settlement (Round 3 (0 ∷ []))) ∷ (Show 0, Shown 2 2 2 2 (pos 4 ∷ pos 10 ∷ [])) ∷ [])
+lowered = refl
+
+-- What is applied and not reported counts, and what is proposed and not acknowledged does not. A scope without a limit gets one that sees
+-- what the site lags.
+begun : IsTold [] (
+    (add_to_x 3, Proposed 1) ∷ (Settle, Settlement (Acked 1)) ∷ (Send 0, Sent 0 1) ∷ (Apply 0, Applied 0 1) ∷
+    (add_to_x 9, Proposed 2) ∷ (Relimit 0 Count 0, Refused LagOver) ∷ (Relimit 0 Count 1, Relimited 0 2) ∷
+    (Report 0, Reported 0 1) ∷ (Relimit 0 Count 0, Relimited 0 2) ∷ (Relimit 0 (Object 0) 9, Relimited 0 2) ∷
+    (Relimit 0 Count 1, Relimited 0 2) ∷ (Settle, Settlement (Acked 2)) ∷ [])
+begun = refl
+
+-- a change is one of its own site: 5 is over the 0 of the site 1, and not over the 5 of the site 0
+one_site : IsTold [] (
+    (Relimit 1 (Object 0) 0, Relimited 1 1) ∷ (add_to_x 5, Proposed 1) ∷ (Settle, Settlement (Round 1 (1 ∷ []))) ∷ [])
+one_site = refl
+
+-- and of its own scope: what is added to x is within the 5 on x, and over the 0 on all objects
+one_scope : IsTold [] (
+    (Relimit 0 Everything 0, Relimited 0 1) ∷ (Relimit 0 Everything 5, Relimited 0 1) ∷ (add_to_x 5, Proposed 1) ∷
+    (Settle, Settlement (Acked 1)) ∷ (Relimit 0 (Object 0) 100, Relimited 0 2) ∷ (add_to_x 1, Proposed 2) ∷
+    (Settle, Settlement (Round 2 (0 ∷ []))) ∷ [])
+one_scope = refl
+
+-- the order of the refusals of a change: each of these could be refused later too
+relimits : IsTold (Settle ∷ add_to_x 6 ∷ Settle ∷ add_to_x 5 ∷ []) (
+    (Relimit 2 (Object 2) 1000000000000000001, Refused UnknownObject) ∷
+    (Relimit 2 (Group 0) 1000000000000000001, Refused UnknownGroup) ∷
+    (Relimit 2 Everything 1000000000000000001, Refused UnknownSite) ∷
+    (Relimit 0 Everything 1000000000000000001, Refused OutOfRange) ∷ (Relimit 0 Everything 0, Refused HeadPending) ∷ [])
+relimits = refl
+
+-- 65 objects, and a site with a limit on each of the first 64: there is no room for the last one, also while the head is pending
+abbrev full : Declared
+full = record {
+  objects = replicate 65 (codes "x", pos 0);
+  groups = [];
+  sites = (codes "a", 4) ∷ [];
+  limits = map (λ x. entry_of (Object x) 5 1) (range_with_len 0 64) ∷ [];
+}
+
+no_room : (reply full (Settle ∷ add_to_x 6 ∷ []) (Relimit 0 (Object 64) 1000000000000000001) ≡ Refused OutOfRange)
+    × (reply full (Settle ∷ add_to_x 6 ∷ []) (Relimit 0 (Object 64) 0) ≡ Refused TooMany)
+    × (reply full (Settle ∷ add_to_x 6 ∷ []) (Relimit 0 (Object 63) 0) ≡ Refused HeadPending)
+    × (reply {A = ℕ} full [] (Relimit 0 (Object 63) 0) ≡ Relimited 0 1)
+no_room = (refl, refl, refl, refl)
 
 -- a query that may import 4, of a site behind its reference, at it and ahead of it
 imports : IsTold [] (
@@ -119,6 +178,26 @@ by_place : (reply stricter (add_to_x 3 ∷ []) Settle ≡ Settlement (Acked 1))
     × (windows stricter 0 second ≡ record { from = 0; to = 2 } ∷ [])
     × (rounds stricter 1 second ≡ [])
 by_place = (refl, refl, refl, refl, refl, refl)
+
+-- the same by a change: the 5 is in force at the first place, and the 3 from the second on
+abbrev changed : Past ℕ
+changed = Relimit 0 (Object 0) 3 ∷ first
+
+abbrev limit_of : Scope → ℕ → Limit
+limit_of scope amount = record { scope = scope; amount = amount }
+
+changes : ((decisions setup changed).limits ≡ (entry_of (Object 0) 5 1 ∷ entry_of (Object 0) 3 2 ∷ []) ∷ [] ∷ [])
+    × (limits_at setup changed 0 1 ≡ limit_of (Object 0) 5 ∷ [])
+    × (limits_at setup changed 0 2 ≡ limit_of (Object 0) 3 ∷ [])
+    × (limits_at setup changed 1 2 ≡ [])
+    × ((decisions setup (Relimit 0 (Object 0) 4 ∷ changed)).limits
+    ≡ (entry_of (Object 0) 5 1 ∷ entry_of (Object 0) 4 2 ∷ []) ∷ [] ∷ [])
+    × ((decisions setup (Relimit 1 Count 4 ∷ changed)).limits
+    ≡ (entry_of (Object 0) 5 1 ∷ entry_of (Object 0) 3 2 ∷ []) ∷ (entry_of Count 4 2 ∷ []) ∷ [])
+    × (rounds setup 0 (Settle ∷ add_to_x 1 ∷ changed) ≡ 2 ∷ [])
+    × (windows setup 0 (Settle ∷ add_to_x 1 ∷ changed) ≡ record { from = 0; to = 2 } ∷ [])
+    × (rounds setup 0 (Settle ∷ add_to_x 1 ∷ first) ≡ [])
+changes = (refl, refl, refl, refl, refl, refl, refl, refl, refl)
 
 -- q read x before a applied 3, and after
 abbrev reading : Past ℕ

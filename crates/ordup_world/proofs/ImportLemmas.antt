@@ -92,7 +92,7 @@ module _ {A : Type 0} where
   abbrev KeptAll : Declared → Past A → Type 0
   KeptAll setup past = (q : List ℕ) (o : Opened) → opened setup q past ≡ Some o → Kept setup past o
 
-  unrefused : (r : Option Refusal) (a : Answer A) → is_refused (refused_or r a) ≡ false → r ≡ None
+  pub unrefused : (r : Option Refusal) (a : Answer A) → is_refused (refused_or r a) ≡ false → r ≡ None
   unrefused None a fine = refl
   unrefused (Some r) a fine = absurd (true≢false fine)
 

@@ -6,6 +6,7 @@ use Rattle.std.proofs.lemmas.List.Elements.{All-nil, All-cons}
 use Rattle.ordup_objects.specs.declared.refusal.Refusal.TheVariants.{NoMemory}
 use Rattle.ordup_objects.specs.Weights.{distance}
 use Rattle.ordup_objects.specs.States.{State, value_at}
+use Rattle.ordup_log.specs.declared.scope.Scope.TheVariants.{Object, Count}
 use Rattle.ordup_primary.specs.Declarations.{Declared}
 use Rattle.ordup_primary.specs.declared.settled.Settled.TheVariants.{Acked}
 use Rattle.ordup_world.specs.Queries.{ReadMade, Opened}
@@ -13,13 +14,14 @@ use Rattle.ordup_world.specs.Events.{log_of, takes_memory, IsAnswer, AreAnswers}
 use Rattle.ordup_world.specs.Imports.{KeepsImport}
 use Rattle.ordup_world.specs.Along.{KeepsSite}
 use Rattle.ordup_world.specs.Worlds.{WorldState, KeepsLimits}
-use Rattle.ordup_world.specs.declared.event.Event.TheVariants.{Send, Apply, Report, Settle, Begin, Read, End, Abandon, Show}
+use Rattle.ordup_world.specs.declared.event.Event.TheVariants.{Send, Apply, Report, Settle, Relimit}
+use Rattle.ordup_world.specs.declared.event.Event.TheVariants.{Begin, Read, End, Abandon, Show}
 use Rattle.ordup_world.specs.declared.event.Answer.TheVariants.{Proposed, Settlement, Refused}
 use Rattle.ordup_world.proofs.Examples.{setup, stricter, add_to_x, q}
 
 -- ---- answers
 
-memory : (map (takes_memory {A = ℕ}) (add_to_x 1 ∷ Settle ∷ Begin q 0 0 ∷ Show 0 ∷ []) ≡ replicate 4 true)
+memory : (map (takes_memory {A = ℕ}) (add_to_x 1 ∷ Settle ∷ Relimit 0 Count 0 ∷ Begin q 0 0 ∷ Show 0 ∷ []) ≡ replicate 5 true)
     × (map (takes_memory {A = ℕ}) (Send 0 ∷ Apply 0 ∷ Report 0 ∷ Read q 0 ∷ End q ∷ Abandon q ∷ []) ≡ replicate 6 false)
 memory = (refl, refl)
 
@@ -53,6 +55,13 @@ over k = let e : false ≡ true = k.limits in cc
 -- what is in force now counts: where the limit is 0 from the second update on, the first one is over it once it is acknowledged
 over_now : KeepsSite {A = ℕ} stricter (Settle ∷ add_to_x 5 ∷ []) 0 → ⊥
 over_now k = let e : false ≡ true = k.limits in cc
+
+-- also where it was changed: to 5, and to 4, which no store accepts
+kept_now : KeepsSite {A = ℕ} setup (Relimit 0 (Object 0) 5 ∷ Settle ∷ add_to_x 5 ∷ []) 0
+kept_now = record { told = omega arith; got = omega arith; logged = omega arith; feed = omega arith; limits = refl }
+
+over_changed : KeepsSite {A = ℕ} setup (Relimit 0 (Object 0) 4 ∷ Settle ∷ add_to_x 5 ∷ []) 0 → ⊥
+over_changed k = let e : false ≡ true = k.limits in cc
 
 -- one more is applied than was sent, one more is sent than there is, or a feed of 1 holds 2
 applied_too_much : KeepsSite {A = ℕ} setup (Apply 0 ∷ add_to_x 1 ∷ []) 0 → ⊥

@@ -7,5 +7,6 @@ pub mod WorldLemmas
 pub mod QueryStepLemmas
 pub mod ImportLemmas
 pub mod AlongLemmas
+pub mod ChangeLemmas
 mod Examples
 mod KeepingExamples

@@ -11,9 +11,11 @@ use Rattle.ordup_objects.specs.Refusals.{IsRefusal}
 use Rattle.ordup_objects.specs.Sets.{are_known}
 use Rattle.ordup_objects.specs.Serial.{with_update, serial}
 use Rattle.ordup_log.specs.Appending.{append_refusal}
+use Rattle.ordup_log.specs.declared.scope.Scope.{Scope}
+use Rattle.ordup_limits.specs.Limits.{scope_refusal}
 use Rattle.ordup_primary.specs.Declarations.{Declared, capacity_of}
 use Rattle.ordup_primary.specs.Primaries.{PrimaryState, IsPrimary, Decides, progress_at, forced_now, waiting_now}
-use Rattle.ordup_primary.specs.Primaries.{acked_after, settle_refusal, settled_as}
+use Rattle.ordup_primary.specs.Primaries.{acked_after, settle_refusal, settled_as, relimit_refusal, relimited}
 use Rattle.ordup_primary.specs.declared.settled.Settled.{Settled}
 use Rattle.ordup_site.specs.Sites.{SiteState, HasApplied}
 use Rattle.ordup_world.specs.Events.{Past, sets_of, sent, applied, reported, rounds, decisions, log_of}
@@ -21,14 +23,14 @@ use Rattle.ordup_world.specs.Events.{reply, refused_or, is_refused, takes_memory
 use Rattle.ordup_world.specs.Worlds.{StoreState, IsStore, IsSiteAfter, IsStoreAfter}
 use Rattle.ordup_world.specs.Steps.{Grows, StepsStore}
 use Rattle.ordup_world.specs.declared.event.Event.{Event}
-use Rattle.ordup_world.specs.declared.event.Event.TheVariants.{Propose, Send, Apply, Report, Settle, Show}
+use Rattle.ordup_world.specs.declared.event.Event.TheVariants.{Propose, Send, Apply, Report, Settle, Relimit, Show}
 use Rattle.ordup_world.specs.declared.event.Answer.{Answer}
-use Rattle.ordup_world.specs.declared.event.Answer.TheVariants.{Proposed, Sent, Applied, Reported, Settlement, Shown, Refused}
+use Rattle.ordup_world.specs.declared.event.Answer.TheVariants.{Proposed, Sent, Applied, Reported, Settlement, Relimited, Shown, Refused}
 use Rattle.ordup_world.proofs.StoreLemmas.{no_site, IsStore-proposed, IsStore-sent, IsStore-applied, IsStore-reported}
-use Rattle.ordup_world.proofs.StoreLemmas.{IsStore-decided, IsStore-waited, Grows-kept, acked_after-more}
+use Rattle.ordup_world.proofs.StoreLemmas.{IsStore-decided, IsStore-waited, IsStore-relimited, Grows-kept, acked_after-more}
 use Rattle.ordup_world.proofs.AfterLemmas.{later-fine, updates-are, after-at, settled-same, IsStoreAfter-proposed, IsStoreAfter-sent}
 use Rattle.ordup_world.proofs.AfterLemmas.{IsStoreAfter-applied, IsStoreAfter-reported, IsStoreAfter-decided, IsStoreAfter-waited}
-use Rattle.ordup_world.proofs.AfterLemmas.{IsStoreAfter-aside}
+use Rattle.ordup_world.proofs.AfterLemmas.{IsStoreAfter-aside, IsStoreAfter-relimited}
 
 -- a site that is there was declared
 pub there : (w : StoreState) (s : ℕ) → IsStore w → s < length w.sites → nat_lt s (length w.primary.setup.sites) ≡ true
@@ -138,6 +140,36 @@ module _ {A : Type 0} {w : StoreState} (sound : IsStore w) where
   settle_refused why same =
       rw same (stays (λ past is. refused-answer w.primary.setup past Settle (settle_refusal w.primary) (Settlement (settled_as w.primary))
       (reply-settled past is) refl refl why))
+
+  -- ---- Relimit
+
+  -- where the scope and the site are there, the reply is the primary's refusal, or else the place of the head
+  reply-relimited : (past : Past A) (s amount : ℕ) (scope : Scope) → IsStoreAfter w.primary.setup w past
+      → scope_refusal (length w.primary.setup.objects) w.primary.setup.groups scope ≡ None → s < length w.sites
+      → reply w.primary.setup past (Relimit s scope amount)
+      ≡ refused_or (relimit_refusal w.primary s scope amount) (Relimited s (w.primary.acked + 1))
+  reply-relimited past s amount scope is known lt =
+      rw (known, there w s sound lt, is.acked, is.decided, is.limits, is.log, (is.sites s no_site lt).reported) refl
+
+  pub relimited_now : {p : PrimaryState} {s amount place : ℕ} {scope : Scope}
+      → scope_refusal (length w.primary.setup.objects) w.primary.setup.groups scope ≡ None → s < length w.sites
+      → relimit_refusal w.primary s scope amount ≡ None → place ≡ w.primary.acked + 1 → IsPrimary p
+      → p ≡ relimited w.primary s scope amount
+      → StepsStore {A = A} w (Relimit s scope amount) (Relimited s place) (record w { primary = p })
+  relimited_now {s = s} {amount = amount} {scope = scope} known lt allowed e primary changed =
+      let new = IsStore-relimited w sound s scope amount (rw changed at primary) in
+      rw (changed, e) (accepted refl new (Grows-kept _ _ refl refl (omega arith) refl) (λ past is. (
+        inl (rw allowed at (sym (reply-relimited past s amount scope is known lt))),
+        IsStoreAfter-relimited w past sound is s scope amount new,
+      )))
+
+  pub relimit_refused : {p : PrimaryState} {s amount : ℕ} {scope : Scope} {r : Refusal}
+      → scope_refusal (length w.primary.setup.objects) w.primary.setup.groups scope ≡ None → s < length w.sites
+      → IsRefusal (relimit_refusal w.primary s scope amount) r → p ≡ w.primary
+      → StepsStore {A = A} w (Relimit s scope amount) (Refused r) (record w { primary = p })
+  relimit_refused {s = s} {amount = amount} {scope = scope} known lt why same =
+      rw same (stays (λ past is. refused-answer w.primary.setup past (Relimit s scope amount) (relimit_refusal w.primary s scope amount)
+      (Relimited s (w.primary.acked + 1)) (reply-relimited past s amount scope is known lt) refl refl why))
 
   -- ---- a site that is there
 

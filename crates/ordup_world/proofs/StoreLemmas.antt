@@ -12,10 +12,12 @@ use Rattle.ordup_objects.specs.Tables.{initial_state}
 use Rattle.ordup_objects.specs.Sets.{AreKnown}
 use Rattle.ordup_objects.specs.Serial.{History, set_at, with_more, with_update}
 use Rattle.ordup_objects.proofs.SerialLemmas.{length-serial}
+use Rattle.ordup_log.specs.declared.scope.Scope.{Scope}
 use Rattle.ordup_limits.proofs.LimitLemmas.{within-later}
 use Rattle.ordup_limits.specs.Entries.{latest}
 use Rattle.ordup_primary.specs.Declarations.{capacity_of}
 use Rattle.ordup_primary.specs.Primaries.{PrimaryState, SiteProgress, IsPrimary, Decides, first_progress, progress_at, limits_at, acked_after}
+use Rattle.ordup_primary.specs.Primaries.{relimited}
 use Rattle.ordup_site.specs.Sites.{SiteState, HasApplied}
 use Rattle.ordup_site.proofs.SiteLemmas.{HasApplied-longer}
 use Rattle.ordup_world.specs.Steps.{Grows}
@@ -37,6 +39,10 @@ with_proposed w m = record w { primary = record w.primary { log = with_update w.
 
 abbrev pub with_acked : StoreState → ℕ → StoreState
 with_acked w acked = record w { primary = record w.primary { acked = acked } }
+
+-- a store where the limit of site s on a scope was changed
+abbrev pub with_relimited : StoreState → ℕ → Scope → ℕ → StoreState
+with_relimited w s scope amount = record w { primary = relimited w.primary s scope amount }
 
 -- a store whose primary knows something else of a site: one update more was sent to it, or it reported so many
 abbrev pub with_progress : StoreState → ℕ → SiteProgress → StoreState
@@ -80,6 +86,11 @@ module _ (w : StoreState) (is : IsStore w) where
   -- the head was settled later
   pub IsStore-waited : (acked : ℕ) → IsPrimary (with_acked w acked).primary → IsStore (with_acked w acked)
   IsStore-waited acked primary = record { primary = primary; count = is.count; sites = is.sites }
+
+  -- a limit was changed
+  pub IsStore-relimited : (s : ℕ) (scope : Scope) (amount : ℕ) → IsPrimary (relimited w.primary s scope amount)
+      → IsStore (with_relimited w s scope amount)
+  IsStore-relimited s scope amount primary = record { primary = primary; count = is.count; sites = is.sites }
 
   -- ---- one site
 

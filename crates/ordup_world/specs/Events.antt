@@ -1,21 +1,24 @@
 -- Events, what they are answered, and the numbers of a list of accepted events.
 use Rattle.std.specs.Prelude.{◌≡◌, ◌⊎◌, ℕ, ◌+◌, ◌-◌, ◌==◌, not, if◌then◌else◌, nat_eq, nat_lt, Bool}
-use Rattle.std.specs.Prelude.{true, false, Option, Some, None, option_map, is_some, List, [], ◌∷◌, ◌++◌, length, slice_index_or}
+use Rattle.std.specs.Prelude.{true, false, Option, Some, None, option_map, is_some, List, [], ◌∷◌, ◌++◌, length, slice_index_or, slice_set}
+use Rattle.std.specs.Option.{option_or}
 use Rattle.std.specs.Cmp.Lexicographic.{pointwise}
 use Rattle.ordup_objects.specs.declared.change.Change.{Change}
 use Rattle.ordup_objects.specs.declared.refusal.Refusal.{Refusal}
 use Rattle.ordup_objects.specs.declared.refusal.Refusal.TheVariants.{UnknownObject, UnknownSite, OutOfRange, TooMany}
 use Rattle.ordup_objects.specs.declared.refusal.Refusal.TheVariants.{NothingToSend, FeedFull, NothingToApply, NothingToSettle}
-use Rattle.ordup_objects.specs.declared.refusal.Refusal.TheVariants.{UnknownQuery, QueryOpen, NoMemory}
+use Rattle.ordup_objects.specs.declared.refusal.Refusal.TheVariants.{UnknownQuery, QueryOpen, NoMemory, HeadPending, LagOver}
 use Rattle.ordup_objects.specs.States.{value_at}
 use Rattle.ordup_objects.specs.Tables.{initial_state}
 use Rattle.ordup_objects.specs.Sets.{are_known}
 use Rattle.ordup_objects.specs.Serial.{History, serial}
 use Rattle.ordup_log.specs.Appending.{append_refusal}
+use Rattle.ordup_log.specs.Spans.{span}
+use Rattle.ordup_log.specs.declared.scope.Scope.{Scope}
 use Rattle.ordup_rounds.specs.declared.window.Window.{Window}
 use Rattle.ordup_rounds.specs.Rounds.{rounds_upto, windows_upto}
-use Rattle.ordup_limits.specs.Limits.{Limits, within}
-use Rattle.ordup_limits.specs.Entries.{Entries, in_force, latest}
+use Rattle.ordup_limits.specs.Limits.{Limits, within, scope_refusal}
+use Rattle.ordup_limits.specs.Entries.{Entries, entry_of, in_force, latest, changed, change_refusal}
 use Rattle.ordup_primary.specs.Declarations.{Declared, capacity_of}
 use Rattle.ordup_primary.specs.Settling.{forced_sites, waiting_sites, report_at}
 use Rattle.ordup_primary.specs.Primaries.{acked_after, acked_or_round, acked_or_waiting}
@@ -24,9 +27,10 @@ use Rattle.ordup_query.specs.Imports.{import_of}
 use Rattle.ordup_query.specs.Queries.{value_sum}
 use Rattle.ordup_world.specs.Queries.{ReadMade, Opened, import_total, values_read, refusal_now}
 use Rattle.ordup_world.specs.declared.event.Event.{Event}
-use Rattle.ordup_world.specs.declared.event.Event.TheVariants.{Propose, Send, Apply, Report, Settle, Begin, Read, End, Abandon, Show}
+use Rattle.ordup_world.specs.declared.event.Event.TheVariants.{Propose, Send, Apply, Report, Settle, Relimit}
+use Rattle.ordup_world.specs.declared.event.Event.TheVariants.{Begin, Read, End, Abandon, Show}
 use Rattle.ordup_world.specs.declared.event.Answer.{Answer}
-use Rattle.ordup_world.specs.declared.event.Answer.TheVariants.{Proposed, Sent, Applied, Reported, Settlement, Begun}
+use Rattle.ordup_world.specs.declared.event.Answer.TheVariants.{Proposed, Sent, Applied, Reported, Settlement, Relimited, Begun}
 use Rattle.ordup_world.specs.declared.event.Answer.TheVariants.{ReadOut, Ended, Abandoned, Shown, Refused}
 
 -- the accepted events, the newest first
@@ -44,6 +48,11 @@ pub record Decisions : Type 0 where
 -- the same name
 abbrev pub is_same : List ℕ → List ℕ → Bool
 is_same = pointwise nat_eq
+
+-- the limit of site s on a scope is changed, and the change holds from the head on
+abbrev pub relimited : ℕ → Scope → ℕ → Decisions → Decisions
+relimited s scope amount ds =
+    record ds { limits = slice_set ds.limits s (changed (slice_index_or ds.limits s []) (entry_of scope amount (ds.acked + 1))) }
 
 module _ {A : Type 0} where
   -- the proposed message sets, in their order
@@ -97,10 +106,12 @@ module _ {A : Type 0} where
     reports = λ s. ds.reports s ++ reported s past ∷ [];
   }) else (record ds { acked = acked_after ds.acked (waiting_after setup past ds) })
 
-  -- the decisions of the settlements among the accepted events, and the limits, which begin as those that were declared
+  -- the decisions of the settlements among the accepted events, and the limits, which begin as those that were declared and are changed
+  -- by the Relimit events
   abbrev pub decisions : Declared → Past A → Decisions
   decisions setup [] = record { acked = 0; decided = 0; reports = λ s. []; limits = setup.limits }
   decisions setup (Settle ∷ past) = settled setup past (decisions setup past)
+  decisions setup (Relimit s scope amount ∷ past) = relimited s scope amount (decisions setup past)
   decisions setup (_ ∷ past) = decisions setup past
 
   -- the limits of site s that are in force at a place
@@ -121,6 +132,16 @@ module _ {A : Type 0} where
   settlement_of setup past ds =
       if ds.acked == ds.decided then acked_or_round (ds.acked + 1) (forced_after setup past ds)
       else acked_or_waiting (ds.acked + 1) (waiting_after setup past ds)
+
+  -- why a change of a limit of site s is refused, if it is. While the head is decided and not acknowledged there is none; and the amount
+  -- is no less than what the acknowledged updates weigh that the site has not reported.
+  abbrev pub relimit_refusal : Declared → Past A → Decisions → ℕ → Scope → ℕ → Option Refusal
+  relimit_refusal setup past ds s scope amount = option_or (scope_refusal (length setup.objects) setup.groups scope) (
+      if not (nat_lt s (length setup.sites)) then Some UnknownSite else
+      option_or
+      (change_refusal (length setup.objects) setup.groups (slice_index_or ds.limits s []) (entry_of scope amount (ds.acked + 1))) (
+      if not (ds.acked == ds.decided) then Some HeadPending else
+      if nat_lt amount (span (log_of setup past) setup.groups scope (reported s past) ds.acked) then Some LagOver else None))
 
   -- the rounds of a site: the decided places for which the span from what it had reported at the decision passes a limit
   abbrev pub rounds : Declared → ℕ → Past A → List ℕ
@@ -209,6 +230,8 @@ module _ {A : Type 0} where
   reply setup past Settle =
       if (decisions setup past).acked == length (sets_of past) then Refused NothingToSettle else
       Settlement (settlement_of setup past (decisions setup past))
+  reply setup past (Relimit s scope amount) =
+      refused_or (relimit_refusal setup past (decisions setup past) s scope amount) (Relimited s ((decisions setup past).acked + 1))
   reply setup past (Begin q s limit) =
       if not (nat_lt s (length setup.sites)) then Refused UnknownSite else
       if nat_lt 1000000000000000000 limit then Refused OutOfRange else
@@ -241,6 +264,7 @@ module _ {A : Type 0} where
   takes_memory (Apply s) = false
   takes_memory (Report s) = false
   takes_memory Settle = true
+  takes_memory (Relimit s scope amount) = true
   takes_memory (Begin q s limit) = true
   takes_memory (Read q x) = false
   takes_memory (End q) = false

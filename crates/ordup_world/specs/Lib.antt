@@ -1,5 +1,6 @@
 pub mod Queries
 pub mod Events
+pub mod Changes
 pub mod Worlds
 pub mod OpenQueries
 pub mod Steps

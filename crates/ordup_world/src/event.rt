@@ -1,3 +1,4 @@
+use ordup_limits::Scope;
 use ordup_objects::{MessageSet, Name, ObjectId, Refusal, SiteId, Values};
 use ordup_primary::Settled;
 use ordup_query::{QueryAnswer, ReadAnswer};
@@ -16,6 +17,12 @@ pub enum Event<A: Allocator + Copy = Global> {
     Report(SiteId),
     /// The primary settles the head, the update after the last acknowledged one.
     Settle,
+    /// The limit of the site on the scope is changed from the head on, or begins there. The amount lies from 0 to 10^18.
+    Relimit {
+        site: SiteId,
+        scope: Scope,
+        amount: u64,
+    },
     /// A query begins at the site, with a limit on what its reads may import, 0 to 10^18.
     Begin {
         query: Name,
@@ -57,6 +64,11 @@ pub enum Answer<A: Allocator + Copy = Global> {
     },
     /// What came of the settlement.
     Settlement(Settled),
+    /// The limit of the site holds from this place on, that of the head.
+    Relimited {
+        site: SiteId,
+        place: u64,
+    },
     /// The query began: its reference is the last update that was acknowledged then, or 0.
     Begun {
         query: Name,

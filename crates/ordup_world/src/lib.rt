@@ -5,6 +5,7 @@
 #![tactic(auto)]
 
 mod event;
+mod laws;
 mod outcome;
 mod queries;
 mod runs;
@@ -13,6 +14,7 @@ mod store;
 mod world;
 
 pub use event::{Answer, Event};
+pub use laws::{changes_leave_decided_places, changes_leave_rounds};
 pub use ordup_primary::{Primary, Settled, Setup, SiteList};
 pub use ordup_query::{QueryAnswer, ReadAnswer};
 pub use outcome::Run;

@@ -3,6 +3,7 @@ ghost use Rattle.ordup_primary.specs.Declarations.{is_ready};
 ghost use Rattle.ordup_world.specs.Worlds.{first_site};
 
 use crate::event::Answer;
+use ordup_limits::{Scope, check_scope};
 use ordup_objects::{MessageSet, Refusal, SiteId};
 use ordup_primary::{Primary, Setup};
 use ordup_site::Site;
@@ -112,6 +113,27 @@ impl<A: Allocator + Copy> Store<A> {
     {
         match self.primary.settle() {
             Ok(settled) => Answer::Settlement(settled),
+            Err(refusal) => Answer::Refused(refusal),
+        }
+    }
+
+    /// The limit of the site on a scope is changed from the head on, or begins there.
+    #[inline(always)]
+    pub(crate) fn relimit(&mut self, site: SiteId, scope: Scope, amount: u64) -> Answer<A>
+        requires { IsStore (state_of self.old) }
+        ensures { StepsStore (state_of self.old) (Event.Relimit site scope amount) result (state_of self.new) }
+    {
+        // The prover joins branches over a borrowed scope, not over a copied one.
+        let scope = &scope;
+        let setup = self.primary.setup();
+        if let Err(refusal) = check_scope(setup.objects(), setup.groups(), *scope) {
+            return Answer::Refused(refusal);
+        }
+        if site.index() >= self.sites.len() {
+            return Answer::Refused(Refusal::UnknownSite);
+        }
+        match self.primary.relimit(site, *scope, amount) {
+            Ok(place) => Answer::Relimited { site, place },
             Err(refusal) => Answer::Refused(refusal),
         }
     }

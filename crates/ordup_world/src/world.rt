@@ -85,6 +85,11 @@ impl<A: Allocator + Copy> World<A> {
             Event::Apply(site) => self.store.apply(site),
             Event::Report(site) => self.store.report(site),
             Event::Settle => self.store.settle(),
+            Event::Relimit {
+                site,
+                scope,
+                amount,
+            } => self.store.relimit(site, scope, amount),
             Event::Begin { query, site, limit } => self
                 .queries
                 .begin(&self.store, query, site, limit),

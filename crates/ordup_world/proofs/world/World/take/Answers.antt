@@ -33,6 +33,12 @@ invariant_of-self-in-Settle g c = (stepped c.self.invariant refl c.settle.ensure
 pub returns-in-Settle : goal.returns-in-Settle
 returns-in-Settle g c = rw (← c.self.view_is, c.in-Settle.is) (stepped c.self.invariant refl c.settle.ensures)
 
+pub invariant_of-self-in-Relimit : goal.invariant_of-self-in-Relimit
+invariant_of-self-in-Relimit g c = (stepped c.self.invariant refl c.relimit.ensures).sound
+
+pub returns-in-Relimit : goal.returns-in-Relimit
+returns-in-Relimit g c = rw (← c.self.view_is, c.in-Relimit.is) (stepped c.self.invariant refl c.relimit.ensures)
+
 pub invariant_of-self-in-End : goal.invariant_of-self-in-End
 invariant_of-self-in-End g c = (c.end.ensures (state_of c.self.inside.store) c.self.invariant).sound
 

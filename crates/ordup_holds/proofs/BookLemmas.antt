@@ -1,19 +1,23 @@
 -- The ends of the feeds stay those of the primary's sites.
-use Rattle.std.proofs.Common.{◌≡◌, ◌≢◌, ◌⊎◌, ℕ, zero, suc, ◌+◌, ◌-◌, ◌<◌, ◌≤◌, List, [], ◌∷◌, ◌++◌, length, take, Some}
+use Rattle.std.proofs.Common.{◌≡◌, ◌≢◌, ◌⊎◌, ℕ, zero, suc, ◌+◌, ◌-◌, ◌<◌, ◌≤◌, List, [], ◌∷◌, ◌++◌, length, take, Some, None}
 use Rattle.std.proofs.Common.{refl, sym, ap, ◌∙◌, subst, arith, add-one, inl, inr, ⊎_elim}
 use Rattle.std.specs.Prelude.{slice_get, slice_set, slice_index_or, if◌then◌else◌, ◌&&◌, not, nat_lt}
 use Rattle.std.proofs.Math.Seq.{take-suc}
 use Rattle.std.proofs.Math.ListN.{length-set}
-use Rattle.std.proofs.lemmas.Bool.{cases_lt}
+use Rattle.std.proofs.lemmas.Bool.{cases_lt, lt-ltb}
 use Rattle.std.proofs.lemmas.Option.{slice_get_within}
 use Rattle.std.proofs.lemmas.List.{get_or-set_same, get_or-set_other, length-map, length-take-le, map-append, take-append-le}
 use Rattle.ordup_objects.specs.declared.change.Change.{Change}
 use Rattle.ordup_objects.specs.Serial.{History, set_at, with_update}
 use Rattle.ordup_primary.specs.Primaries.{PrimaryState, SiteProgress, IsPrimary, first_progress, progress_at, reported_at, is_within}
+use Rattle.ordup_primary.specs.Primaries.{relimited, relimit_refusal}
+use Rattle.ordup_limits.specs.Limits.{scope_refusal}
+use Rattle.ordup_log.specs.declared.scope.Scope.{Scope}
 use Rattle.ordup_feed.specs.Parcels.{PlainParcel}
 use Rattle.ordup_feed.specs.Ends.{Sending}
 use Rattle.ordup_objects.specs.States.{State}
 use Rattle.ordup_holds.specs.Books.{BookState, IsTied, KeepsBook, AreRooms}
+use Rattle.ordup_holds.specs.Relimiting.{limit_change_refusal}
 use Rattle.ordup_holds.specs.Turning.{AtEachSite, Reported, Sent, SentOut, SameFeeds, with_progress, send_bound}
 
 -- ---- lists in which an element changed
@@ -77,6 +81,20 @@ keeps-settled p q ends same kept = record {
       let inside : s < length p.sites = let count = kept.count in let there = slice_get_within ends s e at in omega arith in
       tied-same p q s e same.setup same.log (same.sent s inside) (same.reported s inside) (kept.tied s e at);
 }
+
+-- a limit of a site
+pub keeps-relimited : (p : PrimaryState) (s : ℕ) (scope : Scope) (amount : ℕ) (ends : List Sending) → KeepsBook p ends
+    → KeepsBook (relimited p s scope amount) ends
+keeps-relimited p s scope amount ends kept = record {
+  count = kept.count;
+  tied = λ t e at. tied-same p (relimited p s scope amount) t e refl refl refl refl (kept.tied t e at);
+}
+
+-- where the scope and the site are there, what the primary refuses is refused
+pub primary-refuses : (p : PrimaryState) (s : ℕ) (scope : Scope) (amount : ℕ)
+    → scope_refusal (length p.setup.objects) p.setup.groups scope ≡ None → s < length p.setup.sites
+    → limit_change_refusal p s scope amount ≡ relimit_refusal p s scope amount
+primary-refuses p s scope amount known there = rw (known, lt-ltb s (length p.setup.sites) there) refl
 
 pub progress-same : (p q : PrimaryState) (s : ℕ) (x : SiteProgress) → q ≡ with_progress p s x → s < length p.sites
     → progress_at q s ≡ x

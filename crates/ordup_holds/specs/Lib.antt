@@ -5,5 +5,6 @@ pub mod Cells
 pub mod CellInside
 pub mod Turning
 pub mod Numbering
+pub mod Relimiting
 pub mod Waiting
 pub mod Agreement

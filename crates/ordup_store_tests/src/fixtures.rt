@@ -1,7 +1,7 @@
 //! Clusters of the objects x at 0 and y at 10, and what is done with them.
-ghost use Rattle.std.specs.Prelude.{◌≡◌};
+ghost use Rattle.std.specs.Prelude.{◌≡◌, ◌≤◌};
 
-use ordup_cluster::{Cluster, OpenGate, SeenValue, Session};
+use ordup_cluster::{Closed, Cluster, OpenGate, SeenValue, Session};
 use ordup_limits::Scope;
 use ordup_objects::{Change, MessageSet, ObjectId, ObjectTable, Op, Refusal, SiteId};
 use ordup_primary::{Setup, Window};
@@ -132,10 +132,52 @@ pub fn expect_behind<R: Wait + Abort>(
     );
 }
 
+/// Proposes a set with so many turns in a session, and sees this answer.
+pub fn expect_proposed<R: Wait + Abort>(
+    rt: &R,
+    cluster: &Cluster,
+    session: &mut Session,
+    set: MessageSet,
+    turns: u64,
+    answer: Result<u64, Refusal>,
+)
+    requires { 1 ≤ turns }
+{
+    assert_eq!(rt; cluster.propose(rt, session, set, turns), answer);
+}
+
+/// Waits for an update for so many turns in a session, and sees this answer.
+pub fn expect_settled<R: Wait + Abort>(
+    rt: &R,
+    cluster: &Cluster,
+    session: &mut Session,
+    number: u64,
+    turns: u64,
+    answer: Result<(), Refusal>,
+)
+    requires { 1 ≤ turns }
+{
+    assert_eq!(rt; cluster.settle(rt, session, number, turns), answer);
+}
+
+/// A site applies what it was sent, which are so many updates; the cluster is stopped.
+pub fn expect_applied<R: Wait + Abort>(rt: &R, cluster: &Cluster, site: SiteId, updates: u64) {
+    assert!(rt; site.index() < cluster.sites());
+    assert_eq!(rt; cluster.applier(rt, site, &OpenGate), updates);
+}
+
 /// A site applies what it was sent, which is one update; the cluster is stopped.
 pub fn apply_at<R: Wait + Abort>(rt: &R, cluster: &Cluster, site: SiteId) {
-    assert!(rt; site.index() < cluster.sites());
-    assert_eq!(rt; cluster.applier(rt, site, &OpenGate), 1);
+    expect_applied(rt, cluster, site, 1);
+}
+
+/// Sees that a site of a closed cluster has applied so many updates.
+pub fn expect_held(rt: &impl Abort, closed: &Closed, site: SiteId, updates: u64) {
+    let primary = closed.primary();
+    // For the proof: there are as many sites as were declared.
+    let _acked = primary.acked();
+    assert!(rt; site.index() < primary.setup().sites());
+    assert_eq!(rt; closed.site(site).applied(), updates);
 }
 
 /// Closes a cluster. Its log has so many updates; this is what the site a holds of x, and its windows are these.

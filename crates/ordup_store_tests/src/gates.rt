@@ -1,5 +1,5 @@
 //! What an applier tells its gate, and when it ends.
-use crate::fixtures::{a, add, b, opened, opened_pair, x};
+use crate::fixtures::{a, add, b, expect_proposed, opened, opened_pair, x};
 use ordup_cluster::{Cluster, Gate, OpenGate, Session};
 use ordup_limits::Scope;
 use ordup_objects::{MessageSet, SiteId};
@@ -64,8 +64,8 @@ fn expect_calls<R: Wait + Abort>(
 /// Proposes two sets, each of which is acknowledged in its first turn.
 fn propose_both<R: Wait + Abort>(rt: &R, cluster: &Cluster, set: MessageSet, other: MessageSet) {
     let mut session = Session::new();
-    assert_eq!(rt; cluster.propose(rt, &mut session, set, 1), Ok(1));
-    assert_eq!(rt; cluster.propose(rt, &mut session, other, 1), Ok(2));
+    expect_proposed(rt, cluster, &mut session, set, 1, Ok(1));
+    expect_proposed(rt, cluster, &mut session, other, 1, Ok(2));
 }
 
 #[test]

@@ -1,6 +1,7 @@
 //! Updates at the one site of a cluster, from the proposal to what is left at the end.
 use crate::fixtures::{
-    a, add, apply_at, expect_behind, expect_closed, expect_seen, opened, seen, x,
+    a, add, apply_at, expect_behind, expect_closed, expect_proposed, expect_seen, expect_settled,
+    opened, seen, x,
 };
 use ordup_cluster::{Cluster, Session, SiteQuery};
 use ordup_limits::Scope;
@@ -19,7 +20,7 @@ fn stop_and_apply<R: Wait + Abort>(
     set: MessageSet,
 ) {
     cluster.stop();
-    assert_eq!(rt; cluster.propose(rt, session, set, 1), Err(Refusal::Stopped));
+    expect_proposed(rt, cluster, session, set, 1, Err(Refusal::Stopped));
     apply_at(rt, cluster, a());
 }
 
@@ -62,45 +63,36 @@ fn query_meanwhile<R: Wait + Abort>(
 /// The update that adds 3 to x is acknowledged before the site a has applied it.
 fn follow<R: Wait + Abort>(rt: &R, cluster: &Cluster, set: MessageSet, other: MessageSet) {
     let mut session = Session::new();
-    assert_eq!(rt; cluster.propose(rt, &mut session, set, 1), Ok(1));
+    expect_proposed(rt, cluster, &mut session, set, 1, Ok(1));
     expect_behind(rt, cluster, &mut session, a(), 0);
     let Ok(query) = cluster.begin(rt, a(), 4) else {
         panic!(rt; "the query is refused")
     };
     query_meanwhile(rt, cluster, query, &mut session, other);
     expect_seen(rt, cluster, &mut session, a(), 3, 1);
-    assert_eq!(rt;
-        cluster.settle(rt, &mut session, 2, 1),
-        Err(Refusal::OutOfRange)
-    );
-    assert_eq!(rt; cluster.settle(rt, &mut session, 1, 1), Ok(()));
+    expect_settled(rt, cluster, &mut session, 2, 1, Err(Refusal::OutOfRange));
+    expect_settled(rt, cluster, &mut session, 1, 1, Ok(()));
 }
 
 /// The update of a cluster that takes no lag waits for the report of the site a, which nothing applies.
 fn wait_in_vain<R: Wait + Abort>(rt: &R, cluster: &Cluster, set: MessageSet) {
     let mut session = Session::new();
-    assert_eq!(rt;
-        cluster.propose(rt, &mut session, set, 3),
-        Err(Refusal::NotYet { number: 1 })
-    );
-    assert_eq!(rt;
-        cluster.settle(rt, &mut session, 1, 2),
-        Err(Refusal::NotYet { number: 1 })
-    );
+    let waits = Err(Refusal::NotYet { number: 1 });
+    expect_proposed(rt, cluster, &mut session, set, 3, waits);
+    let waits = Err(Refusal::NotYet { number: 1 });
+    expect_settled(rt, cluster, &mut session, 1, 2, waits);
     expect_seen(rt, cluster, &mut session, a(), 0, 0);
 }
 
 /// The update waits for the report, and is acknowledged in the first turn after it.
 fn wait_for_the_report<R: Wait + Abort>(rt: &R, cluster: &Cluster, set: MessageSet) {
     let mut session = Session::new();
-    assert_eq!(rt;
-        cluster.propose(rt, &mut session, set, 1),
-        Err(Refusal::NotYet { number: 1 })
-    );
+    let waits = Err(Refusal::NotYet { number: 1 });
+    expect_proposed(rt, cluster, &mut session, set, 1, waits);
     cluster.stop();
     apply_at(rt, cluster, a());
     assert_eq!(rt; session.seen(), 0);
-    assert_eq!(rt; cluster.settle(rt, &mut session, 1, 1), Ok(()));
+    expect_settled(rt, cluster, &mut session, 1, 1, Ok(()));
     assert_eq!(rt; session.seen(), 1);
 }
 

@@ -1,5 +1,5 @@
 //! Rounds that stay open until the site a has applied what they wait for. Its feed has room for one update, and it may not lag.
-use crate::fixtures::{a, add, apply_at, expect_closed, seen, x};
+use crate::fixtures::{a, add, apply_at, expect_closed, expect_proposed, expect_settled, seen, x};
 use ordup_cluster::{Cluster, Session};
 use ordup_limits::Scope;
 use ordup_objects::{MessageSet, Refusal};
@@ -29,14 +29,14 @@ fn wait_for_both<R: Wait + Abort>(rt: &R, cluster: &Cluster, set: MessageSet, ot
     let mut session = Session::new();
     let first = Err(Refusal::NotYet { number: 1 });
     let second = Err(Refusal::NotYet { number: 2 });
-    assert_eq!(rt; cluster.propose(rt, &mut session, set, 1), first);
-    assert_eq!(rt; cluster.propose(rt, &mut session, other, 1), second);
+    expect_proposed(rt, cluster, &mut session, set, 1, first);
+    expect_proposed(rt, cluster, &mut session, other, 1, second);
     cluster.stop();
     apply_at(rt, cluster, a());
     let second = Err(Refusal::NotYet { number: 2 });
-    assert_eq!(rt; cluster.settle(rt, &mut session, 2, 1), second);
+    expect_settled(rt, cluster, &mut session, 2, 1, second);
     apply_at(rt, cluster, a());
-    assert_eq!(rt; cluster.settle(rt, &mut session, 2, 1), Ok(()));
+    expect_settled(rt, cluster, &mut session, 2, 1, Ok(()));
 }
 
 #[test]

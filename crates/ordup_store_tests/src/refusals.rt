@@ -1,5 +1,5 @@
 //! Which calls of a cluster are refused, and in which order.
-use crate::fixtures::{a, add, b, opened, x, y};
+use crate::fixtures::{self, a, add, b, opened, x, y};
 use ordup_cluster::{Cluster, SeenValue, Session};
 use ordup_limits::Scope;
 use ordup_objects::{MessageSet, ObjectId, Refusal, SiteId};
@@ -43,7 +43,7 @@ fn expect_proposed<R: Wait + Abort>(
     set: MessageSet,
     answer: Result<u64, Refusal>,
 ) {
-    assert_eq!(rt; cluster.propose(rt, &mut Session::new(), set, 1), answer);
+    fixtures::expect_proposed(rt, cluster, &mut Session::new(), set, 1, answer);
 }
 
 /// Waits for an update, for one turn, in a session that has seen nothing, and sees this answer.
@@ -53,7 +53,7 @@ fn expect_settled<R: Wait + Abort>(
     number: u64,
     answer: Result<(), Refusal>,
 ) {
-    assert_eq!(rt; cluster.settle(rt, &mut Session::new(), number, 1), answer);
+    fixtures::expect_settled(rt, cluster, &mut Session::new(), number, 1, answer);
 }
 
 /// A query that may import 2, where the reference is after the update that adds 3 to x, and the site a has not applied it.

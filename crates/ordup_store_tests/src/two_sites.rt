@@ -1,5 +1,8 @@
 //! Sessions over two sites, of which one lags.
-use crate::fixtures::{a, add, apply_at, b, expect_behind, expect_seen, opened_pair, x};
+use crate::fixtures::{
+    a, add, apply_at, b, expect_behind, expect_held, expect_proposed, expect_seen, expect_settled,
+    opened_pair, x,
+};
 use ordup_cluster::{Cluster, Session};
 use ordup_objects::MessageSet;
 use ordup_query::ReadAnswer;
@@ -10,7 +13,7 @@ use std::test::Fail;
 /// An update that adds 3 to x is applied by the site a alone.
 fn apply_at_a<R: Wait + Abort>(rt: &R, cluster: &Cluster, set: MessageSet) {
     assert_eq!(rt; cluster.sites(), 2);
-    assert_eq!(rt; cluster.propose(rt, &mut Session::new(), set, 1), Ok(1));
+    expect_proposed(rt, cluster, &mut Session::new(), set, 1, Ok(1));
     cluster.stop();
     apply_at(rt, cluster, a());
 }
@@ -44,7 +47,7 @@ fn query_at_b<R: Wait + Abort>(rt: &R, cluster: &Cluster) {
 fn read_at_b_and_settle<R: Wait + Abort>(rt: &R, cluster: &Cluster) {
     let mut session = Session::new();
     expect_seen(rt, cluster, &mut session, b(), 0, 0);
-    assert_eq!(rt; cluster.settle(rt, &mut session, 1, 1), Ok(()));
+    expect_settled(rt, cluster, &mut session, 1, 1, Ok(()));
     expect_behind(rt, cluster, &mut session, b(), 0);
 }
 
@@ -54,11 +57,10 @@ fn close(rt: &impl Abort, cluster: Cluster) {
         panic!(rt; "a site does not agree with the log")
     };
     let primary = closed.primary();
-    let _acked = primary.acked();
     assert_eq!(rt; primary.log().len(), 1);
     assert_eq!(rt; primary.setup().sites(), 2);
-    assert_eq!(rt; closed.site(a()).applied(), 1);
-    assert_eq!(rt; closed.site(b()).applied(), 1);
+    expect_held(rt, &closed, a(), 1);
+    expect_held(rt, &closed, b(), 1);
     drop(closed);
 }
 

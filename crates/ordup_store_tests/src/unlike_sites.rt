@@ -1,8 +1,8 @@
 //! Two sites that differ: a has room for two updates and may lag by four, b has room for three and no limit.
-use crate::fixtures::{a, add, b, expect_closed, seen, x};
-use ordup_cluster::{Cluster, OpenGate, Session};
+use crate::fixtures::{self, a, add, b, expect_applied, expect_closed, expect_proposed, seen, x};
+use ordup_cluster::{Cluster, Session};
 use ordup_limits::Scope;
-use ordup_objects::{Refusal, SiteId};
+use ordup_objects::Refusal;
 use ordup_primary::{Setup, Window};
 use std::alloc::Global;
 use std::process::Abort;
@@ -25,15 +25,9 @@ fn opened(rt: &impl Abort, alloc: Global) -> Result<Cluster, Refusal> {
     Cluster::new(alloc, setup)
 }
 
-/// A site applies what it was sent, which are so many updates; the cluster is stopped.
-fn expect_applied<R: Wait + Abort>(rt: &R, cluster: &Cluster, site: SiteId, updates: u64) {
-    assert!(rt; site.index() < cluster.sites());
-    assert_eq!(rt; cluster.applier(rt, site, &OpenGate), updates);
-}
-
 /// Waits for the fifth update with one turn, and sees this answer.
 fn expect_settled<R: Wait + Abort>(rt: &R, cluster: &Cluster, answer: Result<(), Refusal>) {
-    assert_eq!(rt; cluster.settle(rt, &mut Session::new(), 5, 1), answer);
+    fixtures::expect_settled(rt, cluster, &mut Session::new(), 5, 1, answer);
 }
 
 /// Four updates are acknowledged, and the fifth waits for a.
@@ -46,7 +40,7 @@ fn propose_five<R: Wait + Abort>(rt: &R, alloc: Global, cluster: &Cluster) {
         } else {
             Err(Refusal::NotYet { number })
         };
-        assert_eq!(rt; cluster.propose(rt, &mut session, set, 1), answer);
+        expect_proposed(rt, cluster, &mut session, set, 1, answer);
     }
     cluster.stop();
 }

@@ -10,7 +10,7 @@ use Rattle.ordup_primary.specs.declared.settled.Settled.TheVariants.{Acked, Roun
 use Rattle.ordup_query.specs.declared.answer.ReadAnswer.{ReadAnswer}
 use Rattle.ordup_query.specs.declared.answer.QueryAnswer.{QueryAnswer}
 use Rattle.ordup_world.specs.declared.event.Answer.{Answer}
-use Rattle.ordup_world.specs.declared.event.Answer.TheVariants.{Proposed, Sent, Applied, Reported, Settlement, Begun}
+use Rattle.ordup_world.specs.declared.event.Answer.TheVariants.{Proposed, Sent, Applied, Reported, Settlement, Relimited, Begun}
 use Rattle.ordup_world.specs.declared.event.Answer.TheVariants.{ReadOut, Ended, Abandoned, Shown, Refused}
 
 -- `refused N NAME`
@@ -83,6 +83,7 @@ answer_text setup subject object (Sent s number) = numbered_text (codes "ok sent
 answer_text setup subject object (Applied s number) = numbered_text (codes "ok applied ") subject number
 answer_text setup subject object (Reported s place) = numbered_text (codes "ok reported ") subject place
 answer_text setup subject object (Settlement settled) = settled_text setup.sites settled
+answer_text setup subject object (Relimited s place) = numbered_text (codes "ok relimit ") subject place
 answer_text setup subject object (Begun query place) = numbered_text (codes "ok begun ") query place
 answer_text setup subject object (ReadOut answer) = read_text subject object answer
 answer_text setup subject object (Ended answer) = ended_text subject answer

@@ -173,6 +173,7 @@ pub fn push_answer<A: Allocator + Copy>(
         Answer::Applied { number, .. } => push_numbered(out, b"ok applied ", subject, *number),
         Answer::Reported { place, .. } => push_numbered(out, b"ok reported ", subject, *place),
         Answer::Settlement(settled) => push_settled(out, setup, settled),
+        Answer::Relimited { place, .. } => push_numbered(out, b"ok relimit ", subject, *place),
         Answer::Begun { query, place } => {
             push_numbered(out, b"ok begun ", query.as_bytes(), *place)
         }

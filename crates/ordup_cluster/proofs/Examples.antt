@@ -1,11 +1,15 @@
 -- Refusals of the cluster's calls, worked out by hand: no definition can change its meaning unseen.
-use Rattle.std.proofs.Common.{◌≡◌, ℕ, ◌<◌, List, [], ◌∷◌, pos, inl, inr, refl, arith}
-use Rattle.std.specs.Prelude.{Some, None, true, false}
+use Rattle.std.proofs.Common.{◌≡◌, ◌+◌, Bool, List, [], ◌∷◌, pos, inl, inr, refl, arith}
+use Rattle.std.specs.Prelude.{Some, None, true, false, if◌then◌else◌}
+use Rattle.std.specs.Option.{option_or}
 use Rattle.ordup_objects.specs.declared.change.Change.{Change}
 use Rattle.ordup_objects.specs.declared.change.Op.TheVariants.{Add}
-use Rattle.ordup_objects.specs.declared.refusal.Refusal.TheVariants.{UnknownObject, UnknownSite, OutOfRange, Behind, Stopped}
+use Rattle.ordup_objects.specs.declared.refusal.Refusal.TheVariants.{UnknownObject, UnknownSite, OutOfRange, TooMany}
+use Rattle.ordup_objects.specs.declared.refusal.Refusal.TheVariants.{Behind, Stopped, HeadPending, LagOver}
+use Rattle.ordup_objects.specs.Refusals.{IsRefusal}
 use Rattle.ordup_objects.specs.Serial.{History}
-use Rattle.ordup_cluster.specs.Refusals.{IsReadRefusal, proposal_refusal}
+use Rattle.ordup_log.specs.declared.scope.Scope.TheVariants.{Count}
+use Rattle.ordup_cluster.specs.Refusals.{IsReadRefusal, IsLimitPlace, IsLimitChangeRefusal, proposal_refusal}
 
 -- ---- a read of the one object at the one site, by a session that has seen 1 update
 
@@ -51,3 +55,22 @@ proposals : (proposal_refusal true full of_no_object ≡ Some Stopped) × (propo
     × (proposal_refusal false full of_no_object ≡ Some UnknownObject) × (proposal_refusal false full past_the_range ≡ Some OutOfRange)
     × (proposal_refusal true full [] ≡ Some Stopped) × (proposal_refusal false full [] ≡ None)
 proposals = (refl, refl, refl, refl, refl, refl)
+
+-- ---- a change of the limit on the count of updates to 0
+
+-- a limit holds from place 1 at the earliest
+changed-from_0 : IsLimitPlace 0 Count 0 0 → ⊥
+changed-from_0 from = absurd (let is : 0 ≡ from.0.acked + 1 = from.2 in omega arith)
+
+-- no change is refused because the store was stopped: these are its refusals, and whether each of them comes first
+is-not-stopped : (unknown few pending over : Bool)
+    → IsRefusal (if unknown then Some UnknownSite else option_or (if few then None else Some TooMany) (
+    if pending then Some HeadPending else if over then Some LagOver else None)) Stopped → ⊥
+is-not-stopped true few pending over e = absurd cc
+is-not-stopped false false pending over e = absurd cc
+is-not-stopped false true true over e = absurd cc
+is-not-stopped false true false true e = absurd cc
+is-not-stopped false true false false e = absurd cc
+
+changed-after_stop : IsLimitChangeRefusal 0 Count 0 Stopped → ⊥
+changed-after_stop refused = is-not-stopped _ _ _ _ refused.2

@@ -1,2 +1,3 @@
 pub mod ClosedLemmas
+pub mod RelimitLemmas
 mod Examples

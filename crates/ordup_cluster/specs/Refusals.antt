@@ -1,13 +1,17 @@
 -- Which refusals the calls of a cluster answer.
-use Rattle.std.specs.Prelude.{◌≡◌, ℕ, ◌<◌, ◌≤◌, ◌⊎◌, Bool, List, Option, Some, length, if◌then◌else◌, not, nat_lt}
+use Rattle.std.specs.Prelude.{◌≡◌, ℕ, ◌+◌, ◌<◌, ◌≤◌, ◌⊎◌, Bool, List, Option, Some, None, length, if◌then◌else◌, not, nat_lt}
 use Rattle.ordup_objects.specs.declared.change.Change.{Change}
 use Rattle.ordup_objects.specs.Sizes.{most_updates}
 use Rattle.ordup_objects.specs.declared.refusal.Refusal.{Refusal}
 use Rattle.ordup_objects.specs.declared.refusal.Refusal.TheVariants.{UnknownObject, UnknownSite, OutOfRange, LogFull, Behind}
 use Rattle.ordup_objects.specs.declared.refusal.Refusal.TheVariants.{NotYet, Stopped, NoMemory}
+use Rattle.ordup_objects.specs.Refusals.{IsRefusal}
 use Rattle.ordup_objects.specs.Serial.{History}
 use Rattle.ordup_objects.specs.Sets.{are_known}
 use Rattle.ordup_log.specs.Appending.{append_refusal}
+use Rattle.ordup_log.specs.declared.scope.Scope.{Scope}
+use Rattle.ordup_primary.specs.Primaries.{PrimaryState, IsPrimary}
+use Rattle.ordup_holds.specs.Relimiting.{limit_change_refusal}
 use Rattle.ordup_query.specs.Queries.{QueryState, begin_refusal, read_refusal}
 
 -- the number of an update in a log
@@ -30,6 +34,16 @@ IsProposalRefusal e = IsNumberingRefusal e ⊎ ((number : ℕ) × (e ≡ NotYet 
 -- of a settlement: where the number is that of no update, only that it is out of range
 abbrev pub IsSettlementRefusal : ℕ → Refusal → Type 0
 IsSettlementRefusal number e = (e ≡ OutOfRange) ⊎ ((e ≡ NoMemory) × IsNumber number) ⊎ ((e ≡ NotYet number) × IsNumber number)
+
+-- the place from which a changed limit of a site holds: that of the head of a primary which allows the change. It is the primary under the
+-- lock, which no contract sees.
+abbrev pub IsLimitPlace : ℕ → Scope → ℕ → ℕ → Type 0
+IsLimitPlace site scope amount place =
+    (p : PrimaryState) × IsPrimary p × (place ≡ p.acked + 1) × (limit_change_refusal p site scope amount ≡ None)
+
+-- of a change of a limit: what that primary refuses, or else that there is no memory
+abbrev pub IsLimitChangeRefusal : ℕ → Scope → ℕ → Refusal → Type 0
+IsLimitChangeRefusal site scope amount e = (p : PrimaryState) × IsPrimary p × IsRefusal (limit_change_refusal p site scope amount) e
 
 -- Of a read of an object at a site, where there are so many objects and sites, by a session that has seen so many updates. An unknown
 -- object comes before an unknown site, and behind it is only a site that applied fewer. The last: what the cell says under its lock.

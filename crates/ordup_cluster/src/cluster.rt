@@ -6,7 +6,7 @@ ghost use Rattle.ordup_holds.specs.Books.{AreRooms};
 ghost use Rattle.ordup_holds.specs.Agreement.{Agrees};
 ghost use Rattle.ordup_holds.specs.Numbering.{IsTurn, with_numbered};
 ghost use Rattle.ordup_cluster.specs.Clusters.{IsClosed, IsFirstMixed};
-ghost use Rattle.ordup_cluster.specs.Refusals.{IsNumber, IsNumberingRefusal, IsProposalRefusal, IsSettlementRefusal, IsReadRefusal, proposal_refusal, site_query_refusal};
+ghost use Rattle.ordup_cluster.specs.Refusals.{IsNumber, IsNumberingRefusal, IsProposalRefusal, IsSettlementRefusal, IsReadRefusal, IsLimitPlace, IsLimitChangeRefusal, proposal_refusal, site_query_refusal};
 
 use crate::book_turns::BookTurns;
 use crate::closed::Closed;
@@ -14,9 +14,10 @@ use crate::gate::Gate;
 use crate::session::Session;
 use crate::site_query::SiteQuery;
 use ordup_holds::{
-    Book, Numbered, SeenValue, SiteCell, agree, begin, number_and_turn, open, take, until,
+    Book, Numbered, SeenValue, SiteCell, agree, begin, number_and_turn, open, relimit, take, until,
     until_acknowledged, view,
 };
+use ordup_log::Scope;
 use ordup_objects::{MessageSet, ObjectId, Refusal, SiteId, Values};
 use ordup_primary::{Primary, Setup};
 use ordup_site::Site;
@@ -224,6 +225,29 @@ impl Cluster {
             cell: &self.cells[site.index()],
             query,
         })
+    }
+
+    /// Changes the limit of a site on a scope from the head on, or begins one there, whose amount lies from 0 to 10^18. It answers the
+    /// place of the head. The updates that are decided keep the limits by which they were decided.
+    ///
+    /// It makes no turn and looks at no feed: what the site reported is what the turns have found. It may be called after `stop`. It is
+    /// refused `UnknownObject` or `UnknownGroup` where the scope's is not there, `UnknownSite`, `OutOfRange` for the amount, `TooMany`
+    /// for a 65th scope or a 1,089th entry of the site, `HeadPending` where the head is decided and not acknowledged, `LagOver` where
+    /// the acknowledged updates that the site has not reported weigh more than the amount, and `NoMemory`.
+    pub fn relimit<R: Wait>(
+        &self,
+        rt: &R,
+        site: SiteId,
+        scope: Scope,
+        amount: u64,
+    ) -> Result<u64, Refusal>
+        ensures place { IfOk result (IsLimitPlace site scope amount) }
+        ensures refused { IfErr result (IsLimitChangeRefusal site scope amount) }
+    {
+        let mut book = self.book.lock(rt);
+        // For the proof: what each book keeps.
+        let _primary = book.primary();
+        relimit(&mut book, site, scope, amount)
     }
 
     /// Applies what comes to a site, until a turn that began after `stop` finds nothing. It answers how many updates it applied.

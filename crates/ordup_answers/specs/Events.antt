@@ -19,9 +19,10 @@ use Rattle.ordup_grammar.specs.declared.action.Action.TheVariants.{
   End,
   Abandon,
   Show,
+  Relimit,
 }
 use Rattle.ordup_answers.specs.Changes.{set_in}
-use Rattle.ordup_answers.specs.Places.{place_among}
+use Rattle.ordup_answers.specs.Places.{place_among, scope_in}
 use Rattle.ordup_answers.specs.Refusals.{made_of}
 
 -- the name of a query: none is open by what is no name
@@ -48,6 +49,7 @@ module _ {A : Type 0} where
   event_of d (End q) = made_of (λ name. event.End name) (query_name q)
   event_of d (Abandon q) = made_of (λ name. event.Abandon name) (query_name q)
   event_of d (Show s) = Ok (event.Show (place_among d.sites s))
+  event_of d (Relimit s what number) = Ok (event.Relimit (place_among d.sites s) (scope_in d what) (amount_of number))
 
 -- the names in an action that its answer may tell: of a site or a query, and of an object
 abbrev pub names_of : Action → List ℕ × List ℕ
@@ -61,3 +63,4 @@ names_of (Read q x) = (q, x)
 names_of (End q) = (q, [])
 names_of (Abandon q) = (q, [])
 names_of (Show s) = (s, [])
+names_of (Relimit s what number) = (s, [])

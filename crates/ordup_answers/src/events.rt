@@ -11,8 +11,8 @@ ghost use Rattle.ordup_answers.specs.Replies.{event_reply};
 ghost use Rattle.ordup_answers.specs.Sessions.{Session, IsWorldOf};
 
 use crate::changes::set_in;
-use crate::places::{find_object, find_site};
-use ordup_grammar::{Action, ChangeWords, Number, Word};
+use crate::places::{find_object, find_scope, find_site};
+use ordup_grammar::{Action, ChangeWords, Number, ScopeWord, Word};
 use ordup_objects::{Name, ObjectId, Refusal};
 use ordup_text::{TextBuffer, push_answer, push_refused};
 use ordup_world::{Event, Setup, World};
@@ -48,6 +48,11 @@ pub(crate) fn answer_action<A: Allocator + Copy>(
         Action::End(query) => answer_end(world, query, out),
         Action::Abandon(query) => answer_abandon(world, query, out),
         Action::Show(site) => answer_show(world, site, out),
+        Action::Relimit {
+            site,
+            scope,
+            amount,
+        } => answer_relimit(world, site, scope, amount, out),
     }
 }
 
@@ -155,6 +160,26 @@ fn answer_show<A: Allocator + Copy>(
     ensures { OnOk result ((s : Session A) → LeavesByAction world.old world.new out.old.text out.new.text (Action.Show site.now) s) }
 {
     let event = Event::Show(find_site(world.primary().setup(), site));
+    answer_event(world, event, site.as_bytes(), &[], out)
+}
+
+/// Answers a change of a limit.
+#[inline(always)]
+fn answer_relimit<A: Allocator + Copy>(
+    world: &mut World<A>,
+    site: &Word<'_>,
+    scope: &ScopeWord<'_>,
+    amount: &Number,
+    out: &mut TextBuffer<A>,
+) -> Result<(), AllocError>
+    ensures { OnOk result ((s : Session A) → LeavesByAction world.old world.new out.old.text out.new.text (Action.Relimit site.now scope.now amount.now) s) }
+{
+    let setup = world.primary().setup();
+    let event = Event::Relimit {
+        site: find_site(setup, site),
+        scope: find_scope(setup, scope),
+        amount: amount.amount(),
+    };
     answer_event(world, event, site.as_bytes(), &[], out)
 }
 

@@ -397,7 +397,10 @@ fn add(rt: &impl Abort, tables: &mut Tables<'_>, addition: Addition) -> Result<(
         Addition::Group => groups
             .declare(objects, b"h", &[ObjectId::new(1)])
             .map(|_| ()),
-        Addition::Limit => limits.add(objects, groups, Scope::All, 5),
+        Addition::Limit => {
+            assert!(rt; limits.entries().is_empty());
+            limits.add(objects, groups, Scope::All, 5)
+        }
         Addition::Update => {
             let update = set_of_x(rt, objects, 3);
             assert!(rt; update.are_known(log.objects()));

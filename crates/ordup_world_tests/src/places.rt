@@ -50,7 +50,11 @@ fn change_at_each_place(
     ensures { HoldFrom 1025 table.new }
 {
     for place in 2..1_026 {
-        assert_eq!(rt; refusal_of_change(table, objects, groups, x(), place), None, "at {place}");
+        assert_eq!(rt;
+            refusal_of_change(table, objects, groups, x(), place),
+            None,
+            "at {place}"
+        );
     }
 }
 

@@ -1,5 +1,5 @@
 //! Whole lists of events, with all answers as a script shows them.
-use crate::fixtures::{run_forced_and_awaited, run_swapped};
+use crate::fixtures::{run_forced_and_awaited, run_limited_anew, run_swapped};
 use ordup_text::{TextBuffer, push_answer};
 use ordup_world::Run;
 use std::alloc::{AllocError, Global};
@@ -22,6 +22,29 @@ ok applied a 2
 ok reported a 2
 ok acked 2
 ok show a sent 2 applied 2 reported 2 rounds 1 x=6 y=10
+";
+
+/// 3 is acknowledged and not reported, so the limit is 3 from the second update on, and not 2. With the second update it is 4, so a
+/// is forced there. Nothing is changed until that is acknowledged.
+const LIMITED_ANEW: &str = "\
+ok relimit a 1
+ok proposed 1
+ok acked 1
+refused 25 LagOver
+ok relimit a 2
+ok proposed 2
+ok round 2 a
+refused 24 HeadPending
+ok sent a 1
+ok sent a 2
+ok applied a 1
+ok applied a 2
+ok reported a 2
+refused 24 HeadPending
+ok acked 2
+refused 9 OutOfRange
+ok relimit a 3
+ok show a sent 2 applied 2 reported 2 rounds 1 x=4 y=10
 ";
 
 /// Both changes read the values before the set.
@@ -62,6 +85,14 @@ fn a_forced_update_is_acknowledged_once_it_is_reported(rt: HostRuntime) -> Resul
 fn a_swap_reads_the_values_before_the_set(rt: HostRuntime) -> Result<(), Fail> {
     let outcome = run_swapped(&rt, rt.alloc())?;
     assert!(rt; are_shown(rt.alloc(), &outcome, SWAPPED));
+    drop(outcome);
+    Ok(())
+}
+
+#[test]
+fn a_list_of_events_changes_limits(rt: HostRuntime) -> Result<(), Fail> {
+    let outcome = run_limited_anew(&rt, rt.alloc())?;
+    assert!(rt; are_shown(rt.alloc(), &outcome, LIMITED_ANEW));
     drop(outcome);
     Ok(())
 }

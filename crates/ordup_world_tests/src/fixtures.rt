@@ -131,6 +131,53 @@ pub(crate) fn run_forced_and_awaited(rt: &impl Abort, alloc: Global) -> Result<R
     run(alloc, setup, events)
 }
 
+/// A change of the limit of a on x.
+fn limit_x(amount: u64) -> Event {
+    Event::Relimit {
+        site: SiteId::new(0),
+        scope: Scope::Object(ObjectId::new(0)),
+        amount,
+    }
+}
+
+/// 3 and then 1 is added to x. The limit on x is changed before the first, between them and after them, and in vain.
+fn limited_anew(alloc: Global, objects: &ObjectTable) -> Result<Vec<Event>, Refusal> {
+    let a = SiteId::new(0);
+    let three = set_of(objects, 0, Op::Add(3))?;
+    let one = set_of(objects, 0, Op::Add(1))?;
+    let events = [
+        limit_x(9),
+        Event::Propose(three),
+        Event::Settle,
+        limit_x(2),
+        limit_x(3),
+        Event::Propose(one),
+        Event::Settle,
+        limit_x(9),
+        Event::Send(a),
+        Event::Send(a),
+        Event::Apply(a),
+        Event::Apply(a),
+        Event::Report(a),
+        limit_x(9),
+        Event::Settle,
+        limit_x(u64::MAX),
+        limit_x(0),
+        Event::Show(a),
+    ];
+    Vec::from_array(alloc, events).or(Err(Refusal::NoMemory))
+}
+
+/// Runs these two updates, of which a is forced at the second.
+pub(crate) fn run_limited_anew(rt: &impl Abort, alloc: Global) -> Result<Run, Refusal> {
+    let mut setup = Setup::new(alloc);
+    assert_eq!(rt; declare_a_within_5(&mut setup), Ok(()));
+    let Ok(events) = limited_anew(alloc, setup.objects()) else {
+        panic!(rt; "an update is refused")
+    };
+    run(alloc, setup, events)
+}
+
 /// The set in which x and y take each other's value.
 fn swap(alloc: Global, objects: &ObjectTable) -> Result<MessageSet, Refusal> {
     let (x, y) = (ObjectId::new(0), ObjectId::new(1));

@@ -1,5 +1,6 @@
 //! Lists of events, and events that no script makes.
 use crate::fixtures::{run_two_updates, set_of};
+use ordup_limits::{GroupId, Scope};
 use ordup_objects::{Name, ObjectId, ObjectTable, Op, Refusal, SiteId};
 use ordup_world::{Answer, Event, Settled, Setup, World, run};
 use std::alloc::Global;
@@ -71,6 +72,17 @@ fn is_refused(world: &mut World, event: Event, wanted: Refusal) -> bool {
     }
 }
 
+/// Whether a change of a limit to an amount that is out of range is refused so.
+fn is_limit_refused(world: &mut World, site: SiteId, scope: Scope, wanted: Refusal) -> bool {
+    let amount = u64::MAX;
+    let event = Event::Relimit {
+        site,
+        scope,
+        amount,
+    };
+    is_refused(world, event, wanted)
+}
+
 /// Whether each event of a site that is not there is refused.
 fn is_site_unknown(world: &mut World, query: Name, site: SiteId) -> bool {
     let limit = 0;
@@ -78,6 +90,7 @@ fn is_site_unknown(world: &mut World, query: Name, site: SiteId) -> bool {
         && is_refused(world, Event::Apply(site), Refusal::UnknownSite)
         && is_refused(world, Event::Report(site), Refusal::UnknownSite)
         && is_refused(world, Event::Show(site), Refusal::UnknownSite)
+        && is_limit_refused(world, site, Scope::All, Refusal::UnknownSite)
         && is_refused(
             world,
             Event::Begin { query, site, limit },
@@ -123,6 +136,24 @@ fn events_of_objects_that_are_not_there(rt: HostRuntime) -> Result<(), Fail> {
         assert!(rt; is_object_unknown(world, query, place));
     }
     assert!(rt; is_refused(world, event, Refusal::UnknownObject));
+    drop(outcome);
+    Ok(())
+}
+
+#[test]
+fn limits_on_what_is_not_there(rt: HostRuntime) -> Result<(), Fail> {
+    let mut outcome = run_two_updates(&rt, rt.alloc())?;
+    let world = &mut outcome.world;
+    let (a, nowhere) = (SiteId::new(0), SiteId::new(255));
+    for place in [2, 255, 256, 65_535] {
+        let scope = Scope::Object(ObjectId::new(place));
+        assert!(rt; is_limit_refused(world, nowhere, scope, Refusal::UnknownObject));
+    }
+    for place in [0, 31, 255] {
+        let scope = Scope::Group(GroupId::new(place));
+        assert!(rt; is_limit_refused(world, nowhere, scope, Refusal::UnknownGroup));
+    }
+    assert!(rt; is_limit_refused(world, a, Scope::Count, Refusal::OutOfRange));
     drop(outcome);
     Ok(())
 }

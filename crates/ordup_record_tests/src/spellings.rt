@@ -177,7 +177,7 @@ const CUTS: [(usize, &str); 11] = [
     (121, "yes 1"),
 ];
 
-/// Sees what is said of a record that is cut after each number of bytes: the last of the cuts after which this is said.
+/// Sees what is said of a record after each cut, by the last of the cuts after which each thing is said.
 pub(crate) fn assert_cuts_told<R: Abort>(
     rt: &R,
     alloc: Global,
@@ -186,6 +186,7 @@ pub(crate) fn assert_cuts_told<R: Abort>(
 ) -> Result<(), Fail> {
     let mut cut = 0;
     for &(last, wanted) in cuts {
+        assert!(rt; last <= record.len(), "{last} bytes are more than all");
         for length in cut..=last {
             let front = record.get(..length).ok_or("no such cut")?;
             let told = said(alloc, front)?;

@@ -3,6 +3,7 @@ use crate::asking::{Stop, TRIES, ask, tell_refused};
 use crate::closing::close;
 use crate::declarations::{declare_without_lag, declare_without_limits};
 use ordup_cluster::{Cluster, OpenGate, Session, SiteQuery};
+use ordup_limits::Scope;
 use ordup_objects::{MessageSet, ObjectId, Refusal, SiteId};
 use ordup_primary::Setup;
 use std::alloc::Global;
@@ -35,8 +36,14 @@ fn propose_three<R: Wait + Print>(
     two: &MessageSet,
 ) -> Result<(), Stop> {
     begin(rt, cluster)?;
+    // The list of its limits grows for the first, and once more for the fifth.
+    relimit(rt, cluster, Scope::Object(ObjectId::new(0)))?;
+    relimit(rt, cluster, Scope::Object(ObjectId::new(1)))?;
+    relimit(rt, cluster, Scope::All)?;
+    relimit(rt, cluster, Scope::Count)?;
     acknowledge(rt, alloc, cluster, one, 1)?;
     begin(rt, cluster)?;
+    relimit(rt, cluster, Scope::Count)?;
     acknowledge(rt, alloc, cluster, two, 2)?;
     acknowledge(rt, alloc, cluster, one, 3)?;
     cluster.stop();
@@ -111,6 +118,20 @@ fn declare(alloc: Global, limits: Limits) -> Result<Setup, Refusal> {
         Limits::None => declare_without_limits(alloc),
         Limits::NoLag => declare_without_lag(alloc),
     }
+}
+
+/// Changes a limit of the first site, to one that no update passes.
+fn relimit<R: Wait + Print>(rt: &R, cluster: &Cluster, scope: Scope) -> Result<(), Stop> {
+    for _ in 0..TRIES {
+        match cluster.relimit(rt, SiteId::new(0), scope, 100) {
+            Ok(place) => {
+                println!(rt; "relimit ok {place}")?;
+                return Ok(());
+            }
+            Err(refusal) => tell_refused(rt, "relimit", refusal)?,
+        }
+    }
+    Err(Stop::NoMemory)
 }
 
 /// Begins a query at the first site, which reads x there.

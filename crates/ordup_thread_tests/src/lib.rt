@@ -4,6 +4,8 @@
 #![tactic(auto)]
 
 #[cfg(test)]
+mod changing_limit;
+#[cfg(test)]
 mod fixtures;
 #[cfg(test)]
 mod held_site;

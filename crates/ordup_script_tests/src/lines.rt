@@ -20,10 +20,11 @@ use std::process::Abort;
 /// with the list of its limits, and of a first `group` 6, with its members and the list that the line makes of them; of a `limit` 1.
 /// Of a `start` 12, with a limit 13, and with two sites of a limit each 19. Of a first `propose` of one change 5: the list of the
 /// sets, those of the distances and of where they begin, the postings of the object and those of all. With two changes 7: one
-/// posting more, and the list of the changes, which is the one growth of a later one. Of a first `settle` 3 for each site: what it
+/// posting more, and the list of the changes, which is the one growth of a later one. Of a `relimit` that adds an entry 1, and of one
+/// that replaces an entry or is refused none. Of a first `settle` 3 for each site: what it
 /// reported, its rounds and its windows. Of a first `begin` 5, with its marks, and of a later one 1; of a `show` 1. A `certify` meets
 /// none.
-const SCRIPTS: [&str; 4] = [
+const SCRIPTS: [&str; 5] = [
     // The first run, whole.
     "\
 + object x 0 -> ok object x
@@ -79,6 +80,35 @@ const SCRIPTS: [&str; 4] = [
 - end q -> ok end q place 1 sum 3 total 3 reads 2
 + begin r a 0 -> ok begun r 1
 - abandon r -> ok abandoned r
+",
+    // Limits that change: from the second update on 3 on x, which 3 and 1 are over, and 1 on the count; from the third on 0 on x.
+    "\
++ object x 0 -> ok object x
+? object y 10 -> ok object y
++ site a 4 -> ok site a
++ limit a object x 5 -> ok limit a
++ start -> ok start
+- relimit a object x 9 -> ok relimit a 1
++ propose add:x:3 -> ok proposed 1
++ settle -> ok acked 1
+- relimit a object x 2 -> refused 25 LagOver
++ relimit a object x 3 -> ok relimit a 2
+- relimit a object x 3 -> ok relimit a 2
+? relimit a count 1 -> ok relimit a 2
+- relimit a count 0 -> refused 25 LagOver
+? propose add:x:1 -> ok proposed 2
+? settle -> ok round 2 a
+- relimit a object x 9 -> refused 24 HeadPending
+- send a -> ok sent a 1
+- send a -> ok sent a 2
+- apply a -> ok applied a 1
+- apply a -> ok applied a 2
+- report a -> ok reported a 2
+- settle -> ok acked 2
+? relimit a object x 0 -> ok relimit a 3
+? propose add:x:1 -> ok proposed 3
+? settle -> ok round 3 a
+- certify a -> ok certified a 2 0-2 2-3
 ",
     GROUPED,
 ];

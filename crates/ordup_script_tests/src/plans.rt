@@ -68,7 +68,23 @@ Malformed{5}
 ];
 
 /// More plans, in the same form.
-const MORE: [&str; 10] = [
+const MORE: [&str; 12] = [
+    // A limit is changed where a store runs, and in no plan.
+    "\
+> object x 0
+> site a 4
+> relimit a all 5
+Malformed{3}
+",
+    "\
+> object x 0
+> site a 4
+> start
+> propose add:x:1
+> relimit a all 5
+> start
+Malformed{5}
+",
     "Malformed{1}\n",
     "\
 > # a plan

@@ -1,8 +1,8 @@
 //! Message sets over the objects x at 0 and y at 10, and what the threads of a cluster do.
-ghost use Rattle.std.specs.Prelude.{◌≡◌, ◌≤◌};
+ghost use Rattle.std.specs.Prelude.{◌≡◌};
 
-use ordup_cluster::{Closed, Cluster, Gate, Session};
-use ordup_objects::{Change, MessageSet, ObjectId, ObjectTable, Op, Refusal, SiteId};
+use ordup_cluster::{Cluster, Gate, Session};
+use ordup_objects::{Change, MessageSet, ObjectId, ObjectTable, Op, SiteId};
 use std::alloc::Global;
 use std::process::Abort;
 use std::sync::Wait;
@@ -81,48 +81,11 @@ pub fn propose<R: Wait + Abort>(
     }
 }
 
-/// Proposes a set with so many turns, and sees this answer.
-pub fn expect_proposed<R: Wait + Abort>(
-    rt: &R,
-    cluster: &Cluster,
-    session: &mut Session,
-    set: MessageSet,
-    turns: u64,
-    answer: Result<u64, Refusal>,
-)
-    requires { 1 ≤ turns }
-{
-    assert_eq!(rt; cluster.propose(rt, session, set, turns), answer);
-}
-
-/// Waits for an update by so many turns, and sees this answer.
-pub fn expect_settled<R: Wait + Abort>(
-    rt: &R,
-    cluster: &Cluster,
-    session: &mut Session,
-    number: u64,
-    turns: u64,
-    answer: Result<(), Refusal>,
-)
-    requires { 1 ≤ turns }
-{
-    assert_eq!(rt; cluster.settle(rt, session, number, turns), answer);
-}
-
 /// Applies at a site until the cluster is stopped, and answers how many updates were applied.
 pub fn apply_at<G: Gate, R: Wait + Abort>(rt: &R, cluster: &Cluster, site: u8, gate: &G) -> u64 {
     let site = SiteId::new(site);
     assert!(rt; site.index() < cluster.sites());
     cluster.applier(rt, site, gate)
-}
-
-/// How many updates a site of a closed cluster has applied.
-pub fn applied_at(rt: &impl Abort, closed: &Closed, site: SiteId) -> u64 {
-    let primary = closed.primary();
-    // For the proof: there are as many sites as were declared.
-    let _acked = primary.acked();
-    assert!(rt; site.index() < primary.setup().sites());
-    closed.site(site).applied()
 }
 
 /// Waits until a flag is raised, and answers whether it was within so many tries.

@@ -1,7 +1,5 @@
 //! A site that its gate holds up, while another site gets on.
-use crate::fixtures::{
-    TRIES, a, adding, applied_at, apply_at, is_raised_within, propose, set_of, x, x_and_y,
-};
+use crate::fixtures::{TRIES, a, adding, apply_at, is_raised_within, propose, set_of, x, x_and_y};
 use crate::holding_gate::{Held, HoldingGate};
 use ordup_cluster::{Cluster, OpenGate, SeenValue, Session};
 use ordup_objects::{ObjectTable, Refusal, SiteId};
@@ -149,10 +147,12 @@ fn close(rt: &impl Abort, cluster: Cluster) {
         panic!(rt; "a site does not agree with the log")
     };
     let primary = closed.primary();
+    // For the proof: there are as many sites as were declared.
+    let _acked = primary.acked();
     assert_eq!(rt; primary.log().len(), 1);
     assert_eq!(rt; primary.setup().sites(), 2);
-    assert_eq!(rt; applied_at(rt, &closed, a()), 1);
-    assert_eq!(rt; applied_at(rt, &closed, SiteId::new(1)), 1);
+    assert_eq!(rt; closed.site(a()).applied(), 1);
+    assert_eq!(rt; closed.site(SiteId::new(1)).applied(), 1);
     drop(closed);
 }
 

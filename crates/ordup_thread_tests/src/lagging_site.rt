@@ -1,9 +1,7 @@
 //! A site that is held before its first update and may lag by three updates: the fourth proposal waits for it.
-use crate::fixtures::{
-    TRIES, a, adding, apply_at, expect_proposed, expect_settled, set_of, x, x_and_y,
-};
+use crate::fixtures::{TRIES, a, adding, apply_at, set_of, x, x_and_y};
 use crate::holding_gate::{Held, HoldingGate};
-use ordup_cluster::{Closed, Cluster, SeenValue, Session};
+use ordup_cluster::{Cluster, SeenValue, Session};
 use ordup_limits::Scope;
 use ordup_objects::{ObjectTable, Refusal};
 use ordup_primary::{Setup, Window};
@@ -44,29 +42,19 @@ fn propose_four<R: Wait + Abort>(
         } else {
             Err(Refusal::NotYet { number })
         };
-        expect_proposed(rt, cluster, session, set, 100, answer);
+        assert_eq!(rt; cluster.propose(rt, session, set, 100), answer);
     }
-}
-
-/// Reads x at a, and sees this answer.
-fn expect_read<R: Wait + Abort>(
-    rt: &R,
-    cluster: &Cluster,
-    session: &mut Session,
-    answer: Result<SeenValue, Refusal>,
-) {
-    assert_eq!(rt; cluster.read(rt, session, a(), x()), answer);
 }
 
 /// Reads x at a, which has applied nothing: it is behind this session, and not behind one that has seen nothing.
 fn read_at_a<R: Wait + Abort>(rt: &R, cluster: &Cluster, session: &mut Session) {
     let behind = Err(Refusal::Behind { applied: 0 });
-    expect_read(rt, cluster, session, behind);
+    assert_eq!(rt; cluster.read(rt, session, a(), x()), behind);
     let first = SeenValue {
         value: 0,
         applied: 0,
     };
-    expect_read(rt, cluster, &mut Session::new(), Ok(first));
+    assert_eq!(rt; cluster.read(rt, &mut Session::new(), a(), x()), Ok(first));
 }
 
 /// Proposes while the gate holds a, opens the gate, and waits for the fourth update.
@@ -81,7 +69,7 @@ fn call<R: Wait + Abort>(
     propose_four(rt, alloc, objects, cluster, &mut session);
     read_at_a(rt, cluster, &mut session);
     gate.open();
-    expect_settled(rt, cluster, &mut session, 4, TRIES, Ok(()));
+    assert_eq!(rt; cluster.settle(rt, &mut session, 4, TRIES), Ok(()));
     cluster.stop();
 }
 
@@ -102,24 +90,22 @@ fn run<R: Threads + Wait + Abort + Sync>(
     drop(table);
 }
 
-/// Sees the windows of the site, the value of x there, and how many updates the site has applied.
-fn expect_held(rt: &impl Abort, closed: &Closed, windows: &[Window], value: i64, applied: u64) {
-    let primary = closed.primary();
-    // For the proof: there are as many sites as were declared.
-    let _acked = primary.acked();
-    assert!(rt; primary.setup().sites() > 0);
-    assert_eq!(rt; primary.windows(a()), windows);
-    let site = closed.site(a());
-    assert!(rt; site.len() > 0);
-    assert_eq!(rt; (site.value(x()), site.applied()), (value, applied));
-}
-
 /// The site has applied all four updates, in one round.
 fn close(rt: &impl Abort, cluster: Cluster) {
     let Ok(closed) = cluster.close() else {
         panic!(rt; "the site does not agree with the log")
     };
-    expect_held(rt, &closed, &[Window { from: 0, to: 4 }], 4, 4);
+    let primary = closed.primary();
+    // For the proof: there are as many sites as were declared.
+    let _acked = primary.acked();
+    assert!(rt; primary.setup().sites() > 0);
+    assert_eq!(rt;
+        primary.windows(a()),
+        [Window { from: 0, to: 4 }].as_slice()
+    );
+    let site = closed.site(a());
+    assert!(rt; site.len() > 0);
+    assert_eq!(rt; (site.value(x()), site.applied()), (4, 4));
     drop(closed);
 }
 

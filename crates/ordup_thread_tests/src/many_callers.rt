@@ -1,5 +1,5 @@
 //! Four callers, four sites and two readers. Each update adds 1 to x and takes 2 from y, so after k updates x is k and y is 10 - 2k.
-use crate::fixtures::{TRIES, adding, applied_at, apply_at, propose, set_of, x, x_and_y, y};
+use crate::fixtures::{TRIES, adding, apply_at, propose, set_of, x, x_and_y, y};
 use ordup_cluster::{Cluster, OpenGate, SeenValue, Session};
 use ordup_limits::Scope;
 use ordup_log::Log;
@@ -196,11 +196,13 @@ fn close(rt: &impl Abort, cluster: Cluster) {
         panic!(rt; "a site does not agree with the log")
     };
     let primary = closed.primary();
-    assert_eq!(rt; primary.acked(), 4 * SETS);
+    // For the proof: there are as many sites as were declared.
+    let acked = primary.acked();
+    assert_eq!(rt; acked, 4 * SETS);
     expect_all(rt, primary.log());
     assert_eq!(rt; primary.setup().sites(), 4);
-    assert!(rt; applied_at(rt, &closed, SiteId::new(0)) >= 4 * SETS - 64);
-    assert!(rt; applied_at(rt, &closed, SiteId::new(1)) >= 4 * SETS - 50);
+    assert!(rt; closed.site(SiteId::new(0)).applied() >= 4 * SETS - 64);
+    assert!(rt; closed.site(SiteId::new(1)).applied() >= 4 * SETS - 50);
     drop(closed);
 }
 

@@ -2,10 +2,9 @@
 //!
 //! An update that waits for the site a is sent to it by the turn that decides it, so only a later turn acknowledges it. A call that has
 //! one turn is refused then, whatever the site does meanwhile. One that made a turn more would succeed where the site is quick.
-use crate::fixtures::{
-    TRIES, TURNS, a, adding, applied_at, apply_at, expect_proposed, expect_settled, set_of, x,
-    x_and_y,
-};
+ghost use Rattle.std.specs.Prelude.{◌≤◌};
+
+use crate::fixtures::{TRIES, TURNS, a, adding, apply_at, set_of, x, x_and_y};
 use crate::holding_gate::{Held, HoldingGate};
 use ordup_cluster::{Cluster, Session};
 use ordup_limits::Scope;
@@ -50,8 +49,24 @@ fn propose<R: Wait + Abort>(
     number: u64,
 ) {
     let set = set_of(rt, alloc, objects, &[adding(x(), 1)]);
-    let waits = Err(Refusal::NotYet { number });
-    expect_proposed(rt, cluster, &mut Session::new(), set, 1, waits);
+    let answer = cluster.propose(rt, &mut Session::new(), set, 1);
+    assert_eq!(rt; answer, Err(Refusal::NotYet { number }));
+}
+
+/// Waits for an update by so many turns, and sees this answer.
+fn expect_settled<R: Wait + Abort>(
+    rt: &R,
+    cluster: &Cluster,
+    number: u64,
+    turns: u64,
+    answer: Result<(), Refusal>,
+)
+    requires { 1 ≤ turns }
+{
+    assert_eq!(rt;
+        cluster.settle(rt, &mut Session::new(), number, turns),
+        answer
+    );
 }
 
 /// Reads at a until it has applied so many updates.
@@ -80,16 +95,16 @@ fn settle_all<R: Wait + Abort>(rt: &R, cluster: &Cluster) {
     for number in 1..UPDATES {
         wait_for_a(rt, cluster, number);
         let waits = Err(Refusal::NotYet { number: number + 1 });
-        expect_settled(rt, cluster, &mut Session::new(), number + 1, 1, waits);
+        expect_settled(rt, cluster, number + 1, 1, waits);
     }
-    expect_settled(rt, cluster, &mut Session::new(), UPDATES, TURNS, Ok(()));
+    expect_settled(rt, cluster, UPDATES, TURNS, Ok(()));
 }
 
 /// Proposes updates, and waits for each before the next one.
 fn propose_each<R: Wait + Abort>(rt: &R, alloc: Global, objects: &ObjectTable, cluster: &Cluster) {
     for i in UPDATES..2 * UPDATES {
         propose(rt, alloc, objects, cluster, i + 1);
-        expect_settled(rt, cluster, &mut Session::new(), i + 1, TURNS, Ok(()));
+        expect_settled(rt, cluster, i + 1, TURNS, Ok(()));
     }
 }
 
@@ -135,7 +150,7 @@ fn close(rt: &impl Abort, cluster: Cluster) {
     let _acked = primary.acked();
     assert!(rt; primary.setup().sites() > 0);
     assert_eq!(rt; primary.rounds(a()).len(), 3_000);
-    assert_eq!(rt; applied_at(rt, &closed, a()), 3_000);
+    assert_eq!(rt; closed.site(a()).applied(), 3_000);
     drop(closed);
 }
 

@@ -1,5 +1,5 @@
 //! Two callers and a site that they wait for.
-use crate::fixtures::{a, adding, applied_at, apply_at, propose, set_of, x, x_and_y, y};
+use crate::fixtures::{adding, apply_at, propose, set_of, x, x_and_y, y};
 use ordup_cluster::{Cluster, OpenGate, Session};
 use ordup_limits::Scope;
 use ordup_log::Log;
@@ -111,9 +111,11 @@ fn close(rt: &impl Abort, alloc: Global, cluster: Cluster) {
         panic!(rt; "the site does not agree with the log")
     };
     let primary = closed.primary();
+    // For the proof: there are as many sites as were declared.
+    let _acked = primary.acked();
     expect_both(rt, primary.log());
     assert_eq!(rt; primary.setup().sites(), 1);
-    let applied = applied_at(rt, &closed, a());
+    let applied = closed.site(SiteId::new(0)).applied();
     assert!(rt; 37 <= applied && applied <= 40);
     expect_certified(rt, alloc, primary);
     drop(closed);

@@ -81,7 +81,11 @@ fn a_record_says_the_same_as_one_of_the_same_rows_alone(rt: HostRuntime) -> Resu
     for (limit, other, wanted) in [
         ("limit,2,all,100", "limit,2,all,100@1", [true, true]),
         ("limit,2,all,100", "limit,2,all,100@2", [false, false]),
-        ("limit,2,all,100", "limit,2,all,100@1\nlimit,3,all,100@2", [false, false]),
+        (
+            "limit,2,all,100",
+            "limit,2,all,100@1\nlimit,3,all,100@2",
+            [false, false],
+        ),
     ] {
         let text = ONE.replace(rt.alloc(), "ordup,1,a,2", "ordup,2,a,2")?;
         let text = text.replace(rt.alloc(), "limit,1,object:x,5", "limit,1,object:x,5@1")?;

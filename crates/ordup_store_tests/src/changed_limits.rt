@@ -71,8 +71,22 @@ fn expect_order<R: Wait + Abort>(rt: &R, cluster: &Cluster) {
     let on_z = Scope::Object(ObjectId::new(2));
     let on_a_group = Scope::Group(GroupId::new(0));
     expect_changed(rt, cluster, b(), on_z, past, Err(Refusal::UnknownObject));
-    expect_changed(rt, cluster, b(), on_a_group, past, Err(Refusal::UnknownGroup));
-    expect_changed(rt, cluster, b(), Scope::All, past, Err(Refusal::UnknownSite));
+    expect_changed(
+        rt,
+        cluster,
+        b(),
+        on_a_group,
+        past,
+        Err(Refusal::UnknownGroup),
+    );
+    expect_changed(
+        rt,
+        cluster,
+        b(),
+        Scope::All,
+        past,
+        Err(Refusal::UnknownSite),
+    );
     expect_changed(rt, cluster, a(), Scope::All, past, Err(Refusal::OutOfRange));
 }
 

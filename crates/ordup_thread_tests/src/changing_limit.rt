@@ -20,6 +20,7 @@ use std::thread::Threads;
 
 /// By how many updates the site a may lag, by turns. The low limit is as many as there are callers.
 const LOW: u64 = 4;
+
 const HIGH: u64 = 64;
 
 /// How often the limit changes: down and up again by turns.

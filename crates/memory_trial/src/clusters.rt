@@ -122,8 +122,10 @@ fn declare(alloc: Global, limits: Limits) -> Result<Setup, Refusal> {
 
 /// Changes a limit of the first site, to one that no update passes.
 fn relimit<R: Wait + Print>(rt: &R, cluster: &Cluster, scope: Scope) -> Result<(), Stop> {
+    // The prover joins branches over a borrowed scope, not over a copied one.
+    let scope = &scope;
     for _ in 0..TRIES {
-        match cluster.relimit(rt, SiteId::new(0), scope, 100) {
+        match cluster.relimit(rt, SiteId::new(0), *scope, 100) {
             Ok(place) => {
                 println!(rt; "relimit ok {place}")?;
                 return Ok(());

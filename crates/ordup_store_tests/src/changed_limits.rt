@@ -26,12 +26,16 @@ fn expect_changed<R: Wait + Abort>(
     assert_eq!(rt; cluster.relimit(rt, site, scope, amount), answer);
 }
 
+/// The scope of x.
+fn on_x() -> Scope {
+    Scope::Object(x())
+}
+
 /// The limit of a on x is lowered to what a lags by, the 3 of an update that is acknowledged, and to no less.
 fn lower<R: Wait + Abort>(rt: &R, cluster: &Cluster, set: MessageSet) {
-    let on_x = Scope::Object(x());
     expect_proposed(rt, cluster, &mut Session::new(), set, 1, Ok(1));
-    expect_changed(rt, cluster, a(), on_x, 2, Err(Refusal::LagOver));
-    expect_changed(rt, cluster, a(), on_x, 3, Ok(2));
+    expect_changed(rt, cluster, a(), on_x(), 2, Err(Refusal::LagOver));
+    expect_changed(rt, cluster, a(), on_x(), 3, Ok(2));
 }
 
 /// A limit on x that holds from a place on.

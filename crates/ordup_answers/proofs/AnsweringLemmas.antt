@@ -16,7 +16,7 @@ use Rattle.ordup_answers.specs.Sessions.{Session, declaring, running, Declares, 
 use Rattle.ordup_answers.specs.Answers.{Leaves}
 use Rattle.ordup_answers.specs.Events.{event_of, names_of}
 use Rattle.ordup_answers.specs.Replies.{event_reply, command_reply, reply_or_refusal}
-use Rattle.ordup_text.specs.Texts.{answer_text, started_text}
+use Rattle.ordup_answers.specs.Texts.{answer_text, started_text}
 
 module _ {A : Type 0} where
   -- what holds of the session that declares so holds of each session that does

@@ -1,3 +1,4 @@
 pub mod RefusalLemmas
 pub mod NearestNumberLemmas
 pub mod AnsweringLemmas
+mod TextLemmas

@@ -19,7 +19,8 @@ use Rattle.ordup_answers.specs.Events.{event_of, names_of}
 use Rattle.ordup_answers.specs.Places.{place_among}
 use Rattle.ordup_answers.specs.Refusals.{made_of, unless}
 use Rattle.ordup_answers.specs.Sessions.{Session, declaring, running}
-use Rattle.ordup_text.specs.Texts.{refused_text, started_text, named_text, answer_text, certified_text}
+use Rattle.ordup_answers.specs.Texts.{refused_text, started_text, answer_text, certified_text}
+use Rattle.ordup_text.specs.Lines.{named_text}
 
 -- the session after a line, and the answer's text
 abbrev pub Reply : Type 0 → Type 0

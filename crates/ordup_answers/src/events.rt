@@ -12,9 +12,10 @@ ghost use Rattle.ordup_answers.specs.Sessions.{Session, IsWorldOf};
 
 use crate::changes::set_in;
 use crate::places::{find_object, find_scope, find_site};
+use crate::text::{push_answer, push_refused};
 use ordup_grammar::{Action, ChangeWords, Number, ScopeWord, Word};
 use ordup_objects::{Name, ObjectId, Refusal};
-use ordup_text::{TextBuffer, push_answer, push_refused};
+use ordup_text::TextBuffer;
 use ordup_world::{Event, Setup, World};
 use std::alloc::{AllocError, Allocator};
 

@@ -9,8 +9,10 @@ mod declarations;
 mod events;
 mod places;
 mod script_end;
+mod text;
 
 pub use answers::answer;
 pub use changes::set_in;
 pub use declarations::declare;
 pub use script_end::ScriptEnd;
+pub use text::push_answer;

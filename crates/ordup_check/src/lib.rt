@@ -1,7 +1,17 @@
-//! The auditor's library: an auditor trusts nothing else. All that an auditor calls is to be had here, and nothing is made here.
+//! The auditor's library: an auditor trusts nothing else. All that an auditor calls is to be had here. What is made here is the reader
+//! of records.
+//!
+//! The one contract above this layer: rows are read as the record that they tell, or up to the first row that breaks a rule.
 #![tactic(auto)]
 
-pub use ordup_record::{Record, record_of};
-pub use ordup_record_reader::{RecordReadFault, read_record};
+mod limited;
+mod reading;
+mod row_columns;
+mod short_rows;
+mod stage;
+mod told;
+
+pub use ordup_audit::{Reason, Record, Verdict, check};
+pub use ordup_record::record_of;
 pub use ordup_rows::{RecordWriteFault, write_record};
-pub use ordup_verdict::{Reason, Verdict, check};
+pub use reading::{RecordReadFault, read_record, read_record_within};

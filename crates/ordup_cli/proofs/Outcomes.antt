@@ -1,10 +1,10 @@
 -- How a check ends.
 use Rattle.std.proofs.Common.{◌≡◌, ℕ, List, Option, Ok, Err, length}
-use Rattle.ordup_record.specs.Records.{RecordState}
-use Rattle.ordup_record.specs.Validity.{IsValid}
-use Rattle.ordup_verdict.specs.Verdicts.{IfFewest, IsVerdict}
-use Rattle.ordup_verdict.specs.declared.verdict.Verdict.{Verdict}
-use Rattle.ordup_verdict.specs.declared.verdict.Verdict.TheVariants.{Fewest, No}
+use Rattle.ordup_audit.specs.Records.{RecordState}
+use Rattle.ordup_audit.specs.Validity.{IsValid}
+use Rattle.ordup_audit.specs.Verdicts.{IfFewest, IsVerdict}
+use Rattle.ordup_audit.specs.declared.verdict.Verdict.{Verdict}
+use Rattle.ordup_audit.specs.declared.verdict.Verdict.TheVariants.{Fewest, No}
 use Rattle.ordup_cli.specs.Faults.{Outcome}
 use Rattle.ordup_cli.specs.Jobs.{Checks, Judges, PrintsJudgement}
 use Rattle.ordup_cli.specs.declared.fault.Fault.TheVariants as fault

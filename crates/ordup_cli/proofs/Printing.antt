@@ -2,7 +2,7 @@
 use Rattle.std.proofs.Common.{◌∙◌, sym, ap, ℕ, List, ◌++◌, Option, append_assoc}
 use Rattle.std.proofs.KnownBytes.{Appends-trans}
 use Rattle.std.specs.Io.KnownBytes.{Appends}
-use Rattle.ordup_output.specs.Fronts.{AppendsFront}
+use Rattle.ordup_text.specs.Fronts.{AppendsFront}
 
 -- a front of the first part is one of both
 pub front_of_first : (old new : Option (List ℕ)) (a b : List ℕ) → AppendsFront old new a → AppendsFront old new (a ++ b)

@@ -1,7 +1,7 @@
 -- What the program does with its words.
 use Rattle.std.specs.Prelude.{◌≡◌, ◌⊎◌, ℕ, Ok, Err}
-use Rattle.ordup_output.specs.Fronts.{AppendsFront}
-use Rattle.ordup_words.specs.declared.command_line.Job.{Job}
+use Rattle.ordup_text.specs.Fronts.{AppendsFront}
+use Rattle.ordup_command_line.specs.declared.command_line.Job.{Job}
 use Rattle.ordup_cli.specs.Bytes.{Bytes}
 use Rattle.ordup_cli.specs.Faults.{Outcome, fault_text, status_of}
 use Rattle.ordup_cli.specs.Jobs.{Does}

@@ -1,8 +1,8 @@
 -- Why a job was not done, what is told of it, and its exit status.
 use Rattle.std.specs.Prelude.{ℕ, List, ◌++◌, codes, Result, Ok, Err}
 use Rattle.std.specs.Fmt.{decimal}
-use Rattle.ordup_record_reader.specs.declared.reading.RecordReadFault.{RecordReadFault}
-use Rattle.ordup_record_reader.specs.declared.reading.RecordReadFault.TheVariants as reading
+use Rattle.ordup_check.specs.declared.reading.RecordReadFault.{RecordReadFault}
+use Rattle.ordup_check.specs.declared.reading.RecordReadFault.TheVariants as reading
 use Rattle.ordup_rows.specs.declared.writing.RecordWriteFault.{RecordWriteFault}
 use Rattle.ordup_rows.specs.declared.writing.RecordWriteFault.TheVariants as writing
 use Rattle.ordup_script.specs.declared.plan.PlanFault.{PlanFault}

@@ -7,24 +7,24 @@ use Rattle.std.specs.declared.alloc.Global.{Global}
 use Rattle.csv.specs.Reading.{strip_bom}
 use Rattle.ordup_objects.specs.Tables.{place_of}
 use Rattle.ordup_primary.specs.Primaries.{PrimaryState}
-use Rattle.ordup_record.specs.Records.{RecordState}
+use Rattle.ordup_audit.specs.Records.{RecordState}
 use Rattle.ordup_record.specs.RecordsOf.{record_of}
-use Rattle.ordup_record.specs.Validity.{IsValid}
-use Rattle.ordup_verdict.specs.Reasons.{reason_name}
-use Rattle.ordup_verdict.specs.Verdicts.{IsVerdict}
-use Rattle.ordup_verdict.specs.declared.verdict.Verdict.{Verdict}
-use Rattle.ordup_verdict.specs.declared.verdict.Verdict.TheVariants.{Fewest, No}
+use Rattle.ordup_audit.specs.Validity.{IsValid}
+use Rattle.ordup_audit.specs.Reasons.{reason_name}
+use Rattle.ordup_audit.specs.Verdicts.{IsVerdict}
+use Rattle.ordup_audit.specs.declared.verdict.Verdict.{Verdict}
+use Rattle.ordup_audit.specs.declared.verdict.Verdict.TheVariants.{Fewest, No}
 use Rattle.ordup_rows.specs.Texts.{TextTells}
-use Rattle.ordup_record_reader.specs.Limits.{IsMalformedWithin}
+use Rattle.ordup_check.specs.Limits.{IsMalformedWithin}
 use Rattle.ordup_rows.specs.Rows.{rows_of, rows_text}
 use Rattle.ordup_rows.specs.Sizes.{most_record_bytes}
 use Rattle.ordup_answers.specs.declared.script_end.ScriptEnd.{ScriptEnd}
 use Rattle.ordup_answers.specs.declared.script_end.ScriptEnd.TheVariants.{Declared, Running}
-use Rattle.ordup_output.specs.Fronts.{AppendsFront}
+use Rattle.ordup_text.specs.Fronts.{AppendsFront}
 use Rattle.ordup_script.specs.Runs.{Runs}
 use Rattle.ordup_script.specs.declared.stream.ScriptFault.{ScriptFault}
-use Rattle.ordup_words.specs.declared.command_line.Job.{Job}
-use Rattle.ordup_words.specs.declared.command_line.Job.TheVariants as job
+use Rattle.ordup_command_line.specs.declared.command_line.Job.{Job}
+use Rattle.ordup_command_line.specs.declared.command_line.Job.TheVariants as job
 use Rattle.ordup_cli.specs.Bytes.{Bytes, most_script_bytes}
 use Rattle.ordup_cli.specs.Faults.{Outcome, of_script}
 use Rattle.ordup_cli.specs.Plans.{RunsPlan}

@@ -4,11 +4,11 @@ use Rattle.std.specs.Io.KnownBytes.{Appends}
 use Rattle.std.specs.declared.alloc.Global.{Global}
 use Rattle.ordup_objects.specs.declared.refusal.Refusal.{Refusal}
 use Rattle.ordup_objects.specs.declared.refusal.Refusal.TheVariants.{NoMemory}
-use Rattle.ordup_output.specs.Fronts.{AppendsFront}
+use Rattle.ordup_text.specs.Fronts.{AppendsFront}
 use Rattle.ordup_script.specs.PlanReadings.{ReadsPlan}
 use Rattle.ordup_script.specs.declared.plan.Plan.{Plan}
 use Rattle.ordup_script.specs.declared.plan.PlanFault.{PlanFault}
-use Rattle.ordup_threads.specs.Outcomes.{IsOutcome}
+use Rattle.ordup_plan.specs.Outcomes.{IsOutcome}
 use Rattle.ordup_cli.specs.Faults.{Outcome, of_plan}
 use Rattle.ordup_cli.specs.Bytes.{Bytes, most_script_bytes}
 use Rattle.ordup_cli.specs.declared.fault.Fault.{Fault}

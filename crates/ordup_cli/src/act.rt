@@ -6,7 +6,7 @@ use crate::fault::{Fault, WRONG_WORDS, tell};
 use crate::jobs::{DONE, Outcome, do_job};
 use clap::Error;
 use clap::error::ErrorKind;
-use ordup_words::{FILE_TIP, job_of};
+use ordup_command_line::{FILE_TIP, job_of};
 use std::alloc::Global;
 use std::io::{Read, Write};
 use std::sync::Wait;

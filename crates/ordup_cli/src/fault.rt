@@ -2,14 +2,14 @@
 ghost use Rattle.std.specs.Prelude.{◌≡◌, OnOk, ◌++◌};
 ghost use Rattle.std.specs.Fmt.{decimal};
 ghost use Rattle.std.specs.Io.KnownBytes.{Appends};
-ghost use Rattle.ordup_output.specs.Fronts.{AppendsFront};
+ghost use Rattle.ordup_text.specs.Fronts.{AppendsFront};
 ghost use Rattle.ordup_cli.specs.Faults.{fault_status, fault_text, of_plan, of_script, of_reading, of_writing};
 
 use itoa::Buffer;
-use ordup_output::{WriteFault, send};
-use ordup_record_reader::RecordReadFault;
+use ordup_check::RecordReadFault;
 use ordup_rows::RecordWriteFault;
 use ordup_script::{PlanFault, ScriptFault};
+use ordup_text::{WriteFault, send};
 use std::io::Write;
 
 /// The exit status where a record is not valid, or a site does not agree with the log.

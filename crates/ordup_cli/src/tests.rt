@@ -4,7 +4,7 @@ use crate::fault::{Fault, tell};
 use crate::rows::ROWS;
 use crate::streams::{Failure, SOUND, Streams, run_on, run_over};
 use crate::tell_lost_words;
-use ordup_words::FILE_TIP;
+use ordup_command_line::FILE_TIP;
 use std::alloc::{AllocError, Global};
 use std::io::ErrorKind;
 use std::process::Abort;

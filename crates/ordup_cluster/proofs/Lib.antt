@@ -1,3 +1,8 @@
+pub mod CellLemmas
+pub mod BookLemmas
+pub mod SettlementLemmas
+mod OpeningLemmas
+mod HoldExamples
 pub mod ClosedLemmas
 pub mod RelimitLemmas
 mod Examples

@@ -2,7 +2,7 @@
 use Rattle.std.specs.Prelude.{◌≡◌, ℕ, ◌<◌, Some, List, length, slice_get, true}
 use Rattle.ordup_primary.specs.Primaries.{PrimaryState, IsPrimary, is_lag_within}
 use Rattle.ordup_site.specs.Sites.{SiteState}
-use Rattle.ordup_holds.specs.Agreement.{Agrees}
+use Rattle.ordup_cluster.specs.Agreement.{Agrees}
 
 -- How many objects and how many sites there are. What lies under a lock no contract sees.
 pub record ClusterState : Type 0 where

@@ -11,7 +11,7 @@ use Rattle.ordup_objects.specs.Sets.{are_known}
 use Rattle.ordup_log.specs.Appending.{append_refusal}
 use Rattle.ordup_log.specs.declared.scope.Scope.{Scope}
 use Rattle.ordup_primary.specs.Primaries.{PrimaryState, IsPrimary}
-use Rattle.ordup_holds.specs.Relimiting.{limit_change_refusal}
+use Rattle.ordup_cluster.specs.Relimiting.{limit_change_refusal}
 use Rattle.ordup_query.specs.Queries.{QueryState, begin_refusal, read_refusal}
 
 -- the number of an update in a log

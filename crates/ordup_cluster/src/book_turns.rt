@@ -1,6 +1,6 @@
 ghost use Rattle.std.specs.Prelude.{◌≡◌, ◌+◌, ◌^◌, ◌<◌, true, false, IfOk, OnOk, IfErr, OnErr};
 
-use ordup_holds::{Book, Turns, turn};
+use crate::holds::{Book, Turns, turn};
 use ordup_objects::Refusal;
 use std::sync::{Mutex, Wait};
 

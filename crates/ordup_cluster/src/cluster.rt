@@ -2,21 +2,21 @@ ghost use Rattle.std.specs.Prelude.{◌≡◌, ◌≢◌, ◌<◌, ◌≤◌, �
 ghost use Rattle.ordup_objects.specs.Refusals.{IsRefusal};
 ghost use Rattle.ordup_primary.specs.Declarations.{start_refusal};
 ghost use Rattle.ordup_site.specs.Sites.{SiteState};
-ghost use Rattle.ordup_holds.specs.Books.{AreRooms};
-ghost use Rattle.ordup_holds.specs.Agreement.{Agrees};
-ghost use Rattle.ordup_holds.specs.Numbering.{IsTurn, with_numbered};
+ghost use Rattle.ordup_cluster.specs.Books.{AreRooms};
+ghost use Rattle.ordup_cluster.specs.Agreement.{Agrees};
+ghost use Rattle.ordup_cluster.specs.Numbering.{IsTurn, with_numbered};
 ghost use Rattle.ordup_cluster.specs.Clusters.{IsClosed, IsFirstMixed};
 ghost use Rattle.ordup_cluster.specs.Refusals.{IsNumber, IsNumberingRefusal, IsProposalRefusal, IsSettlementRefusal, IsReadRefusal, IsLimitPlace, IsLimitChangeRefusal, proposal_refusal, site_query_refusal};
 
 use crate::book_turns::BookTurns;
 use crate::closed::Closed;
 use crate::gate::Gate;
-use crate::session::Session;
-use crate::site_query::SiteQuery;
-use ordup_holds::{
+use crate::holds::{
     Book, Numbered, SeenValue, SiteCell, agree, begin, number_and_turn, open, relimit, take, until,
     until_acknowledged, view,
 };
+use crate::session::Session;
+use crate::site_query::SiteQuery;
 use ordup_log::Scope;
 use ordup_objects::{MessageSet, ObjectId, Refusal, SiteId, Values};
 use ordup_primary::{Primary, Setup};

@@ -8,13 +8,13 @@ mod book_turns;
 mod closed;
 mod cluster;
 mod gate;
+pub mod holds;
 mod session;
 mod site_query;
 
 pub use closed::Closed;
 pub use cluster::Cluster;
 pub use gate::{Gate, OpenGate};
-pub use ordup_holds as holds;
-pub use ordup_holds::SeenValue;
+pub use holds::SeenValue;
 pub use session::Session;
 pub use site_query::SiteQuery;

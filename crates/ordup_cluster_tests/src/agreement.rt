@@ -1,6 +1,6 @@
 //! Whether a site agrees with a primary.
 use crate::fixtures::{add, declare};
-use ordup_holds::agree;
+use ordup_cluster::holds::agree;
 use ordup_objects::{MessageSet, Refusal, SiteId, Values};
 use ordup_primary::{Primary, Setup};
 use ordup_site::Site;

@@ -2,7 +2,7 @@
 ghost use Rattle.std.specs.Prelude.{◌≡◌, None, OnOk};
 ghost use Rattle.ordup_primary.specs.Declarations.{start_refusal};
 
-use ordup_holds::{Book, SeenValue, SiteCell, number, take, turn, view};
+use ordup_cluster::holds::{Book, SeenValue, SiteCell, number, take, turn, view};
 use ordup_objects::{Change, MessageSet, ObjectId, ObjectTable, Op, Refusal};
 use ordup_primary::{Scope, Setup};
 use std::process::Abort;

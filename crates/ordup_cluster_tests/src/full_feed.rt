@@ -1,6 +1,6 @@
 //! Turns at a full feed. Update k adds k to x, so after the first k updates x is 1 + 2 + .. + k.
 use crate::fixtures::{expect_seen, expect_taken, expect_turn, number_add};
-use ordup_holds::{Book, SiteCell, open};
+use ordup_cluster::holds::{Book, SiteCell, open};
 use ordup_objects::sizes::GREATEST_CAPACITY;
 use ordup_objects::{Refusal, SiteId};
 use ordup_primary::{Scope, Setup};

@@ -1,6 +1,6 @@
 //! One update on its way from the book to a cell, and the report of it.
 use crate::fixtures::{declare, expect_seen, expect_taken, expect_turn, number_add};
-use ordup_holds::{Book, SiteCell, open, view};
+use ordup_cluster::holds::{Book, SiteCell, open, view};
 use ordup_objects::{ObjectId, Refusal};
 use ordup_primary::Setup;
 use std::alloc::Global;

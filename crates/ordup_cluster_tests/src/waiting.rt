@@ -1,7 +1,7 @@
 //! Waiting for an update, over turns in memory.
 ghost use Rattle.std.specs.Prelude.{◌≡◌, false};
 
-use ordup_holds::{Turns, until};
+use ordup_cluster::holds::{Turns, until};
 use ordup_objects::Refusal;
 use std::sync::Wait;
 use std::test::Fail;

@@ -34,6 +34,10 @@ are_members_known n members = list_all (λ x. nat_lt x n) members
 abbrev pub AreMembersKnown : ℕ → List ℕ → Type 0
 AreMembersKnown n members = All (λ x. x < n) members
 
+-- the members of each group are among the first n objects
+abbrev pub AreGroupsKnown : ℕ → GroupList → Type 0
+AreGroupsKnown n groups = All (λ g. AreMembersKnown n g.1) groups
+
 -- why a group over n objects is refused, if it is
 abbrev pub group_refusal : ℕ → GroupList → List ℕ → List ℕ → Option Refusal
 group_refusal n groups name members =

@@ -8,7 +8,7 @@ use Rattle.ordup_objects.specs.declared.refusal.Refusal.TheVariants.{BadName, Na
 use Rattle.ordup_objects.specs.Sizes.{most_sites, greatest_capacity}
 use Rattle.ordup_objects.specs.Names.{is_name}
 use Rattle.ordup_objects.specs.Tables.{place_of}
-use Rattle.ordup_log.specs.Groups.{AreMembersKnown}
+use Rattle.ordup_log.specs.Groups.{AreGroupsKnown}
 use Rattle.ordup_log.specs.declared.scope.Scope.{Scope}
 use Rattle.ordup_limits.specs.Limits.{scope_refusal, amount_refusal}
 use Rattle.ordup_limits.specs.Entries.{Entries, latest, HoldFrom, AreEntriesKnown}
@@ -72,10 +72,6 @@ abbrev pub site_limit_refusal : Declared → ℕ → Scope → ℕ → Option Re
 site_limit_refusal d s scope amount =
     option_or (scope_refusal (length d.objects) d.groups scope) (
     if not (nat_lt s (length d.sites)) then Some UnknownSite else amount_refusal (latest (limits_of d s)) scope amount)
-
--- the members of each group are among the first n objects
-abbrev pub AreGroupsKnown : ℕ → List (List ℕ × List ℕ) → Type 0
-AreGroupsKnown n groups = All (λ g. AreMembersKnown n g.1) groups
 
 -- what the declarations keep: each site has its limits, which hold from the start, and their objects and groups are there
 pub record AreDeclared (d : Declared) : Type 0 where

@@ -4,7 +4,8 @@ ghost use Rattle.ordup_objects.specs.Tables.{place_of, object_refusal};
 ghost use Rattle.ordup_objects.specs.Refusals.{IsRefusal};
 ghost use Rattle.ordup_log.specs.Groups.{group_refusal};
 ghost use Rattle.ordup_limits.specs.Entries.{AreEntriesKnown, HoldFrom};
-ghost use Rattle.ordup_primary.specs.Declarations.{Declared, AreDeclared, AreGroupsKnown, with_object, with_group, with_site, with_limit, is_ready, site_refusal, site_limit_refusal, capacity_of, limits_of};
+ghost use Rattle.ordup_primary.specs.Declarations.{Declared, AreDeclared, with_object, with_group, with_site, with_limit, is_ready, site_refusal, site_limit_refusal, capacity_of, limits_of};
+ghost use Rattle.ordup_log.specs.Groups.{AreGroupsKnown};
 
 use ordup_limits::{GroupId, Groups, LimitTable, Scope, check_scope};
 use ordup_objects::sizes::{GREATEST_CAPACITY, MOST_SITES};

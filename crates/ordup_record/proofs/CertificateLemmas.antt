@@ -1,6 +1,6 @@
 -- Certificates over tests and reports that are the same at the decided places.
-use Rattle.ordup_record.proofs.Common.{◌<◌, ◌∙◌, ◌≡◌, ◌≤◌, All-weaker, ap, arith, awaited_place, base, Bool, full_rounds, IsCertificate}
-use Rattle.ordup_record.proofs.Common.{IsWindow, List, max, StaysWithin, Window, ℕ}
+use Rattle.ordup_audit.proofs.Common.{◌<◌, ◌∙◌, ◌≡◌, ◌≤◌, All-weaker, ap, arith, awaited_place, base, Bool, full_rounds, IsCertificate}
+use Rattle.ordup_audit.proofs.Common.{IsWindow, List, max, StaysWithin, Window, ℕ}
 use Rattle.ordup_rounds.specs.Schedules.{Schedule}
 
 module _ (v w : ℕ → ℕ → Bool) (f g : ℕ → ℕ) (d : ℕ) (tests : (a b : ℕ) → b ≤ d → w a b ≡ v a b)

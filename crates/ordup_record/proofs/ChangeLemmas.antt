@@ -1,8 +1,9 @@
 -- The changes of what a site had reported, and what they tell.
-use Rattle.ordup_record.proofs.Common.{◌++◌, ◌+◌, ◌-◌, ◌<◌, ◌∙◌, ◌∷◌, ◌≡◌, ◌≤◌, [], All, All-nil, All-push, All-weaker, AllPairs, ap}
-use Rattle.ordup_record.proofs.Common.{AreReportChanges, arith, cases_Bool, cases_lt, eqb-true, get_or, get_or-map, inl, inr}
-use Rattle.ordup_record.proofs.Common.{IsStrictlyIncreasing, le-leb, length, length-map, List, lt-leb, map, most_updates, refl, report_at}
-use Rattle.ordup_record.proofs.Common.{report_changes, reported_before_or_at, suc, sym, zero, ℕ}
+use Rattle.ordup_audit.proofs.Common.{◌++◌, ◌+◌, ◌-◌, ◌<◌, ◌∙◌, ◌∷◌, ◌≡◌, ◌≤◌, [], All, All-nil, All-push, All-weaker, AllPairs, ap}
+use Rattle.ordup_audit.proofs.Common.{AreReportChanges, arith, cases_Bool, cases_lt, eqb-true, get_or, get_or-map, inl, inr}
+use Rattle.ordup_audit.proofs.Common.{IsStrictlyIncreasing, le-leb, length, length-map, List, lt-leb, map, most_updates, refl, report_at}
+use Rattle.ordup_audit.proofs.Common.{suc, sym, zero, ℕ}
+use Rattle.ordup_record.specs.RecordsOf.{report_changes, reported_before_or_at}
 use Rattle.std.specs.Prelude.{◌==◌}
 use Rattle.std.proofs.lemmas.Bool.{eqb-false}
 use Rattle.std.proofs.lemmas.List.{map_push}
@@ -11,7 +12,7 @@ use Rattle.std.proofs.lemmas.List.Sums.{fold-append}
 use Rattle.ordup_log.specs.Steps.{steps_of}
 use Rattle.ordup_primary.specs.Settling.{report_at as report_in}
 use Rattle.ordup_primary.specs.Reports.{reported_from_start}
-use Rattle.ordup_record.specs.declared.report_change.ReportChange.{ReportChange}
+use Rattle.ordup_audit.specs.declared.report_change.ReportChange.{ReportChange}
 
 -- a later change at the end does not count
 report_at-before : (changes : List ReportChange) (c : ReportChange) (k : ℕ) → k < c.place

@@ -1,17 +1,19 @@
 -- The record of a site of a primary.
-use Rattle.ordup_record.proofs.Common.{◌-◌, ◌<◌, ◌∙◌, ◌≡◌, ◌≤◌, [], All, and_parts, ap, append-nil, AreDistinct, AreEntries, AreNames}
-use Rattle.ordup_record.proofs.Common.{AreParts, AreReportChanges, arith, drop, History, history_of, initial_state, is_name}
-use Rattle.ordup_record.proofs.Common.{is_within, IsCertificate, IsGroup, IsLegalHistory, IsRecord, IsValid, length, length-map, limits_at, in_force}
-use Rattle.ordup_record.proofs.Common.{List, ltb-true, most_groups, most_objects, most_updates, nat_lt, progress_at, record_of, RecordState}
-use Rattle.ordup_record.proofs.Common.{refl, report_at, report_changes, reported_at, reported_before_or_at, state_of, suc, sym, take}
-use Rattle.ordup_record.proofs.Common.{take-append-drop, true, with_more, zero, ℕ, ℤ}
+use Rattle.ordup_audit.proofs.Common.{◌-◌, ◌<◌, ◌∙◌, ◌≡◌, ◌≤◌, [], All, and_parts, ap, append-nil, AreDistinct, AreEntries, AreNames}
+use Rattle.ordup_audit.proofs.Common.{AreParts, AreReportChanges, arith, drop, History, history_of, initial_state, is_name}
+use Rattle.ordup_audit.proofs.Common.{is_within, IsCertificate, IsGroup, IsLegalHistory, IsRecord, IsValid, length, length-map, in_force}
+use Rattle.ordup_audit.proofs.Common.{List, ltb-true, most_groups, most_objects, most_updates, nat_lt, RecordState}
+use Rattle.ordup_audit.proofs.Common.{refl, report_at, state_of, suc, sym, take}
+use Rattle.ordup_audit.proofs.Common.{take-append-drop, true, with_more, zero, ℕ, ℤ}
+use Rattle.ordup_primary.specs.Primaries.{limits_at, progress_at, reported_at}
+use Rattle.ordup_record.specs.RecordsOf.{record_of, report_changes, reported_before_or_at}
 use Rattle.std.proofs.Common.{length-take}
 use Rattle.ordup_limits.specs.Limits.{within}
 use Rattle.ordup_limits.proofs.LimitLemmas.{within-longer}
-use Rattle.ordup_primary.specs.Declarations.{AreGroupsKnown}
+use Rattle.ordup_log.specs.Groups.{AreGroupsKnown}
 use Rattle.ordup_primary.specs.Primaries.{PrimaryState, IsPrimary, IsSiteSound, HasFewestRounds, first_progress, is_within as is_within_at}
-use Rattle.ordup_record.specs.declared.record.RecordParts.{RecordParts}
-use Rattle.ordup_record.proofs.AscendingLemmas.{rounds-few}
+use Rattle.ordup_audit.specs.declared.record.RecordParts.{RecordParts}
+use Rattle.ordup_audit.proofs.AscendingLemmas.{rounds-few}
 use Rattle.ordup_record.proofs.ChangeLemmas.{AreReportsRising, changes-are, report_at-changes}
 use Rattle.ordup_record.proofs.CertificateLemmas.{certificate-same}
 

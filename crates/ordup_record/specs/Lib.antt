@@ -1,4 +1,1 @@
-pub mod Records
-pub mod RecordInside
-pub mod Validity
 pub mod RecordsOf

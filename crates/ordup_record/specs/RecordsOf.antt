@@ -4,8 +4,8 @@ use Rattle.std.specs.Prelude.{slice_index_or}
 use Rattle.ordup_objects.specs.declared.refusal.Refusal.{Refusal}
 use Rattle.ordup_objects.specs.declared.refusal.Refusal.TheVariants.{UnknownSite}
 use Rattle.ordup_primary.specs.Primaries.{PrimaryState, progress_at, limits_at, reported_at}
-use Rattle.ordup_record.specs.Records.{RecordState}
-use Rattle.ordup_record.specs.declared.report_change.ReportChange.{ReportChange}
+use Rattle.ordup_audit.specs.Records.{RecordState}
+use Rattle.ordup_audit.specs.declared.report_change.ReportChange.{ReportChange}
 
 -- what a site had reported at the decision of place k, 0 before the first
 abbrev pub reported_before_or_at : (ℕ → ℕ) → ℕ → ℕ

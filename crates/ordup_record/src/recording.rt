@@ -1,12 +1,11 @@
 ghost use Rattle.std.specs.Prelude.{◌≡◌, ◌<◌, None, IfOk, IfErr, length};
 ghost use Rattle.ordup_objects.specs.Refusals.{IsRefusal};
 ghost use Rattle.ordup_primary.specs.Primaries.{progress_at, reported_at};
-ghost use Rattle.ordup_record.specs.RecordInside.{state_of, AreParts};
+ghost use Rattle.ordup_audit.specs.RecordInside.{state_of, AreParts};
 ghost use Rattle.ordup_record.specs.RecordsOf.{record_of, record_refusal, report_changes};
-ghost use Rattle.ordup_record.specs.Validity.{IsValid};
+ghost use Rattle.ordup_audit.specs.Validity.{IsValid};
 
-use crate::record::{Record, RecordParts};
-use crate::report_change::ReportChange;
+use ordup_audit::{Record, RecordParts, ReportChange};
 use ordup_objects::{Refusal, SiteId};
 use ordup_primary::Primary;
 use std::alloc::Allocator;

@@ -1,7 +1,7 @@
 //! What text is read as the same rows, and what of a record that is cut or too long.
 
 use crate::told::{ALL, assert_told, said, said_within};
-use ordup_record_reader::{RecordReadFault, read_record};
+use ordup_check::{RecordReadFault, read_record};
 use std::alloc::Global;
 use std::io::{self, Read};
 use std::process::Abort;

@@ -1,6 +1,5 @@
 //! What is said of a text.
-use ordup_check::{Record, Verdict, check, read_record};
-use ordup_record_reader::{RecordReadFault, read_record_within};
+use ordup_check::{Record, RecordReadFault, Verdict, check, read_record, read_record_within};
 use std::alloc::{AllocError, Global};
 use std::io::{self, Read};
 use std::process::Abort;

@@ -1,7 +1,7 @@
 -- Rows tell one record, or have one first bad row.
-use Rattle.ordup_record.proofs.Common.{◌++◌, ◌+◌, ◌-◌, ◌<◌, ◌∙◌, ◌∷◌, ◌≡◌, ◌≤◌, ◌⊎◌, [], ap, append-nil, append_assoc, arith, cases_lt}
-use Rattle.ordup_record.proofs.Common.{drop, inl, inr, length, List, None, Option, option_and_then, RecordState, refl, Some, subst, sym}
-use Rattle.ordup_record.proofs.Common.{take, take-append-drop, ℕ}
+use Rattle.ordup_audit.proofs.Common.{◌++◌, ◌+◌, ◌-◌, ◌<◌, ◌∙◌, ◌∷◌, ◌≡◌, ◌≤◌, ◌⊎◌, [], ap, append-nil, append_assoc, arith, cases_lt}
+use Rattle.ordup_audit.proofs.Common.{drop, inl, inr, length, List, None, Option, option_and_then, RecordState, refl, Some, subst, sym}
+use Rattle.ordup_audit.proofs.Common.{take, take-append-drop, ℕ}
 use Rattle.std.proofs.lemmas.List.{take-take}
 use Rattle.ordup_rows.specs.Laws.{BadRowsAreOne, RowsTellOrAreBad, ToldRowsAreNotBad}
 use Rattle.ordup_rows.specs.Rows.{Row}

@@ -1,8 +1,8 @@
 -- What columns spell, and that each value has one spelling.
-use Rattle.ordup_record.proofs.Common.{◌&&◌, ◌++◌, ◌<◌, ◌^◌, ◌∙◌, ◌∷◌, ◌≡◌, [], and_parts, ap, Bool, bytes_eq, bytes_eq-Decides, codes}
-use Rattle.ordup_record.proofs.Common.{decimal, drop, eq-eqb, eqb-true, false, if◌then◌else◌, length, length-map, List, names_of, negsuc}
-use Rattle.ordup_record.proofs.Common.{None, Option, option_and_then, place_of, pointwise, pos, refl, same_Some, Some, sym}
-use Rattle.ordup_record.proofs.Common.{take-append-drop, then_some, true, ℕ, ℤ}
+use Rattle.ordup_audit.proofs.Common.{◌&&◌, ◌++◌, ◌<◌, ◌^◌, ◌∙◌, ◌∷◌, ◌≡◌, [], and_parts, ap, Bool, bytes_eq, bytes_eq-Decides, codes}
+use Rattle.ordup_audit.proofs.Common.{decimal, drop, eq-eqb, eqb-true, false, if◌then◌else◌, length, length-map, List, names_of, negsuc}
+use Rattle.ordup_audit.proofs.Common.{None, Option, option_and_then, place_of, pointwise, pos, refl, same_Some, Some, sym}
+use Rattle.ordup_audit.proofs.Common.{take-append-drop, then_some, true, ℕ, ℤ}
 use Rattle.std.proofs.Common.{option_map}
 use Rattle.std.specs.Prelude.{nat_eq}
 use Rattle.std.proofs.lemmas.List.Quantifiers.{position-Some}

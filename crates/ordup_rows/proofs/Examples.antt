@@ -1,6 +1,6 @@
 -- Rows at small numbers, written by hand: no definition can change its meaning unseen.
-use Rattle.ordup_record.proofs.Common.{◌++◌, ◌∷◌, ◌≡◌, [], Add, Bool, codes, Count, Everything, false, Group, is_some, List, map, Mul}
-use Rattle.ordup_record.proofs.Common.{◌∙◌, ap, Object, pos, RecordState, refl, same_Some, slice_split, Some, sym, take, Take, true, ℕ}
+use Rattle.ordup_audit.proofs.Common.{◌++◌, ◌∷◌, ◌≡◌, [], Add, Bool, codes, Count, Everything, false, Group, is_some, List, map, Mul}
+use Rattle.ordup_audit.proofs.Common.{◌∙◌, ap, Object, pos, RecordState, refl, same_Some, slice_split, Some, sym, take, Take, true, ℕ}
 use Prim.Native.String.{String}
 use Rattle.std.specs.Prelude.{neg_ℤ, ◌==◌, Option, None, slice_index_or}
 use Rattle.ordup_limits.specs.Entries.{entry_of}

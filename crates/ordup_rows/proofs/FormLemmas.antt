@@ -1,7 +1,7 @@
 -- Rows that are written one by one.
-use Rattle.ordup_record.proofs.Common.{◌++◌, ◌+◌, ◌<◌, ◌∙◌, ◌∷◌, ◌≡◌, [], ap, append_assoc, Change, drop, get_or, get_or_from_slice_get}
-use Rattle.ordup_record.proofs.Common.{GroupList, length, List, map, names_of, None, Objects, Option, option_map, RecordState, refl}
-use Rattle.ordup_record.proofs.Common.{slice_get, Some, sym, ℕ}
+use Rattle.ordup_audit.proofs.Common.{◌++◌, ◌+◌, ◌<◌, ◌∙◌, ◌∷◌, ◌≡◌, [], ap, append_assoc, Change, drop, get_or, get_or_from_slice_get}
+use Rattle.ordup_audit.proofs.Common.{GroupList, length, List, map, names_of, None, Objects, Option, option_map, RecordState, refl}
+use Rattle.ordup_audit.proofs.Common.{slice_get, Some, sym, ℕ}
 use Rattle.std.proofs.Common.{add-one, drop-cons}
 use Rattle.std.specs.Prelude.{Vec}
 use Rattle.std.proofs.lemmas.Option.{slice_get-map}

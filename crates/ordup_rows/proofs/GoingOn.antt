@@ -1,8 +1,8 @@
 -- Rows that were taken can go on; so the first row that is not taken is the first bad one.
-use Rattle.ordup_record.proofs.Common.{◌++◌, ◌+◌, ◌-◌, ◌<◌, ◌∙◌, ◌∷◌, ◌≡◌, [], Add, All-cons, All-nil, ap, append-nil, append_assoc}
-use Rattle.ordup_record.proofs.Common.{AreKnown, arith, cases_lt, Change, codes, decimal, inl, inr, IsKnown, IsSet, length}
-use Rattle.ordup_record.proofs.Common.{length-append, length_push, List, lt-ltb, nil_from_length, None, option_and_then, pos, RecordState}
-use Rattle.ordup_record.proofs.Common.{refl, same_Some, signed_decimal, Some, subst, suc, sym, take, zero, ℕ}
+use Rattle.ordup_audit.proofs.Common.{◌++◌, ◌+◌, ◌-◌, ◌<◌, ◌∙◌, ◌∷◌, ◌≡◌, [], Add, All-cons, All-nil, ap, append-nil, append_assoc}
+use Rattle.ordup_audit.proofs.Common.{AreKnown, arith, cases_lt, Change, codes, decimal, inl, inr, IsKnown, IsSet, length}
+use Rattle.ordup_audit.proofs.Common.{length-append, length_push, List, lt-ltb, nil_from_length, None, option_and_then, pos, RecordState}
+use Rattle.ordup_audit.proofs.Common.{refl, same_Some, signed_decimal, Some, subst, suc, sym, take, zero, ℕ}
 use Rattle.std.proofs.Math.Seq.{take-append_seam}
 use Rattle.ordup_grammar.proofs.Decimals.{number_of-signed_decimal}
 use Rattle.ordup_rows.specs.Columns.{Columns}

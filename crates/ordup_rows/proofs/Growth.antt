@@ -1,12 +1,12 @@
 -- The rows of a record that is told one row more.
-use Rattle.ordup_record.proofs.Common.{◌++◌, ◌+◌, ◌-◌, ◌<◌, ◌==◌, ◌∙◌, ◌∷◌, ◌≡◌, [], and_parts, ap, append-nil, append_assoc, arith, Change}
-use Rattle.ordup_record.proofs.Common.{drop, eqb-true, get_or-append_seam, GroupList, last_members, length, length_push, List}
-use Rattle.ordup_record.proofs.Common.{map-append, nil_from_length, Objects, RecordState, refl, sym, true, Window, with_member, ℕ, ℤ}
+use Rattle.ordup_audit.proofs.Common.{◌++◌, ◌+◌, ◌-◌, ◌<◌, ◌==◌, ◌∙◌, ◌∷◌, ◌≡◌, [], and_parts, ap, append-nil, append_assoc, arith, Change}
+use Rattle.ordup_audit.proofs.Common.{drop, eqb-true, get_or-append_seam, GroupList, last_members, length, length_push, List}
+use Rattle.ordup_audit.proofs.Common.{map-append, nil_from_length, Objects, RecordState, refl, sym, true, Window, with_member, ℕ, ℤ}
 use Rattle.std.specs.Prelude.{slice_index_or, slice_set}
 use Rattle.std.proofs.Math.Seq.{set-append_seam}
 use Rattle.ordup_objects.specs.Tables.{with_entry}
 use Rattle.ordup_limits.specs.declared.limit_entry.LimitEntry.{LimitEntry}
-use Rattle.ordup_record.specs.declared.report_change.ReportChange.{ReportChange}
+use Rattle.ordup_audit.specs.declared.report_change.ReportChange.{ReportChange}
 use Rattle.ordup_rows.specs.Rows.{Row, change_row, change_rows, counted, limit_row, member_row, member_rows, object_row, report_row}
 use Rattle.ordup_rows.specs.Rows.{round_row, rows_so_far, window_row}
 use Rattle.ordup_rows.specs.Stages.{is_before_changes, is_before_limits, is_before_members, is_before_reports, is_before_rounds}

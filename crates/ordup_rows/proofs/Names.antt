@@ -1,7 +1,7 @@
 -- Names in tables: which stand where, and which may be added.
-use Rattle.ordup_record.proofs.Common.{◌++◌, ◌+◌, ◌<◌, ◌∙◌, ◌∷◌, ◌≡◌, ◌≤◌, [], AreDistinct, arith, cases_Bool, false, get_or, inl, inr}
-use Rattle.ordup_record.proofs.Common.{length, length-map, List, lt-ltb, map-append, names_of, None, place_of, pointwise, refl, Some, suc}
-use Rattle.ordup_record.proofs.Common.{zero, ℕ}
+use Rattle.ordup_audit.proofs.Common.{◌++◌, ◌+◌, ◌<◌, ◌∙◌, ◌∷◌, ◌≡◌, ◌≤◌, [], AreDistinct, arith, cases_Bool, false, get_or, inl, inr}
+use Rattle.ordup_audit.proofs.Common.{length, length-map, List, lt-ltb, map-append, names_of, None, place_of, pointwise, refl, Some, suc}
+use Rattle.ordup_audit.proofs.Common.{zero, ℕ}
 use Rattle.std.specs.Prelude.{nat_eq}
 use Rattle.std.specs.List.{AllByRecursion, IsDistinct, position_or_len}
 use Rattle.std.proofs.lemmas.Bool.{le-ltb}

@@ -1,12 +1,12 @@
 -- No column of a record's rows needs quotes: `csv` writes each row as its columns with commas between them.
-use Rattle.ordup_record.proofs.Common.{◌++◌, ◌+◌, ◌<◌, ◌==◌, ◌^◌, ◌||◌, ◌∙◌, ◌∷◌, ◌≡◌, ◌≤◌, [], Add, All, All-cons, All-map, All-nil}
-use Rattle.ordup_record.proofs.Common.{All-tail, ap, append-nil, AreKnown, AreNames, arith, Bool, Change}
-use Rattle.ordup_record.proofs.Common.{codes, Count, decimal, Everything, false, get_or-map, greatest_amount, Group}
-use Rattle.ordup_record.proofs.Common.{GroupList, IfSome, initial_state, is_ascii_digit, is_name, is_name_byte, IsInRange, IsKnown}
-use Rattle.ordup_record.proofs.Common.{IsRecord, IsScopeKnown, IsSet, IsState, leb-true, length, length-append, length-map, List}
-use Rattle.ordup_record.proofs.Common.{list_all, list_any, list_any-append, map, Max, Min, most_updates, Mul, nat_tests, negsuc}
-use Rattle.ordup_record.proofs.Common.{Object, Objects, Op, op_number, or_from, or_parts, pos, RecordState, refl, Scope, Set}
-use Rattle.ordup_record.proofs.Common.{signed_decimal, source_of, suc, Take, true, unsigned_abs, Window, ℕ, ℤ}
+use Rattle.ordup_audit.proofs.Common.{◌++◌, ◌+◌, ◌<◌, ◌==◌, ◌^◌, ◌||◌, ◌∙◌, ◌∷◌, ◌≡◌, ◌≤◌, [], Add, All, All-cons, All-map, All-nil}
+use Rattle.ordup_audit.proofs.Common.{All-tail, ap, append-nil, AreKnown, AreNames, arith, Bool, Change}
+use Rattle.ordup_audit.proofs.Common.{codes, Count, decimal, Everything, false, get_or-map, greatest_amount, Group}
+use Rattle.ordup_audit.proofs.Common.{GroupList, IfSome, initial_state, is_ascii_digit, is_name, is_name_byte, IsInRange, IsKnown}
+use Rattle.ordup_audit.proofs.Common.{IsRecord, IsScopeKnown, IsSet, IsState, leb-true, length, length-append, length-map, List}
+use Rattle.ordup_audit.proofs.Common.{list_all, list_any, list_any-append, map, Max, Min, most_updates, Mul, nat_tests, negsuc}
+use Rattle.ordup_audit.proofs.Common.{Object, Objects, Op, op_number, or_from, or_parts, pos, RecordState, refl, Scope, Set}
+use Rattle.ordup_audit.proofs.Common.{signed_decimal, source_of, suc, Take, true, unsigned_abs, Window, ℕ, ℤ}
 use Rattle.std.proofs.Common.{lit<, lit≤}
 use Rattle.std.proofs.lemmas.Fmt.{length-decimal-le}
 use Rattle.std.proofs.lemmas.List.Elements.{All-append}
@@ -14,7 +14,7 @@ use Rattle.std.proofs.lemmas.List.Folds.{list_any_none}
 use Rattle.csv.specs.Quoting.{needs_byte}
 use Rattle.csv.specs.Writing.{default_writer, fields_text, is_blank, needs_quotes, row_text}
 use Rattle.ordup_limits.specs.declared.limit_entry.LimitEntry.{LimitEntry}
-use Rattle.ordup_record.specs.declared.report_change.ReportChange.{ReportChange}
+use Rattle.ordup_audit.specs.declared.report_change.ReportChange.{ReportChange}
 use Rattle.ordup_objects.specs.Sizes.{most_name_bytes}
 use Rattle.ordup_rows.specs.Forming.{csv_text}
 use Rattle.ordup_rows.specs.Rows.{Row, amount_text, change_row, change_rows, change_word, counted, head_row, limit_row, member_row}
@@ -24,7 +24,7 @@ use Rattle.ordup_rows.specs.Stages.{member_count}
 use Rattle.ordup_rows.specs.Versions.{version_text}
 use Rattle.ordup_rows.specs.declared.version.Version.{Version}
 use Rattle.ordup_rows.specs.declared.version.Version.TheVariants.{First, Second}
-use Rattle.ordup_record.proofs.AscendingLemmas.{rounds-few}
+use Rattle.ordup_audit.proofs.AscendingLemmas.{rounds-few}
 use Rattle.ordup_rows.proofs.Columns.{parts_3}
 use Rattle.ordup_rows.proofs.ReadingBack.{HasNumber, member_count-few}
 use Rattle.ordup_rows.proofs.ToldSoFar.{HasKnown, HasName}

@@ -1,14 +1,14 @@
 -- The rows of a record are read back as it.
-use Rattle.ordup_record.proofs.Common.{◌*◌, ◌++◌, ◌+◌, ◌<◌, ◌==◌, ◌^◌, ◌∙◌, ◌∷◌, ◌≡◌, ◌≤◌, [], All, All-cons, All-nil, All-tail, and_from}
-use Rattle.ordup_record.proofs.Common.{ap, append-nil, append_assoc, are_of_one_object, AreEntries, AreEntriesKnown, AreGroups, AreKnown}
-use Rattle.ordup_record.proofs.Common.{AreMembersKnown, AreReportChanges, AreRoundPlaces, arith, Bool, bytes_eq, Change, decimal, Entries, eq-eqb}
-use Rattle.ordup_record.proofs.Common.{false, get_or, get_or-append_seam, greatest_amount, group_refusal, GroupList, IfSome, initial_state}
-use Rattle.ordup_record.proofs.Common.{is_name, IsGroup, IsInRange, IsKnown, IsRecord, IsScopeKnown, IsSet, IsStrictlyIncreasing, le-leb}
-use Rattle.ordup_record.proofs.Common.{HoldFrom, length, length-append, length_push, List, list_any, list_any-append, most_limits, take}
-use Rattle.ordup_record.proofs.Common.{lt-ltb, map, map-append, member_refusal, most_changes, most_members}
-use Rattle.ordup_record.proofs.Common.{most_updates, most_windows, nat_eq, nat_lt, nat_tests, None, Objects, op_number}
-use Rattle.ordup_record.proofs.Common.{option_and_then, or_from, or_parts, place_of, RecordState, refl, repeats, same_Some, set_refusal}
-use Rattle.ordup_record.proofs.Common.{Some, subst, suc, sym, true, Window, ℕ, ℤ}
+use Rattle.ordup_audit.proofs.Common.{◌*◌, ◌++◌, ◌+◌, ◌<◌, ◌==◌, ◌^◌, ◌∙◌, ◌∷◌, ◌≡◌, ◌≤◌, [], All, All-cons, All-nil, All-tail, and_from}
+use Rattle.ordup_audit.proofs.Common.{ap, append-nil, append_assoc, are_of_one_object, AreEntries, AreEntriesKnown, AreGroups, AreKnown}
+use Rattle.ordup_audit.proofs.Common.{AreMembersKnown, AreReportChanges, AreRoundPlaces, arith, Bool, bytes_eq, Change, decimal, Entries, eq-eqb}
+use Rattle.ordup_audit.proofs.Common.{false, get_or, get_or-append_seam, greatest_amount, group_refusal, GroupList, IfSome, initial_state}
+use Rattle.ordup_audit.proofs.Common.{is_name, IsGroup, IsInRange, IsKnown, IsRecord, IsScopeKnown, IsSet, IsStrictlyIncreasing, le-leb}
+use Rattle.ordup_audit.proofs.Common.{HoldFrom, length, length-append, length_push, List, list_any, list_any-append, most_limits, take}
+use Rattle.ordup_audit.proofs.Common.{lt-ltb, map, map-append, member_refusal, most_changes, most_members}
+use Rattle.ordup_audit.proofs.Common.{most_updates, most_windows, nat_eq, nat_lt, nat_tests, None, Objects, op_number}
+use Rattle.ordup_audit.proofs.Common.{option_and_then, or_from, or_parts, place_of, RecordState, refl, repeats, same_Some, set_refusal}
+use Rattle.ordup_audit.proofs.Common.{Some, subst, suc, sym, true, Window, ℕ, ℤ}
 use Rattle.std.proofs.lemmas.Bool.{and_right}
 use Rattle.ordup_grammar.proofs.Decimals.{number_of-signed_decimal}
 use Rattle.ordup_objects.specs.Sets.{AreInRange}
@@ -17,8 +17,8 @@ use Rattle.ordup_limits.specs.Entries.{are_one_entry, has_few, latest}
 use Rattle.ordup_limits.specs.Sizes.{most_entries}
 use Rattle.ordup_limits.specs.declared.limit_entry.LimitEntry.{LimitEntry}
 use Rattle.ordup_limits.proofs.EntryLemmas.{latest-take}
-use Rattle.ordup_record.specs.declared.report_change.ReportChange.{ReportChange}
-use Rattle.ordup_record.specs.Records.{AreObjects}
+use Rattle.ordup_audit.specs.declared.report_change.ReportChange.{ReportChange}
+use Rattle.ordup_audit.specs.Records.{AreObjects}
 use Rattle.ordup_rows.specs.Columns.{change_by, writes}
 use Rattle.ordup_rows.specs.Laws.{RowsOfEachVersionAreRead, RowsTellOneRecord, WhatIsToldIsRead}
 use Rattle.ordup_rows.specs.Rows.{Row, change_row, change_rows, change_text, counted, head_row, limit_row, member_row, member_rows, name_at}
@@ -27,7 +27,7 @@ use Rattle.ordup_rows.specs.Stages.{Stage, closed, is_last_group, last_name, las
 use Rattle.ordup_rows.specs.Stages.{unread}
 use Rattle.ordup_rows.specs.Versions.{CanTell, CanTellPlace}
 use Rattle.ordup_rows.specs.declared.version.Version.{Version}
-use Rattle.ordup_record.proofs.AscendingLemmas.{above}
+use Rattle.ordup_audit.proofs.AscendingLemmas.{above}
 use Rattle.ordup_rows.proofs.Columns.{bound, bytes_same, natural_of-decimal, writes-decimal}
 use Rattle.ordup_rows.proofs.Growth.{ends, last_members-of, last_name-of, last_set-of, member_count-append, with_change-last}
 use Rattle.ordup_rows.proofs.Growth.{with_member-last}

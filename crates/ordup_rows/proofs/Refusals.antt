@@ -1,12 +1,12 @@
 -- What is not refused, by what is so of it.
-use Rattle.ordup_record.proofs.Common.{◌<◌, ◌==◌, ◌||◌, ◌∙◌, ◌∷◌, ◌≡◌, ◌≤◌, [], All-cons, All-nil, and_from, and_parts, are_in_range}
-use Rattle.ordup_record.proofs.Common.{are_known, are_of_one_object, AreKnown, AreMembersKnown, arith, Bool, Change, Count, Everything}
-use Rattle.ordup_record.proofs.Common.{false, greatest_amount, Group, group_refusal, GroupList, IfSome, if◌then◌else◌, in_range, is_name}
-use Rattle.ordup_record.proofs.Common.{is_none, is_none_or, is_some, IsGroup, IsInRange, IsKnown, IsScopeKnown, IsSet, le-leb, leb-true}
-use Rattle.ordup_record.proofs.Common.{◌+◌, Entries, length, List, list_all, list_any, lt-ltb, ltb-true, member_refusal, nat_le}
-use Rattle.ordup_record.proofs.Common.{most_changes, most_groups, most_members, most_objects, nat_eq, nat_lt, nat_tests, None}
-use Rattle.ordup_record.proofs.Common.{not, Object, object_refusal, Objects, Option, or_parts, place_of, refl, repeats, Scope, set_refusal}
-use Rattle.ordup_record.proofs.Common.{Some, source_of, suc, sym, true, ℕ, ℤ}
+use Rattle.ordup_audit.proofs.Common.{◌<◌, ◌==◌, ◌||◌, ◌∙◌, ◌∷◌, ◌≡◌, ◌≤◌, [], All-cons, All-nil, and_from, and_parts, are_in_range}
+use Rattle.ordup_audit.proofs.Common.{are_known, are_of_one_object, AreKnown, AreMembersKnown, arith, Bool, Change, Count, Everything}
+use Rattle.ordup_audit.proofs.Common.{false, greatest_amount, Group, group_refusal, GroupList, IfSome, if◌then◌else◌, in_range, is_name}
+use Rattle.ordup_audit.proofs.Common.{is_none, is_none_or, is_some, IsGroup, IsInRange, IsKnown, IsScopeKnown, IsSet, le-leb, leb-true}
+use Rattle.ordup_audit.proofs.Common.{◌+◌, Entries, length, List, list_all, list_any, lt-ltb, ltb-true, member_refusal, nat_le}
+use Rattle.ordup_audit.proofs.Common.{most_changes, most_groups, most_members, most_objects, nat_eq, nat_lt, nat_tests, None}
+use Rattle.ordup_audit.proofs.Common.{not, Object, object_refusal, Objects, Option, or_parts, place_of, refl, repeats, Scope, set_refusal}
+use Rattle.ordup_audit.proofs.Common.{Some, source_of, suc, sym, true, ℕ, ℤ}
 use Rattle.std.specs.List.{All}
 use Rattle.std.specs.Option.{option_or}
 use Rattle.std.proofs.lemmas.Cmp.{nat_eq_equiv}

@@ -1,9 +1,9 @@
 -- Rows that are read one after another: what was taken is what was told.
-use Rattle.ordup_record.proofs.Common.{◌++◌, ◌<◌, ◌==◌, ◌∙◌, ◌∷◌, ◌≡◌, ◌≤◌, [], All-nil, and_parts, ap, append-nil, append_assoc, AreKnown}
-use Rattle.ordup_record.proofs.Common.{arith, eqb-true, inr, is_name, IsInRange, IsRecord}
-use Rattle.ordup_record.proofs.Common.{IsSet, leb-true, length, List, ltb-true, most_updates, RecordState, refl, same_Some}
-use Rattle.ordup_record.proofs.Common.{Some, subst, sym, true, Window, ℕ, ℤ}
-use Rattle.ordup_record.specs.declared.report_change.ReportChange.{ReportChange}
+use Rattle.ordup_audit.proofs.Common.{◌++◌, ◌<◌, ◌==◌, ◌∙◌, ◌∷◌, ◌≡◌, ◌≤◌, [], All-nil, and_parts, ap, append-nil, append_assoc, AreKnown}
+use Rattle.ordup_audit.proofs.Common.{arith, eqb-true, inr, is_name, IsInRange, IsRecord}
+use Rattle.ordup_audit.proofs.Common.{IsSet, leb-true, length, List, ltb-true, most_updates, RecordState, refl, same_Some}
+use Rattle.ordup_audit.proofs.Common.{Some, subst, sym, true, Window, ℕ, ℤ}
+use Rattle.ordup_audit.specs.declared.report_change.ReportChange.{ReportChange}
 use Rattle.ordup_rows.specs.Columns.{Columns, columns_of, natural_of}
 use Rattle.ordup_rows.specs.Laws.{WhatIsReadIsTold}
 use Rattle.ordup_rows.specs.RowKinds.{kind_of}

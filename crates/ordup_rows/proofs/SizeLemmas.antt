@@ -1,13 +1,13 @@
 -- How long the text of a record can be.
-use Rattle.ordup_record.proofs.Common.{◌*◌, ◌+◌, ◌∷◌, ◌≡◌, ◌≤◌, [], All, All-tail, ap, arith, Change, GroupList, IsRecord, IsSet}
-use Rattle.ordup_record.proofs.Common.{length, length-append, length-map, List, most_changes, Objects, RecordState, refl, suc, ℕ}
+use Rattle.ordup_audit.proofs.Common.{◌*◌, ◌+◌, ◌∷◌, ◌≡◌, ◌≤◌, [], All, All-tail, ap, arith, Change, GroupList, IsRecord, IsSet}
+use Rattle.ordup_audit.proofs.Common.{length, length-append, length-map, List, most_changes, Objects, RecordState, refl, suc, ℕ}
 use Rattle.ordup_rows.specs.Rows.{Row, change_row, change_rows, counted, member_row, member_rows}
 use Rattle.ordup_rows.specs.Rows.{row_line, rows_in, rows_of, rows_text}
 use Rattle.ordup_rows.specs.Stages.{member_count}
 use Rattle.ordup_rows.specs.TextLaws.{WrittenRecordsAreShort}
 use Rattle.ordup_rows.specs.Versions.{version_for}
 use Rattle.ordup_rows.specs.declared.version.Version.{Version}
-use Rattle.ordup_record.proofs.AscendingLemmas.{reports-few, rounds-few}
+use Rattle.ordup_audit.proofs.AscendingLemmas.{reports-few, rounds-few}
 use Rattle.ordup_rows.proofs.PlainLemmas.{IsLine, all_lines}
 use Rattle.ordup_rows.proofs.ReadingBack.{member_count-few}
 

@@ -1,15 +1,15 @@
 -- What is taken of a row: the rows so far are one more, and what is kept of a record is kept.
-use Rattle.ordup_record.proofs.Common.{◌++◌, ◌+◌, ◌<◌, ◌∙◌, ◌∷◌, ◌≡◌, ◌≤◌, ◌⊎◌, [], All-push, and_parts, ap, AreGroups}
-use Rattle.ordup_record.proofs.Common.{AreKnown, AreReportChanges, AreRoundPlaces, arith, Bool, bytes_eq, cases_Bool, Change, codes}
-use Rattle.ordup_record.proofs.Common.{decimal, eqb-true, false, group_refusal, GroupList, if◌then◌else◌, inl, inr, IsKnown}
-use Rattle.ordup_record.proofs.Common.{IsSet, last_members, leb-true, length, length_push, List}
-use Rattle.ordup_record.proofs.Common.{ltb-true, map, map-append, member_refusal, most_updates, most_windows, nat_lt, None}
-use Rattle.ordup_record.proofs.Common.{Objects, Option, place_of, RecordState, refl, set_refusal, Some, subst, sym, true}
-use Rattle.ordup_record.proofs.Common.{Window, with_member, ℕ}
+use Rattle.ordup_audit.proofs.Common.{◌++◌, ◌+◌, ◌<◌, ◌∙◌, ◌∷◌, ◌≡◌, ◌≤◌, ◌⊎◌, [], All-push, and_parts, ap, AreGroups}
+use Rattle.ordup_audit.proofs.Common.{AreKnown, AreReportChanges, AreRoundPlaces, arith, Bool, bytes_eq, cases_Bool, Change, codes}
+use Rattle.ordup_audit.proofs.Common.{decimal, eqb-true, false, group_refusal, GroupList, if◌then◌else◌, inl, inr, IsKnown}
+use Rattle.ordup_audit.proofs.Common.{IsSet, last_members, leb-true, length, length_push, List}
+use Rattle.ordup_audit.proofs.Common.{ltb-true, map, map-append, member_refusal, most_updates, most_windows, nat_lt, None}
+use Rattle.ordup_audit.proofs.Common.{Objects, Option, place_of, RecordState, refl, set_refusal, Some, subst, sym, true}
+use Rattle.ordup_audit.proofs.Common.{Window, with_member, ℕ}
 use Rattle.ordup_grammar.specs.Numbers.{number_of}
 use Rattle.ordup_grammar.proofs.Decimals.{signed_decimal-number_of}
 use Rattle.ordup_limits.specs.Entries.{entry_of}
-use Rattle.ordup_record.specs.declared.report_change.ReportChange.{ReportChange}
+use Rattle.ordup_audit.specs.declared.report_change.ReportChange.{ReportChange}
 use Rattle.ordup_rows.specs.Columns.{Columns, amount_by, change_by, natural_of, scope_of, writes}
 use Rattle.ordup_rows.specs.RowKinds.{kind_text}
 use Rattle.ordup_rows.specs.Rows.{Row, change_row, change_rows, change_text, head_row, member_row, member_rows, rows_so_far}

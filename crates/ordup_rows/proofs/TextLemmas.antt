@@ -1,6 +1,6 @@
 -- Texts that are read as rows, one way alone; and the text of a record is read as its rows.
-use Rattle.ordup_record.proofs.Common.{◌++◌, ◌-◌, ◌∙◌, ◌∷◌, ◌≡◌, ◌⊎◌, [], All, ap, append-nil, arith, inl, inr, length, length-append, List}
-use Rattle.ordup_record.proofs.Common.{nil_from_length, None, RecordState, refl, same_Some, subst, suc, sym, take-append-le, ℕ}
+use Rattle.ordup_audit.proofs.Common.{◌++◌, ◌-◌, ◌∙◌, ◌∷◌, ◌≡◌, ◌⊎◌, [], All, ap, append-nil, arith, inl, inr, length, length-append, List}
+use Rattle.ordup_audit.proofs.Common.{nil_from_length, None, RecordState, refl, same_Some, subst, suc, sym, take-append-le, ℕ}
 use Rattle.csv.specs.Machine.{next_record}
 use Rattle.csv.specs.Reading.{AreRecords, Reached, default_config, strip_bom}
 use Rattle.csv.specs.Writing.{is_blank, read_back}

@@ -1,11 +1,11 @@
 -- What is kept of a record while rows tell it, and how its lists grow.
-use Rattle.ordup_record.proofs.Common.{◌++◌, ◌+◌, ◌-◌, ◌<◌, ◌∙◌, ◌∷◌, ◌≡◌, ◌≤◌, ◌⊎◌, [], All, All-nil, All-push, ap, AreDistinct, AreGroups}
-use Rattle.ordup_record.proofs.Common.{AreEntries, AreEntriesKnown, AreKnown, AreMembersKnown, AreNames, AreReportChanges, AreRoundPlaces}
-use Rattle.ordup_record.proofs.Common.{Entries, get_or-map, HoldFrom, IsScopeKnown, length-map, refl, subst, false}
-use Rattle.ordup_record.proofs.Common.{arith, cases_lt, Change, get_or, get_or-append_seam, greatest_amount, GroupList, initial_state, inl, inr, is_name, list_any}
-use Rattle.ordup_record.proofs.Common.{IsGroup, IsInRange, IsSet, IsState, IsStrictlyIncreasing, length, length-append, length_push, List}
-use Rattle.ordup_record.proofs.Common.{map-append, most_objects, most_updates, most_windows, nat_eq, Objects, RecordState, true, Window, ℕ}
-use Rattle.ordup_record.proofs.Common.{ℤ}
+use Rattle.ordup_audit.proofs.Common.{◌++◌, ◌+◌, ◌-◌, ◌<◌, ◌∙◌, ◌∷◌, ◌≡◌, ◌≤◌, ◌⊎◌, [], All, All-nil, All-push, ap, AreDistinct, AreGroups}
+use Rattle.ordup_audit.proofs.Common.{AreEntries, AreEntriesKnown, AreKnown, AreMembersKnown, AreNames, AreReportChanges, AreRoundPlaces}
+use Rattle.ordup_audit.proofs.Common.{Entries, get_or-map, HoldFrom, IsScopeKnown, length-map, refl, subst, false}
+use Rattle.ordup_audit.proofs.Common.{arith, cases_lt, Change, get_or, get_or-append_seam, greatest_amount, GroupList, initial_state, inl, inr, is_name, list_any}
+use Rattle.ordup_audit.proofs.Common.{IsGroup, IsInRange, IsSet, IsState, IsStrictlyIncreasing, length, length-append, length_push, List}
+use Rattle.ordup_audit.proofs.Common.{map-append, most_objects, most_updates, most_windows, nat_eq, Objects, RecordState, true, Window, ℕ}
+use Rattle.ordup_audit.proofs.Common.{ℤ}
 use Rattle.std.proofs.Math.ListN.{get_or-append}
 use Rattle.std.specs.List.Sorted.{IsNonDecreasingBy}
 use Rattle.ordup_limits.specs.Entries.{are_one_entry, changed}

@@ -1,7 +1,7 @@
 -- Versions, and the amounts of limits in their rows: each has one spelling.
-use Rattle.ordup_record.proofs.Common.{◌++◌, ◌<◌, ◌==◌, ◌^◌, ◌∙◌, ◌∷◌, ◌≡◌, [], All, ap, arith, Bool, bytes_eq, cases_Bool, codes, decimal, Entries, eqb-true}
-use Rattle.ordup_record.proofs.Common.{false, inl, inr, is_ascii_digit, List, list_all, nat_tests, option_map, refl, same_Some, Scope}
-use Rattle.ordup_record.proofs.Common.{slice_split, Some, sym, true, ℕ}
+use Rattle.ordup_audit.proofs.Common.{◌++◌, ◌<◌, ◌==◌, ◌^◌, ◌∙◌, ◌∷◌, ◌≡◌, [], All, ap, arith, Bool, bytes_eq, cases_Bool, codes, decimal, Entries, eqb-true}
+use Rattle.ordup_audit.proofs.Common.{false, inl, inr, is_ascii_digit, List, list_all, nat_tests, option_map, refl, same_Some, Scope}
+use Rattle.ordup_audit.proofs.Common.{slice_split, Some, sym, true, ℕ}
 use Rattle.std.specs.List.{join_with_byte}
 use Rattle.std.proofs.lemmas.List.Splits.{join_with_byte-slice_split, slice_split_at, slice_split_none}
 use Rattle.ordup_limits.specs.Entries.{entry_of}

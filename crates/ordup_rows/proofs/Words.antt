@@ -1,10 +1,10 @@
 -- Scopes and changes as columns spell them, and that each has one spelling.
-use Rattle.ordup_record.proofs.Common.{◌++◌, ◌<◌, ◌==◌, ◌^◌, ◌∙◌, ◌∷◌, ◌≡◌, [], Add, All-cons, All-nil, all_ascii_digits, and_parts, ap}
-use Rattle.ordup_record.proofs.Common.{AreDistinct, AreNames, arith, bytes_eq, Change, codes, Count, decimal, digits_decimal, Everything}
-use Rattle.ordup_record.proofs.Common.{false, get_or-map, Group, GroupList, IfSome, if◌then◌else◌, is_ascii_digit, is_name, is_name_byte}
-use Rattle.ordup_record.proofs.Common.{IsInRange, IsKnown, IsScopeKnown, length, List, list_all, Max, Min, Mul, nat_tests, negsuc, None}
-use Rattle.ordup_record.proofs.Common.{NumberOp, Object, Objects, Op, op_number, op_with, option_and_then, place_of, pos, refl, same_Some}
-use Rattle.ordup_record.proofs.Common.{Scope, Set, signed_decimal, slice_split, Some, source_of, suc, sym, Take, true, unsigned_abs, ℕ, ℤ}
+use Rattle.ordup_audit.proofs.Common.{◌++◌, ◌<◌, ◌==◌, ◌^◌, ◌∙◌, ◌∷◌, ◌≡◌, [], Add, All-cons, All-nil, all_ascii_digits, and_parts, ap}
+use Rattle.ordup_audit.proofs.Common.{AreDistinct, AreNames, arith, bytes_eq, Change, codes, Count, decimal, digits_decimal, Everything}
+use Rattle.ordup_audit.proofs.Common.{false, get_or-map, Group, GroupList, IfSome, if◌then◌else◌, is_ascii_digit, is_name, is_name_byte}
+use Rattle.ordup_audit.proofs.Common.{IsInRange, IsKnown, IsScopeKnown, length, List, list_all, Max, Min, Mul, nat_tests, negsuc, None}
+use Rattle.ordup_audit.proofs.Common.{NumberOp, Object, Objects, Op, op_number, op_with, option_and_then, place_of, pos, refl, same_Some}
+use Rattle.ordup_audit.proofs.Common.{Scope, Set, signed_decimal, slice_split, Some, source_of, suc, sym, Take, true, unsigned_abs, ℕ, ℤ}
 use Rattle.std.proofs.Common.{option_map}
 use Rattle.std.specs.Prelude.{Bool}
 use Rattle.std.specs.List.{All, join_with_byte}

@@ -1,8 +1,7 @@
 -- Rows as the crate `csv` writes them.
-use Rattle.std.specs.Prelude.{◌≡◌, ℕ, false, List, [], ◌∷◌, ◌++◌, Option, Some, option_map, Vec, All}
+use Rattle.std.specs.Prelude.{◌≡◌, ℕ, false, List, [], ◌∷◌, ◌++◌, Option, Some, option_map, Vec}
 use Rattle.csv.specs.Writing.{default_writer, fields_written, has_written, row_text, text_written, writer_setup}
 use Rattle.csv.specs.declared.writer.Writer.{Writer}
-use Rattle.ordup_log.specs.Groups.{AreMembersKnown, GroupList}
 use Rattle.ordup_rows.specs.Rows.{Row}
 
 -- the text of rows, each as `csv` writes it
@@ -27,7 +26,3 @@ AddsRow old new row = text_so_far new ≡ option_map (λ t. t ++ row_text defaul
 -- these rows were written, one after the other
 abbrev pub AddsRows : {A : Type 0} → Writer (Vec ℕ A) → Writer (Vec ℕ A) → List Row → Type 0
 AddsRows old new rows = text_so_far new ≡ option_map (λ t. t ++ csv_text rows) (text_so_far old)
-
--- the members of each group are among the first n objects
-abbrev pub AreGroupsKnown : ℕ → GroupList → Type 0
-AreGroupsKnown n groups = All (λ g. AreMembersKnown n g.1) groups

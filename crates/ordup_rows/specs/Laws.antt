@@ -1,6 +1,6 @@
 -- The laws of rows that are read one after another.
 use Rattle.std.specs.Prelude.{◌≡◌, ◌⊎◌, ℕ, ◌+◌, List, ◌∷◌, ◌++◌, length, Some, None}
-use Rattle.ordup_record.specs.Records.{IsRecord, RecordState}
+use Rattle.ordup_audit.specs.Records.{IsRecord, RecordState}
 use Rattle.ordup_rows.specs.Rows.{Row, rows_in}
 use Rattle.ordup_rows.specs.Stages.{Stage, step, run, closed, told_by, unread}
 use Rattle.ordup_rows.specs.Telling.{CanGoOn, IsFirstBadRow, Tells}

@@ -11,8 +11,8 @@ use Rattle.ordup_log.specs.declared.scope.Scope.{Scope}
 use Rattle.ordup_log.specs.declared.scope.Scope.TheVariants.{Object, Group, All as Everything, Count}
 use Rattle.ordup_limits.specs.declared.limit_entry.LimitEntry.{LimitEntry}
 use Rattle.ordup_rounds.specs.declared.window.Window.{Window}
-use Rattle.ordup_record.specs.Records.{RecordState}
-use Rattle.ordup_record.specs.declared.report_change.ReportChange.{ReportChange}
+use Rattle.ordup_audit.specs.Records.{RecordState}
+use Rattle.ordup_audit.specs.declared.report_change.ReportChange.{ReportChange}
 use Rattle.ordup_rows.specs.Versions.{version_for, version_text}
 use Rattle.ordup_rows.specs.declared.version.Version.{Version}
 use Rattle.ordup_rows.specs.declared.version.Version.TheVariants.{First, Second}

@@ -1,6 +1,6 @@
 -- Which rows tell a record, and which row is the first that keeps rows from doing so.
 use Rattle.std.specs.Prelude.{◌≡◌, ◌⊎◌, ℕ, ◌+◌, ◌-◌, ◌<◌, ◌≤◌, List, length, take, ◌++◌}
-use Rattle.ordup_record.specs.Records.{RecordState, IsRecord}
+use Rattle.ordup_audit.specs.Records.{RecordState, IsRecord}
 use Rattle.ordup_rows.specs.Rows.{Row, rows_in}
 use Rattle.ordup_rows.specs.Versions.{CanTell}
 use Rattle.ordup_rows.specs.declared.version.Version.{Version}

@@ -1,7 +1,7 @@
 -- The laws of texts that are read as rows.
 use Rattle.std.specs.Prelude.{◌≡◌, ◌≤◌, ℕ, List, length}
 use Rattle.csv.specs.Reading.{strip_bom}
-use Rattle.ordup_record.specs.Records.{IsRecord, RecordState}
+use Rattle.ordup_audit.specs.Records.{IsRecord, RecordState}
 use Rattle.ordup_rows.specs.Rows.{Row, rows_of, rows_text}
 use Rattle.ordup_rows.specs.Sizes.{most_record_bytes}
 use Rattle.ordup_rows.specs.Texts.{HasRows, IsMalformedAt, TextTells}

@@ -3,7 +3,7 @@ use Rattle.std.specs.Prelude.{◌⊎◌, ℕ, List}
 use Rattle.csv.specs.Reading.{AreRecords, Reached, default_config}
 use Rattle.csv.specs.declared.parser.State.{State}
 use Rattle.csv.specs.declared.parser.State.TheVariants as st
-use Rattle.ordup_record.specs.Records.{RecordState}
+use Rattle.ordup_audit.specs.Records.{RecordState}
 use Rattle.ordup_rows.specs.Rows.{Row}
 use Rattle.ordup_rows.specs.Telling.{IsBadRow, IsMissingRow, Tells}
 

@@ -4,7 +4,8 @@ ghost use Rattle.ordup_objects.specs.Sets.{AreKnown, IsKnown};
 ghost use Rattle.ordup_log.specs.Groups.{AreMembersKnown};
 ghost use Rattle.ordup_log.specs.Spans.{IsScopeKnown};
 ghost use Rattle.ordup_limits.specs.Entries.{AreEntriesKnown};
-ghost use Rattle.ordup_rows.specs.Forming.{AddsRow, AddsRows, AreGroupsKnown, IsClean};
+ghost use Rattle.ordup_rows.specs.Forming.{AddsRow, AddsRows, IsClean};
+ghost use Rattle.ordup_log.specs.Groups.{AreGroupsKnown};
 ghost use Rattle.ordup_rows.specs.Rows.{change_row, change_rows, counted, head_row, limit_row, member_row, member_rows};
 ghost use Rattle.ordup_rows.specs.Rows.{object_row, report_row, round_row, rows_of, rows_text, window_row};
 
@@ -12,9 +13,9 @@ use crate::spelling::{add_amount, put_change, put_scope};
 use crate::version::Version;
 use csv::{Writer, WriterBuilder};
 use itoa::Buffer;
+use ordup_audit::{Record, ReportChange};
 use ordup_limits::{GroupId, Groups, LimitEntry};
 use ordup_objects::{Change, Name, ObjectId, ObjectTable};
-use ordup_record::{Record, ReportChange};
 use ordup_rounds::Window;
 use std::alloc::{AllocError, Allocator};
 

@@ -1,11 +1,11 @@
 ghost use Rattle.std.specs.Prelude.{◌≡◌, IfErr, OnOk};
 ghost use Rattle.std.specs.Io.KnownBytes.{Appends};
-ghost use Rattle.ordup_output.specs.Fronts.{AppendsFront};
+ghost use Rattle.ordup_text.specs.Fronts.{AppendsFront};
 ghost use Rattle.ordup_rows.specs.Rows.{rows_of, rows_text};
 
 use crate::forming::form;
-use ordup_output::send;
-use ordup_record::Record;
+use ordup_audit::Record;
+use ordup_text::send;
 use std::alloc::Allocator;
 use std::io::Write;
 

@@ -10,7 +10,7 @@ use Rattle.ordup_grammar.specs.Requests.{request_of}
 use Rattle.ordup_grammar.specs.declared.request.Request.{Request}
 use Rattle.ordup_grammar.specs.Lines.{Line}
 use Rattle.ordup_script.specs.Answerers.{HasAnswered, HasStopped, IsLater}
-use Rattle.ordup_output.specs.Fronts.{AppendsFront}
+use Rattle.ordup_text.specs.Fronts.{AppendsFront}
 use Rattle.ordup_script.specs.Output.{Written, answered, written}
 use Rattle.ordup_script.specs.declared.stream.Answerer.{Answerer}
 use Rattle.ordup_script.specs.declared.stream.ScriptFault.{ScriptFault}

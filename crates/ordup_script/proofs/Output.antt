@@ -3,7 +3,7 @@ use Rattle.std.proofs.Common.{◌≡◌, ◌∙◌, refl, ap, sym, ℕ, List, []
 use Rattle.std.proofs.lemmas.List.{append-nil}
 use Rattle.ordup_grammar.specs.Lines.{Line}
 use Rattle.ordup_answers.specs.Replies.{reply}
-use Rattle.ordup_output.specs.Fronts.{AppendsFront}
+use Rattle.ordup_text.specs.Fronts.{AppendsFront}
 use Rattle.ordup_script.specs.Output.{Written, answered, written}
 use Rattle.ordup_script.specs.Scripts.{after_lines}
 

@@ -8,7 +8,7 @@ use Rattle.ordup_grammar.specs.Lines.{Line}
 use Rattle.ordup_script.specs.Answerers.{HasAnswered, HasStopped, IsLater}
 use Rattle.ordup_script.specs.Output.{out, written}
 use Rattle.ordup_script.specs.Readings.{Reads}
-use Rattle.ordup_output.specs.Fronts.{AppendsFront}
+use Rattle.ordup_text.specs.Fronts.{AppendsFront}
 use Rattle.ordup_script.specs.Runs.{Runs}
 use Rattle.ordup_script.specs.declared.stream.Answerer.{Answerer}
 use Rattle.ordup_script.specs.declared.stream.ScriptFault.{ScriptFault}

@@ -6,7 +6,7 @@ use Rattle.ordup_grammar.specs.Lines.{Line}
 use Rattle.ordup_script.specs.declared.stream.Answerer.{Answerer}
 use Rattle.ordup_script.specs.declared.stream.ScriptFault.{ScriptFault}
 use Rattle.ordup_script.specs.declared.stream.ScriptFault.TheVariants as fault
-use Rattle.ordup_output.specs.Fronts.{AppendsFront}
+use Rattle.ordup_text.specs.Fronts.{AppendsFront}
 use Rattle.ordup_script.specs.Output.{written}
 
 -- one answerer is the other, later: its references are the same

@@ -5,7 +5,7 @@ use Rattle.ordup_answers.specs.declared.script_end.ScriptEnd.{ScriptEnd}
 use Rattle.ordup_answers.specs.Sessions.{Stands}
 use Rattle.ordup_script.specs.declared.stream.ScriptFault.{ScriptFault}
 use Rattle.ordup_script.specs.declared.stream.ScriptFault.TheVariants as fault
-use Rattle.ordup_output.specs.Fronts.{AppendsFront}
+use Rattle.ordup_text.specs.Fronts.{AppendsFront}
 use Rattle.ordup_script.specs.Output.{out, out_of_ended, session_after}
 
 -- the end is that of a run of this script

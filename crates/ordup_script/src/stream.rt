@@ -10,7 +10,7 @@ use crate::line_taker::LineTaker;
 use crate::sizes::{MOST_SCRIPT_BYTES, PIECE};
 use ordup_answers::{ScriptEnd, answer};
 use ordup_grammar::Request;
-use ordup_output::send;
+use ordup_text::send;
 use ordup_text::TextBuffer;
 use std::alloc::{Allocator, Global};
 use std::io::{Read, Write};

@@ -5,9 +5,10 @@
 use crate::digests::{Digest, add_primary, add_setup};
 use crate::scarce::{Heap, Scarce};
 use ordup_answers::{ScriptEnd, answer};
+use ordup_audit::Record;
 use ordup_grammar::{LinePart, Request};
 use ordup_objects::SiteId;
-use ordup_record::{Record, record_of};
+use ordup_record::record_of;
 use ordup_text::TextBuffer;
 use ordup_world::{Answer, Event, World};
 use std::alloc::AllocError;

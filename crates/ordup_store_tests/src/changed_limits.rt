@@ -3,12 +3,12 @@ use crate::fixtures::{
     a, add, apply_at, b, expect_closed, expect_proposed, expect_settled, opened, opened_pair, seen,
     x,
 };
+use ordup_audit::{Verdict, check};
 use ordup_cluster::{Cluster, Session};
 use ordup_limits::{GroupId, Limit, LimitEntry, Scope};
 use ordup_objects::{MessageSet, ObjectId, Refusal, SiteId};
 use ordup_primary::Primary;
 use ordup_record::record_of;
-use ordup_verdict::{Verdict, check};
 use std::alloc::Global;
 use std::process::Abort;
 use std::sync::Wait;

@@ -1,2 +1,2 @@
-pub mod DigitLemmas
-pub mod TextLemmas
+mod DigitLemmas
+mod LineLemmas

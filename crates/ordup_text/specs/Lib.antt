@@ -1,3 +1,4 @@
 pub mod TextBuffers
 pub mod TextBufferInside
-pub mod Texts
+pub mod Lines
+pub mod Fronts

@@ -10,7 +10,7 @@ use std::alloc::{AllocError, Allocator, Global};
 use std::marker::Model;
 
 /// The most digits of a number.
-pub(crate) const MOST_DIGITS: usize = 20;
+pub const MOST_DIGITS: usize = 20;
 
 /// A text, and the room behind it.
 #[derive(Drop)]
@@ -70,7 +70,7 @@ impl<A: Allocator + Copy> TextBuffer<A> {
 
     /// Sees to it that there is room for so many bytes behind the text.
     #[inline(always)]
-    pub(crate) fn make_room(&mut self, room: usize) -> Result<(), AllocError>
+    pub fn make_room(&mut self, room: usize) -> Result<(), AllocError>
         ensures text { self.new.text ≡ self.old.text }
         ensures room { OnOk result (room ≤ self.new.room) }
     {
@@ -92,7 +92,7 @@ impl<A: Allocator + Copy> TextBuffer<A> {
 
     /// Adds a text, for which there is room.
     #[inline(always)]
-    pub(crate) fn put(&mut self, text: &[u8])
+    pub fn put(&mut self, text: &[u8])
         requires { length text.now ≤ self.old.room }
         ensures text { self.new.text ≡ self.old.text ++ text.now }
         ensures room { self.new.room + length text.now ≡ self.old.room }
@@ -104,7 +104,7 @@ impl<A: Allocator + Copy> TextBuffer<A> {
 
     /// Adds a number in digits, for as many of which there is room as there may be.
     #[inline(always)]
-    pub(crate) fn put_number(&mut self, number: u64)
+    pub fn put_number(&mut self, number: u64)
         requires { 20 ≤ self.old.room }
         ensures text { self.new.text ≡ self.old.text ++ decimal number }
         ensures room { self.old.room ≤ self.new.room + 20 }
@@ -116,7 +116,7 @@ impl<A: Allocator + Copy> TextBuffer<A> {
 
     /// Adds a value in digits, for a minus and as many digits of which there is room as there may be.
     #[inline(always)]
-    pub(crate) fn put_value(&mut self, value: i64)
+    pub fn put_value(&mut self, value: i64)
         requires { 21 ≤ self.old.room }
         ensures text { self.new.text ≡ self.old.text ++ signed_decimal value }
         ensures room { self.old.room ≤ self.new.room + 21 }

@@ -4,12 +4,12 @@
 //! An update is acknowledged only where the site lags by no more than its limit in force then. So once a proposal is answered, the site
 //! has applied all updates up to it but so many; a read there tells how many it has applied.
 use crate::fixtures::{TRIES, a, adding, apply_at, propose, set_of, x, x_and_y};
+use ordup_audit::{Verdict, check};
 use ordup_cluster::{Cluster, OpenGate, SeenValue, Session};
 use ordup_limits::Scope;
 use ordup_objects::{MessageSet, ObjectTable, Refusal, SiteId};
 use ordup_primary::{Primary, Setup};
 use ordup_record::record_of;
-use ordup_verdict::{Verdict, check};
 use std::alloc::Global;
 use std::process::Abort;
 use std::sync::Wait;

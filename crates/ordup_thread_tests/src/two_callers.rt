@@ -1,12 +1,12 @@
 //! Two callers and a site that they wait for.
 use crate::fixtures::{adding, apply_at, propose, set_of, x, x_and_y, y};
+use ordup_audit::{Verdict, check};
 use ordup_cluster::{Cluster, OpenGate, Session};
 use ordup_limits::Scope;
 use ordup_log::Log;
 use ordup_objects::{ObjectId, ObjectTable, Refusal, SiteId};
 use ordup_primary::{Primary, Setup};
 use ordup_record::record_of;
-use ordup_verdict::{Verdict, check};
 use std::alloc::Global;
 use std::process::Abort;
 use std::sync::Wait;

@@ -1,6 +1,7 @@
 //! Whole lists of events, with all answers as a script shows them.
 use crate::fixtures::{run_forced_and_awaited, run_limited_anew, run_swapped};
-use ordup_text::{TextBuffer, push_answer};
+use ordup_answers::push_answer;
+use ordup_text::TextBuffer;
 use ordup_world::Run;
 use std::alloc::{AllocError, Global};
 use std::test::Fail;

@@ -1,9 +1,11 @@
-use Rattle.ordup_record.proofs.Common.{◌<◌, ◌∙◌, ◌≡◌, [], ap, History, history_of, initial_state, IsLegalHistory, IsRecord, length}
-use Rattle.ordup_record.proofs.Common.{limits_at, record_of, state_of, sym}
+use Rattle.ordup_audit.proofs.Common.{◌<◌, ◌∙◌, ◌≡◌, [], ap, History, history_of, initial_state, IsLegalHistory, IsRecord, length}
+use Rattle.ordup_audit.proofs.Common.{state_of, sym}
+use Rattle.ordup_primary.specs.Primaries.{limits_at}
+use Rattle.ordup_record.specs.RecordsOf.{record_of}
 use Rattle.ordup_objects.specs.Serial.{prefix_of}
 use Rattle.ordup_primary.specs.Declarations.{Declared}
-use Rattle.ordup_record.specs.declared.record.RecordParts.{RecordParts}
-use Rattle.ordup_record.proofs.SameLemmas.{first-at}
+use Rattle.ordup_audit.specs.declared.record.RecordParts.{RecordParts}
+use Rattle.ordup_audit.proofs.SameLemmas.{first-at}
 use Rattle.ordup_record.proofs.RecordOfLemmas.{record-valid, record-sound, parts-content, parts-are}
 use Rattle.ordup_record.proofs.recording.parts_of.Goals as goal
 

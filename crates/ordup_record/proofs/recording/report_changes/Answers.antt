@@ -1,4 +1,6 @@
-use Rattle.ordup_record.proofs.Common.{◌∙◌, ◌≡◌, ap, arith, length, map, progress_at, report_changes, reported_at, take, take_all}
+use Rattle.ordup_audit.proofs.Common.{◌∙◌, ◌≡◌, ap, arith, length, map, take, take_all}
+use Rattle.ordup_primary.specs.Primaries.{progress_at, reported_at}
+use Rattle.ordup_record.specs.RecordsOf.{report_changes}
 use Rattle.ordup_record.proofs.ChangeLemmas.{change_at, changes-copied}
 use Rattle.ordup_record.proofs.recording.report_changes.Goals as goal
 

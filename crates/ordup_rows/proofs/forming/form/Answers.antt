@@ -1,4 +1,4 @@
-use Rattle.ordup_record.proofs.Common.{◌∙◌, ◌≡◌, ap, length, rules, same_Some}
+use Rattle.ordup_audit.proofs.Common.{◌∙◌, ◌≡◌, ap, length, rules, same_Some}
 use Rattle.ordup_rows.specs.Forming.{text_so_far}
 use Rattle.ordup_rows.specs.Rows.{head_row}
 use Rattle.ordup_rows.specs.Versions.{version_for}

@@ -1,0 +1,23 @@
+use Rattle.std.proofs.Common.{rules, w64}
+use Rattle.std.proofs.lemmas.Int.{to_z-of_z}
+use Rattle.ordup_answers.proofs.TextLemmas.{read_parts}
+use Rattle.ordup_answers.proofs.text.push_read.Goals as goal
+
+pub returns : goal.returns
+returns g c =
+    rw (
+      c.put-6.ensures.text,
+      c.put_number-2.ensures.text,
+      c.put-5.ensures.text,
+      c.put_number.ensures.text,
+      c.put-4.ensures.text,
+      c.put_value.ensures.text,
+      c.put-3.ensures.text,
+      c.put-2.ensures.text,
+      c.put.ensures.text,
+      c.make_room.ensures.text,
+      c.in_ok-push-2.ensures,
+      c.in_ok-push.ensures,
+      to_z-of_z w64 c.args.answer.value (search rules),
+    )
+    (read_parts c.args.out.now.text c.args.query.now c.args.object.now c.args.answer)

@@ -1,0 +1,18 @@
+use Rattle.std.proofs.Common.{◌+◌, ◌≤◌, take, vec_capacity}
+use Rattle.ordup_limits.specs.Entries.{latest}
+use Rattle.ordup_limits.specs.Limits.{within}
+use Rattle.ordup_audit.specs.Records.{history_of, is_within}
+use Rattle.ordup_audit.specs.Beginning.{HaveBegun}
+use Rattle.ordup_audit.specs.LeastStarts.{AreLeastStarts, PassesBefore, StandsAt}
+use Rattle.ordup_audit.proofs.least_starts.find_starts.Given as goal
+
+-- the starts of the places so far, with room for the others; how many limits have begun; and a ledger of these at the span from the
+-- last of the starts
+abbrev pub invariant-loop-place : goal.invariant-loop-place
+invariant-loop-place g l = record {
+  room : l.decided + 1 ≤ vec_capacity l.starts;
+  starts : AreLeastStarts (is_within l.audited) (l.place + 1) l.starts.items;
+  begun : HaveBegun l.place l.audited.limits l.begun;
+  before : PassesBefore (within (history_of l.audited) l.audited.groups (latest (take l.begun l.audited.limits))) l.start l.place;
+  stands : StandsAt (history_of l.audited) l.audited.groups (latest (take l.begun l.audited.limits)) l.start l.place l.ledger;
+}

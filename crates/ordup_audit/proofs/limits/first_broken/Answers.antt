@@ -1,0 +1,53 @@
+use Rattle.ordup_audit.proofs.Common.{◌+◌, ◌<◌, ◌∙◌, All-map, ap, arith, not}
+use Rattle.ordup_audit.specs.Cursors.{AreUpto}
+use Rattle.ordup_audit.specs.declared.report_change.ReportChange.{ReportChange}
+use Rattle.ordup_audit.specs.Passing.{is_place_within}
+use Rattle.ordup_audit.proofs.CursorLemmas.{places_of, upto-none}
+use Rattle.ordup_audit.proofs.LegalityLemmas.{passes-more}
+use Rattle.ordup_audit.proofs.PassingLemmas.{place-tested}
+use Rattle.ordup_audit.proofs.limits.first_broken.Goals as goal
+
+pub loop-updates-init : goal.loop-updates-init
+loop-updates-init g c =
+    let r = c.args.audited.now in
+    let sound = c.decided-updates-end.ensures.sound in
+    record {
+      reports = upto-none (places_of r.reports)
+          (All-map (λ k. 0 < k) (λ (c : ReportChange). c.place) r.reports (λ i d lt. (sound.reports.each i d lt).0));
+      rounds = upto-none r.rounds (λ i d lt. (sound.rounds.each i d lt).0);
+      within = λ k lt. absurd (omega arith);
+    }
+
+pub returns-then-passes_a_limit-clause-some : goal.returns-then-passes_a_limit-clause-some
+returns-then-passes_a_limit-clause-some g c =
+    let r = c.args.audited.now in
+    let reports : AreUpto (c.loop-updates.updates + 1) (places_of r.reports) c.pass_reports-reports_passed.result =
+    rw c.reports.ensures at c.pass_reports-reports_passed.ensures in
+    let rounds : AreUpto (c.loop-updates.updates + 1) r.rounds c.pass_rounds-rounds_passed.result =
+    rw c.rounds.ensures at c.pass_rounds-rounds_passed.ensures in
+    let tested = place-tested r c.loop-updates.updates _ _ _ _ _ _ _ _ c.reports-in-loop-updates.ensures c.rounds-in-loop-updates.ensures
+    reports rounds c.reported-reported.ensures c.awaited.ensures c.max-base.ensures c.passes_a_limit.ensures in (
+      c.loop-updates.updates,
+      record {
+        there = omega arith;
+        fails = tested ∙ ap not c.if-passes_a_limit.true;
+        before = c.loop-updates.invariant.within;
+      },
+      c.change_row.ensures,
+    )
+
+pub loop-updates-preserved : goal.loop-updates-preserved
+loop-updates-preserved g c =
+    let r = c.args.audited.now in
+    let reports : AreUpto (c.loop-updates.updates + 1) (places_of r.reports) c.pass_reports-reports_passed.result =
+    rw c.reports.ensures at c.pass_reports-reports_passed.ensures in
+    let rounds : AreUpto (c.loop-updates.updates + 1) r.rounds c.pass_rounds-rounds_passed.result =
+    rw c.rounds.ensures at c.pass_rounds-rounds_passed.ensures in
+    let tested = place-tested r c.loop-updates.updates _ _ _ _ _ _ _ _ c.reports-in-loop-updates.ensures c.rounds-in-loop-updates.ensures
+    reports rounds c.reported-reported.ensures c.awaited.ensures c.max-base.ensures c.passes_a_limit.ensures in
+    record {
+      reports = reports;
+      rounds = rounds;
+      within = passes-more (is_place_within r) c.loop-updates.updates c.loop-updates.invariant.within
+          (tested ∙ ap not c.if-passes_a_limit.false);
+    }

@@ -1,0 +1,10 @@
+pub mod Records
+pub mod RecordInside
+pub mod Validity
+pub mod Reasons
+pub mod Rows
+pub mod Cursors
+pub mod Passing
+pub mod Verdicts
+pub mod Beginning
+pub mod LeastStarts

@@ -1,0 +1,59 @@
+ghost use Rattle.std.specs.Prelude.{◌≡◌, IfNone, IfSome, length};
+ghost use Rattle.ordup_audit.specs.Validity.{IsValid};
+ghost use Rattle.ordup_audit.specs.Verdicts.{IsVerdict, IfFewest, NoFewerRounds};
+
+use crate::least_starts::LeastStarts;
+use crate::legality::first_illegal;
+use crate::limits::first_broken;
+use crate::record::Record;
+use crate::rows::last_row;
+use crate::verdict::{Reason, Verdict};
+use crate::windows::{first_light, first_meeting, first_reported};
+use std::alloc::Allocator;
+
+/// Whether a record shows that its rounds are the fewest: its updates are legal, its rounds keep the limits, and there are as
+/// many windows, each over a limit alone, apart from the others, and after what was reported.
+///
+/// Each reason is looked for in the whole record before the next one. It is never refused for memory.
+pub fn check<A: Allocator + Copy>(audited: &Record<A>) -> Verdict
+    ensures verdict { IsVerdict audited.now result }
+    ensures fewest { IfFewest result (λ n. IsValid audited.now × (n ≡ length audited.now.rounds)) }
+    ensures valid { IsValid audited.now → result ≡ Verdict.Fewest (length audited.now.rounds) }
+    ensures no_fewer { IfFewest result (λ n. NoFewerRounds audited.now n) }
+{
+    // For the proof: what each record keeps.
+    let _decided = audited.decided();
+    match first_reason(audited) {
+        Some((row, reason)) => Verdict::No { row, reason },
+        None => Verdict::Fewest(audited.rounds().len() as u64),
+    }
+}
+
+/// The first reason against a record, and its row.
+fn first_reason<A: Allocator + Copy>(audited: &Record<A>) -> Option<(u64, Reason)>
+    ensures none { IfNone result (IsVerdict audited.now (Verdict.Fewest (length audited.now.rounds))) }
+    ensures some { IfSome result (λ found. IsVerdict audited.now (Verdict.No found.0 found.1)) }
+{
+    // For the proof: what each record keeps.
+    let _decided = audited.decided();
+    if let Some(row) = first_illegal(audited) {
+        return Some((row, Reason::NotLegal));
+    }
+    let starts = LeastStarts::of(audited);
+    if let Some(row) = first_broken(audited, &starts) {
+        return Some((row, Reason::LimitsBroken));
+    }
+    if let Some(row) = first_light(audited, &starts) {
+        return Some((row, Reason::WindowLight));
+    }
+    if let Some(row) = first_meeting(audited) {
+        return Some((row, Reason::WindowsMeet));
+    }
+    if let Some(row) = first_reported(audited) {
+        return Some((row, Reason::WindowBeforeReport));
+    }
+    if audited.windows().len() != audited.rounds().len() {
+        return Some((last_row(audited), Reason::CountDiffers));
+    }
+    None
+}

@@ -1,0 +1,154 @@
+//! From which places the spans of a record pass no limit.
+
+ghost use Rattle.std.specs.Prelude.{◌≡◌, ◌≤◌, ◌+◌, IfSome, length, not, false};
+ghost use Rattle.ordup_objects.specs.Serial.{IsLegalHistory};
+ghost use Rattle.ordup_limits.specs.Limits.{within};
+ghost use Rattle.ordup_limits.specs.Ledgers.{StandsFor};
+ghost use Rattle.ordup_audit.specs.Records.{history_of, is_within};
+ghost use Rattle.ordup_audit.specs.LeastStarts.{AreLeastStarts, AreStartsOf, IsLeastStart, PassesBefore, StandsAt};
+
+use crate::beginning::begin;
+use crate::record::Record;
+use ordup_limits::{Groups, LagLedger, LimitTable};
+use ordup_log::Log;
+use std::alloc::{Allocator, Global};
+
+/// For each decided place the least place from which the span up to it passes none of the limits in force there, and so for 0.
+///
+/// A span passes a limit where it begins before the least start of its end. Where no memory was given for the starts, each span
+/// is found in the log.
+#[derive(Drop)]
+pub(crate) struct LeastStarts<A: Allocator + Copy = Global> {
+    starts: Option<Vec<u64, A>>,
+}
+
+impl<A: Allocator + Copy> LeastStarts<A> {
+    /// Those of a record. They cost by its updates, and by a search for each place at which a limit begins to hold.
+    pub(crate) fn of(audited: &Record<A>) -> Self
+        requires { IsLegalHistory (history_of audited.now) }
+        ensures { AreStartsOf audited.now result }
+    {
+        LeastStarts {
+            starts: find_starts(audited),
+        }
+    }
+
+    /// Whether the span from a place to another passes a limit.
+    pub(crate) fn passes_a_limit(&self, audited: &Record<A>, from: u64, to: u64) -> bool
+        requires legal { IsLegalHistory (history_of audited.now) }
+        requires last { to ≤ length audited.now.sets }
+        requires starts { AreStartsOf audited.now self.now }
+        ensures { result ≡ not (is_within audited.now from to) }
+    {
+        // For the proof: the objects and groups of the limits are there.
+        let _decided = audited.decided();
+        match &self.starts {
+            Some(starts) => from < starts[to as usize],
+            None => {
+                let (log, groups) = (audited.log(), audited.groups());
+                audited.limits().over(log, groups, from, to).is_some()
+            }
+        }
+    }
+}
+
+/// The least starts of 0 and of each decided place; none where they are refused memory.
+fn find_starts<A: Allocator + Copy>(audited: &Record<A>) -> Option<Vec<u64, A>>
+    requires { IsLegalHistory (history_of audited.now) }
+    ensures { IfSome result (λ starts. AreLeastStarts (is_within audited.now) (length audited.now.sets + 1) starts.items) }
+{
+    let decided = audited.decided();
+    let (log, groups) = (audited.log(), audited.groups());
+    // For the proof: the entries are in the order of their places.
+    let _scopes = audited.limits().len();
+    let entries = audited.limits().entries();
+    let no_limits = LimitTable::new(audited.allocator());
+    let Ok(mut ledger) = LagLedger::new(audited.allocator(), &no_limits) else {
+        return None;
+    };
+    let Ok(mut starts) = Vec::with_capacity(audited.allocator(), decided as usize + 1) else {
+        return None;
+    };
+    starts.push_reserved(0);
+    let mut start = 0;
+    let mut begun = 0;
+    for place in 0..decided {
+        ledger.extend(log, groups, place + 1);
+        let before = begun;
+        begun = begin(&mut ledger, log, groups, entries, before, place + 1);
+        start = next_start(&mut ledger, log, groups, begun != before, start, place + 1);
+        starts.push_reserved(start);
+    }
+    Some(starts)
+}
+
+/// Moves the start of a ledger's span to the least start of its end, and answers it. It is no earlier, unless limits have begun to
+/// hold at the end.
+fn next_start<A: Allocator + Copy>(
+    ledger: &mut LagLedger<A>,
+    log: &Log<A>,
+    groups: &Groups<A>,
+    have_begun: bool,
+    from: u64,
+    to: u64,
+) -> u64
+    requires last { to ≤ length log.now.sets }
+    requires stands { StandsAt log.now groups.now ledger.old.limits from to ledger.old }
+    requires before { have_begun ≡ false → PassesBefore (within log.now groups.now ledger.old.limits) from to }
+    ensures least { IsLeastStart (within log.now groups.now ledger.old.limits) result to }
+    ensures stands { StandsAt log.now groups.now ledger.old.limits result to ledger.new }
+{
+    if have_begun {
+        return search(ledger, log, groups, to);
+    }
+    take_off(ledger, log, groups, from, to)
+}
+
+/// Takes updates off the start of a ledger's span until it passes no limit, and answers where it begins then.
+fn take_off<A: Allocator + Copy>(
+    ledger: &mut LagLedger<A>,
+    log: &Log<A>,
+    groups: &Groups<A>,
+    from: u64,
+    to: u64,
+) -> u64
+    requires last { to ≤ length log.now.sets }
+    requires stands { StandsAt log.now groups.now ledger.old.limits from to ledger.old }
+    requires before { PassesBefore (within log.now groups.now ledger.old.limits) from to }
+    ensures least { IsLeastStart (within log.now groups.now ledger.old.limits) result to }
+    ensures stands { StandsAt log.now groups.now ledger.old.limits result to ledger.new }
+{
+    let mut start = from;
+    while ledger.over() {
+        start += 1;
+        ledger.reported(log, groups, start);
+    }
+    start
+}
+
+/// Finds the least start of a place by halves, puts a ledger at the span from there, and answers it.
+fn search<A: Allocator + Copy>(
+    ledger: &mut LagLedger<A>,
+    log: &Log<A>,
+    groups: &Groups<A>,
+    to: u64,
+) -> u64
+    requires last { to ≤ length log.now.sets }
+    requires stands { StandsFor ledger.old log.now groups.now }
+    ensures least { IsLeastStart (within log.now groups.now ledger.old.limits) result to }
+    ensures stands { StandsAt log.now groups.now ledger.old.limits result to ledger.new }
+{
+    let mut low = 0;
+    let mut high = to;
+    while low < high {
+        let middle = low + (high - low) / 2;
+        ledger.stand_at(log, groups, middle, to);
+        if ledger.over() {
+            low = middle + 1;
+        } else {
+            high = middle;
+        }
+    }
+    ledger.stand_at(log, groups, low, to);
+    low
+}

@@ -1,0 +1,90 @@
+//! Where the parts of a record stand among its rows, which are counted from 1.
+
+ghost use Rattle.std.specs.Prelude.{◌≡◌, ◌≤◌, ◌<◌, length};
+ghost use Rattle.ordup_audit.specs.Rows.{member_count, change_count, rows_before_changes, change_row, rows_before_windows, window_row, last_row};
+
+use crate::record::Record;
+use ordup_limits::{GroupId, Groups};
+use std::alloc::Allocator;
+
+/// The row of a change: the one after the first `place` changes of the update after the first `updates`.
+pub(crate) fn change_row<A: Allocator + Copy>(
+    audited: &Record<A>,
+    updates: u64,
+    place: usize,
+) -> u64
+    requires updates { updates ≤ length audited.now.sets }
+    requires place { place < 64 }
+    ensures { result ≡ change_row audited.now updates place }
+{
+    rows_before_changes(audited) + change_count(audited, updates) + place as u64 + 1
+}
+
+/// The row of the window after the first `place` windows.
+pub(crate) fn window_row<A: Allocator + Copy>(audited: &Record<A>, place: usize) -> u64
+    requires { place < length audited.now.windows }
+    ensures { result ≡ window_row audited.now place }
+{
+    // For the proof: there are few enough windows for the sum to fit.
+    let _decided = audited.decided();
+    rows_before_windows(audited) + place as u64 + 1
+}
+
+/// The last row.
+pub(crate) fn last_row<A: Allocator + Copy>(audited: &Record<A>) -> u64
+    ensures { result ≡ last_row audited.now }
+{
+    // For the proof: there are few enough windows for the sum to fit.
+    let _decided = audited.decided();
+    rows_before_windows(audited) + audited.windows().len() as u64
+}
+
+/// How many rows there are before the changes: the head row, and those of the objects, the members and the limits.
+fn rows_before_changes<A: Allocator + Copy>(audited: &Record<A>) -> u64
+    ensures rows { result ≡ rows_before_changes audited.now }
+    ensures few { result ≤ 10000 }
+{
+    let objects = audited.objects().len() as u64;
+    // For the proof: there are few enough entries for the sum to be small.
+    let _scopes = audited.limits().len();
+    let limits = audited.limits().entries().len() as u64;
+    1 + objects + member_count(audited.groups()) + limits
+}
+
+/// How many members all groups have.
+fn member_count<A: Allocator + Copy>(groups: &Groups<A>) -> u64
+    ensures members { result ≡ member_count groups.now }
+    ensures few { result ≤ 2048 }
+{
+    let mut count = 0;
+    for place in 0..groups.len() {
+        count += groups.members(GroupId::new(place as u8)).len() as u64;
+    }
+    count
+}
+
+/// How many changes the first so many updates have.
+fn change_count<A: Allocator + Copy>(audited: &Record<A>, updates: u64) -> u64
+    requires { updates ≤ length audited.now.sets }
+    ensures changes { result ≡ change_count audited.now updates }
+    ensures few { result ≤ 64000000 }
+{
+    // For the proof: there are few enough updates for the sum to fit.
+    let _decided = audited.decided();
+    let mut count = 0;
+    for place in 0..updates {
+        count += audited.set(place + 1).changes().len() as u64;
+    }
+    count
+}
+
+/// How many rows there are before the windows.
+fn rows_before_windows<A: Allocator + Copy>(audited: &Record<A>) -> u64
+    ensures rows { result ≡ rows_before_windows audited.now }
+    ensures few { result ≤ 100000000 }
+{
+    let changes = change_count(audited, audited.decided());
+    let reports = audited.reports().len() as u64;
+    let rounds = audited.rounds().len() as u64;
+    rows_before_changes(audited) + changes + reports + rounds
+}

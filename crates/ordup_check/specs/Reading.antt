@@ -1,0 +1,36 @@
+-- A reader of a text, and how far it came.
+use Rattle.std.specs.Prelude.{◌≡◌, ℕ, ◌+◌, ◌==◌, Bool, false, List, length, Some}
+use Rattle.std.specs.List.{list_any}
+use Rattle.csv.specs.Reading.{Ready, default_config, reader_config, reader_state, reader_trim}
+use Rattle.csv.specs.declared.parser.State.TheVariants as st
+use Rattle.csv.specs.declared.reader.Reader.{Reader}
+use Rattle.csv.specs.declared.reader.Trim.TheVariants as trim
+use Rattle.ordup_rows.specs.Rows.{Row}
+use Rattle.ordup_rows.specs.Stages.{Stage, run, unread}
+use Rattle.ordup_rows.specs.Telling.{IsBadRow}
+use Rattle.ordup_rows.specs.Texts.{BeginsWithRows, HasRows}
+use Rattle.ordup_check.specs.Limits.{never}
+
+-- a row has a byte that never came
+abbrev pub has_never : Row → Bool
+has_never row = list_any (list_any (λ b. b == never)) row
+
+-- all bytes of the rows came
+abbrev pub AllCame : List Row → Type 0
+AllCame rows = list_any has_never rows ≡ false
+
+-- all rows of the text came and were taken up to this stage, and n is the number of the row that would be next
+abbrev pub IsTaken : List ℕ → Stage → ℕ → Type 0
+IsTaken text stage n =
+    (rows : List Row) × HasRows text rows × AllCame rows × (run unread rows ≡ Some stage) × (length rows + 1 ≡ n)
+
+-- the first rows of the text came, and row n is the first of them that breaks a rule
+abbrev pub HasBadRow : List ℕ → ℕ → Type 0
+HasBadRow text n = (rows : List Row) × BeginsWithRows text rows × AllCame rows × IsBadRow rows n
+
+-- a reader without a header row that has read nothing
+pub record IsFresh {R : Type 0} (rdr : Reader R) : Type 0 where
+  pub plain : reader_trim rdr ≡ trim.None
+  pub ready : Ready rdr
+  pub config : reader_config rdr ≡ default_config
+  pub state : reader_state rdr ≡ st.StartRecord

@@ -1,0 +1,199 @@
+//! Rows to a record.
+ghost use Rattle.std.specs.Prelude.{All, ◌≡◌, ◌==◌, false, ◌≤◌, ◌++◌, ℕ, List, Some, IfErr, IfOk, IfSome, OnOk, length};
+ghost use Rattle.csv.specs.Reading.{source_of, strip_bom};
+ghost use Rattle.csv.specs.Records.{fields_of};
+ghost use Rattle.std.specs.List.{list_any};
+ghost use Rattle.ordup_objects.specs.Sets.{AreKnown};
+ghost use Rattle.ordup_objects.specs.Tables.{initial_state};
+ghost use Rattle.ordup_audit.specs.Records.{IsRecord, RecordState};
+ghost use Rattle.ordup_rows.specs.Rows.{rows_of, rows_text};
+ghost use Rattle.ordup_check.specs.Answers.{AnswersRecord};
+ghost use Rattle.ordup_check.specs.Limits.{IsMalformedWithin, never};
+ghost use Rattle.ordup_rows.specs.Sizes.{most_record_bytes};
+ghost use Rattle.ordup_check.specs.Reading.{HasBadRow, IsFresh, IsTaken, has_never};
+ghost use Rattle.ordup_rows.specs.Texts.{TextTells};
+ghost use Rattle.ordup_rows.specs.Stages.{closed};
+ghost use Rattle.ordup_check.specs.Splits.{BeginsIllegal};
+ghost use Rattle.ordup_check.specs.StageViews.{stage_of};
+ghost use Rattle.ordup_check.specs.ToldViews.{told_of};
+
+use crate::limited::Limited;
+use crate::short_rows::ShortRows;
+use crate::stage::{Stage, take_row};
+use crate::told::Told;
+use csv::{ByteRecord, Reader, ReaderBuilder};
+use ordup_audit::{Record, RecordParts};
+use ordup_log::Log;
+use ordup_objects::{MessageSet, ObjectTable, Values};
+use ordup_rows::sizes::MOST_RECORD_BYTES;
+use std::alloc::{AllocError, Global};
+use std::io::Read;
+
+/// Why no record was read.
+#[derive(Clone, Copy, Debug, PartialEq, Eq)]
+pub enum RecordReadFault {
+    /// A read failed, or there were more bytes than the limit.
+    Read,
+    /// The row with this number, counted from 1, is the first that breaks a rule; or it is the one after the last, and rows are missing.
+    Malformed { row: u64 },
+    /// Memory was refused.
+    NoMemory,
+}
+
+/// Puts updates into a log up to the first that is not legal, and those from it on apart.
+fn split_sets(
+    alloc: Global,
+    objects: &ObjectTable,
+    sets: Vec<MessageSet>,
+) -> Result<(Log, Vec<MessageSet>), AllocError>
+    requires { All (AreKnown (length objects.now)) sets.items }
+    ensures sets { IfOk result (λ p. p.0.sets ++ p.1.items ≡ sets.items) }
+    ensures start { IfOk result (λ p. p.0.start ≡ initial_state objects.now) }
+    ensures rest { IfOk result (λ p. BeginsIllegal p.0 p.1.items) }
+{
+    let Ok(mut log) = Log::new(alloc, objects) else {
+        return Err(AllocError);
+    };
+    let Ok(mut values) = Values::initial(alloc, objects) else {
+        return Err(AllocError);
+    };
+    let mut rest = Vec::new(alloc);
+    for set in sets {
+        if !rest.is_empty() || values.apply(&set).is_err() {
+            rest.push(set)?;
+        } else if log.append(set).is_err() {
+            return Err(AllocError);
+        }
+    }
+    Ok((log, rest))
+}
+
+/// The record that rows told.
+fn record_of(alloc: Global, told: Told) -> Result<Record, AllocError>
+    requires { IsRecord (told_of told) }
+    ensures { IfOk result (λ r. r ≡ told_of told) }
+{
+    let Told {
+        site,
+        objects,
+        groups,
+        limits,
+        sets,
+        reports,
+        rounds,
+        windows,
+    } = told;
+    let (log, rest) = split_sets(alloc, &objects, sets)?;
+    Ok(Record::from_parts(RecordParts {
+        site,
+        objects,
+        groups,
+        limits,
+        log,
+        rest,
+        reports,
+        rounds,
+        windows,
+    }))
+}
+
+/// The record, where no row is missing.
+fn close(alloc: Global, stage: Stage) -> Result<Option<Record>, AllocError>
+    requires { IfSome (closed (stage_of stage)) IsRecord }
+    ensures { IfOk result (λ r. r ≡ closed (stage_of stage)) }
+{
+    match stage {
+        Stage::Unread => Ok(None),
+        Stage::Told {
+            version: _,
+            decided,
+            told,
+        } => {
+            if told.has_updates(decided) {
+                Ok(Some(record_of(alloc, told)?))
+            } else {
+                Ok(None)
+            }
+        }
+    }
+}
+
+/// For the proof: each byte is less than what stands for one that never comes.
+fn see_bytes(bytes: &[u8])
+    ensures { list_any (λ b. b == never) bytes.now ≡ false }
+{}
+
+/// For the proof: each byte of a row came.
+fn see_row(row: &ByteRecord)
+    ensures { has_never (fields_of row.now) ≡ false }
+{
+    see_bytes(row.as_slice());
+}
+
+/// Reads rows to the end, or to the first that may not stand there: how far they came, and the number of the row after the last.
+fn read_rows<R: Read>(alloc: Global, rdr: &mut Reader<R>) -> Result<(Stage, u64), RecordReadFault>
+    requires { IsFresh rdr.old }
+    ensures taken { IfOk result (λ p. IfSome (source_of R.remaining rdr.old) (λ text. IsTaken text (stage_of p.0) p.1)) }
+    ensures sound { IfOk result (λ p. IfSome (closed (stage_of p.0)) IsRecord) }
+    ensures malformed { IfErr result (λ e. (n : ℕ) → e ≡ RecordReadFault.Malformed n
+        → IfSome (source_of R.remaining rdr.old) (λ text. HasBadRow text n)) }
+{
+    let mut stage = Stage::Unread;
+    let mut row = ByteRecord::new(alloc);
+    for count in 0..u64::MAX {
+        let is_found = match rdr.read_byte_record(&mut row) {
+            Ok(is_found) => is_found,
+            Err(e) if e.is_io_error() => return Err(RecordReadFault::Read),
+            Err(_) => return Err(RecordReadFault::NoMemory),
+        };
+        if !is_found {
+            return Ok((stage, count + 1));
+        }
+        see_row(&row);
+        let Ok(is_taken) = take_row(alloc, &mut stage, &row) else {
+            return Err(RecordReadFault::NoMemory);
+        };
+        if !is_taken {
+            return Err(RecordReadFault::Malformed { row: count + 1 });
+        }
+    }
+    Err(RecordReadFault::Read)
+}
+
+/// Reads a record of at most so many bytes. A byte order mark before its text is passed over.
+pub fn read_record_within<R: Read>(
+    alloc: Global,
+    input: &mut R,
+    limit: u64,
+) -> Result<Record, RecordReadFault>
+    ensures read { IfOk result (λ r. IfSome (R.remaining input.old) (λ text. TextTells (strip_bom text) r)) }
+    ensures limited { OnOk result (IfSome (R.remaining input.old) (λ text. length text ≤ limit)) }
+    ensures malformed { IfErr result (λ e. (n : ℕ) → e ≡ RecordReadFault.Malformed n
+        → IfSome (R.remaining input.old) (λ text. IsMalformedWithin limit text n)) }
+    ensures told { (text : List ℕ) (r : RecordState) → R.remaining input.old ≡ Some text → length text ≤ limit
+        → TextTells (strip_bom text) r → AnswersRecord result r }
+{
+    let mut rdr = ReaderBuilder::new()
+        .has_headers(false)
+        .flexible(true)
+        .from_reader(alloc, ShortRows::new(Limited::new(input, limit)));
+    let (stage, row) = read_rows(alloc, &mut rdr)?;
+    match close(alloc, stage) {
+        Ok(Some(record)) => Ok(record),
+        Ok(None) => Err(RecordReadFault::Malformed { row }),
+        Err(_) => Err(RecordReadFault::NoMemory),
+    }
+}
+
+/// Reads a record of at most 8 GiB.
+pub fn read_record<R: Read>(alloc: Global, input: &mut R) -> Result<Record, RecordReadFault>
+    ensures read { IfOk result (λ r. IfSome (R.remaining input.old) (λ text. TextTells (strip_bom text) r)) }
+    ensures limited { OnOk result (IfSome (R.remaining input.old) (λ text. length text ≤ most_record_bytes)) }
+    ensures malformed { IfErr result (λ e. (n : ℕ) → e ≡ RecordReadFault.Malformed n
+        → IfSome (R.remaining input.old) (λ text. IsMalformedWithin most_record_bytes text n)) }
+    ensures told { (text : List ℕ) (r : RecordState) → R.remaining input.old ≡ Some text → length text ≤ most_record_bytes
+        → TextTells (strip_bom text) r → AnswersRecord result r }
+    ensures written { (r : RecordState) → IsRecord r → R.remaining input.old ≡ Some (rows_text (rows_of r)) → AnswersRecord result r }
+{
+    read_record_within(alloc, input, MOST_RECORD_BYTES)
+}

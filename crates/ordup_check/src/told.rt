@@ -1,0 +1,439 @@
+//! What rows tell of a record, row by row.
+ghost use Rattle.std.specs.Prelude.{◌≡◌, ◌≢◌, ◌<◌, ◌≤◌, ◌&&◌, ◌++◌, ◌∷◌, [], false, not, IfOk, length, map};
+ghost use Rattle.std.specs.Bool.{then_some};
+ghost use Rattle.std.specs.Option.{is_none};
+ghost use Rattle.ordup_objects.specs.Sets.{AreKnown};
+ghost use Rattle.ordup_limits.specs.Entries.{change_refusal, entry_of};
+ghost use Rattle.ordup_rows.specs.Stages.{has_entry, has_objects, has_updates, is_before_changes, is_before_limits, is_before_members};
+ghost use Rattle.ordup_rows.specs.Stages.{is_before_reports, is_before_rounds, is_before_windows, is_last_group, last_number, last_place};
+ghost use Rattle.ordup_rows.specs.Stages.{last_set, may_hold_from, may_report, may_round, member_count, with_any_change, with_change_row};
+ghost use Rattle.ordup_rows.specs.Stages.{with_first_change};
+ghost use Rattle.ordup_rows.specs.Stages.{with_limit, with_member_row, with_next_change, with_object, with_report, with_round, with_row};
+ghost use Rattle.ordup_rows.specs.Stages.{with_value, with_window};
+ghost use Rattle.ordup_check.specs.ColumnViews.{columns_view};
+ghost use Rattle.ordup_check.specs.ToldViews.{AreUpdatesKnown, Takes, told_of};
+
+use crate::row_columns::{RowColumns, amount, change, natural, scope, value, writes};
+use ordup_audit::ReportChange;
+use ordup_limits::{GroupId, Groups, LimitTable, Scope};
+use ordup_objects::sizes::MOST_UPDATES;
+use ordup_objects::{Change, MessageSet, Name, ObjectTable, Refusal};
+use ordup_rounds::Window;
+use ordup_rows::{RowKind, Version};
+use std::alloc::AllocError;
+
+/// The most windows of a record.
+const MOST_WINDOWS: usize = 1_000_000;
+
+/// What becomes of a row that is refused: it is not taken, unless it was memory that was refused.
+fn not_taken(refusal: Refusal) -> Result<bool, AllocError>
+    ensures { IfOk result (λ taken. (taken ≡ false) × (refusal ≢ Refusal.NoMemory)) }
+{
+    if refusal.number() == NO_MEMORY {
+        Err(AllocError)
+    } else {
+        Ok(false)
+    }
+}
+
+/// The number of the refusal for want of memory.
+const NO_MEMORY: u8 = 26;
+
+/// What the rows so far told of a record.
+#[derive(Drop)]
+pub struct Told {
+    pub site: Name,
+    pub objects: ObjectTable,
+    pub groups: Groups,
+    pub limits: LimitTable,
+    pub sets: Vec<MessageSet>,
+    pub reports: Vec<ReportChange>,
+    pub rounds: Vec<u64>,
+    pub windows: Vec<Window>,
+}
+
+impl Told {
+    fn is_before_windows(&self) -> bool
+        ensures { result ≡ is_before_windows (told_of self.now) }
+    {
+        self.windows.is_empty()
+    }
+
+    fn is_before_rounds(&self) -> bool
+        ensures { result ≡ is_before_rounds (told_of self.now) }
+    {
+        self.rounds.is_empty() && self.is_before_windows()
+    }
+
+    fn is_before_reports(&self) -> bool
+        ensures { result ≡ is_before_reports (told_of self.now) }
+    {
+        self.reports.is_empty() && self.is_before_rounds()
+    }
+
+    fn is_before_changes(&self) -> bool
+        ensures { result ≡ is_before_changes (told_of self.now) }
+    {
+        self.sets.is_empty() && self.is_before_reports()
+    }
+
+    fn is_before_limits(&self) -> bool
+        ensures { result ≡ is_before_limits (told_of self.now) }
+    {
+        self.limits.entries().is_empty() && self.is_before_changes()
+    }
+
+    fn is_before_members(&self) -> bool
+        ensures { result ≡ is_before_members (told_of self.now) }
+    {
+        self.groups.len() == 0 && self.is_before_limits()
+    }
+
+    fn has_objects(&self) -> bool
+        ensures { result ≡ has_objects (told_of self.now) }
+    {
+        self.objects.len() > 0
+    }
+
+    /// Whether an object is there, and each decided update.
+    pub fn has_updates(&self, decided: u64) -> bool
+        ensures { result ≡ has_updates decided (told_of self.now) }
+    {
+        self.has_objects() && self.sets.len() as u64 == decided
+    }
+
+    /// Takes the object of a row with this value.
+    fn add_value(&mut self, c: &RowColumns<'_>, value: i64) -> Result<bool, AllocError>
+        ensures { Takes result self.new (with_value (told_of self.old) (columns_view c.now) value) }
+    {
+        if !self.is_before_members() || !writes(c.first, self.objects.len() as u64 + 1) {
+            return Ok(false);
+        }
+        match self.objects.declare(c.second, value) {
+            Ok(_) => Ok(true),
+            Err(refusal) => not_taken(refusal),
+        }
+    }
+
+    /// Takes the object of a row.
+    fn add_object(&mut self, c: &RowColumns<'_>) -> Result<bool, AllocError>
+        ensures { Takes result self.new (with_object (told_of self.old) (columns_view c.now)) }
+    {
+        let Some(value) = value(c.third) else {
+            return Ok(false);
+        };
+        self.add_value(c, value)
+    }
+
+    /// Takes the member of a row: of the last group, or the first of a new one.
+    fn add_member(&mut self, c: &RowColumns<'_>) -> Result<bool, AllocError>
+        ensures { Takes result self.new (with_member_row (told_of self.old) (columns_view c.now)) }
+    {
+        let Some(member) = self.objects.find(c.third) else {
+            return Ok(false);
+        };
+        if !self.is_before_limits() || !writes(c.first, member_count(&self.groups) + 1) {
+            return Ok(false);
+        }
+        if is_last_group(&self.groups, c.second) {
+            match self.groups.add_member(&self.objects, member) {
+                Ok(()) => Ok(true),
+                Err(refusal) => not_taken(refusal),
+            }
+        } else {
+            match self.groups.declare(&self.objects, c.second, &[member]) {
+                Ok(_) => Ok(true),
+                Err(refusal) => not_taken(refusal),
+            }
+        }
+    }
+
+    /// The place from which the last limit holds, 0 where there is none.
+    fn last_place(&self) -> u64
+        ensures { result ≡ last_place self.now.limits }
+    {
+        match self.limits.entries().last() {
+            Some(entry) => entry.place,
+            None => 0,
+        }
+    }
+
+    /// Whether the next limit may hold from a place: from 1 to the one after the last decided place, and not before the limit
+    /// before it.
+    fn may_hold_from(&self, decided: u64, place: u64) -> bool
+        ensures { result ≡ may_hold_from decided self.now.limits place }
+    {
+        place > 0 && place - 1 <= decided && self.last_place() <= place
+    }
+
+    /// Takes a limit that may hold from its place, where none is of its scope and place.
+    fn add_entry(&mut self, scope: Scope, amount: u64, place: u64) -> Result<bool, AllocError>
+        requires begun { 0 < place }
+        requires later { last_place self.old.limits ≤ place }
+        ensures { let e = entry_of scope amount place in Takes result self.new (then_some
+            (not (has_entry self.old.limits e) && is_none (change_refusal (length self.old.objects) self.old.groups self.old.limits e))
+            (record (told_of self.old) { limits = self.old.limits ++ e ∷ [] })) }
+    {
+        // For the proof: the limits are in the order of their places.
+        let _scopes = self.limits.len();
+        let count = self.limits.entries().len();
+        match self
+            .limits
+            .change(&self.objects, &self.groups, scope, amount, place)
+        {
+            // One of the scope and place was replaced where there are no more than before.
+            Ok(()) => Ok(self.limits.entries().len() > count),
+            Err(refusal) => not_taken(refusal),
+        }
+    }
+
+    /// Takes the limit of a row.
+    fn add_limit(
+        &mut self,
+        version: Version,
+        decided: u64,
+        c: &RowColumns<'_>,
+    ) -> Result<bool, AllocError>
+        ensures { Takes result self.new (with_limit version decided (told_of self.old) (columns_view c.now)) }
+    {
+        let Some(scope) = scope(&self.objects, &self.groups, c.second) else {
+            return Ok(false);
+        };
+        let Some((amount, place)) = amount(version, c.third) else {
+            return Ok(false);
+        };
+        let count = self.limits.entries().len() as u64;
+        if !self.has_objects() || !self.is_before_changes() || !writes(c.first, count + 1) {
+            return Ok(false);
+        }
+        if !self.may_hold_from(decided, place) {
+            return Ok(false);
+        }
+        self.add_entry(scope, amount, place)
+    }
+
+    /// Takes the first change of an update.
+    fn add_first_change(
+        &mut self,
+        decided: u64,
+        c: &RowColumns<'_>,
+        change: Change,
+    ) -> Result<bool, AllocError>
+        ensures { Takes result self.new (with_first_change decided (told_of self.old) (columns_view c.now) change) }
+    {
+        let place = self.sets.len() as u64;
+        if !self.is_before_reports() || place >= decided || !writes(c.first, place + 1) {
+            return Ok(false);
+        }
+        let Ok(set) = MessageSet::single(&self.objects, change) else {
+            return Ok(false);
+        };
+        self.sets.push(set)?;
+        Ok(true)
+    }
+
+    /// Takes one change more of the last update.
+    fn add_next_change(&mut self, c: &RowColumns<'_>, change: Change) -> Result<bool, AllocError>
+        requires some { 0 < length self.old.sets.items }
+        requires known { AreKnown (length self.old.objects) (last_set self.old.sets.items) }
+        ensures { Takes result self.new (with_next_change (told_of self.old) (columns_view c.now) change) }
+    {
+        let last = self.sets.len() - 1;
+        let count = self.sets[last].changes().len() as u64;
+        if !self.is_before_reports()
+            || !writes(c.first, last as u64 + 1)
+            || !writes(c.second, count + 1)
+        {
+            return Ok(false);
+        }
+        match self.sets[last].add(&self.objects, change) {
+            Ok(()) => Ok(true),
+            Err(refusal) => not_taken(refusal),
+        }
+    }
+
+    /// Takes this change of a row.
+    fn add_any_change(
+        &mut self,
+        decided: u64,
+        c: &RowColumns<'_>,
+        change: Change,
+    ) -> Result<bool, AllocError>
+        requires { AreUpdatesKnown (told_of self.old) }
+        ensures { Takes result self.new (with_any_change decided (told_of self.old) (columns_view c.now) change) }
+    {
+        if writes(c.second, 1) {
+            self.add_first_change(decided, c, change)
+        } else if self.sets.is_empty() {
+            Ok(false)
+        } else {
+            self.add_next_change(c, change)
+        }
+    }
+
+    /// Takes the change of a row.
+    fn add_change(&mut self, decided: u64, c: &RowColumns<'_>) -> Result<bool, AllocError>
+        requires { AreUpdatesKnown (told_of self.old) }
+        ensures { Takes result self.new (with_change_row decided (told_of self.old) (columns_view c.now)) }
+    {
+        let Some(change) = change(&self.objects, c.third) else {
+            return Ok(false);
+        };
+        self.add_any_change(decided, c, change)
+    }
+
+    /// The place of the last report change, 0 where there is none.
+    fn last_report_place(&self) -> u64
+        ensures { result ≡ last_number (map (λ c. c.place) self.now.reports.items) }
+    {
+        match self.reports.last() {
+            Some(change) => change.place,
+            None => 0,
+        }
+    }
+
+    /// What was reported last, 0 where nothing was.
+    fn last_reported(&self) -> u64
+        ensures { result ≡ last_number (map (λ c. c.reported) self.now.reports.items) }
+    {
+        match self.reports.last() {
+            Some(change) => change.reported,
+            None => 0,
+        }
+    }
+
+    /// Whether a report change may come next.
+    fn may_report(&self, decided: u64, place: u64, reported: u64) -> bool
+        ensures { result ≡ may_report decided (told_of self.now) place reported }
+    {
+        self.has_updates(decided)
+            && self.is_before_rounds()
+            && self.last_report_place() < place
+            && place <= decided
+            && self.last_reported() < reported
+            && reported <= MOST_UPDATES as u64
+    }
+
+    /// Takes the report change of a row.
+    fn add_report(&mut self, decided: u64, c: &RowColumns<'_>) -> Result<bool, AllocError>
+        ensures { Takes result self.new (with_report decided (told_of self.old) (columns_view c.now)) }
+    {
+        let Some(place) = natural(c.first) else {
+            return Ok(false);
+        };
+        let Some(reported) = natural(c.second) else {
+            return Ok(false);
+        };
+        if !self.may_report(decided, place, reported) || c.third != b"-".as_slice() {
+            return Ok(false);
+        }
+        self.reports.push(ReportChange { place, reported })?;
+        Ok(true)
+    }
+
+    /// The place of the last round, 0 where there is none.
+    fn last_round(&self) -> u64
+        ensures { result ≡ last_number self.now.rounds.items }
+    {
+        match self.rounds.last() {
+            Some(place) => *place,
+            None => 0,
+        }
+    }
+
+    /// Whether the round of a place may come next.
+    fn may_round(&self, decided: u64, place: u64) -> bool
+        ensures { result ≡ may_round decided (told_of self.now) place }
+    {
+        self.has_updates(decided)
+            && self.is_before_windows()
+            && self.last_round() < place
+            && place <= decided
+    }
+
+    /// Takes the round of a row.
+    fn add_round(&mut self, decided: u64, c: &RowColumns<'_>) -> Result<bool, AllocError>
+        ensures { Takes result self.new (with_round decided (told_of self.old) (columns_view c.now)) }
+    {
+        let Some(place) = natural(c.second) else {
+            return Ok(false);
+        };
+        if !self.may_round(decided, place)
+            || c.third != b"-".as_slice()
+            || !writes(c.first, self.rounds.len() as u64 + 1)
+        {
+            return Ok(false);
+        }
+        self.rounds.push(place)?;
+        Ok(true)
+    }
+
+    /// Takes the window of a row.
+    fn add_window(&mut self, decided: u64, c: &RowColumns<'_>) -> Result<bool, AllocError>
+        ensures { Takes result self.new (with_window decided (told_of self.old) (columns_view c.now)) }
+    {
+        let Some(from) = natural(c.second) else {
+            return Ok(false);
+        };
+        let Some(to) = natural(c.third) else {
+            return Ok(false);
+        };
+        let count = self.windows.len();
+        if !self.has_updates(decided)
+            || !writes(c.first, count as u64 + 1)
+            || count >= MOST_WINDOWS
+        {
+            return Ok(false);
+        }
+        if from > decided || to > decided {
+            return Ok(false);
+        }
+        self.windows.push(Window { from, to })?;
+        Ok(true)
+    }
+
+    /// Takes a row of a kind.
+    pub fn add_row(
+        &mut self,
+        version: Version,
+        decided: u64,
+        kind: RowKind,
+        c: &RowColumns<'_>,
+    ) -> Result<bool, AllocError>
+        requires { AreUpdatesKnown (told_of self.old) }
+        ensures { Takes result self.new (with_row version decided (told_of self.old) kind (columns_view c.now)) }
+    {
+        match kind {
+            RowKind::Object => self.add_object(c),
+            RowKind::Member => self.add_member(c),
+            RowKind::Limit => self.add_limit(version, decided, c),
+            RowKind::Change => self.add_change(decided, c),
+            RowKind::Report => self.add_report(decided, c),
+            RowKind::Round => self.add_round(decided, c),
+            RowKind::Window => self.add_window(decided, c),
+        }
+    }
+}
+
+/// How many members the groups have.
+fn member_count(groups: &Groups) -> u64
+    ensures count { result ≡ member_count groups.now }
+    ensures few { result ≤ 2048 }
+{
+    let mut count = 0;
+    for place in 0..groups.len() {
+        count += groups.members(GroupId::new(place as u8)).len() as u64;
+    }
+    count
+}
+
+/// Whether the last group has this name.
+fn is_last_group(groups: &Groups, name: &[u8]) -> bool
+    ensures { result ≡ is_last_group groups.now name.now }
+{
+    let count = groups.len();
+    if count == 0 {
+        return false;
+    }
+    name == groups.name(GroupId::new(count as u8 - 1)).as_bytes()
+}

@@ -1,0 +1,25 @@
+use Rattle.std.proofs.Common.{◌∙◌, sym, length}
+use Rattle.std.proofs.lemmas.List.{length-replicate}
+use Rattle.ordup_primary.specs.Primaries.{first_progress}
+use Rattle.ordup_cluster.proofs.OpeningLemmas.{keeps-first, first-is}
+use Rattle.ordup_cluster.proofs.holds.opening.open.Goals as goal
+
+pub new-requires-2-clause-ends : goal.new-requires-2-clause-ends
+new-requires-2-clause-ends c =
+    let made = c.in_ok-primary.ensures in
+    keeps-first c.args.setup _ _ c.in_ok-ends.cells.items (first-is _ _ made.setup made.log made.numbers made.sites made.limits)
+    c.in_ok-ends.ensures.feeds
+
+pub new-requires-2-clause-rooms : goal.new-requires-2-clause-rooms
+new-requires-2-clause-rooms c =
+    let made = c.in_ok-primary.ensures in
+    let rooms = c.in_ok-rooms.ensures in (
+      rw made.sites (rooms.count ∙ sym (length-replicate (length c.args.setup.sites) first_progress)),
+      rw made.log rooms.values,
+    )
+
+pub returns-clause-opened : goal.returns-clause-opened
+returns-clause-opened c =
+    let made = c.in_ok-primary.ensures in
+    rw c.new-2.ensures
+    (record { primary = first-is _ _ made.setup made.log made.numbers made.sites made.limits; feeds = c.in_ok-ends.ensures.feeds })

@@ -1,0 +1,14 @@
+use Rattle.std.proofs.Common.{◌≡◌, length}
+use Rattle.ordup_cluster.specs.Books.{KeepsBook}
+use Rattle.ordup_cluster.specs.Turning.{Reported}
+use Rattle.ordup_cluster.proofs.BookLemmas.{Upto}
+use Rattle.ordup_cluster.proofs.holds.turning.report_all.Given as goal
+
+-- the sites so far reported, the others are as they were
+abbrev pub invariant-loop-place : goal.invariant-loop-place
+invariant-loop-place g l = record {
+  kept : KeepsBook l.primary l.ends.items;
+  upto : Upto l.place Reported (record { primary = l.fn.primary; ends = l.fn.ends.items })
+      (record { primary = l.primary; ends = l.ends.items });
+  sites : length l.primary.sites ≡ l.place-end;
+}

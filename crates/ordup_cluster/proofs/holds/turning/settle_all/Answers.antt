@@ -1,0 +1,23 @@
+use Rattle.std.proofs.Common.{suc, ◌∙◌, sym}
+use Rattle.ordup_cluster.specs.Turning.{Settles}
+use Rattle.ordup_cluster.proofs.SettlementLemmas.{settled-acked, same-feeds, same-feeds-more}
+use Rattle.ordup_cluster.proofs.holds.turning.settle_all.Goals as goal
+
+pub loop-primary-preserved : goal.loop-primary-preserved
+loop-primary-preserved c =
+    let before = c.loop-primary.invariant in
+    let ok = c.in_ok-settle.ensures in
+    let sound = c.acked.ensures.sound in
+    let settles : Settles c.loop-primary.primary c.settle.new.self =
+    record { allowed = ok.allowed; first = ok.first; later = ok.later } in (
+      same-feeds-more _ _ _ before.0 (same-feeds _ _ sound settles),
+      (
+        suc before.1.0,
+        (
+          c.loop-primary.primary,
+          before.1.1,
+          settles,
+          settled-acked _ _ _ sound settles (sym c.in-Acked.is ∙ ok.answer),
+        ),
+      ),
+    )

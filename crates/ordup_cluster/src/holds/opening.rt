@@ -1,0 +1,81 @@
+ghost use Rattle.std.specs.Prelude.{◌≡◌, ◌+◌, ◌<◌, None, All, length, IfOk, OnOk, IfErr};
+ghost use Rattle.ordup_objects.specs.Refusals.{IsRefusal};
+ghost use Rattle.ordup_objects.specs.Tables.{initial_state};
+ghost use Rattle.ordup_primary.specs.Declarations.{start_refusal};
+ghost use Rattle.ordup_cluster.specs.Opening.{AreOpened, AreFirstFeeds};
+
+use crate::holds::book::Book;
+use crate::holds::site_cell::SiteCell;
+use ordup_feed::{Feed, SendEnd};
+use ordup_objects::{Refusal, SiteId, Values};
+use ordup_primary::{Primary, Setup};
+use ordup_site::Site;
+use std::alloc::Global;
+
+/// The book of a store in which nothing has happened, and the cells of its sites in order of declaration.
+///
+/// It is refused `Empty` where the setup lacks an object or a site, and `NoMemory`.
+pub fn open(alloc: Global, setup: Setup) -> Result<(Book, Vec<SiteCell>), Refusal>
+    ensures opened { IfOk result (λ opened. AreOpened setup opened.0 opened.1.items) }
+    ensures allowed { IfOk result (λ _. start_refusal setup ≡ None) }
+    ensures refused { IfErr result (λ e. IsRefusal (start_refusal setup) e) }
+{
+    if !setup.is_ready() {
+        return Err(Refusal::Empty);
+    }
+    let (ends, cells) = first_feeds(alloc, &setup)?;
+    let rooms = first_rooms(alloc, &setup)?;
+    let primary = Primary::new(alloc, setup)?;
+    Ok((Book::new(primary, ends, rooms), cells))
+}
+
+/// For each site a feed, whose ends are those of the book and of the site's cell.
+fn first_feeds(alloc: Global, setup: &Setup) -> Result<(Vec<SendEnd>, Vec<SiteCell>), Refusal>
+    ensures feeds { IfOk result (λ feeds. AreFirstFeeds setup.now (length setup.now.sites) feeds.0.items feeds.1.items) }
+    ensures refused { IfErr result (λ e. e ≡ Refusal.NoMemory) }
+{
+    let mut ends = Vec::new(alloc);
+    let mut cells = Vec::new(alloc);
+    for place in 0..setup.sites() {
+        let site = SiteId::new(place as u8);
+        add_feed(alloc, setup, site, &mut ends, &mut cells)?;
+    }
+    Ok((ends, cells))
+}
+
+/// The feed of one site more.
+fn add_feed(
+    alloc: Global,
+    setup: &Setup,
+    site: SiteId,
+    ends: &mut Vec<SendEnd>,
+    cells: &mut Vec<SiteCell>,
+) -> Result<(), Refusal>
+    requires site { site < length setup.now.sites }
+    requires feeds { AreFirstFeeds setup.now site ends.old.items cells.old.items }
+    ensures feeds { OnOk result (AreFirstFeeds setup.now (site + 1) ends.new.items cells.new.items) }
+    ensures refused { IfErr result (λ e. e ≡ Refusal.NoMemory) }
+{
+    let (end, taker) = Feed::new(alloc, setup.objects(), setup.capacity(site))?;
+    let replica = Site::new(alloc, setup.objects())?;
+    if ends.push(end).is_err() || cells.push(SiteCell::new(replica, taker)).is_err() {
+        return Err(Refusal::NoMemory);
+    }
+    Ok(())
+}
+
+/// The initial values of the objects, once for each site.
+fn first_rooms(alloc: Global, setup: &Setup) -> Result<Vec<Values>, Refusal>
+    ensures count { IfOk result (λ rooms. length rooms.items ≡ length setup.now.sites) }
+    ensures values { IfOk result (λ rooms. All (λ v. v ≡ initial_state setup.now.objects) rooms.items) }
+    ensures refused { IfErr result (λ e. e ≡ Refusal.NoMemory) }
+{
+    let mut rooms = Vec::new(alloc);
+    for _ in 0..setup.sites() {
+        let values = Values::initial(alloc, setup.objects())?;
+        if rooms.push(values).is_err() {
+            return Err(Refusal::NoMemory);
+        }
+    }
+    Ok(rooms)
+}

@@ -1,5 +1,0 @@
-pub mod CellLemmas
-pub mod BookLemmas
-pub mod SettlementLemmas
-mod OpeningLemmas
-mod Examples

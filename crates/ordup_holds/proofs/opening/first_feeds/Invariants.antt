@@ -1,6 +1,0 @@
-use Rattle.ordup_holds.specs.Opening.{AreFirstFeeds}
-use Rattle.ordup_holds.proofs.opening.first_feeds.Given as goal
-
--- the feeds of the sites so far
-abbrev pub invariant-loop-place : goal.invariant-loop-place
-invariant-loop-place l = AreFirstFeeds l.setup l.place l.ends.items l.cells.items

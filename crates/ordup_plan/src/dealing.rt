@@ -1,0 +1,30 @@
+ghost use Rattle.std.specs.Prelude.{◌≡◌, ◌<◌, IfOk, sum_by, vec_len};
+ghost use Rattle.ordup_plan.specs.Dealing.{AreDealt};
+
+use ordup_objects::MessageSet;
+use std::alloc::{AllocError, Global};
+
+/// Deals sets to so many callers in turn: the first to the first of them, the next to the next, and again from the first.
+pub(crate) fn deal(
+    alloc: Global,
+    sets: Vec<MessageSet>,
+    callers: u8,
+) -> Result<Vec<Vec<MessageSet>>, AllocError>
+    requires { 0 < callers }
+    ensures dealt { IfOk result (λ hands. AreDealt callers sets.items hands.items) }
+    ensures all { IfOk result (λ hands. sum_by vec_len hands.items ≡ vec_len sets) }
+{
+    let mut hands = Vec::new(alloc);
+    for _ in 0..callers {
+        hands.push(Vec::new(alloc))?;
+    }
+    let mut turn = 0;
+    for set in sets {
+        hands[turn].push(set)?;
+        turn += 1;
+        if turn == hands.len() {
+            turn = 0;
+        }
+    }
+    Ok(hands)
+}

@@ -1,0 +1,161 @@
+ghost use Rattle.std.specs.Prelude.{◌≡◌, ◌<◌, ◌≤◌, ◌⊎◌, ℕ, None, IfErr, IfOk, IfSome, length, sum_by, vec_len};
+ghost use Rattle.ordup_objects.specs.Sizes.{most_sites};
+ghost use Rattle.ordup_primary.specs.Declarations.{start_refusal};
+ghost use Rattle.ordup_plan.specs.Outcomes.{IsOutcome, counted};
+
+use crate::caller::propose_all;
+use crate::dealing::deal;
+use crate::outcome::outcome_of;
+use crate::tally::{Tally, added_up};
+use ordup_cluster::{Cluster, OpenGate};
+use ordup_objects::{MessageSet, Refusal, SiteId};
+use ordup_primary::Setup;
+use ordup_text::TextBuffer;
+use std::alloc::Global;
+use std::num::NonZeroU8;
+use std::sync::Wait;
+use std::sync::atomic::{AtomicBool, Ordering};
+use std::thread;
+use std::thread::{Promise, PromisedHandle, Threads};
+
+/// What is promised of a caller: it counts no more proposals than it has sets.
+#[derive(Drop)]
+struct Proposes {
+    sets: usize,
+}
+
+impl Promise<Option<Tally>> for Proposes {
+    ghost kept_by = { λ p r. IfSome r (λ t. counted t ≤ p.sets) };
+}
+
+/// Opens a cluster, proposes the sets by so many callers in threads of their own, and answers the outcome as text.
+///
+/// Set i goes to caller `(i - 1) mod callers + 1`, which proposes its sets one after another, with 1,000,000 turns each. Each site
+/// has its applier in a thread of its own. All threads have ended when it returns.
+///
+/// It is refused `NoMemory`, also where a thread cannot be started, and `Mixed` for the first site that does not agree with the log.
+/// Once a caller is refused memory before its set is numbered, or cannot be started, the plan is called off: each of the others ends
+/// after the proposal that it is in, for which it waits as ever, since the appliers are stopped only once all callers have ended.
+pub fn run_threads<R: Threads + Wait + Sync>(
+    rt: &R,
+    alloc: Global,
+    setup: Setup,
+    sets: Vec<MessageSet>,
+    callers: NonZeroU8,
+) -> Result<TextBuffer, Refusal>
+    requires { start_refusal setup ≡ None }
+    ensures outcome { IfOk result (λ out. IsOutcome (length sets.items) out.text) }
+    ensures refused { IfErr result (λ e. (e ≡ Refusal.NoMemory) ⊎ ((s : ℕ) × (e ≡ Refusal.Mixed s))) }
+{
+    // For the proof: there are at most 16 sites.
+    let _sites = setup.sites();
+    let cluster = Cluster::new(alloc, setup)?;
+    // A cluster is dropped by a call: where it goes out of scope, the proof takes it apart.
+    let Ok(hands) = deal(alloc, sets, callers.get()) else {
+        drop(cluster);
+        return Err(Refusal::NoMemory);
+    };
+    let Some(tally) = with_appliers(rt, alloc, &cluster, hands) else {
+        drop(cluster);
+        return Err(Refusal::NoMemory);
+    };
+    let closed = cluster.close()?;
+    let outcome = outcome_of(alloc, &closed, tally);
+    drop(closed);
+    match outcome {
+        Ok(text) => Ok(text),
+        Err(_) => Err(Refusal::NoMemory),
+    }
+}
+
+/// Starts the appliers, lets the callers propose, stops the cluster once all of them have ended, and waits for all threads.
+fn with_appliers<R: Threads + Wait + Sync>(
+    rt: &R,
+    alloc: Global,
+    cluster: &Cluster,
+    hands: Vec<Vec<MessageSet>>,
+) -> Option<Tally>
+    requires few { cluster.now.sites ≤ most_sites }
+    requires bounded { sum_by vec_len hands.items < 18446744073709551616 }
+    ensures { IfSome result (λ t. counted t ≤ sum_by vec_len hands.items) }
+{
+    thread::scope(
+        thread::scope_env(),
+        rt,
+        |scope| -> Option<Tally>
+            requires { (cluster.now.sites ≤ most_sites) × (sum_by vec_len hands.items < 18446744073709551616) }
+            ensures { IfSome result (λ t. counted t ≤ sum_by vec_len hands.items) }
+        {
+            for place in 0..cluster.sites() {
+                let applier = scope.spawn(
+                    move || -> u64
+                        requires { (place < cluster.now.sites) × (cluster.now.sites ≤ most_sites) }
+                    { cluster.applier(rt, SiteId::new(place as u8), &OpenGate) },
+                );
+                if applier.is_err() {
+                    cluster.stop();
+                    return None;
+                }
+            }
+            let tally = propose_in_threads(rt, alloc, cluster, hands);
+            cluster.stop();
+            tally
+        },
+    )
+}
+
+/// Lets each caller propose its hand in a thread of its own, and waits for all of them. Where one cannot be started, those that were
+/// end after the proposal that they are in.
+fn propose_in_threads<R: Threads + Wait + Sync>(
+    rt: &R,
+    alloc: Global,
+    cluster: &Cluster,
+    hands: Vec<Vec<MessageSet>>,
+) -> Option<Tally>
+    requires { sum_by vec_len hands.items < 18446744073709551616 }
+    ensures { IfSome result (λ t. counted t ≤ sum_by vec_len hands.items) }
+{
+    let called_off = &AtomicBool::new(false);
+    thread::scope(
+        thread::scope_env(),
+        rt,
+        |scope| -> Option<Tally>
+            requires { sum_by vec_len hands.items < 18446744073709551616 }
+            ensures { IfSome result (λ t. counted t ≤ sum_by vec_len hands.items) }
+        {
+            let mut callers = Vec::new(alloc);
+            for sets in hands {
+                let promise = Proposes { sets: sets.len() };
+                let started = scope.spawn_with(
+                    promise,
+                    move || -> Option<Tally>
+                        ensures { IfSome result (λ t. counted t ≤ vec_len sets) }
+                    { propose_all(rt, cluster, called_off, sets) },
+                );
+                let kept = match started {
+                    Ok(caller) => callers.push(caller).is_ok(),
+                    Err(_) => false,
+                };
+                if !kept {
+                    called_off.store(true, Ordering::SeqCst);
+                    return None;
+                }
+            }
+            gather(rt, callers)
+        },
+    )
+}
+
+/// Waits for the callers, and adds up what all of them count.
+fn gather<R: Threads>(
+    rt: &R,
+    callers: Vec<PromisedHandle<Option<Tally>, Proposes>>,
+) -> Option<Tally>
+    requires { sum_by (λ c. c.promise.sets) callers.items < 18446744073709551616 }
+    ensures { IfSome result (λ t. counted t ≤ sum_by (λ c. c.promise.sets) callers.items) }
+{
+    match thread::join_promised(rt, callers) {
+        Ok(tallies) => added_up(tallies),
+        Err(_) => None,
+    }
+}

@@ -1,6 +1,0 @@
-use Rattle.ordup_record.proofs.Common.{◌<◌, ◌≡◌, Change, get_or, List, ℕ}
-use Rattle.ordup_record.proofs.record.Record.has_same_sets.Given as goal
-
--- the updates so far are the same
-abbrev pub invariant-loop-place : goal.invariant-loop-place
-invariant-loop-place g l = (k : ℕ) (d : List Change) → k < l.place → get_or l.self.sets k d ≡ get_or l.other.sets k d

@@ -1,8 +1,0 @@
-use Rattle.ordup_record.proofs.Common.{rules, slice_eq-Decides}
-use Rattle.ordup_limits.specs.declared.limit_entry.LimitEntry.{LimitEntry}
-use Rattle.ordup_record.proofs.same.are_same_limits.Goals as goal
-
-pub returns : goal.returns
-returns g c =
-    rw (← c.entries.ensures, ← c.entries-2.ensures) (slice_eq-Decides {A = LimitEntry} (λ a b. search rules) c.entries.result.now
-    c.entries-2.result.now c.eq.result c.eq.ensures)

@@ -1,6 +1,0 @@
-use Rattle.ordup_record.proofs.Common.{rules, slice_eq-Decides}
-use Rattle.ordup_record.specs.declared.report_change.ReportChange.{ReportChange}
-use Rattle.ordup_record.proofs.same.are_same_reports.Goals as goal
-
-pub returns : goal.returns
-returns c = slice_eq-Decides {A = ReportChange} (λ a b. search rules) c.args.these.now c.args.those.now c.eq.result c.eq.ensures

@@ -1,5 +1,0 @@
-use Rattle.ordup_record_reader.proofs.ColumnLemmas.{columns_came}
-use Rattle.ordup_record_reader.proofs.reading.see_row.Goals as goal
-
-pub returns : goal.returns
-returns c = columns_came c.args.row.now (rw c.as_slice.ensures at c.see_bytes.ensures)

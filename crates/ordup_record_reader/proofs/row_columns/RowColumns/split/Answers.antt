@@ -1,7 +1,0 @@
-use Rattle.std.proofs.Common.{◌∙◌}
-use Rattle.csv.specs.Records.{fields_of}
-use Rattle.ordup_record_reader.proofs.ColumnLemmas.{columns_at-is}
-use Rattle.ordup_record_reader.proofs.row_columns.RowColumns.split.Goals as goal
-
-pub returns : goal.returns
-returns c = c.at_places.ensures ∙ columns_at-is (fields_of c.args.row.now)

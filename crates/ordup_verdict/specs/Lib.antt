@@ -1,7 +1,0 @@
-pub mod Reasons
-pub mod Rows
-pub mod Cursors
-pub mod Passing
-pub mod Verdicts
-pub mod Beginning
-pub mod LeastStarts

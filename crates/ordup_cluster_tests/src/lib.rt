@@ -1,13 +1,9 @@
-//! Tests of the work of one hold of a lock, on one thread.
+//! Tests of the feed, of the work of one hold of a lock, and of the calls of a cluster on one thread.
 #![tactic(auto)]
 
 #[cfg(test)]
-mod agreement;
+mod cluster;
 #[cfg(test)]
-mod fixtures;
+mod feed;
 #[cfg(test)]
-mod full_feed;
-#[cfg(test)]
-mod one_update;
-#[cfg(test)]
-mod waiting;
+mod holds;

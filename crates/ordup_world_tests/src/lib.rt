@@ -1,8 +1,12 @@
-//! Tests of limits, of the primary and of the world, by calls: those that no script makes.
+//! Tests of the objects, the log, the limits, the primary and the world, by calls: those that no script makes.
 #![tactic(auto)]
 
 #[cfg(test)]
 mod answers;
+#[cfg(test)]
+mod changed_limits;
+#[cfg(test)]
+mod events;
 #[cfg(test)]
 mod fixtures;
 #[cfg(test)]
@@ -10,8 +14,12 @@ mod ledgers;
 #[cfg(test)]
 mod limits;
 #[cfg(test)]
-mod places;
+mod log;
+#[cfg(test)]
+mod names;
+#[cfg(test)]
+mod postings;
 #[cfg(test)]
 mod primary;
 #[cfg(test)]
-mod running;
+mod sizes;

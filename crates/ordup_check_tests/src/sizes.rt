@@ -1,0 +1,202 @@
+//! Sizes at their edges, and long records.
+use crate::fixtures::said;
+use std::alloc::{AllocError, Global};
+use std::test::Fail;
+
+/// All rows of a record but its windows.
+const FORCED: &str = "\
+ordup,1,a,2
+object,1,x,0
+limit,1,object:x,5
+change,1,1,add:x:5
+change,2,1,add:x:1
+round,1,2,-
+";
+
+/// The first rows; a row that stands there so many times, with its number from 1 on in the place of `#`; another one; and what
+/// is said.
+const SIZES: [(&str, &str, usize, &str, usize, &str); 20] = [
+    ("ordup,1,a,0\n", "object,#,o#,0\n", 256, "", 0, "yes 0"),
+    (
+        "ordup,1,a,0\n",
+        "object,#,o#,0\n",
+        257,
+        "",
+        0,
+        "malformed 258",
+    ),
+    (
+        "ordup,1,a,0\n",
+        "object,#,o#,0\n",
+        1,
+        "member,#,g#,o1\n",
+        32,
+        "yes 0",
+    ),
+    (
+        "ordup,1,a,0\n",
+        "object,#,o#,0\n",
+        1,
+        "member,#,g#,o1\n",
+        33,
+        "malformed 35",
+    ),
+    (
+        "ordup,1,a,0\n",
+        "object,#,o#,0\n",
+        65,
+        "member,#,g,o#\n",
+        64,
+        "yes 0",
+    ),
+    (
+        "ordup,1,a,0\n",
+        "object,#,o#,0\n",
+        65,
+        "member,#,g,o#\n",
+        65,
+        "malformed 131",
+    ),
+    (
+        "ordup,1,a,0\n",
+        "object,#,o#,0\n",
+        65,
+        "limit,#,object:o#,5\n",
+        64,
+        "yes 0",
+    ),
+    (
+        "ordup,1,a,0\n",
+        "object,#,o#,0\n",
+        65,
+        "limit,#,object:o#,5\n",
+        65,
+        "malformed 131",
+    ),
+    (
+        "ordup,1,a,1\n",
+        "object,#,o#,0\n",
+        65,
+        "change,1,#,add:o#:1\n",
+        64,
+        "yes 0",
+    ),
+    (
+        "ordup,1,a,1\n",
+        "object,#,o#,0\n",
+        65,
+        "change,1,#,add:o#:1\n",
+        65,
+        "malformed 131",
+    ),
+    (
+        "ordup,1,a,10000\n",
+        "object,#,o#,0\n",
+        1,
+        "change,#,1,add:o1:1\n",
+        9999,
+        "malformed 10002",
+    ),
+    (
+        "ordup,1,a,10000\n",
+        "object,#,o#,0\n",
+        1,
+        "change,#,1,add:o1:1\n",
+        10000,
+        "yes 0",
+    ),
+    (
+        "ordup,1,a,10000\n",
+        "object,#,o#,0\n",
+        1,
+        "change,#,1,add:o1:1\n",
+        10001,
+        "malformed 10003",
+    ),
+    (
+        "ordup,2,a,0\n",
+        "object,#,o#,0\n",
+        65,
+        "limit,#,object:o#,5@1\n",
+        64,
+        "yes 0",
+    ),
+    (
+        "ordup,2,a,0\n",
+        "object,#,o#,0\n",
+        65,
+        "limit,#,object:o#,5@1\n",
+        65,
+        "malformed 131",
+    ),
+    (
+        "ordup,2,a,1088\nobject,1,x,0\n",
+        "limit,#,all,1000000000000000000@#\n",
+        1088,
+        "change,#,1,add:x:1\n",
+        1088,
+        "yes 0",
+    ),
+    (
+        "ordup,2,a,1088\nobject,1,x,0\n",
+        "limit,#,all,1000000000000000000@#\n",
+        1089,
+        "change,#,1,add:x:1\n",
+        1088,
+        "malformed 1091",
+    ),
+    (FORCED, "window,#,0,2\n", 10000, "", 0, "no 8 WindowsMeet"),
+    (
+        FORCED,
+        "window,#,0,2\n",
+        10000,
+        "round,#,1,-\n",
+        1,
+        "malformed 10007",
+    ),
+    (
+        FORCED,
+        "window,#,0,2\n",
+        1,
+        "window,1,0,2\n",
+        10000,
+        "malformed 8",
+    ),
+];
+
+/// Adds a row to a text so many times, with its number from 1 on in the place of `#`.
+fn push_times(alloc: Global, text: &mut String, row: &str, count: usize) -> Result<(), AllocError> {
+    for number in 1..=count {
+        let number = number.to_string(alloc)?;
+        let row = row.replace(alloc, "#", number.as_str())?;
+        text.push_str(row.as_str())?;
+    }
+    Ok(())
+}
+
+/// What is said of the first rows, and of two rows after them that stand there so many times.
+fn said_of(
+    alloc: Global,
+    first: &str,
+    (row, count): (&str, usize),
+    (other, other_count): (&str, usize),
+) -> Result<String, AllocError> {
+    let mut text = String::new(alloc);
+    text.push_str(first)?;
+    push_times(alloc, &mut text, row, count)?;
+    push_times(alloc, &mut text, other, other_count)?;
+    said(alloc, text.as_str())
+}
+
+#[test]
+fn as_many_rows_of_a_kind_as_may_be_are_read_and_no_more(rt: HostRuntime) -> Result<(), Fail> {
+    for &(first, row, count, other, other_count, wanted) in &SIZES {
+        let told = said_of(rt.alloc(), first, (row, count), (other, other_count))?;
+        assert_eq!(rt;
+            told.as_str(),
+            wanted,
+            "{count} of {row:?}, {other_count} of {other:?}"
+        );
+    }
+    Ok(())
+}

@@ -1,0 +1,111 @@
+//! Records to a writer that fails, and the version in which a record is written.
+ghost use Rattle.std.specs.Prelude.{Some};
+
+use crate::fixtures::record_in;
+use crate::places::{LATER, PLACED};
+use crate::spellings::RECORD;
+use ordup_check::Record;
+use ordup_rows::{RecordWriteFault, write_record};
+use std::alloc::Global;
+use std::io::{self, ErrorKind, Write};
+
+/// Takes so many bytes, and then fails or takes nothing. It cannot be flushed.
+#[derive(Drop)]
+struct ShortWriter {
+    taken: Vec<u8>,
+    room: usize,
+    takes_nothing: bool,
+}
+
+impl Write for ShortWriter {
+    ghost contents = { λ w. Some w.taken.items };
+
+    fn write(&mut self, bytes: &[u8]) -> io::Result<usize> {
+        if self.room == 0 && !self.takes_nothing {
+            return Err(io::Error::from(ErrorKind::Other));
+        }
+        let count = bytes.len().min(self.room);
+        self.taken.extend_from_slice(&bytes[..count])?;
+        self.room -= count;
+        Ok(count)
+    }
+
+    fn flush(&mut self) -> io::Result<()> {
+        Err(io::Error::from(ErrorKind::Other))
+    }
+}
+
+/// Whether a record is written so to a writer with room for so many bytes, and this is what it has got.
+fn is_written(
+    alloc: Global,
+    shown: &Record,
+    room: usize,
+    takes_nothing: bool,
+    wanted: (Result<(), RecordWriteFault>, &[u8]),
+) -> bool {
+    let mut output = ShortWriter {
+        taken: Vec::new(alloc),
+        room,
+        takes_nothing,
+    };
+    let written = write_record(alloc, shown, &mut output);
+    (written, output.taken.as_slice()) == wanted
+}
+
+#[test]
+fn a_writer_that_fails_has_got_a_front_of_the_record(rt: HostRuntime) {
+    let Ok(shown) = record_in(rt.alloc(), RECORD) else {
+        panic!(rt; "the record is not read")
+    };
+    let text = RECORD.as_bytes();
+    for takes_nothing in [false, true] {
+        for room in 0..text.len() {
+            let wanted = (Err(RecordWriteFault::Write), &text[..room]);
+            let is_front = is_written(rt.alloc(), &shown, room, takes_nothing, wanted);
+            assert!(rt;
+                is_front,
+                "room for {room}, and then nothing: {takes_nothing}"
+            );
+        }
+        let is_whole = is_written(
+            rt.alloc(),
+            &shown,
+            text.len(),
+            takes_nothing,
+            (Ok(()), text),
+        );
+        assert!(rt; is_whole, "room for all, and then nothing: {takes_nothing}");
+    }
+    drop(shown);
+}
+
+/// The same record as `RECORD`, in the second version.
+const RECORD_IN_THE_SECOND_VERSION: &str = "\
+ordup,2,a,2
+object,1,x,0
+object,2,y,10
+limit,1,object:x,5@1
+change,1,1,add:x:5
+change,2,1,add:x:1
+round,1,2,-
+window,1,0,2
+";
+
+#[test]
+fn a_record_is_written_in_the_first_version_where_that_can_tell_it(rt: HostRuntime) {
+    for (text, written) in [
+        (RECORD, RECORD),
+        (RECORD_IN_THE_SECOND_VERSION, RECORD),
+        ("ordup,2,a,0\nobject,1,x,0\n", "ordup,1,a,0\nobject,1,x,0\n"),
+        (PLACED, PLACED),
+        (LATER, LATER),
+    ] {
+        let Ok(shown) = record_in(rt.alloc(), text) else {
+            panic!(rt; "this is no record: {text}")
+        };
+        let wanted = (Ok(()), written.as_bytes());
+        let is_whole = is_written(rt.alloc(), &shown, written.len(), false, wanted);
+        drop(shown);
+        assert!(rt; is_whole, "{text}");
+    }
+}

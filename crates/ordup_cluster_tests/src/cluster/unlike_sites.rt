@@ -1,0 +1,66 @@
+//! Two sites that differ: a has room for two updates and may lag by four, b has room for three and no limit.
+use super::fixtures::{self, a, add, b, expect_applied, expect_closed, expect_proposed, seen, x};
+use ordup_cluster::{Cluster, Session};
+use ordup_limits::Scope;
+use ordup_objects::Refusal;
+use ordup_primary::{Setup, Window};
+use std::alloc::Global;
+use std::process::Abort;
+use std::sync::Wait;
+use std::test::Fail;
+
+/// Declares x at 0, and the two sites.
+fn declare(setup: &mut Setup) -> Result<(), Refusal> {
+    setup.object(b"x", 0)?;
+    let a = setup.site(b"a", 2)?;
+    setup.site(b"b", 3)?;
+    setup.limit(a, Scope::Count, 4)
+}
+
+fn opened(rt: &impl Abort, alloc: Global) -> Result<Cluster, Refusal> {
+    let mut setup = Setup::new(alloc);
+    let Ok(()) = declare(&mut setup) else {
+        panic!(rt; "the declarations are refused")
+    };
+    Cluster::new(alloc, setup)
+}
+
+/// Waits for the fifth update with one turn, and sees this answer.
+fn expect_settled<R: Wait + Abort>(rt: &R, cluster: &Cluster, answer: Result<(), Refusal>) {
+    fixtures::expect_settled(rt, cluster, &mut Session::new(), 5, 1, answer);
+}
+
+/// Four updates are acknowledged, and the fifth waits for a.
+fn propose_five<R: Wait + Abort>(rt: &R, alloc: Global, cluster: &Cluster) {
+    let mut session = Session::new();
+    for number in 1..=5 {
+        let set = add(rt, alloc, x(), 1);
+        let answer = if number < 5 {
+            Ok(number)
+        } else {
+            Err(Refusal::NotYet { number })
+        };
+        expect_proposed(rt, cluster, &mut session, set, 1, answer);
+    }
+    cluster.stop();
+}
+
+/// The fifth update is acknowledged by what a applies alone, two at a time. Then b applies what it has room for.
+fn apply_at_a_and_then_b<R: Wait + Abort>(rt: &R, cluster: &Cluster) {
+    for updates in [2, 2, 1] {
+        expect_settled(rt, cluster, Err(Refusal::NotYet { number: 5 }));
+        expect_applied(rt, cluster, a(), updates);
+    }
+    expect_settled(rt, cluster, Ok(()));
+    expect_applied(rt, cluster, b(), 3);
+}
+
+#[test]
+fn each_site_has_a_feed_of_its_own_capacity(rt: HostRuntime) -> Result<(), Fail> {
+    let alloc = rt.alloc();
+    let cluster = opened(&rt, alloc)?;
+    propose_five(&rt, alloc, &cluster);
+    apply_at_a_and_then_b(&rt, &cluster);
+    expect_closed(&rt, cluster, 5, seen(5, 5), &[Window { from: 0, to: 5 }]);
+    Ok(())
+}

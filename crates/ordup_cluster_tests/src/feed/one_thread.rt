@@ -1,0 +1,47 @@
+//! A feed with both ends in one thread.
+use super::fixtures::{parcel, x};
+use ordup_feed::Feed;
+use ordup_objects::Refusal;
+use std::test::Fail;
+
+#[test]
+fn a_feed_has_room_for_1_to_1024_parcels(rt: HostRuntime) -> Result<(), Fail> {
+    let alloc = rt.alloc();
+    let objects = x(alloc)?;
+    for (capacity, refusal) in [
+        (0, Some(Refusal::OutOfRange)),
+        (1, None),
+        (1_024, None),
+        (1_025, Some(Refusal::OutOfRange)),
+    ] {
+        assert_eq!(rt; Feed::new(alloc, &objects, capacity).err(), refusal);
+    }
+    // Dropped by a call, which is proved once for all tests: docs/DECISIONS.md, Tests.
+    drop(objects);
+    Ok(())
+}
+
+#[test]
+fn a_full_feed_hands_the_parcel_back(rt: HostRuntime) -> Result<(), Fail> {
+    let alloc = rt.alloc();
+    let objects = x(alloc)?;
+    let (mut sender, mut taker) = Feed::new(alloc, &objects, 1)?;
+    let Ok(()) = sender.push(&rt, parcel(&rt, &objects, 1)) else {
+        panic!(rt; "the feed has no room for a parcel")
+    };
+    let Err(back) = sender.push(&rt, parcel(&rt, &objects, 2)) else {
+        panic!(rt; "the feed has room for a second parcel")
+    };
+    assert_eq!(rt; (back.refusal.number(), back.parcel.number), (15, 2));
+    assert_eq!(rt; taker.pop(&rt).map(|p| p.number), Some(1));
+    assert_eq!(rt; taker.pop(&rt).map(|p| p.number), None);
+    assert_eq!(rt; sender.look(&rt), 0);
+    taker.tell(&rt);
+    assert_eq!(rt; sender.look(&rt), 1);
+    assert!(rt; sender.push(&rt, back.parcel).is_ok());
+    assert_eq!(rt; taker.pop(&rt).map(|p| p.number), Some(2));
+    drop(taker);
+    drop(sender);
+    drop(objects);
+    Ok(())
+}

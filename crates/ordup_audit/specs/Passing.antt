@@ -29,6 +29,7 @@ is_change_in_range r i p = slice_index_or (map (λ c. in_range (result_at (seria
 abbrev pub is_place_within : RecordState → ℕ → Bool
 is_place_within r i = is_within r (base (report_at r.reports) (full_rounds r.rounds) (suc i)) (suc i)
 
+-- the window after the first j, from 0 to 0 where there is none
 abbrev pub window_at : RecordState → ℕ → Window
 window_at r j = slice_index_or r.windows j (record { from = 0; to = 0 })
 

@@ -20,6 +20,7 @@ use Rattle.ordup_rows.specs.Rows.{Row}
 use Rattle.ordup_rows.specs.declared.version.Version.{Version}
 use Rattle.ordup_rows.specs.declared.version.Version.TheVariants.{First, Second}
 
+-- what comes of a value where there is one, as `do` has it
 infixl 10 ◌>>=◌
 abbrev pub ◌>>=◌ : {A B : Type 0} → Option A → (A → Option B) → Option B
 o >>= f = option_and_then f o
@@ -45,6 +46,7 @@ natural (negsuc n) = None
 abbrev pub natural_of : List ℕ → Option ℕ
 natural_of column = option_and_then natural (number_of column)
 
+-- this number is there
 abbrev pub is_number : ℕ → Option ℕ → Bool
 is_number n None = false
 is_number n (Some m) = m == n

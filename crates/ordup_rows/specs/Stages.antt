@@ -25,27 +25,27 @@ use Rattle.ordup_rows.specs.declared.row_kind.RowKind.{RowKind}
 use Rattle.ordup_rows.specs.declared.row_kind.RowKind.TheVariants as kind
 use Rattle.ordup_rows.specs.declared.version.Version.{Version}
 
--- what is known of a record after its first row: the version, how many updates are decided, and what the rows so far told of it
+-- no window is there yet
 abbrev pub is_before_windows : RecordState → Bool
 is_before_windows r = length r.windows == 0
 
--- nothing was told of a kind that comes after reports
+-- no round is there yet, and nothing that comes after the rounds
 abbrev pub is_before_rounds : RecordState → Bool
 is_before_rounds r = length r.rounds == 0 && is_before_windows r
 
--- nothing was told of a kind that comes after changes
+-- no report is there yet, and nothing that comes after the reports
 abbrev pub is_before_reports : RecordState → Bool
 is_before_reports r = length r.reports == 0 && is_before_rounds r
 
--- nothing was told of a kind that comes after limits
+-- no update is there yet, and nothing that comes after the updates
 abbrev pub is_before_changes : RecordState → Bool
 is_before_changes r = length r.sets == 0 && is_before_reports r
 
--- nothing was told of a kind that comes after members
+-- no limit is there yet, and nothing that comes after the limits
 abbrev pub is_before_limits : RecordState → Bool
 is_before_limits r = length r.limits == 0 && is_before_changes r
 
--- nothing was told of a kind that comes after objects
+-- no member is there yet, and nothing that comes after the members
 abbrev pub is_before_members : RecordState → Bool
 is_before_members r = length r.groups == 0 && is_before_limits r
 

@@ -18,7 +18,7 @@ use crate::holds::{
 use crate::session::Session;
 use crate::site_query::SiteQuery;
 use ordup_log::Scope;
-use ordup_objects::{MessageSet, ObjectId, Refusal, SiteId, Values};
+use ordup_objects::{MessageSet, ObjectId, ObjectTable, Refusal, SiteId, Values};
 use ordup_primary::{Primary, Setup};
 use ordup_site::Site;
 use std::alloc::Global;
@@ -35,8 +35,8 @@ use std::thread;
 pub struct Cluster {
     book: Mutex<Book>,
     cells: Vec<Mutex<SiteCell>>,
-    /// How many objects there are.
-    objects: usize,
+    /// A copy of the table that was declared, so that lending it takes no lock.
+    objects: ObjectTable,
     /// Empty, with a place for the site of each cell.
     room: Vec<Site>,
     stopped: AtomicBool,
@@ -60,12 +60,12 @@ impl Cluster {
     ///
     /// It is refused `Empty` where the setup lacks an object or a site, and `NoMemory`. It waits for nobody.
     pub fn new(alloc: Global, setup: Setup) -> Result<Cluster, Refusal>
-        ensures cluster { IfOk result (λ c. c ≡ record { objects = length setup.objects; sites = length setup.sites }) }
+        ensures cluster { IfOk result (λ c. c ≡ record { objects = setup.objects; sites = length setup.sites }) }
         ensures allowed { IfOk result (λ _. start_refusal setup ≡ None) }
         ensures refused { IfErr result (λ e. IsRefusal (start_refusal setup) e) }
     {
         let (book, cells) = open(alloc, setup)?;
-        let objects = book.primary().setup().objects().len();
+        let objects = book.primary().setup().objects().copy(alloc)?;
         let cells = locked(alloc, cells)?;
         let Ok(room) = Vec::with_capacity(alloc, cells.len()) else {
             return Err(Refusal::NoMemory);
@@ -77,6 +77,13 @@ impl Cluster {
             room,
             stopped: AtomicBool::new(false),
         })
+    }
+
+    /// The objects as they were declared, of which callers make their message sets. It takes no lock.
+    pub fn objects(&self) -> &ObjectTable
+        ensures { result.now ≡ self.now.objects }
+    {
+        &self.objects
     }
 
     /// How many sites there are.
@@ -186,11 +193,11 @@ impl Cluster {
     ) -> Result<SeenValue, Refusal>
         ensures applied { IfOk result (λ read. session.old.seen ≤ read.applied) }
         ensures seen { IfOk result (λ read. session.new.seen ≡ read.applied) }
-        ensures allowed { IfOk result (λ _. (object < self.now.objects) × (site < self.now.sites)) }
-        ensures refused { IfErr result (IsReadRefusal self.now.objects object self.now.sites site session.old.seen) }
+        ensures allowed { IfOk result (λ _. (object < length self.now.objects) × (site < self.now.sites)) }
+        ensures refused { IfErr result (IsReadRefusal (length self.now.objects) object self.now.sites site session.old.seen) }
         ensures err { OnErr result (session.new ≡ session.old) }
     {
-        if object.index() >= self.objects {
+        if object.index() >= self.objects.len() {
             return Err(Refusal::UnknownObject);
         }
         if site.index() >= self.cells.len() {

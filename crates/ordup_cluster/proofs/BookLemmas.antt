@@ -18,7 +18,7 @@ use Rattle.ordup_feed.specs.Ends.{Sending}
 use Rattle.ordup_objects.specs.States.{State}
 use Rattle.ordup_cluster.specs.Books.{BookState, IsTied, KeepsBook, AreRooms}
 use Rattle.ordup_cluster.specs.Relimiting.{limit_change_refusal}
-use Rattle.ordup_cluster.specs.Turning.{AtEachSite, Reported, Sent, SentOut, SameFeeds, with_progress, send_bound}
+use Rattle.ordup_cluster.specs.Turning.{KeptSite, AtEachSite, Reported, Sent, SentOut, SameFeeds, kept_at, with_progress, send_bound}
 
 -- ---- lists in which an element changed
 
@@ -126,15 +126,15 @@ keeps-at p q ends s site f kept is tied = record {
 -- ---- a step at each site, one after the other
 
 -- the sites below n made their steps, the others none
-pub record Upto (n : ℕ) (Step : ℕ → SiteProgress → Sending → SiteProgress → Sending → Type 0) (b c : BookState) : Type 0 where
+pub record Upto (n : ℕ) (Step : ℕ → KeptSite → KeptSite → Type 0) (b c : BookState) : Type 0 where
   pub primary : c.primary ≡ record b.primary { sites = c.primary.sites }
   pub sites : length c.primary.sites ≡ length b.primary.sites
   pub ends : length c.ends ≡ length b.ends
   pub done : (s : ℕ) (e f : Sending) → s < n → slice_get b.ends s ≡ Some e → slice_get c.ends s ≡ Some f
-      → Step s (progress_at b.primary s) e (progress_at c.primary s) f
+      → Step s (kept_at b.primary s e) (kept_at c.primary s f)
   pub rest : (s : ℕ) → n ≤ s → (slice_get c.ends s ≡ slice_get b.ends s) × (progress_at c.primary s ≡ progress_at b.primary s)
 
-module _ (Step : ℕ → SiteProgress → Sending → SiteProgress → Sending → Type 0) where
+module _ (Step : ℕ → KeptSite → KeptSite → Type 0) where
   pub upto-none : (b : BookState) → Upto 0 Step b b
   upto-none b = record {
     primary = refl;
@@ -146,7 +146,7 @@ module _ (Step : ℕ → SiteProgress → Sending → SiteProgress → Sending �
 
   pub upto-more : (n : ℕ) (b c : BookState) (q : PrimaryState) (e f : Sending) → Upto n Step b c → n < length c.primary.sites
       → slice_get c.ends n ≡ Some e → q ≡ with_progress c.primary n (progress_at q n)
-      → Step n (progress_at c.primary n) e (progress_at q n) f
+      → Step n (kept_at c.primary n e) (kept_at q n f)
       → Upto (n + 1) Step b (record { primary = q; ends = slice_set c.ends n f })
   upto-more n b c q e f upto inside at is step = record {
     primary = is ∙ (λ i. record (upto.primary i) { sites = ap (λ (r : PrimaryState). r.sites) (sym is) i });
@@ -235,33 +235,31 @@ progress-twice p q r s x y first second inside =
     ∙ ap (λ (sites : List SiteProgress). let t : PrimaryState = record p { sites = sites } in t) (set-twice p.sites s x y))
 
 -- one push more
-pub sent-more : (bound : ℕ → ℕ) (s : ℕ) (site after next : SiteProgress) (e f g : Sending) → Sent bound s site e after f
-    → next ≡ record after { sent = after.sent + 1 } → g ≡ record f { pushed = g.pushed } → after.sent < bound s
-    → Sent bound s site e next g
-sent-more bound s site after next e f g sent is pushed below =
-    let count : next.sent ≡ after.sent + 1 = ap (λ (x : SiteProgress). x.sent) is in
+pub sent-more : (bound : ℕ → ℕ) (s : ℕ) (x y z : KeptSite) → Sent bound s x y
+    → z.progress ≡ record y.progress { sent = y.progress.sent + 1 } → z.end ≡ record y.end { pushed = z.end.pushed }
+    → y.progress.sent < bound s → Sent bound s x z
+sent-more bound s x y z sent is pushed below =
+    let count : z.progress.sent ≡ y.progress.sent + 1 = ap (λ (p : SiteProgress). p.sent) is in
     let risen = sent.risen in
     record {
-      pushed = pushed ∙ (λ i. record (sent.pushed i) { pushed = g.pushed });
+      pushed = pushed ∙ (λ i. record (sent.pushed i) { pushed = z.end.pushed });
       sent = is ∙ (λ i. record (sent.sent i) { sent = sym count i });
       risen = omega arith;
       bounded = omega arith;
     }
 
 -- the bound of the site may be read from another primary
-pub sent-bound : (bound other : ℕ → ℕ) (s : ℕ) (site after : SiteProgress) (e f : Sending) → other s ≡ bound s
-    → Sent bound s site e after f → Sent other s site e after f
-sent-bound bound other s site after e f same sent = record {
+pub sent-bound : (bound other : ℕ → ℕ) (s : ℕ) (x y : KeptSite) → other s ≡ bound s → Sent bound s x y → Sent other s x y
+sent-bound bound other s x y same sent = record {
   pushed = sent.pushed;
   sent = sent.sent;
   risen = sent.risen;
   bounded = rw same sent.bounded;
 }
 
-pub sent_out-bound : (bound other : ℕ → ℕ) (s : ℕ) (site after : SiteProgress) (e f : Sending) → other s ≡ bound s
-    → SentOut bound s site e after f → SentOut other s site e after f
-sent_out-bound bound other s site after e f same sent = record {
-  some = sent-bound bound other s site after e f same sent.some;
+pub sent_out-bound : (bound other : ℕ → ℕ) (s : ℕ) (x y : KeptSite) → other s ≡ bound s → SentOut bound s x y → SentOut other s x y
+sent_out-bound bound other s x y same sent = record {
+  some = sent-bound bound other s x y same sent.some;
   out = rw same sent.out;
 }
 
@@ -275,8 +273,8 @@ upto-some bound n b c upto = record {
   rest = upto.rest;
 }
 
-sent-none : (bound : ℕ → ℕ) (s : ℕ) (site : SiteProgress) (e : Sending) → Sent bound s site e site e
-sent-none bound s site e = record { pushed = refl; sent = refl; risen = omega arith; bounded = omega arith }
+sent-none : (bound : ℕ → ℕ) (s : ℕ) (x : KeptSite) → Sent bound s x x
+sent-none bound s x = record { pushed = refl; sent = refl; risen = omega arith; bounded = omega arith }
 
 -- where only the sites below n were sent something, nothing was sent to the others
 pub upto-part : (bound : ℕ → ℕ) (n : ℕ) (b c : BookState) → Upto n (Sent bound) b c → AtEachSite (Sent bound) b c
@@ -288,7 +286,7 @@ upto-part bound n b c upto = record {
     | inl lt ↦ upto.done s e f lt before after
     | inr past ↦ (let rest = upto.rest s past in
         let same : e ≡ f = cc (before, after, rest.0) in
-        rw (rest.1, ← same) (sent-none bound s (progress_at b.primary s) e))
+        rw (rest.1, ← same) (sent-none bound s (kept_at b.primary s e)))
   ];
 }
 
@@ -299,7 +297,7 @@ rooms-kept p q rooms log count are =
     (are.0 ∙ sym count, λ k d lt. are.1 k d lt ∙ sym (ap (λ (h : History). h.start) log))
 
 -- and so after a turn
-pub rooms-turned : {Step : ℕ → SiteProgress → Sending → SiteProgress → Sending → Type 0} {b a c : BookState} {m : PrimaryState}
+pub rooms-turned : {Step : ℕ → KeptSite → KeptSite → Type 0} {b a c : BookState} {m : PrimaryState}
     (rooms : List State) → AtEachSite Reported b a → SameFeeds a.primary m → AtEachSite Step (record { primary = m; ends = a.ends }) c
     → AreRooms b.primary rooms → AreRooms c.primary rooms
 rooms-turned {b} {a} {c} {m} rooms reported feeds sent are =

@@ -1,6 +1,6 @@
 -- Refusals of the cluster's calls, worked out by hand: no definition can change its meaning unseen.
 use Rattle.std.proofs.Common.{◌≡◌, ◌+◌, Bool, List, [], ◌∷◌, pos, inl, inr, refl, arith}
-use Rattle.std.specs.Prelude.{Some, None, true, false, if◌then◌else◌}
+use Rattle.std.specs.Prelude.{Some, None, codes, true, false, if◌then◌else◌}
 use Rattle.std.specs.Option.{option_or}
 use Rattle.ordup_objects.specs.declared.change.Change.{Change}
 use Rattle.ordup_objects.specs.declared.change.Op.TheVariants.{Add}
@@ -9,12 +9,19 @@ use Rattle.ordup_objects.specs.declared.refusal.Refusal.TheVariants.{Behind, Sto
 use Rattle.ordup_objects.specs.Refusals.{IsRefusal}
 use Rattle.ordup_objects.specs.Serial.{History}
 use Rattle.ordup_log.specs.declared.scope.Scope.TheVariants.{Count}
-use Rattle.ordup_cluster.specs.Refusals.{IsReadRefusal, IsLimitPlace, IsLimitChangeRefusal, proposal_refusal}
+use Rattle.ordup_cluster.specs.Clusters.{ClusterState}
+use Rattle.ordup_cluster.specs.Refusals.{ReadRequest, IsReadRefusal, IsLimitPlace, IsLimitChangeRefusal, proposal_refusal}
 
 -- ---- a read of the one object at the one site, by a session that has seen 1 update
 
+abbrev one_of_each : ClusterState
+one_of_each = record { objects = (codes "x", pos 0) ∷ []; sites = 1 }
+
+abbrev of_both : ReadRequest
+of_both = record { object = 0; site = 0; seen = 1 }
+
 -- a site that applied 2 is not behind
-read-ahead : IsReadRefusal 1 0 1 0 1 (Behind 2) → ⊥
+read-ahead : IsReadRefusal one_of_each of_both (Behind 2) → ⊥
 read-ahead refused = elim refused [
   | inl h ↦ absurd (let is = h.0 in cc)
   | inr rest ↦ elim rest [
@@ -27,7 +34,7 @@ read-ahead refused = elim refused [
 ]
 
 -- a site that is there is not unknown
-read-known : IsReadRefusal 1 0 1 0 1 UnknownSite → ⊥
+read-known : IsReadRefusal one_of_each of_both UnknownSite → ⊥
 read-known refused = elim refused [
   | inl h ↦ absurd (let is = h.0 in cc)
   | inr rest ↦ elim rest [
@@ -50,7 +57,7 @@ past_the_range = record { object = 0; op = Add (pos 1) } ∷ []
 abbrev of_no_object : List Change
 of_no_object = record { object = 1; op = Add (pos 1) } ∷ []
 
--- that the store was stopped is told first, then that an object is unknown, then what the log refuses
+-- the order of refusals: the store was stopped, an object is unknown, what the log refuses
 proposals : (proposal_refusal true full of_no_object ≡ Some Stopped) × (proposal_refusal true full past_the_range ≡ Some Stopped)
     × (proposal_refusal false full of_no_object ≡ Some UnknownObject) × (proposal_refusal false full past_the_range ≡ Some OutOfRange)
     × (proposal_refusal true full [] ≡ Some Stopped) × (proposal_refusal false full [] ≡ None)

@@ -6,25 +6,30 @@ use Rattle.ordup_objects.specs.declared.refusal.Refusal.TheVariants.{UnknownObje
 use Rattle.ordup_log.specs.declared.scope.Scope.TheVariants.{Object, Group, Count}
 use Rattle.ordup_limits.specs.Entries.{entry_of}
 use Rattle.ordup_primary.specs.Primaries.{PrimaryState, first_progress}
-use Rattle.ordup_feed.specs.Ends.{Sending}
 use Rattle.ordup_cluster.specs.Books.{BookState}
 use Rattle.ordup_cluster.specs.Relimiting.{limit_change_refusal, with_changed_limit}
-use Rattle.ordup_cluster.specs.Turning.{SentOut}
+use Rattle.ordup_cluster.specs.Turning.{KeptSite, SentOut}
 use Rattle.ordup_cluster.specs.Waiting.{EndsUnmet}
 
 -- update 5 is not acknowledged, but of 3 turns only 2 are made
-unmet-early : EndsUnmet 5 3 0 2 false (NotYet 5) → ⊥
-unmet-early ends = absurd (let made : 2 ≡ 3 = ends.2 in omega arith)
+unmet-early : EndsUnmet 5 3 (record { acked = 0; made = 2; refused = false }) (NotYet 5) → ⊥
+unmet-early ends = elim ends [
+  | inl growth ↦ absurd (let is = growth.0 in cc)
+  | inr left ↦ absurd (let made : 2 ≡ 3 = left.2.1 in omega arith)
+]
 
 -- all turns are made, but the update is acknowledged
-unmet-met : EndsUnmet 5 3 5 3 false (NotYet 5) → ⊥
-unmet-met ends = absurd (let below = ends.1 in omega arith)
+unmet-met : EndsUnmet 5 3 (record { acked = 5; made = 3; refused = false }) (NotYet 5) → ⊥
+unmet-met ends = elim ends [
+  | inl growth ↦ absurd (let is = growth.0 in cc)
+  | inr left ↦ absurd (let below = left.2.0 in omega arith)
+]
 
 -- nothing was sent, though two may be, to a feed that has room for 4
-sends-none : (e : Sending) → e.feed.capacity ≡ 4 → SentOut (λ s. 2) 0 first_progress e first_progress e → ⊥
-sends-none e room is = elim is.out [
-  | inl all ↦ absurd (let le : 2 ≤ 0 = all in omega arith)
-  | inr full ↦ absurd (let le : 4 ≤ 0 = rw room at full in omega arith)
+sends-none : (x : KeptSite) → x.progress ≡ first_progress → x.end.feed.capacity ≡ 4 → SentOut (λ s. 2) 0 x x → ⊥
+sends-none x first room is = elim is.out [
+  | inl all ↦ absurd (let le : 2 ≤ 0 = rw first at all in omega arith)
+  | inr full ↦ absurd (let le : 4 ≤ 0 = rw (room, first) at full in omega arith)
 ]
 
 -- A primary of the object x and the sites a and b, whose limits on x are 5. Its one update adds 3 to x; it is acknowledged, and no site

@@ -11,6 +11,7 @@ use Rattle.ordup_objects.specs.Sets.{are_known}
 use Rattle.ordup_log.specs.Appending.{append_refusal}
 use Rattle.ordup_log.specs.declared.scope.Scope.{Scope}
 use Rattle.ordup_primary.specs.Primaries.{PrimaryState, IsPrimary}
+use Rattle.ordup_cluster.specs.Clusters.{ClusterState}
 use Rattle.ordup_cluster.specs.Relimiting.{limit_change_refusal}
 use Rattle.ordup_query.specs.Queries.{QueryState, begin_refusal, read_refusal}
 
@@ -45,15 +46,24 @@ IsLimitPlace site scope amount place =
 abbrev pub IsLimitChangeRefusal : ℕ → Scope → ℕ → Refusal → Type 0
 IsLimitChangeRefusal site scope amount e = (p : PrimaryState) × IsPrimary p × IsRefusal (limit_change_refusal p site scope amount) e
 
--- Of a read of an object at a site, where there are so many objects and sites, by a session that has seen so many updates. An unknown
--- object comes before an unknown site, and behind it is only a site that applied fewer. The last: what the cell says under its lock.
-abbrev pub IsReadRefusal : ℕ → ℕ → ℕ → ℕ → ℕ → Refusal → Type 0
-IsReadRefusal objects object sites site seen e =
-    ((e ≡ UnknownObject) × (objects ≤ object)) ⊎ ((e ≡ UnknownSite) × (object < objects) × (sites ≤ site))
-    ⊎ ((applied : ℕ) × (e ≡ Behind applied) × (applied < seen) × (object < objects) × (site < sites))
-    ⊎ ((e ≡ UnknownObject) × (object < objects) × (site < sites))
+-- what a read asks for: an object at a site, for a session that has seen a number of updates
+pub record ReadRequest : Type 0 where
+  pub object : ℕ
+  pub site : ℕ
+  pub seen : ℕ
 
--- why a query with this limit is refused at one of so many sites, if it is
+-- the cluster has the object and the site of a read
+abbrev pub HasBoth : ClusterState → ReadRequest → Type 0
+HasBoth c r = (r.object < length c.objects) × (r.site < c.sites)
+
+-- Of a read. An unknown object comes before an unknown site, and only a site that applied fewer updates than the session has seen is
+-- behind it. The last case is what the cell says under its lock, which no contract sees.
+abbrev pub IsReadRefusal : ClusterState → ReadRequest → Refusal → Type 0
+IsReadRefusal c r e =
+    ((e ≡ UnknownObject) × (length c.objects ≤ r.object)) ⊎ ((e ≡ UnknownSite) × (r.object < length c.objects) × (c.sites ≤ r.site))
+    ⊎ ((applied : ℕ) × (e ≡ Behind applied) × (applied < r.seen) × HasBoth c r) ⊎ ((e ≡ UnknownObject) × HasBoth c r)
+
+-- why a query with this limit is refused at a site, where there is this number of sites, if it is
 abbrev pub site_query_refusal : ℕ → ℕ → ℕ → Option Refusal
 site_query_refusal sites site limit = if not (nat_lt site sites) then Some UnknownSite else begin_refusal limit
 

@@ -10,33 +10,42 @@ use Rattle.ordup_cluster.specs.Books.{BookState}
 abbrev pub with_progress : PrimaryState → ℕ → SiteProgress → PrimaryState
 with_progress p s site = record p { sites = slice_set p.sites s site }
 
--- Below, a step of a site goes from what the primary knows of it and the end of its feed to what they are afterwards.
+-- what a book keeps of a site: what the primary knows of it, and the sender's end of its feed
+pub record KeptSite : Type 0 where
+  pub progress : SiteProgress
+  pub end : Sending
+
+-- of site s, whose end this is
+abbrev pub kept_at : PrimaryState → ℕ → Sending → KeptSite
+kept_at p s e = record { progress = progress_at p s; end = e }
+
+-- Below, a step of site s goes from what is kept of it before, x, to what is kept of it afterwards, y.
 
 -- one look at the feed, whose number the site then reported
-pub record Reported (s : ℕ) (site : SiteProgress) (e : Sending) (after : SiteProgress) (f : Sending) : Type 0 where
-  pub looked : f ≡ record e { known = f.known }
-  pub risen : e.known ≤ f.known
-  pub reported : after ≡ record site { reported = min f.known (length f.pushed) }
+pub record Reported (s : ℕ) (x y : KeptSite) : Type 0 where
+  pub looked : y.end ≡ record x.end { known = y.end.known }
+  pub risen : x.end.known ≤ y.end.known
+  pub reported : y.progress ≡ record x.progress { reported = min y.end.known (length y.end.pushed) }
 
 -- updates were pushed, none above the bound of the site
-pub record Sent (bound : ℕ → ℕ) (s : ℕ) (site : SiteProgress) (e : Sending) (after : SiteProgress) (f : Sending) : Type 0 where
-  pub pushed : f ≡ record e { pushed = f.pushed }
-  pub sent : after ≡ record site { sent = after.sent }
-  pub risen : site.sent ≤ after.sent
-  pub bounded : after.sent ≤ max site.sent (bound s)
+pub record Sent (bound : ℕ → ℕ) (s : ℕ) (x y : KeptSite) : Type 0 where
+  pub pushed : y.end ≡ record x.end { pushed = y.end.pushed }
+  pub sent : y.progress ≡ record x.progress { sent = y.progress.sent }
+  pub risen : x.progress.sent ≤ y.progress.sent
+  pub bounded : y.progress.sent ≤ max x.progress.sent (bound s)
 
--- all up to the bound; or else so many that the feed may have been full
-pub record SentOut (bound : ℕ → ℕ) (s : ℕ) (site : SiteProgress) (e : Sending) (after : SiteProgress) (f : Sending) : Type 0 where
-  pub some : Sent bound s site e after f
-  pub out : (bound s ≤ after.sent) ⊎ (f.feed.capacity ≤ after.sent)
+-- all up to the bound were pushed; or else as many as the feed has room for, at least
+pub record SentOut (bound : ℕ → ℕ) (s : ℕ) (x y : KeptSite) : Type 0 where
+  pub some : Sent bound s x y
+  pub out : (bound s ≤ y.progress.sent) ⊎ (y.end.feed.capacity ≤ y.progress.sent)
 
 -- Each site made such a step, and nothing else of the book changed.
-pub record AtEachSite (Step : ℕ → SiteProgress → Sending → SiteProgress → Sending → Type 0) (b c : BookState) : Type 0 where
+pub record AtEachSite (Step : ℕ → KeptSite → KeptSite → Type 0) (b c : BookState) : Type 0 where
   pub primary : c.primary ≡ record b.primary { sites = c.primary.sites }
   pub sites : length c.primary.sites ≡ length b.primary.sites
   pub ends : length c.ends ≡ length b.ends
   pub each : (s : ℕ) (e f : Sending) → slice_get b.ends s ≡ Some e → slice_get c.ends s ≡ Some f
-      → Step s (progress_at b.primary s) e (progress_at c.primary s) f
+      → Step s (kept_at b.primary s e) (kept_at c.primary s f)
 
 -- no more of the primary changed than settlements change: the limits of each site, what was sent to it and what it reported are as they
 -- were
@@ -54,7 +63,7 @@ pub record Settles (p q : PrimaryState) : Type 0 where
   pub first : p.acked ≡ p.decided → Decides p q
   pub later : p.acked < p.decided → q ≡ record p { acked = acked_after p.acked (waiting_now p) }
 
--- so many settlements, each of which acknowledges the head
+-- n settlements, each of which acknowledges the head
 abbrev pub Acknowledges : ℕ → PrimaryState → PrimaryState → Type 0
 Acknowledges zero p q = q ≡ p
 Acknowledges (suc n) p q = (m : PrimaryState) × Acknowledges n p m × Settles m q × (q.acked ≡ m.acked + 1)

@@ -194,7 +194,7 @@ impl Cluster {
         ensures applied { IfOk result (λ read. session.old.seen ≤ read.applied) }
         ensures seen { IfOk result (λ read. session.new.seen ≡ read.applied) }
         ensures allowed { IfOk result (λ _. (object < length self.now.objects) × (site < self.now.sites)) }
-        ensures refused { IfErr result (IsReadRefusal (length self.now.objects) object self.now.sites site session.old.seen) }
+        ensures refused { IfErr result (IsReadRefusal self.now (record { object = object; site = site; seen = session.old.seen })) }
         ensures err { OnErr result (session.new ≡ session.old) }
     {
         if object.index() >= self.objects.len() {

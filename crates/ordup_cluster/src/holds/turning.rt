@@ -2,7 +2,7 @@ ghost use Rattle.std.specs.Prelude.{◌≡◌, ◌<◌, ◌≤◌, ℕ, length, 
 ghost use Rattle.ordup_primary.specs.Primaries.{progress_at};
 ghost use Rattle.ordup_primary.specs.Settling.{last_place};
 ghost use Rattle.ordup_cluster.specs.Books.{KeepsBook, IsTied};
-ghost use Rattle.ordup_cluster.specs.Turning.{Reported, Sent, SentOut, AtEachSite, SameFeeds, Acknowledges, SettlesOut, Turned, TurnedInPart, with_progress, is_held, send_bound};
+ghost use Rattle.ordup_cluster.specs.Turning.{Reported, Sent, SentOut, AtEachSite, SameFeeds, Acknowledges, SettlesOut, Turned, TurnedInPart, kept_at, with_progress, is_held, send_bound};
 
 use crate::holds::book::Book;
 use ordup_feed::SendEnd;
@@ -48,7 +48,7 @@ fn report<R: Wait>(rt: &R, primary: &mut Primary, end: &mut SendEnd, site: SiteI
     requires tied { IsTied primary.old site end.old }
     ensures tied { IsTied primary.new site end.new }
     ensures site { primary.new ≡ with_progress primary.old site (progress_at primary.new site) }
-    ensures reported { Reported site (progress_at primary.old site) end.old (progress_at primary.new site) end.new }
+    ensures reported { Reported site (kept_at primary.old site end.old) (kept_at primary.new site end.new) }
 {
     // For the proof: no site was sent more than the log has.
     let _acked = primary.acked();
@@ -100,8 +100,8 @@ fn send<R: Wait>(
     requires tied { IsTied primary.old site end.old }
     ensures tied { IsTied primary.new site end.new }
     ensures site { primary.new ≡ with_progress primary.old site (progress_at primary.new site) }
-    ensures sent { Sent (send_bound primary.old) site (progress_at primary.old site) end.old (progress_at primary.new site) end.new }
-    ensures out { OnOk result (SentOut (send_bound primary.old) site (progress_at primary.old site) end.old (progress_at primary.new site) end.new) }
+    ensures sent { Sent (send_bound primary.old) site (kept_at primary.old site end.old) (kept_at primary.new site end.new) }
+    ensures out { OnOk result (SentOut (send_bound primary.old) site (kept_at primary.old site end.old) (kept_at primary.new site end.new)) }
     ensures refused { IfErr result (λ e. e ≡ Refusal.NoMemory) }
 {
     next_updates_may_follow();

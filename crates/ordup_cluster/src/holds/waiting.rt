@@ -5,7 +5,7 @@ use crossbeam_utils::Backoff;
 use ordup_objects::Refusal;
 use std::sync::Wait;
 
-/// Turns of a store, by which a caller waits until an update is acknowledged.
+/// The turns of a store. A caller makes them while it waits until an update is acknowledged.
 pub trait Turns {
     ghost acked_of: { Self → ℕ };
 
@@ -13,7 +13,7 @@ pub trait Turns {
 
     ghost refused_of: { Self → Bool };
 
-    /// Makes one turn more. It is refused `NoMemory` where the turn was refused a growth.
+    /// Makes one more turn. It is refused `NoMemory` where the turn was refused a growth.
     fn turn<R: Wait>(&mut self, rt: &R) -> Result<(), Refusal>
         requires { made_of self.old + 1 < 2 ^ 64 }
         ensures made { made_of self.new ≡ made_of self.old + 1 }
@@ -33,7 +33,7 @@ pub trait Turns {
         ensures { result ≡ refused_of self.now };
 }
 
-/// Makes turns until the update with this number is acknowledged, with a pause before each, and at most so many in all.
+/// Makes turns until the update with this number is acknowledged, with a pause before each, and at most `turns` in all.
 ///
 /// It is refused `NotYet` where that many turns are made and the update is not acknowledged, and `NoMemory` as soon as a turn was
 /// refused a growth.
@@ -46,7 +46,7 @@ pub fn until<R: Wait, T: Turns>(
     requires made { T.made_of store.old ≤ turns }
     requires fresh { T.refused_of store.old ≡ false }
     ensures ok { OnOk result ((T.refused_of store.new ≡ false) × (number ≤ T.acked_of store.new)) }
-    ensures err { IfErr result (EndsUnmet number turns (T.acked_of store.new) (T.made_of store.new) (T.refused_of store.new)) }
+    ensures err { IfErr result (EndsUnmet number turns (record { acked = T.acked_of store.new; made = T.made_of store.new; refused = T.refused_of store.new })) }
 {
     let pause = Backoff::new();
     while store.acked() < number {
@@ -60,10 +60,9 @@ pub fn until<R: Wait, T: Turns>(
 }
 
 /// Makes turns until an update is acknowledged that was numbered in the hold of the first of these turns, with a pause before each
-/// further one, and at most so many in all.
+/// further one, and at most `turns` in all.
 ///
-/// The error is the number of the update, which stands: so many turns are made and it is not acknowledged, or a turn was refused a
-/// growth.
+/// The error is the number of the update, which stands: all turns are made and it is not acknowledged, or a turn was refused a growth.
 pub fn until_acknowledged<R: Wait, T: Turns>(
     rt: &R,
     store: &mut T,
@@ -74,7 +73,7 @@ pub fn until_acknowledged<R: Wait, T: Turns>(
     requires some { 1 ≤ turns }
     ensures ok { OnOk result ((T.refused_of store.new ≡ false) × (number ≤ T.acked_of store.new)) }
     ensures number { IfErr result (λ n. n ≡ number) }
-    ensures err { OnErr result (StaysPending number turns (T.acked_of store.new) (T.made_of store.new) (T.refused_of store.new)) }
+    ensures err { OnErr result (StaysPending number turns (record { acked = T.acked_of store.new; made = T.made_of store.new; refused = T.refused_of store.new })) }
 {
     if store.is_refused() {
         return Err(number);

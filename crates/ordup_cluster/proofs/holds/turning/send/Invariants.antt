@@ -1,7 +1,7 @@
 use Rattle.std.proofs.Common.{◌≡◌, ◌-◌, ◌<◌, length}
 use Rattle.ordup_primary.specs.Primaries.{progress_at}
 use Rattle.ordup_cluster.specs.Books.{IsTied}
-use Rattle.ordup_cluster.specs.Turning.{Sent, with_progress, send_bound}
+use Rattle.ordup_cluster.specs.Turning.{Sent, kept_at, with_progress, send_bound}
 use Rattle.ordup_cluster.proofs.holds.turning.send.Given as goal
 
 -- the site was sent some updates, and nothing else changed
@@ -9,7 +9,7 @@ abbrev pub invariant-loop-site : goal.invariant-loop-site
 invariant-loop-site g l = record {
   tied : IsTied l.primary l.site l.end;
   site : l.primary ≡ with_progress l.fn.primary l.site (progress_at l.primary l.site);
-  sent : Sent (send_bound l.fn.primary) l.site (progress_at l.fn.primary l.site) l.fn.end (progress_at l.primary l.site) l.end;
+  sent : Sent (send_bound l.fn.primary) l.site (kept_at l.fn.primary l.site l.fn.end) (kept_at l.primary l.site l.end);
   inside : l.site < length l.primary.sites;
 }
 

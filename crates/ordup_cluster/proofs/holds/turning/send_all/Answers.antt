@@ -37,7 +37,7 @@ returns-in_err-send-clause-sent g c =
     upto-part bound _ _ _
     (upto-more (Sent bound) _ _ _ _ _ _ (upto-some bound _ _ _ before.upto)
     (omega (arith, before.sites, c.loop-place-test.true)) at (rw c.new-site.ensures at c.send.ensures.site)
-    (sent-bound _ bound _ _ _ _ _ (sym same) (rw c.new-site.ensures at c.send.ensures.sent)))
+    (sent-bound _ bound _ _ _ (sym same) (rw c.new-site.ensures at c.send.ensures.sent)))
 
 pub loop-place-preserved : goal.loop-place-preserved
 loop-place-preserved g c =
@@ -53,7 +53,7 @@ loop-place-preserved g c =
       upto =
           upto-more (SentOut bound) _ _ _ _ _ _ before.upto (omega (arith, before.sites, c.loop-place-test.true))
           at site
-          (sent_out-bound _ bound _ _ _ _ _ (sym same) (rw c.new-site.ensures at c.in_ok-send.ensures.out));
+          (sent_out-bound _ bound _ _ _ (sym same) (rw c.new-site.ensures at c.in_ok-send.ensures.out));
       sites = sites-count _ _ _ _ site ∙ before.sites;
     }
 

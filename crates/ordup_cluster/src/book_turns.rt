@@ -4,7 +4,7 @@ use crate::holds::{Book, Turns, turn};
 use ordup_objects::Refusal;
 use std::sync::{Mutex, Wait};
 
-/// The turns of a book, each of them one hold of its lock.
+/// The turns of a book. Each of them is one hold of its lock.
 #[derive(Drop)]
 pub(crate) struct BookTurns<'a> {
     book: &'a Mutex<Book>,
@@ -14,7 +14,7 @@ pub(crate) struct BookTurns<'a> {
 }
 
 impl<'a> BookTurns<'a> {
-    /// No turn yet of a book in which so many updates are acknowledged.
+    /// No turn yet, of a book in which this number of updates is acknowledged.
     pub(crate) fn none(book: &'a Mutex<Book>, acked: u64) -> BookTurns<'a>
         ensures acked { result.acked ≡ acked }
         ensures made { result.made ≡ 0 }
@@ -28,7 +28,7 @@ impl<'a> BookTurns<'a> {
         }
     }
 
-    /// The first turn of a book, made in the hold that numbered an update, by what it answered.
+    /// The first turn of a book, which was made in the hold that numbered an update, and answered this.
     pub(crate) fn first(book: &'a Mutex<Book>, answer: Result<u64, Refusal>) -> BookTurns<'a>
         ensures acked { IfOk answer (λ acked. result.acked ≡ acked) }
         ensures made { result.made ≡ 1 }

@@ -56,9 +56,11 @@ impl Model for Cluster {
 }
 
 impl Cluster {
-    /// A store in which nothing has happened. It takes the room that `close` needs.
+    /// Opens a store in which nothing has happened, and takes the room that `close` needs. It waits for nobody.
     ///
-    /// It is refused `Empty` where the setup lacks an object or a site, and `NoMemory`. It waits for nobody.
+    /// - The store has the objects that were declared, and as many sites.
+    /// - It is opened only where there is an object and a site.
+    /// - It is refused `Empty` where the setup lacks an object or a site, and else `NoMemory` alone.
     pub fn new(alloc: Global, setup: Setup) -> Result<Cluster, Refusal>
         ensures cluster { IfOk result (λ c. c ≡ record { objects = setup.objects; sites = length setup.sites }) }
         ensures allowed { IfOk result (λ _. start_refusal setup ≡ None) }
@@ -93,12 +95,15 @@ impl Cluster {
         self.cells.len()
     }
 
-    /// Numbers a message set as the next update, and waits until it is acknowledged, by so many turns of the book at most, 1 or more.
-    /// The first of them is made in the hold that numbers the update.
+    /// Numbers a message set as the next update, and waits until it is acknowledged, for at most `turns` turns of the book, which are
+    /// 1 or more. The first turn is made in the hold that numbers the update.
     ///
-    /// It is refused `Stopped` after `stop`, `UnknownObject`, `LogFull` after 1,000,000 updates, `OutOfRange` where a result is out of
-    /// range, and `NoMemory`; then nothing was numbered. It is refused `NotYet` with the number of the update where that is not
-    /// acknowledged after the last turn, or a growth is refused in a turn: the update stands, and `settle` waits for it.
+    /// - The session has seen the update, and no less than before.
+    /// - The answer is the number of the update, from 1 to 1,000,000.
+    /// - It is refused `Stopped` after `stop`, `UnknownObject`, `LogFull` after 1,000,000 updates, `OutOfRange` where a result is out of
+    ///   range, and `NoMemory`: then nothing was numbered. It is refused `NotYet` with the number of the update where that is not
+    ///   acknowledged after the last turn, or a turn is refused a growth: the update stands, and `settle` waits for it.
+    /// - Where it is refused, the session stays as it was.
     pub fn propose<R: Wait>(
         &self,
         rt: &R,
@@ -126,7 +131,7 @@ impl Cluster {
         number_unless_stopped(rt, &mut book, set, stopped)
     }
 
-    /// What is left of a proposal once its set is numbered: all that can be refused is that it is not acknowledged yet.
+    /// The rest of a proposal, once its set is numbered. It is refused only where the update is not acknowledged yet.
     fn wait<R: Wait>(
         &self,
         rt: &R,
@@ -150,10 +155,14 @@ impl Cluster {
         }
     }
 
-    /// Waits until the update with this number is acknowledged, by so many turns of the book at most, 1 or more.
+    /// Waits until the update with this number is acknowledged, for at most `turns` turns of the book, which are 1 or more. It makes no
+    /// turn where the update is acknowledged already.
     ///
-    /// It is refused `OutOfRange` where no update has this number, `NoMemory` as soon as a growth is refused in a turn, and `NotYet`
-    /// where the update is not acknowledged after the last turn.
+    /// - The session has seen the update, and no less than before.
+    /// - The number is one that an update may have, from 1 to 1,000,000.
+    /// - It is refused `OutOfRange` where no update has this number, `NoMemory` as soon as a turn is refused a growth, and `NotYet` where
+    ///   the update is not acknowledged after the last turn. The last two come only for a number that an update may have.
+    /// - Where it is refused, the session stays as it was.
     pub fn settle<R: Wait>(
         &self,
         rt: &R,
@@ -180,10 +189,14 @@ impl Cluster {
         Ok(())
     }
 
-    /// The value of an object at a site, and how many updates the site applied: no fewer than the session has seen.
+    /// Reads the value of an object at a site, with how many updates the site had applied.
     ///
-    /// It is refused `UnknownObject`, `UnknownSite`, and `Behind`, with how many updates the site applied, where those are fewer than
-    /// the session has seen.
+    /// - The site had applied no fewer than the session had seen.
+    /// - The session has now seen what the site had applied.
+    /// - The object and the site are there.
+    /// - It is refused `UnknownObject`, `UnknownSite`, and `Behind` where the site applied fewer updates than the session has seen, with
+    ///   how many it applied, in this order.
+    /// - Where it is refused, the session stays as it was.
     pub fn read<R: Wait>(
         &self,
         rt: &R,
@@ -214,9 +227,11 @@ impl Cluster {
         Ok(read)
     }
 
-    /// Begins a query at a site with this import limit, 0 to 10^18, whose reference is what is acknowledged now.
+    /// Begins a query at a site with this import limit, from 0 to 10^18. Its reference is what is acknowledged now.
     ///
-    /// It is refused `UnknownSite`, `OutOfRange` for the limit, and `NoMemory`.
+    /// - The query has this limit, and has read nothing.
+    /// - The site is there, and the limit is in range.
+    /// - It is refused `UnknownSite`, `OutOfRange` for the limit, and `NoMemory`, in this order.
     pub fn begin<R: Wait>(&self, rt: &R, site: SiteId, limit: u64) -> Result<SiteQuery<'_>, Refusal>
         ensures query { IfOk result (λ q. q ≡ record { place = q.place; marks = q.marks; limit = limit; sum = pos 0; total = 0; reads = 0 }) }
         ensures allowed { IfOk result (λ _. site_query_refusal self.now.sites site limit ≡ None) }
@@ -234,13 +249,15 @@ impl Cluster {
         })
     }
 
-    /// Changes the limit of a site on a scope from the head on, or begins one there, whose amount lies from 0 to 10^18. It answers the
-    /// place of the head. The updates that are decided keep the limits by which they were decided.
+    /// Changes the limit of a site on a scope from the head on, or begins one there. The amount lies from 0 to 10^18. The updates that are
+    /// decided keep the limits by which they were decided.
     ///
-    /// It makes no turn and looks at no feed: what the site reported is what the turns have found. It may be called after `stop`. It is
-    /// refused `UnknownObject` or `UnknownGroup` where the scope's is not there, `UnknownSite`, `OutOfRange` for the amount, `TooMany`
-    /// for a 65th scope or a 1,089th entry of the site, `HeadPending` where the head is decided and not acknowledged, `LagOver` where
-    /// the acknowledged updates that the site has not reported weigh more than the amount, and `NoMemory`.
+    /// It makes no turn and looks at no feed: what the site reported is what the turns have found. It may be called after `stop`.
+    ///
+    /// - The answer is the place of the head of a primary that allows the change.
+    /// - It is refused `UnknownObject` or `UnknownGroup` where the scope's is not there, `UnknownSite`, `OutOfRange` for the amount,
+    ///   `TooMany` for a 65th scope or a 1,089th entry of the site, `HeadPending` where the head is decided and not acknowledged,
+    ///   `LagOver` where the acknowledged updates that the site has not reported weigh more than the amount, and `NoMemory`, in this order.
     pub fn relimit<R: Wait>(
         &self,
         rt: &R,
@@ -257,7 +274,8 @@ impl Cluster {
         relimit(&mut book, site, scope, amount)
     }
 
-    /// Applies what comes to a site, until a turn that began after `stop` finds nothing. It answers how many updates it applied.
+    /// Applies what comes to a site, and ends with a turn that began after `stop` and found the feed empty. It answers how many updates
+    /// it applied. It runs in a thread of its own.
     pub fn applier<G: Gate, R: Wait>(&self, rt: &R, site: SiteId, gate: &G) -> u64
         requires { site < self.now.sites }
     {
@@ -285,9 +303,12 @@ impl Cluster {
         self.stopped.store(true, Ordering::SeqCst);
     }
 
-    /// What is left, once all threads are joined: the log is applied again, and each site compared with it. It takes no memory.
+    /// Takes the store apart, once all threads are joined: it applies the log again, and compares each site with it. It takes no memory,
+    /// and waits for nobody.
     ///
-    /// It is refused `Mixed` for the first site that does not agree with the log. It waits for nobody.
+    /// - The primary is sound, each site agrees with its log, and the acknowledged updates that a site has not applied keep its limits.
+    /// - There are as many sites as before.
+    /// - It is refused `Mixed` alone, for a site of the store: the first that does not agree with the log.
     pub fn close(self) -> Result<Closed, Refusal>
         ensures closed { IfOk result IsClosed }
         ensures count { IfOk result (λ c. length c.sites ≡ self.sites) }

@@ -2,7 +2,7 @@ ghost use Rattle.std.specs.Prelude.{◌≡◌, max};
 
 use std::marker::Model;
 
-/// What one caller has seen: how many updates, as far as its calls have told it. It sees no less afterwards.
+/// How many updates one caller has seen by its calls. It sees no less afterwards.
 #[derive(Drop)]
 pub struct Session {
     seen: u64,

@@ -8,7 +8,7 @@ use Rattle.std.proofs.lemmas.Option.{slice_get_within}
 use Rattle.std.proofs.lemmas.List.{get_or-set_same, get_or-set_other}
 use Rattle.ordup_plan.specs.Dealing.{AreDealt}
 
--- every n-th of these, once so many are left out
+-- every n-th of these, from the one after the first skip on
 abbrev pub every : {X : Type 0} → ℕ → ℕ → List X → List X
 every n skip [] = []
 every n zero (x ∷ xs) = x ∷ every n (n - 1) xs
@@ -28,7 +28,7 @@ read_of [] k d a is = absurd cc
 read_of (x ∷ xs) zero d a is = cc
 read_of (x ∷ xs) (suc k) d a is = read_of xs k d a is
 
--- where it is the turn of caller t, the next set of caller c comes after so many of others
+-- where it is the turn of caller t, the next set of caller c comes after skip sets of others
 pub record IsNext (n t c skip : ℕ) : Type 0 where
   pub few : skip < n
   pub at : (t + skip ≡ c) ⊎ (t + skip ≡ n + c)

@@ -23,7 +23,11 @@ total [] = Some (record { refused = 0; pending = 0 })
 total (None ∷ tallies) = None
 total (Some t ∷ tallies) = option_map (plus t) (total tallies)
 
+-- how many proposals are counted
+abbrev pub counted : Tally → ℕ
+counted t = t.refused + t.pending
+
 -- how many proposals a caller counts, none where it has no counts
 abbrev pub count_of : Option Tally → ℕ
 count_of None = 0
-count_of (Some t) = t.refused + t.pending
+count_of (Some t) = counted t

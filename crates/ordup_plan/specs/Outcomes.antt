@@ -6,11 +6,6 @@ use Rattle.ordup_primary.specs.Primaries.{PrimaryState, progress_at}
 use Rattle.ordup_site.specs.Sites.{SiteState}
 use Rattle.ordup_text.specs.Lines.{done_text, numbered_text, values_text}
 use Rattle.ordup_cluster.specs.Clusters.{ClosedState, IsClosed}
-use Rattle.ordup_plan.specs.declared.tally.Tally.{Tally}
-
--- how many proposals are counted
-abbrev pub counted : Tally → ℕ
-counted t = t.refused + t.pending
 
 -- the name of site s of these
 abbrev pub name_of : List (List ℕ × ℕ) → ℕ → List ℕ
@@ -45,7 +40,7 @@ outcome_text c refused pending =
     ++ texts_below (λ s. text_of_site c.primary s (slice_get c.sites s)) (length c.primary.setup.sites)
     ++ texts_below (certified_text c.primary) (length c.primary.setup.sites)
 
--- the outcome of a closed cluster to which so many sets were proposed
+-- the text is the outcome of a closed cluster to which this number of sets was proposed
 pub record IsOutcome (sets : ℕ) (text : List ℕ) : Type 0 where
   pub closed : ClosedState
   pub refused : ℕ

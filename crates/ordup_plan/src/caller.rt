@@ -1,5 +1,5 @@
 ghost use Rattle.std.specs.Prelude.{◌≤◌, IfSome, vec_len};
-ghost use Rattle.ordup_plan.specs.Outcomes.{counted};
+ghost use Rattle.ordup_plan.specs.Counting.{counted};
 
 use crate::tally::{NONE, Tally};
 use ordup_cluster::{Cluster, Session};
@@ -10,10 +10,10 @@ use std::sync::atomic::{AtomicBool, Ordering};
 /// How many turns each proposal has.
 const TURNS: u64 = 1_000_000;
 
-/// Proposes sets one after another, in a session of its own, until the plan is called off.
+/// Proposes sets one after another, in a session of its own, and answers how many were refused or are pending.
 ///
-/// It calls the plan off, and answers nothing, once memory is refused before a set is numbered. It answers nothing either where
-/// another caller has called the plan off before it was through.
+/// It calls the plan off, and has no tally, once memory is refused before a set is numbered. It ends without a tally, too, where another
+/// caller has called the plan off.
 pub(crate) fn propose_all<R: Wait>(
     rt: &R,
     cluster: &Cluster,

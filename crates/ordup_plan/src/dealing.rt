@@ -4,7 +4,7 @@ ghost use Rattle.ordup_plan.specs.Dealing.{AreDealt};
 use ordup_objects::MessageSet;
 use std::alloc::{AllocError, Global};
 
-/// Deals sets to so many callers in turn: the first to the first of them, the next to the next, and again from the first.
+/// Deals sets to callers as cards are dealt: one to each caller in turn, and then again from the first caller on.
 pub(crate) fn deal(
     alloc: Global,
     sets: Vec<MessageSet>,

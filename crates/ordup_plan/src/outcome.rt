@@ -13,7 +13,7 @@ use ordup_site::Site;
 use ordup_text::{TextBuffer, push_done, push_named, push_numbered, push_values, push_with_number};
 use std::alloc::{AllocError, Global};
 
-/// The text of what is left of a cluster, and of how its callers were answered.
+/// The outcome as text: what is left of a cluster, and how its callers were answered.
 pub(crate) fn outcome_of(
     alloc: Global,
     closed: &Closed,
@@ -59,7 +59,7 @@ fn push_site(
     Ok(())
 }
 
-/// Adds that the rounds of a site are the fewest, which the check of its record says.
+/// Adds how many rounds a site needs at least, which the check of its record has shown to be as many as it had.
 fn push_certified(
     alloc: Global,
     out: &mut TextBuffer,

@@ -1,7 +1,8 @@
-ghost use Rattle.std.specs.Prelude.{◌≡◌, ◌<◌, ◌≤◌, ◌⊎◌, ℕ, None, IfErr, IfOk, IfSome, length, sum_by, vec_len};
+ghost use Rattle.std.specs.Prelude.{◌≡◌, ◌^◌, ◌<◌, ◌≤◌, ◌⊎◌, ℕ, None, IfErr, IfOk, IfSome, length, sum_by, vec_len};
 ghost use Rattle.ordup_objects.specs.Sizes.{most_sites};
 ghost use Rattle.ordup_primary.specs.Declarations.{start_refusal};
-ghost use Rattle.ordup_plan.specs.Outcomes.{IsOutcome, counted};
+ghost use Rattle.ordup_plan.specs.Counting.{counted};
+ghost use Rattle.ordup_plan.specs.Outcomes.{IsOutcome};
 
 use crate::caller::propose_all;
 use crate::dealing::deal;
@@ -18,7 +19,7 @@ use std::sync::atomic::{AtomicBool, Ordering};
 use std::thread;
 use std::thread::{Promise, PromisedHandle, Threads};
 
-/// What is promised of a caller: it counts no more proposals than it has sets.
+/// The promise of a caller: it counts no more proposals than it has sets.
 #[derive(Drop)]
 struct Proposes {
     sets: usize,
@@ -28,14 +29,14 @@ impl Promise<Option<Tally>> for Proposes {
     ghost kept_by = { λ p r. IfSome r (λ t. counted t ≤ p.sets) };
 }
 
-/// Opens a cluster, proposes the sets by so many callers in threads of their own, and answers the outcome as text.
+/// Opens a cluster, has callers in threads of their own propose the sets, and answers the outcome as text.
 ///
 /// Set i goes to caller `(i - 1) mod callers + 1`, which proposes its sets one after another, with 1,000,000 turns each. Each site
 /// has its applier in a thread of its own. All threads have ended when it returns.
 ///
 /// It is refused `NoMemory`, also where a thread cannot be started, and `Mixed` for the first site that does not agree with the log.
-/// Once a caller is refused memory before its set is numbered, or cannot be started, the plan is called off: each of the others ends
-/// after the proposal that it is in, for which it waits as ever, since the appliers are stopped only once all callers have ended.
+/// Once a caller is refused memory before its set is numbered, or cannot be started, the plan is called off. Each of the others then
+/// ends after the proposal that it is in. It waits for that one as ever, since the appliers are stopped only once all callers have ended.
 pub fn run_threads<R: Threads + Wait + Sync>(
     rt: &R,
     alloc: Global,
@@ -76,14 +77,14 @@ fn with_appliers<R: Threads + Wait + Sync>(
     hands: Vec<Vec<MessageSet>>,
 ) -> Option<Tally>
     requires few { cluster.now.sites ≤ most_sites }
-    requires bounded { sum_by vec_len hands.items < 18446744073709551616 }
+    requires bounded { sum_by vec_len hands.items < 2 ^ 64 }
     ensures { IfSome result (λ t. counted t ≤ sum_by vec_len hands.items) }
 {
     thread::scope(
         thread::scope_env(),
         rt,
         |scope| -> Option<Tally>
-            requires { (cluster.now.sites ≤ most_sites) × (sum_by vec_len hands.items < 18446744073709551616) }
+            requires { (cluster.now.sites ≤ most_sites) × (sum_by vec_len hands.items < 2 ^ 64) }
             ensures { IfSome result (λ t. counted t ≤ sum_by vec_len hands.items) }
         {
             for place in 0..cluster.sites() {
@@ -112,7 +113,7 @@ fn propose_in_threads<R: Threads + Wait + Sync>(
     cluster: &Cluster,
     hands: Vec<Vec<MessageSet>>,
 ) -> Option<Tally>
-    requires { sum_by vec_len hands.items < 18446744073709551616 }
+    requires { sum_by vec_len hands.items < 2 ^ 64 }
     ensures { IfSome result (λ t. counted t ≤ sum_by vec_len hands.items) }
 {
     let called_off = &AtomicBool::new(false);
@@ -120,7 +121,7 @@ fn propose_in_threads<R: Threads + Wait + Sync>(
         thread::scope_env(),
         rt,
         |scope| -> Option<Tally>
-            requires { sum_by vec_len hands.items < 18446744073709551616 }
+            requires { sum_by vec_len hands.items < 2 ^ 64 }
             ensures { IfSome result (λ t. counted t ≤ sum_by vec_len hands.items) }
         {
             let mut callers = Vec::new(alloc);
@@ -151,7 +152,7 @@ fn gather<R: Threads>(
     rt: &R,
     callers: Vec<PromisedHandle<Option<Tally>, Proposes>>,
 ) -> Option<Tally>
-    requires { sum_by (λ c. c.promise.sets) callers.items < 18446744073709551616 }
+    requires { sum_by (λ c. c.promise.sets) callers.items < 2 ^ 64 }
     ensures { IfSome result (λ t. counted t ≤ sum_by (λ c. c.promise.sets) callers.items) }
 {
     match thread::join_promised(rt, callers) {

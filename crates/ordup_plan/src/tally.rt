@@ -1,29 +1,28 @@
-ghost use Rattle.std.specs.Prelude.{◌≡◌, ◌+◌, ◌<◌, ◌≤◌, IfSome, sum_by};
-ghost use Rattle.ordup_plan.specs.Counting.{count_of, counted_by, plus, total};
-ghost use Rattle.ordup_plan.specs.Outcomes.{counted};
+ghost use Rattle.std.specs.Prelude.{◌≡◌, ◌+◌, ◌^◌, ◌<◌, ◌≤◌, IfSome, sum_by};
+ghost use Rattle.ordup_plan.specs.Counting.{count_of, counted, counted_by, plus, total};
 
 use ordup_objects::Refusal;
 
-/// How many proposals were answered so. All others were acknowledged.
+/// How many proposals were refused, and how many are pending. All others of a caller were acknowledged.
 #[derive(Clone, Copy)]
 pub(crate) struct Tally {
-    /// Refused before they were numbered.
+    /// How many were refused before they were numbered.
     pub(crate) refused: u64,
-    /// Not acknowledged by their last turn.
+    /// How many were numbered, and not acknowledged by their last turn.
     pub(crate) pending: u64,
 }
 
-/// Of no proposal.
+/// The tally of a caller that has proposed nothing yet.
 pub(crate) const NONE: Tally = Tally {
     refused: 0,
     pending: 0,
 };
 
 impl Tally {
-    /// The tally with one answer to a proposal more, or nothing where the caller is to end: memory was refused before an update was
+    /// Counts the answer to one more proposal. There is no tally where the caller has to end: memory was refused before an update was
     /// numbered, or the cluster was stopped.
     pub(crate) fn with(self, answer: Result<u64, Refusal>) -> Option<Tally>
-        requires { counted self < 18446744073709551615 }
+        requires { counted self + 1 < 2 ^ 64 }
         ensures counts { result ≡ counted_by self answer }
         ensures few { IfSome result (λ tally. counted tally ≤ counted self + 1) }
     {
@@ -42,9 +41,9 @@ impl Tally {
         }
     }
 
-    /// Both tallies together.
+    /// The sum of two tallies.
     pub(crate) fn plus(self, other: Tally) -> Tally
-        requires { counted self + counted other < 18446744073709551616 }
+        requires { counted self + counted other < 2 ^ 64 }
         ensures { result ≡ plus self other }
     {
         Tally {
@@ -54,9 +53,9 @@ impl Tally {
     }
 }
 
-/// The tallies of all callers together, or nothing where one of them has none.
+/// The sum of the tallies of all callers. There is none where a caller has no tally.
 pub(crate) fn added_up(tallies: Vec<Option<Tally>>) -> Option<Tally>
-    requires { sum_by count_of tallies.items < 18446744073709551616 }
+    requires { sum_by count_of tallies.items < 2 ^ 64 }
     ensures { result ≡ total tallies.items }
 {
     let mut sum = NONE;

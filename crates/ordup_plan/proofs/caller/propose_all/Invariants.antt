@@ -1,6 +1,6 @@
 use Rattle.std.proofs.Common.{◌+◌, ◌≤◌, vec_len}
 use Rattle.std.specs.Vec.Iter.{into_iter_len}
-use Rattle.ordup_plan.specs.Outcomes.{counted}
+use Rattle.ordup_plan.specs.Counting.{counted}
 use Rattle.ordup_plan.proofs.caller.propose_all.Given as goal
 
 -- no more proposals are counted than sets were taken

@@ -1,8 +1,7 @@
 use Rattle.std.proofs.Common.{◌≡◌, ◌+◌, ◌≤◌, sum_by}
 use Rattle.std.specs.Prelude.{option_map}
 use Rattle.std.specs.Vec.Iter.{into_iter_items}
-use Rattle.ordup_plan.specs.Counting.{count_of, plus, total}
-use Rattle.ordup_plan.specs.Outcomes.{counted}
+use Rattle.ordup_plan.specs.Counting.{count_of, counted, plus, total}
 use Rattle.ordup_plan.proofs.tally.added_up.Given as goal
 
 -- the sum so far with the tallies that are left is the sum of all

@@ -1,4 +1,4 @@
-//! Calls that may be refused memory, each made once more where it is.
+//! Calls that may be refused memory. Where one is, it is made a second time.
 use ordup_objects::Refusal;
 use std::io;
 
@@ -19,7 +19,7 @@ impl From<io::Error> for Stop {
     }
 }
 
-/// Makes a call, once more where it is refused, and prints how it ended each time.
+/// Makes a call, a second time where it is refused, and prints how it ended each time.
 pub(crate) fn ask<T: Drop, F: Fn() -> Result<T, Refusal>>(
     rt: &impl Print,
     call: &str,
@@ -33,13 +33,13 @@ pub(crate) fn ask<T: Drop, F: Fn() -> Result<T, Refusal>>(
                 println!(rt; "{call} ok")?;
                 return Ok(made);
             }
-            Err(refusal) => tell_refused(rt, call, refusal)?,
+            Err(refusal) => print_refused(rt, call, refusal)?,
         }
     }
     Err(Stop::NoMemory)
 }
 
 /// Prints that a call was refused.
-pub(crate) fn tell_refused(rt: &impl Print, call: &str, refusal: Refusal) -> io::Result<()> {
+pub(crate) fn print_refused(rt: &impl Print, call: &str, refusal: Refusal) -> io::Result<()> {
     println!(rt; "{call} refused {} {refusal}", refusal.number())
 }

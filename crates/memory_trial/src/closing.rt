@@ -1,7 +1,7 @@
 //! What is left of a cluster.
 ghost use Rattle.std.specs.Prelude.{◌<◌, length};
 
-use crate::asking::tell_refused;
+use crate::asking::print_refused;
 use ordup_cluster::{Closed, Cluster};
 use ordup_objects::{ObjectId, SiteId};
 use std::io;
@@ -13,27 +13,27 @@ const OBJECTS: u16 = 2;
 pub(crate) fn close(rt: &impl Print, cluster: Cluster) -> io::Result<()> {
     match cluster.close() {
         Ok(closed) => {
-            let told = tell(rt, &closed);
+            let printed = print_closed(rt, &closed);
             // By a call: where it goes out of scope, the proof takes it apart.
             drop(closed);
-            told
+            printed
         }
-        Err(refusal) => tell_refused(rt, "close", refusal),
+        Err(refusal) => print_refused(rt, "close", refusal),
     }
 }
 
-fn tell(rt: &impl Print, closed: &Closed) -> io::Result<()> {
-    tell_log(rt, closed)?;
+fn print_closed(rt: &impl Print, closed: &Closed) -> io::Result<()> {
+    print_log(rt, closed)?;
     // For the proof: there are as many sites as were declared.
     let _acked = closed.primary().acked();
     for place in 0..closed.primary().setup().sites() {
-        tell_site(rt, closed, SiteId::new(place as u8))?;
+        print_site(rt, closed, SiteId::new(place as u8))?;
     }
     Ok(())
 }
 
 /// How many updates the log has, and the values after them.
-fn tell_log(rt: &impl Print, closed: &Closed) -> io::Result<()> {
+fn print_log(rt: &impl Print, closed: &Closed) -> io::Result<()> {
     let log = closed.primary().log();
     print!(rt; "log {} values", log.len())?;
     for place in 0..OBJECTS {
@@ -46,7 +46,7 @@ fn tell_log(rt: &impl Print, closed: &Closed) -> io::Result<()> {
 }
 
 /// How many updates a site applied, how many rounds it had, and the values that it holds.
-fn tell_site(rt: &impl Print, closed: &Closed, site: SiteId) -> io::Result<()>
+fn print_site(rt: &impl Print, closed: &Closed, site: SiteId) -> io::Result<()>
     requires { site < length closed.now.sites }
 {
     // For the proof: there are as many sites as were declared.

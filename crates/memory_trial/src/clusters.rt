@@ -1,5 +1,5 @@
 //! The calls of a cluster.
-use crate::asking::{Stop, TRIES, ask, tell_refused};
+use crate::asking::{Stop, TRIES, ask, print_refused};
 use crate::closing::close;
 use crate::declarations::{declare_without_lag, declare_without_limits};
 use ordup_cluster::{Cluster, OpenGate, Session, SiteQuery};
@@ -10,10 +10,10 @@ use std::alloc::Global;
 use std::io;
 use std::sync::Wait;
 
-/// So many that the lists of what was decided grow once more.
+/// Enough that the lists of what was decided grow a second time.
 const UPDATES_THAT_WAIT: u64 = 5;
 
-/// Updates that no site makes wait: each is acknowledged in the hold that numbers it.
+/// Updates that no site holds up: each is acknowledged in the hold that numbers it.
 pub(crate) fn try_cluster_without_limits<R: Wait + Print>(
     rt: &R,
     alloc: Global,
@@ -36,7 +36,7 @@ fn propose_three<R: Wait + Print>(
     two: &MessageSet,
 ) -> Result<(), Stop> {
     begin(rt, cluster)?;
-    // The list of its limits grows for the first, and once more for the fifth.
+    // The list of its limits grows for the first, and again for the fifth.
     relimit(rt, cluster, Scope::Object(ObjectId::new(0)))?;
     relimit(rt, cluster, Scope::Object(ObjectId::new(1)))?;
     relimit(rt, cluster, Scope::All)?;
@@ -91,13 +91,13 @@ enum Limits {
     NoLag,
 }
 
-/// Opens a cluster. A setup that is refused with it is given up, so it is declared anew.
+/// Opens a cluster. Where it is refused, its setup is lost and is declared again.
 fn open<R: Print>(rt: &R, alloc: Global, limits: Limits) -> Result<Cluster, Stop> {
     for _ in 0..TRIES {
         let setup = ask(rt, "setup", || declare(alloc, limits))?;
         match Cluster::new(alloc, setup) {
             Ok(cluster) => return opened(rt, cluster),
-            Err(refusal) => tell_refused(rt, "cluster", refusal)?,
+            Err(refusal) => print_refused(rt, "cluster", refusal)?,
         }
     }
     Err(Stop::NoMemory)
@@ -130,7 +130,7 @@ fn relimit<R: Wait + Print>(rt: &R, cluster: &Cluster, scope: Scope) -> Result<(
                 println!(rt; "relimit ok {place}")?;
                 return Ok(());
             }
-            Err(refusal) => tell_refused(rt, "relimit", refusal)?,
+            Err(refusal) => print_refused(rt, "relimit", refusal)?,
         }
     }
     Err(Stop::NoMemory)
@@ -144,7 +144,7 @@ fn begin<R: Wait + Print>(rt: &R, cluster: &Cluster) -> Result<(), Stop> {
                 read(rt, query)?;
                 return Ok(());
             }
-            Err(refusal) => tell_refused(rt, "begin", refusal)?,
+            Err(refusal) => print_refused(rt, "begin", refusal)?,
         }
     }
     Err(Stop::NoMemory)
@@ -159,7 +159,7 @@ fn read<R: Wait + Print>(rt: &R, mut query: SiteQuery<'_>) -> io::Result<()> {
             "begin ok place {} value {} import {}",
             ended.place, ended.sum, ended.total
         ),
-        Err(refusal) => tell_refused(rt, "read", refusal),
+        Err(refusal) => print_refused(rt, "read", refusal),
     }
 }
 
@@ -193,11 +193,11 @@ fn propose<R: Wait + Print>(
                 return Ok(true);
             }
             Err(Refusal::NotYet { number }) => {
-                tell_refused(rt, "propose", Refusal::NotYet { number })?;
+                print_refused(rt, "propose", Refusal::NotYet { number })?;
                 return Ok(false);
             }
             Err(refusal) => {
-                tell_refused(rt, "propose", refusal)?;
+                print_refused(rt, "propose", refusal)?;
                 // The log has no update of this number.
                 settle(rt, cluster, number)?;
             }
@@ -215,7 +215,7 @@ fn settle<R: Wait + Print>(rt: &R, cluster: &Cluster, number: u64) -> Result<(),
                 return Ok(());
             }
             Err(refusal) => {
-                tell_refused(rt, "settle", refusal)?;
+                print_refused(rt, "settle", refusal)?;
                 if refusal != Refusal::NoMemory {
                     return Ok(());
                 }
@@ -229,7 +229,7 @@ fn settle<R: Wait + Print>(rt: &R, cluster: &Cluster, number: u64) -> Result<(),
 fn apply<R: Wait + Print>(rt: &R, cluster: &Cluster, place: u8) -> io::Result<()> {
     let site = SiteId::new(place);
     if site.index() >= cluster.sites() {
-        return tell_refused(rt, "apply", Refusal::UnknownSite);
+        return print_refused(rt, "apply", Refusal::UnknownSite);
     }
     let applied = cluster.applier(rt, site, &OpenGate);
     println!(rt; "apply ok {applied}")

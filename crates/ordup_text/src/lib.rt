@@ -1,7 +1,7 @@
 //! Text that is formed in memory, and the one loop that writes it.
 //!
-//! The one contract above this layer: where a call succeeds, its text was added at the end; and all bytes were written, or a front of
-//! them and then the writer failed.
+//! The one contract above this layer: a call that succeeds has added its text at the end of the buffer. `send` writes all of its
+//! bytes, or a front of them before the writer fails.
 #![tactic(auto)]
 
 mod lines;

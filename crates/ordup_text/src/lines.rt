@@ -1,4 +1,4 @@
-//! Lines of text: what was done, with names, numbers and values behind it.
+//! Lines of text: a text that says what was done, and then names, numbers and values.
 ghost use Rattle.std.specs.Prelude.{◌≡◌, ◌++◌, OnOk};
 ghost use Rattle.std.specs.Fmt.{decimal, signed_decimal};
 ghost use Rattle.ordup_text.specs.Lines.{named_text, done_text, numbered_text, value_text, values_text};
@@ -35,7 +35,7 @@ pub fn push_with_value<A: Allocator + Copy>(
     out.push_value(value)
 }
 
-/// Adds an answer that ends with a name.
+/// Adds a line: what was done, and a name.
 pub fn push_named<A: Allocator + Copy>(
     out: &mut TextBuffer<A>,
     done: &[u8],
@@ -48,7 +48,7 @@ pub fn push_named<A: Allocator + Copy>(
     out.push(b"\n")
 }
 
-/// Adds an answer that ends with a number.
+/// Adds a line: what was done, and a number.
 pub fn push_done<A: Allocator + Copy, const N: usize>(
     out: &mut TextBuffer<A>,
     done: &[u8; N],
@@ -63,7 +63,7 @@ pub fn push_done<A: Allocator + Copy, const N: usize>(
     Ok(())
 }
 
-/// Adds an answer that ends with a name and a number.
+/// Adds a line: what was done, a name and a number.
 pub fn push_numbered<A: Allocator + Copy, const N: usize>(
     out: &mut TextBuffer<A>,
     done: &[u8; N],
@@ -81,7 +81,7 @@ pub fn push_numbered<A: Allocator + Copy, const N: usize>(
     Ok(())
 }
 
-/// Adds an object's name and value.
+/// Adds ` X=V`: an object's name and value.
 fn push_named_value<A: Allocator + Copy>(
     out: &mut TextBuffer<A>,
     name: &Name,
@@ -95,7 +95,7 @@ fn push_named_value<A: Allocator + Copy>(
     out.push_value(value)
 }
 
-/// Adds the names and the values of all objects.
+/// Adds ` X=V` for each object, in order of declaration.
 pub fn push_values<A: Allocator + Copy>(
     out: &mut TextBuffer<A>,
     objects: &ObjectTable<A>,

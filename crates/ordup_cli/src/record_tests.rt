@@ -1,55 +1,14 @@
-//! Records from the outside: those of the transcripts, samples with what the check says of them, and faults.
-use crate::rows::ROWS;
+//! Records from the outside: samples with what the check says of them, and faults.
 use crate::streams::{Ended, SOUND, Streams, run_on, run_over};
-use std::alloc::{AllocError, Global};
 use std::test::Fail;
 
 /// What the check says of a record, as the program ends with it.
-fn says(ended: &Ended, said: &[u8]) -> bool {
+pub(crate) fn says(ended: &Ended, said: &[u8]) -> bool {
     match said {
         [b'y', ..] => ended.is(0, said, b""),
         [b'n', ..] => ended.is(1, said, b""),
         _ => ended.is(3, b"", said),
     }
-}
-
-/// Adds a line to a text.
-fn push_line(text: &mut Vec<u8>, line: &[u8]) -> Result<(), AllocError> {
-    text.extend_from_slice(line)?;
-    text.push(b'\n')?;
-    Ok(())
-}
-
-/// The site of a record: the third column of its first row.
-fn site_of(record: &[u8]) -> Option<&str> {
-    str::from_utf8(record).ok()?.split(',').nth(2)
-}
-
-#[test]
-fn records_are_printed_and_checked_as_their_transcripts_say(rt: HostRuntime) -> Result<(), Fail> {
-    for row in ROWS.split("\n\n") {
-        let mut script = Vec::new(rt.alloc());
-        let mut record = Vec::new(rt.alloc());
-        for line in row.lines() {
-            match line.as_bytes() {
-                [b'>', b' ', command @ ..] => push_line(&mut script, command)?,
-                [b'|', b' ', row @ ..] => push_line(&mut record, row)?,
-                [b'=', b' ', verdict @ ..] => {
-                    let site = site_of(&record).ok_or("no site")?;
-                    let printed = run_on(&rt, &["ordup", "record", site], &script);
-                    assert!(rt; printed.is(0, &record, b""), "the record: {row}");
-                    let mut said = Vec::new(rt.alloc());
-                    push_line(&mut said, verdict)?;
-                    let checked = run_on(&rt, &["ordup", "check"], &record);
-                    assert!(rt; says(&checked, &said), "the check: {row}");
-                    record.clear();
-                }
-                _ => {}
-            }
-        }
-        assert!(rt; record.is_empty(), "a record is not checked: {row}");
-    }
-    Ok(())
 }
 
 /// A site with a limit of 5 on x, forced at update 2.

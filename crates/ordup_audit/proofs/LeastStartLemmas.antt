@@ -56,18 +56,18 @@ module _ (h : History) (groups : GroupList) (limits : Limits) (a b : ℕ) (ledge
     (stands : StandsAt h groups limits a b ledger)
     (tells : (k : History) (gs : GroupList) → StandsFor ledger k gs
     → over ≡ not (within k gs ledger.limits ledger.reported ledger.extended)) where
-  told : over ≡ not (within h groups limits a b)
-  told = rw (stands.same, stands.from, stands.to) at (tells h groups stands.stands)
+  tested : over ≡ not (within h groups limits a b)
+  tested = rw (stands.same, stands.from, stands.to) at (tells h groups stands.stands)
 
   pub over-passes : over ≡ true → within h groups limits a b ≡ false
-  over-passes is = not-true _ (sym told ∙ is)
+  over-passes is = not-true _ (sym tested ∙ is)
 
   pub over-forward : over ≡ true → a < b
   over-forward is = passes-forward h groups limits a b (over-passes is)
 
 -- the least start of its end tells whether a span passes a limit
-pub told-by-start : (test : ℕ → ℕ → Bool) (a s b : ℕ) → IsLimitTest test → IsLeastStart test s b → nat_lt a s ≡ not (test a b)
-told-by-start test a s b limits least = elim (cases_lt a s) [
+pub over-by-start : (test : ℕ → ℕ → Bool) (a s b : ℕ) → IsLimitTest test → IsLeastStart test s b → nat_lt a s ≡ not (test a b)
+over-by-start test a s b limits least = elim (cases_lt a s) [
   | inl lt ↦ rw (lt-ltb a s lt, least.before a lt) refl
   | inr le ↦ rw (le-ltb a s le, limits.later s a b le least.here) refl
 ]

@@ -1,4 +1,4 @@
--- Records: what is told of a site.
+-- Records: what an auditor has of a site.
 use Rattle.std.specs.Prelude.{◌≡◌, ℕ, ◌+◌, ◌<◌, ◌≤◌, nat_le, Bool, true, if◌then◌else◌, List, length, map, fold, All}
 use Rattle.std.specs.List.Sorted.{IsStrictlyIncreasing}
 use Rattle.ordup_objects.specs.declared.change.Change.{Change}

@@ -32,7 +32,7 @@ pub struct RecordParts<A: Allocator + Copy = Global> {
     pub windows: Vec<Window, A>,
 }
 
-/// What an auditor is told of a site: the updates that are decided, the limits of the site, what it had reported at each
+/// What an auditor has of a site: the updates that are decided, the limits of the site, what it had reported at each
 /// decision, its rounds, and a window for each round.
 ///
 /// Nothing in a record has to be true: whether it shows that the rounds are the fewest is for a checker to find out.

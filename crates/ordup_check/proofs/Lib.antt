@@ -4,6 +4,6 @@ mod Splitting
 mod ReadSteps
 mod LimitLemmas
 mod Cuts
-mod ToldAnswers
+mod TextAnswers
 mod LongRowLemmas
 mod CutRows

@@ -17,7 +17,7 @@ use Rattle.ordup_rows.specs.Telling.{CanGoOn, IsBadRow}
 use Rattle.ordup_rows.specs.Texts.{IsMalformedAt}
 use Rattle.ordup_rows.proofs.GoingOn.{what_is_taken_can_go_on}
 use Rattle.ordup_rows.proofs.PlainLemmas.{IsLine, all_lines}
-use Rattle.ordup_rows.proofs.ToldSoFar.{all_at}
+use Rattle.ordup_rows.proofs.RecordsSoFar.{all_at}
 use Rattle.ordup_check.specs.Reading.{IsTaken}
 use Rattle.ordup_check.specs.ShortRows.{at_edge, ends_at_long_row, from_row, in_column, left_after, is_row, most_row_bytes, place_after}
 use Rattle.ordup_check.proofs.LimitLemmas.{not_a, not_ab}
@@ -548,7 +548,7 @@ short_taken text stage n (rows, (t, rest, h, none), came, ran, counted) = elim (
       absurd (too_long rows init last is long (what_is_taken_can_go_on rows stage ran))
 ]
 
--- ---- where the text ends is told by its first bytes alone
+-- ---- where the text ends depends on its first bytes alone
 
 -- no byte too many is among the first bytes, however the text goes on; or one is, and the text ends with it
 abbrev pub Splits : List ℕ → (List ℕ → List ℕ) → Type 0

@@ -25,7 +25,7 @@ use Rattle.ordup_rows.specs.Stages.{has_entry, is_before_limits, is_last_group, 
 use Rattle.ordup_rows.specs.Stages.{with_member_row, with_membership, is_before_members, is_before_reports, last_set}
 use Rattle.ordup_rows.specs.Stages.{with_any_change, with_change_row, with_object, with_value}
 use Rattle.ordup_rows.proofs.Columns.{kept}
-use Rattle.ordup_rows.proofs.ToldSoFar.{changed-last}
+use Rattle.ordup_rows.proofs.RecordsSoFar.{changed-last}
 
 -- what is refused is not taken
 pub refused_row : {X E : Type 0} (result : Result Bool E) (o : Option Refusal) (e : Refusal) (allowed : Bool) (old next : X)

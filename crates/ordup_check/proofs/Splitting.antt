@@ -7,7 +7,7 @@ use Rattle.ordup_objects.specs.Serial.{with_update}
 use Rattle.ordup_objects.specs.States.{after}
 use Rattle.ordup_objects.proofs.SerialLemmas.{length-serial, serial-last}
 use Rattle.ordup_check.specs.Splits.{BeginsIllegal}
-use Rattle.ordup_rows.proofs.ToldSoFar.{all_at}
+use Rattle.ordup_rows.proofs.RecordsSoFar.{all_at}
 
 -- the updates are those of the log, those apart from it and those still to come; and these are the values after the log
 pub record IsSplit (objects : Objects) (sets : List (List Change)) (log : History) (values : State)

@@ -1,5 +1,5 @@
 pub mod ColumnViews
-pub mod ToldViews
+pub mod PartialRecords
 pub mod StageViews
 pub mod Splits
 pub mod Limits

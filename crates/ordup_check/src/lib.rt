@@ -5,11 +5,11 @@
 #![tactic(auto)]
 
 mod limited;
+mod partial_record;
 mod reading;
 mod row_columns;
 mod short_rows;
 mod stage;
-mod told;
 
 pub use ordup_audit::{Reason, Record, Verdict, check};
 pub use ordup_record::record_of;

@@ -15,12 +15,12 @@ ghost use Rattle.ordup_rows.specs.Texts.{TextTells};
 ghost use Rattle.ordup_rows.specs.Stages.{closed};
 ghost use Rattle.ordup_check.specs.Splits.{BeginsIllegal};
 ghost use Rattle.ordup_check.specs.StageViews.{stage_of};
-ghost use Rattle.ordup_check.specs.ToldViews.{told_of};
+ghost use Rattle.ordup_check.specs.PartialRecords.{record_so_far};
 
 use crate::limited::Limited;
+use crate::partial_record::PartialRecord;
 use crate::short_rows::ShortRows;
 use crate::stage::{Stage, take_row};
-use crate::told::Told;
 use csv::{ByteRecord, Reader, ReaderBuilder};
 use ordup_audit::{Record, RecordParts};
 use ordup_log::Log;
@@ -68,12 +68,12 @@ fn split_sets(
     Ok((log, rest))
 }
 
-/// The record that rows told.
-fn record_of(alloc: Global, told: Told) -> Result<Record, AllocError>
-    requires { IsRecord (told_of told) }
-    ensures { IfOk result (λ r. r ≡ told_of told) }
+/// The record of which all rows were read.
+fn whole_record(alloc: Global, read: PartialRecord) -> Result<Record, AllocError>
+    requires { IsRecord (record_so_far read) }
+    ensures { IfOk result (λ r. r ≡ record_so_far read) }
 {
-    let Told {
+    let PartialRecord {
         site,
         objects,
         groups,
@@ -82,7 +82,7 @@ fn record_of(alloc: Global, told: Told) -> Result<Record, AllocError>
         reports,
         rounds,
         windows,
-    } = told;
+    } = read;
     let (log, rest) = split_sets(alloc, &objects, sets)?;
     Ok(Record::from_parts(RecordParts {
         site,
@@ -104,13 +104,13 @@ fn close(alloc: Global, stage: Stage) -> Result<Option<Record>, AllocError>
 {
     match stage {
         Stage::Unread => Ok(None),
-        Stage::Told {
+        Stage::Reading {
             version: _,
             decided,
-            told,
+            so_far,
         } => {
-            if told.has_updates(decided) {
-                Ok(Some(record_of(alloc, told)?))
+            if so_far.has_updates(decided) {
+                Ok(Some(whole_record(alloc, so_far)?))
             } else {
                 Ok(None)
             }

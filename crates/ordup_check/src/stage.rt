@@ -4,12 +4,12 @@ ghost use Rattle.std.specs.Bool.{then_some};
 ghost use Rattle.csv.specs.Records.{fields_of};
 ghost use Rattle.ordup_check.specs.ColumnViews.{columns_view};
 ghost use Rattle.ordup_rows.specs.RowKinds.{kind_of};
-ghost use Rattle.ordup_rows.specs.Stages.{head_of, step, told, with_row};
-ghost use Rattle.ordup_check.specs.ToldViews.{AreUpdatesKnown, told_of};
+ghost use Rattle.ordup_rows.specs.Stages.{head_of, step, reading, with_row};
+ghost use Rattle.ordup_check.specs.PartialRecords.{AreUpdatesKnown, record_so_far};
 ghost use Rattle.ordup_check.specs.StageViews.{AreStageUpdatesKnown, stage_of};
 
+use crate::partial_record::PartialRecord;
 use crate::row_columns::{RowColumns, natural};
-use crate::told::Told;
 use csv::ByteRecord;
 use ordup_limits::{Groups, LimitTable};
 use ordup_objects::sizes::MOST_UPDATES;
@@ -17,19 +17,19 @@ use ordup_objects::{Name, ObjectTable};
 use ordup_rows::{RowKind, Version};
 use std::alloc::{AllocError, Global};
 
-/// No row yet, or the version, how many updates are decided and what the rows so far told.
+/// No row was read; or the version, how many updates are decided, and the record as far as its rows were read.
 #[derive(Drop)]
 pub enum Stage {
     Unread,
-    Told {
+    Reading {
         version: Version,
         decided: u64,
-        told: Told,
+        so_far: PartialRecord,
     },
 }
 
-/// What the first row tells.
-fn open(alloc: Global, c: &RowColumns<'_>) -> Option<Stage>
+/// The stage after the first row, if it may stand there.
+fn read_head(alloc: Global, c: &RowColumns<'_>) -> Option<Stage>
     ensures { option_map stage_of result ≡ head_of (columns_view c.now) }
 {
     let version = Version::parse(c.first)?;
@@ -43,7 +43,7 @@ fn open(alloc: Global, c: &RowColumns<'_>) -> Option<Stage>
     if decided > MOST_UPDATES as u64 {
         return None;
     }
-    let told = Told {
+    let so_far = PartialRecord {
         site,
         objects: ObjectTable::new(alloc),
         groups: Groups::new(alloc),
@@ -53,24 +53,24 @@ fn open(alloc: Global, c: &RowColumns<'_>) -> Option<Stage>
         rounds: Vec::new(alloc),
         windows: Vec::new(alloc),
     };
-    Some(Stage::Told {
+    Some(Stage::Reading {
         version,
         decided,
-        told,
+        so_far,
     })
 }
 
 /// Takes a row that is not the first, where it may stand there, and answers whether it did.
-fn go_on(
+fn take_later_row(
     version: Version,
     decided: u64,
-    so_far: &mut Told,
+    so_far: &mut PartialRecord,
     c: &RowColumns<'_>,
 ) -> Result<bool, AllocError>
-    requires { AreUpdatesKnown (told_of so_far.old) }
-    ensures { IfOk result (λ is_taken. then_some is_taken (told version decided (told_of so_far.new))
-        ≡ option_and_then (λ kind. option_map (λ r. told version decided r)
-        (with_row version decided (told_of so_far.old) kind (columns_view c.now)))
+    requires { AreUpdatesKnown (record_so_far so_far.old) }
+    ensures { IfOk result (λ is_taken. then_some is_taken (reading version decided (record_so_far so_far.new))
+        ≡ option_and_then (λ kind. option_map (λ r. reading version decided r)
+        (with_row version decided (record_so_far so_far.old) kind (columns_view c.now)))
         (kind_of c.now.kind.now)) }
 {
     let Some(kind) = RowKind::parse(c.kind) else {
@@ -89,17 +89,17 @@ pub fn take_row(alloc: Global, stage: &mut Stage, row: &ByteRecord) -> Result<bo
         return Ok(false);
     };
     match stage {
-        Stage::Unread => match open(alloc, &columns) {
-            Some(opened) => {
-                *stage = opened;
+        Stage::Unread => match read_head(alloc, &columns) {
+            Some(reading) => {
+                *stage = reading;
                 Ok(true)
             }
             None => Ok(false),
         },
-        Stage::Told {
+        Stage::Reading {
             version,
             decided,
-            told,
-        } => go_on(*version, *decided, told, &columns),
+            so_far,
+        } => take_later_row(*version, *decided, so_far, &columns),
     }
 }

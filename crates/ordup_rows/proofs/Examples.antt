@@ -5,7 +5,7 @@ use Prim.Native.String.{String}
 use Rattle.std.specs.Prelude.{neg_ℤ, ◌==◌, Option, None, slice_index_or}
 use Rattle.ordup_limits.specs.Entries.{entry_of}
 use Rattle.ordup_rows.specs.Rows.{Row, rows_in, rows_of, rows_text}
-use Rattle.ordup_rows.specs.Stages.{run, told_by, unread}
+use Rattle.ordup_rows.specs.Stages.{run, record_read, unread}
 use Rattle.ordup_rows.specs.Telling.{Tells}
 use Rattle.ordup_rows.specs.Versions.{version_of, version_text}
 use Rattle.ordup_rows.specs.declared.version.Version.{Version}
@@ -28,8 +28,8 @@ version_at (first ∷ rest) = version_of (slice_index_or first 1 [])
 -- rows that tell a record are those of it in the version that the first of them tells
 in_version : (version : Version) (all : List Row) (r : RecordState) → version_at all ≡ Some version → Tells all r → all ≡ rows_in version r
 in_version version all r named tells =
-    let told : version_of (version_text tells.version) ≡ Some version = ap version_at (sym tells.same) ∙ named in
-    tells.same ∙ ap (λ v. rows_in v r) (same_Some tells.version version (sym (version_of-text tells.version) ∙ told))
+    let spelled : version_of (version_text tells.version) ≡ Some version = ap version_at (sym tells.same) ∙ named in
+    tells.same ∙ ap (λ v. rows_in v r) (same_Some tells.version version (sym (version_of-text tells.version) ∙ spelled))
 
 -- a site that was forced at place 2, with its window
 abbrev forced : List Row
@@ -49,7 +49,7 @@ forced_record = record {
   windows = (record { from = 0; to = 2 }) ∷ [];
 }
 
-forced_read : told_by forced ≡ Some forced_record
+forced_read : record_read forced ≡ Some forced_record
 forced_read = refl
 
 -- and its rows are these
@@ -65,11 +65,11 @@ forced_line = refl
 abbrev is_taken : List Row → Bool
 is_taken all = is_some (run unread all)
 
-abbrev is_told : List Row → Bool
-is_told all = is_some (told_by all)
+abbrev is_read : List Row → Bool
+is_read all = is_some (record_read all)
 
 cut : (map (λ n. is_taken (take n forced)) (0 ∷ 1 ∷ 2 ∷ 5 ∷ 6 ∷ 8 ∷ []) ≡ true ∷ true ∷ true ∷ true ∷ true ∷ true ∷ [])
-    × (map (λ n. is_told (take n forced)) (0 ∷ 1 ∷ 2 ∷ 5 ∷ 6 ∷ 8 ∷ []) ≡ false ∷ false ∷ false ∷ false ∷ true ∷ true ∷ [])
+    × (map (λ n. is_read (take n forced)) (0 ∷ 1 ∷ 2 ∷ 5 ∷ 6 ∷ 8 ∷ []) ≡ false ∷ false ∷ false ∷ false ∷ true ∷ true ∷ [])
 cut = (refl, refl)
 
 -- a round may not come while a change is missing, nor a limit after a change, nor an object after another kind
@@ -109,7 +109,7 @@ grouped_record = record {
   windows = [];
 }
 
-grouped_read : told_by grouped ≡ Some grouped_record
+grouped_read : record_read grouped ≡ Some grouped_record
 grouped_read = refl
 
 -- what may not come after its rows
@@ -124,7 +124,7 @@ refused_after = refl
 -- ---- limits by place
 
 -- the second version tells a record whose limits hold from the start too
-forced_read_again : told_by
+forced_read_again : record_read
     (rows "ordup,2,a,2;object,1,x,0;object,2,y,10;limit,1,object:x,5@1;change,1,1,add:x:5;change,2,1,add:x:1;round,1,2,-;window,1,0,2")
     ≡ Some forced_record
 forced_read_again = refl
@@ -148,7 +148,7 @@ lowered_record = record {
   windows = (record { from = 0; to = 2 }) ∷ (record { from = 2; to = 3 }) ∷ [];
 }
 
-lowered_read : told_by lowered ≡ Some lowered_record
+lowered_read : record_read lowered ≡ Some lowered_record
 lowered_read = refl
 
 -- its rows are of the second version

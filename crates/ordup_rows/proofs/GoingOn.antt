@@ -8,7 +8,7 @@ use Rattle.ordup_grammar.proofs.Decimals.{number_of-signed_decimal}
 use Rattle.ordup_rows.specs.Columns.{Columns}
 use Rattle.ordup_rows.specs.Laws.{WhatIsNotClosedIsMissing, WhatIsNotTakenIsBad, WhatIsTakenCanGoOn}
 use Rattle.ordup_rows.specs.Rows.{Row, change_text, rows_so_far}
-use Rattle.ordup_rows.specs.Stages.{Stage, closed, record_at, run, step, told, unread, with_change_row, with_object}
+use Rattle.ordup_rows.specs.Stages.{Stage, closed, record_at, run, step, reading, unread, with_change_row, with_object}
 use Rattle.ordup_rows.specs.Telling.{CanGoOn, Tells}
 use Rattle.ordup_rows.specs.declared.row_kind.RowKind.TheVariants as kind
 use Rattle.ordup_rows.specs.declared.version.Version.{Version}
@@ -17,9 +17,9 @@ use Rattle.ordup_rows.proofs.Columns.{bound, writes-decimal}
 use Rattle.ordup_rows.proofs.Growth.{IsBeforeMembers, IsBeforeReports}
 use Rattle.ordup_rows.proofs.ReadingBack.{HasNumber, what_is_told_is_read}
 use Rattle.ordup_rows.proofs.Refusals.{set_allowed}
-use Rattle.ordup_rows.proofs.Running.{IsStage, no_record, run_whole, stage_rows, told_whole}
+use Rattle.ordup_rows.proofs.Running.{IsStage, no_record, run_whole, stage_rows, whole_tells}
 use Rattle.ordup_rows.proofs.Taking.{take_row}
-use Rattle.ordup_rows.proofs.ToldSoFar.{IsTold}
+use Rattle.ordup_rows.proofs.RecordsSoFar.{IsRecordSoFar}
 use Rattle.ordup_rows.proofs.Words.{change_by-text}
 
 one_before : (rows : List Row) (row : Row) (next : List Row) → next ≡ rows ++ row ∷ [] → CanGoOn next → CanGoOn rows
@@ -39,7 +39,7 @@ nothing_set = record {
   distinct = refl;
 }
 
-module _ (version : Version) (decided : ℕ) (q : RecordState) (is : IsTold version decided q) (some : 0 < length q.objects) where
+module _ (version : Version) (decided : ℕ) (q : RecordState) (is : IsRecordSoFar version decided q) (some : 0 < length q.objects) where
   abbrev fill_columns : Columns
   fill_columns = record {
     kind = codes "change";
@@ -67,16 +67,16 @@ module _ (version : Version) (decided : ℕ) (q : RecordState) (is : IsTold vers
         set_allowed (length q.objects) (nothing ∷ []) nothing_set known,
       ) refl
 
-fill : (k : ℕ) (version : Version) (decided : ℕ) (q : RecordState) → IsTold version decided q → 0 < length q.objects
+fill : (k : ℕ) (version : Version) (decided : ℕ) (q : RecordState) → IsRecordSoFar version decided q → 0 < length q.objects
     → length q.sets + k ≡ decided → CanGoOn (rows_so_far version decided q)
 fill zero version decided q is some count =
-    (q, [], subst (λ l. Tells l q) (sym (append-nil (rows_so_far version decided q))) (told_whole version decided q is some (omega arith)))
+    (q, [], subst (λ l. Tells l q) (sym (append-nil (rows_so_far version decided q))) (whole_tells version decided q is some (omega arith)))
 fill (suc k) version decided q is some count = elim is.full [
   | inl all ↦ absurd (omega (arith, all))
   | inr before ↦ (let more = take_row version decided q is (fill_columns version decided q is some) kind.Change
       (filled version decided q is some) refl (filled_by version decided q is some before (omega arith)) in
       one_before (rows_so_far version decided q) _ _ more.rows
-      (fill k version decided (filled version decided q is some) more.told some (omega (arith, length_push q.sets (nothing ∷ [])))))
+      (fill k version decided (filled version decided q is some) more.is some (omega (arith, length_push q.sets (nothing ∷ [])))))
 ]
 
 -- ---- an object is added, where there is none
@@ -91,8 +91,8 @@ first_by : (q : RecordState) → q.objects ≡ [] → IsBeforeMembers q → with
 first_by q e0 (e1, (e2, (e3, (e4, (e5, e6))))) =
     rw (e0, e1, e2, e3, e4, e5, e6, number_of-signed_decimal (pos 0) (omega arith), writes-decimal 1 (omega arith)) refl
 
-begin_told : (version : Version) (decided : ℕ) (q : RecordState) → IsTold version decided q → CanGoOn (rows_so_far version decided q)
-begin_told version decided q is = elim is.begun [
+begin_reading : (version : Version) (decided : ℕ) (q : RecordState) → IsRecordSoFar version decided q → CanGoOn (rows_so_far version decided q)
+begin_reading version decided q is = elim is.begun [
   | inl some ↦ (let count = is.sets.count in fill (decided - length q.sets) version decided q is some (omega arith))
   | inr before ↦ elim (cases_lt 0 (length q.objects)) [
     | inl some ↦ (let count = is.sets.count in fill (decided - length q.sets) version decided q is some (omega arith))
@@ -100,7 +100,7 @@ begin_told version decided q is = elim is.begun [
         let more = take_row version decided q is first_columns kind.Object (with_x q) refl (first_by q e before) in
         let count = is.sets.count in
         one_before (rows_so_far version decided q) _ _ more.rows
-        (fill (decided - length q.sets) version decided (with_x q) more.told (omega (arith, length_push q.objects (codes "x", pos 0)))
+        (fill (decided - length q.sets) version decided (with_x q) more.is (omega (arith, length_push q.objects (codes "x", pos 0)))
         (omega arith)))
   ]
 ]
@@ -108,9 +108,9 @@ begin_told version decided q is = elim is.begun [
 begin_stage : (stage : Stage) → IsStage stage → CanGoOn (stage_rows stage)
 begin_stage unread is =
     let site = codes "x" in
-    let (r, more, tells) = begin_told First 0 (record_at site) (no_record First site 0 refl (omega arith)) in
+    let (r, more, tells) = begin_reading First 0 (record_at site) (no_record First site 0 refl (omega arith)) in
     (r, rows_so_far First 0 (record_at site) ++ more, tells)
-begin_stage (told version decided q) is = begin_told version decided q is
+begin_stage (reading version decided q) is = begin_reading version decided q is
 
 pub what_is_taken_can_go_on : WhatIsTakenCanGoOn
 what_is_taken_can_go_on rows stage ran =
@@ -126,8 +126,8 @@ stuck (first ∷ rows) row more s t ran none =
     let (mid, stepped, rest) = bound (λ next. run next rows) (step s first) t ran in
     rw stepped (stuck rows row more mid t rest none)
 
-not_told : (rows : List Row) → run unread rows ≡ None → (r : RecordState) → Tells rows r → ⊥
-not_told rows none r tells =
+tells_nothing : (rows : List Row) → run unread rows ≡ None → (r : RecordState) → Tells rows r → ⊥
+tells_nothing rows none r tells =
     let (stage, ran, end) = bound closed (run unread rows) r (what_is_told_is_read rows r tells) in
     absurd (cc)
 
@@ -140,7 +140,7 @@ what_is_not_taken_is_bad rows row more stage ran none =
     let upto : take (length rows + 1) (rows ++ row ∷ more) ≡ rows ++ row ∷ [] =
     rw (whole, count) (take-append_seam (rows ++ row ∷ []) more) in
     let bad : CanGoOn (rows ++ row ∷ []) → ⊥ = λ (r, rest, tells).
-    not_told ((rows ++ row ∷ []) ++ rest) (rw (append_assoc rows (row ∷ []) rest) (stuck rows row rest unread stage ran none)) r tells in
+    tells_nothing ((rows ++ row ∷ []) ++ rest) (rw (append_assoc rows (row ∷ []) rest) (stuck rows row rest unread stage ran none)) r tells in
     inl (
       omega arith,
       omega (arith, length-append rows (row ∷ more)),

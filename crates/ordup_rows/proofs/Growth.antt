@@ -1,4 +1,4 @@
--- The rows of a record that is told one row more.
+-- The rows of a record with one row more.
 use Rattle.ordup_audit.proofs.Common.{◌++◌, ◌+◌, ◌-◌, ◌<◌, ◌==◌, ◌∙◌, ◌∷◌, ◌≡◌, [], and_parts, ap, append-nil, append_assoc, arith, Change}
 use Rattle.ordup_audit.proofs.Common.{drop, eqb-true, get_or-append_seam, GroupList, last_members, length, length_push, List}
 use Rattle.ordup_audit.proofs.Common.{map-append, nil_from_length, Objects, RecordState, refl, sym, true, Window, with_member, ℕ, ℤ}
@@ -13,7 +13,7 @@ use Rattle.ordup_rows.specs.Stages.{is_before_changes, is_before_limits, is_befo
 use Rattle.ordup_rows.specs.Stages.{is_before_windows, last_name, last_set, member_count, with_change}
 use Rattle.ordup_rows.specs.declared.version.Version.{Version}
 
--- ---- what was not told yet
+-- ---- what is not there yet
 
 abbrev pub IsBeforeWindows : RecordState → Type 0
 IsBeforeWindows r = r.windows ≡ []

@@ -4,7 +4,7 @@ pub mod Words
 pub mod Refusals
 pub mod Versions
 pub mod Growth
-pub mod ToldSoFar
+pub mod RecordsSoFar
 pub mod Taking
 pub mod Running
 pub mod ReadingBack

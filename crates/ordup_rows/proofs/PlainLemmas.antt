@@ -27,7 +27,7 @@ use Rattle.ordup_rows.specs.declared.version.Version.TheVariants.{First, Second}
 use Rattle.ordup_audit.proofs.AscendingLemmas.{rounds-few}
 use Rattle.ordup_rows.proofs.Columns.{parts_3}
 use Rattle.ordup_rows.proofs.ReadingBack.{HasNumber, member_count-few}
-use Rattle.ordup_rows.proofs.ToldSoFar.{HasKnown, HasName}
+use Rattle.ordup_rows.proofs.RecordsSoFar.{HasKnown, HasName}
 use Rattle.ordup_rows.proofs.Words.{decimal_bytes, name_bytes, name_of}
 
 -- a byte that calls for quotes, or is 0

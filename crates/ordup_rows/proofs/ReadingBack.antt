@@ -23,7 +23,7 @@ use Rattle.ordup_rows.specs.Columns.{change_by, writes}
 use Rattle.ordup_rows.specs.Laws.{RowsOfEachVersionAreRead, RowsTellOneRecord, WhatIsToldIsRead}
 use Rattle.ordup_rows.specs.Rows.{Row, change_row, change_rows, change_text, counted, head_row, limit_row, member_row, member_rows, name_at}
 use Rattle.ordup_rows.specs.Rows.{object_row, report_row, round_row, rows_in, window_row}
-use Rattle.ordup_rows.specs.Stages.{Stage, closed, is_last_group, last_name, last_number, member_count, record_at, run, step, told, told_by}
+use Rattle.ordup_rows.specs.Stages.{Stage, closed, is_last_group, last_name, last_number, member_count, record_at, run, step, reading, record_read}
 use Rattle.ordup_rows.specs.Stages.{unread}
 use Rattle.ordup_rows.specs.Versions.{CanTell, CanTellPlace}
 use Rattle.ordup_rows.specs.declared.version.Version.{Version}
@@ -34,7 +34,7 @@ use Rattle.ordup_rows.proofs.Growth.{with_member-last}
 use Rattle.ordup_rows.proofs.Names.{absent_before, other_name, place_of-name}
 use Rattle.ordup_rows.proofs.Refusals.{IsNewEntry, IsNewGroup, IsNewMember, IsNewObject, entry_allowed, group_allowed, member_allowed}
 use Rattle.ordup_rows.proofs.Refusals.{object_allowed, set_allowed}
-use Rattle.ordup_rows.proofs.ToldSoFar.{HasGroup, HasKnown, HasName, above_last, all_at, all_front, changed-last, last_before}
+use Rattle.ordup_rows.proofs.RecordsSoFar.{HasGroup, HasKnown, HasName, above_last, all_at, all_front, changed-last, last_before}
 use Rattle.ordup_rows.proofs.Versions.{amount_by-text, version_of-text}
 use Rattle.ordup_rows.proofs.Words.{change_by-text, scope_of-text}
 
@@ -64,25 +64,25 @@ module _ {X : Type 0} (row : ℕ → X → Row) (at : List X → Stage) (start :
 
 module _ (v : Version) (d : ℕ) (r : RecordState) where
   abbrev pub at_objects : Objects → Stage
-  at_objects objects = told v d (record (record_at r.site) { objects = objects })
+  at_objects objects = reading v d (record (record_at r.site) { objects = objects })
 
   abbrev pub at_groups : GroupList → Stage
-  at_groups groups = told v d (record (record_at r.site) { objects = r.objects; groups = groups })
+  at_groups groups = reading v d (record (record_at r.site) { objects = r.objects; groups = groups })
 
   abbrev pub at_limits : Entries → Stage
-  at_limits limits = told v d (record (record_at r.site) { objects = r.objects; groups = r.groups; limits = limits })
+  at_limits limits = reading v d (record (record_at r.site) { objects = r.objects; groups = r.groups; limits = limits })
 
   abbrev pub at_sets : List (List Change) → Stage
-  at_sets sets = told v d (record (record_at r.site) { objects = r.objects; groups = r.groups; limits = r.limits; sets = sets })
+  at_sets sets = reading v d (record (record_at r.site) { objects = r.objects; groups = r.groups; limits = r.limits; sets = sets })
 
   abbrev pub at_reports : List ReportChange → Stage
-  at_reports reports = told v d (record r { reports = reports; rounds = []; windows = [] })
+  at_reports reports = reading v d (record r { reports = reports; rounds = []; windows = [] })
 
   abbrev pub at_rounds : List ℕ → Stage
-  at_rounds rounds = told v d (record r { rounds = rounds; windows = [] })
+  at_rounds rounds = reading v d (record r { rounds = rounds; windows = [] })
 
   abbrev pub at_windows : List Window → Stage
-  at_windows windows = told v d (record r { windows = windows })
+  at_windows windows = reading v d (record r { windows = windows })
 
 -- ---- objects
 
@@ -442,7 +442,7 @@ module _ (v : Version) (d : ℕ) (r : RecordState) (is : IsRecord r) (all : leng
 -- ---- all rows
 
 step_first_row : (v : Version) (site : List ℕ) (d : ℕ) → is_name site ≡ true → d ≤ most_updates
-    → step unread (head_row v site d) ≡ Some (told v d (record_at site))
+    → step unread (head_row v site d) ≡ Some (reading v d (record_at site))
 step_first_row v site d name few =
     rw (version_of-text v, natural_of-decimal d (omega (arith, few)), name, le-leb d most_updates few) refl
 
@@ -456,10 +456,10 @@ lists_run s t1 t2 t3 t4 t5 t6 t7 a b c d e f g h1 h2 h3 h4 h5 h6 h7 =
     run_on (a ++ b ++ c) d s t3 t4 (
     run_on (a ++ b) c s t2 t3 (run_on a b s t1 t2 h1 h2) h3) h4) h5) h6) h7
 
-run-rows : (v : Version) (r : RecordState) → IsRecord r → CanTell v r.limits → run unread (rows_in v r) ≡ Some (told v (length r.sets) r)
+run-rows : (v : Version) (r : RecordState) → IsRecord r → CanTell v r.limits → run unread (rows_in v r) ≡ Some (reading v (length r.sets) r)
 run-rows v r is tells =
     let d = length r.sets in
-    run_one unread (told v d (record_at r.site)) (told v d r) (head_row v r.site d) _ (step_first_row v r.site d is.site is.few)
+    run_one unread (reading v d (record_at r.site)) (reading v d r) (head_row v r.site d) _ (step_first_row v r.site d is.site is.few)
     (lists_run (at_objects v d r []) (at_objects v d r r.objects) (at_groups v d r r.groups) (at_limits v d r r.limits) (at_sets v d r r.sets)
     (at_reports v d r r.reports) (at_rounds v d r r.rounds) (at_windows v d r r.windows)
     (counted object_row 1 r.objects) (member_rows r.objects 1 r.groups) (counted (limit_row v r.objects r.groups) 1 r.limits)
@@ -476,7 +476,7 @@ run-rows v r is tells =
 pub what_is_told_is_read : WhatIsToldIsRead
 what_is_told_is_read rows r tells =
     let all = is_updated tells.version (length r.sets) r tells.valid refl in
-    ap told_by tells.same ∙ ap (option_and_then closed) (run-rows tells.version r tells.valid tells.limits) ∙ rw (all.0, all.1) refl
+    ap record_read tells.same ∙ ap (option_and_then closed) (run-rows tells.version r tells.valid tells.limits) ∙ rw (all.0, all.1) refl
 
 pub rows_of_each_version_are_read : RowsOfEachVersionAreRead
 rows_of_each_version_are_read version r is tells =

@@ -1,4 +1,4 @@
--- Rows that are read one after another: what was taken is what was told.
+-- Rows that are read one after another: they are the rows of what was read.
 use Rattle.ordup_audit.proofs.Common.{◌++◌, ◌<◌, ◌==◌, ◌∙◌, ◌∷◌, ◌≡◌, ◌≤◌, [], All-nil, and_parts, ap, append-nil, append_assoc, AreKnown}
 use Rattle.ordup_audit.proofs.Common.{arith, eqb-true, inr, is_name, IsInRange, IsRecord}
 use Rattle.ordup_audit.proofs.Common.{IsSet, leb-true, length, List, ltb-true, most_updates, RecordState, refl, same_Some}
@@ -8,36 +8,36 @@ use Rattle.ordup_rows.specs.Columns.{Columns, columns_of, natural_of}
 use Rattle.ordup_rows.specs.Laws.{WhatIsReadIsTold}
 use Rattle.ordup_rows.specs.RowKinds.{kind_of}
 use Rattle.ordup_rows.specs.Rows.{Row, rows_so_far}
-use Rattle.ordup_rows.specs.Stages.{Stage, closed, has_objects, has_updates, head_of, record_at, run, step, told, unread, with_row}
+use Rattle.ordup_rows.specs.Stages.{Stage, closed, has_objects, has_updates, head_of, record_at, run, step, reading, unread, with_row}
 use Rattle.ordup_rows.specs.Telling.{Tells}
 use Rattle.ordup_rows.specs.Versions.{version_of}
 use Rattle.ordup_rows.specs.declared.version.Version.{Version}
 use Rattle.ordup_rows.proofs.Columns.{bound, four_columns, kept, kind_spelled, mapped, natural_spelled, parts_3, same_bytes}
 use Rattle.ordup_rows.proofs.Names.{AreDistinct-none}
 use Rattle.ordup_rows.proofs.Taking.{row_by, take_row}
-use Rattle.ordup_rows.proofs.ToldSoFar.{AreGroups-none, AreLimits-none, IsTold, told_by_parts}
+use Rattle.ordup_rows.proofs.RecordsSoFar.{AreGroups-none, AreLimits-none, IsRecordSoFar, so_far_by_parts}
 use Rattle.ordup_rows.proofs.Versions.{version_spelled}
 
--- the rows that a stage was told
+-- the rows that were read up to a stage
 abbrev pub stage_rows : Stage → List Row
 stage_rows unread = []
-stage_rows (told version decided r) = rows_so_far version decided r
+stage_rows (reading version decided r) = rows_so_far version decided r
 
 -- what a stage keeps
 abbrev pub IsStage : Stage → Type 0
 IsStage unread = Unit {0}
-IsStage (told version decided r) = IsTold version decided r
+IsStage (reading version decided r) = IsRecordSoFar version decided r
 
--- a stage that was told some rows more
+-- the stage after some rows more
 pub record Follows (stage : Stage) (more : List Row) (next : Stage) : Type 0 where
   pub is : IsStage next
   pub rows : stage_rows next ≡ stage_rows stage ++ more
 
 pub no_record : (version : Version) (site : List ℕ) (decided : ℕ) → is_name site ≡ true → decided ≤ most_updates
-    → IsTold version decided (record_at site)
+    → IsRecordSoFar version decided (record_at site)
 no_record version site decided name few =
     let names = All-nil (λ (e : List ℕ × ℤ). is_name e.0 ≡ true) in
-    told_by_parts name few (record { few = omega arith; values = All-nil IsInRange; names = names; distinct = AreDistinct-none ℤ })
+    so_far_by_parts name few (record { few = omega arith; values = All-nil IsInRange; names = names; distinct = AreDistinct-none ℤ })
     (AreGroups-none 0 [] refl)
     (AreLimits-none version decided 0 [] [] refl)
     (record { count = omega arith; each = All-nil IsSet; known = All-nil (AreKnown 0) })
@@ -69,13 +69,13 @@ pub step_follows : (stage : Stage) (row : Row) (next : Stage) → IsStage stage 
 step_follows unread row next is h =
     let (c, columns, rest) = bound head_of (columns_of row) next h in
     subst (λ (r : Row). Follows unread (r ∷ []) next) (sym (four_columns row c columns)) (step_head c next rest)
-step_follows (told version decided r) row next is h =
+step_follows (reading version decided r) row next is h =
     let (c, columns, rest) = bound _ (columns_of row) next h in
     let (kind, read, rest2) = bound _ (kind_of c.kind) next rest in
-    let (q, taken, same) = mapped (λ (q : RecordState). told version decided q) (with_row version decided r kind c) next rest2 in
+    let (q, taken, same) = mapped (λ (q : RecordState). reading version decided q) (with_row version decided r kind c) next rest2 in
     let more = take_row version decided r is c kind q (kind_spelled c.kind kind read) taken in
-    subst (λ (r2 : Row). Follows (told version decided r) (r2 ∷ []) next) (sym (four_columns row c columns))
-    (subst (Follows (told version decided r) (row_by c ∷ [])) same (record { is = more.told; rows = more.rows }))
+    subst (λ (r2 : Row). Follows (reading version decided r) (r2 ∷ []) next) (sym (four_columns row c columns))
+    (subst (Follows (reading version decided r) (row_by c ∷ [])) same (record { is = more.is; rows = more.rows }))
 
 pub run_follows : (rows : List Row) (stage next : Stage) → IsStage stage → run stage rows ≡ Some next → Follows stage rows next
 run_follows [] stage next is h =
@@ -94,9 +94,9 @@ pub run_whole : (rows : List Row) (stage : Stage) → run unread rows ≡ Some s
 run_whole rows stage h = let all = run_follows rows unread stage tt h in (all.is, all.rows)
 
 -- a record of which nothing is missing
-IsRecord-told : (version : Version) (decided : ℕ) (r : RecordState) → IsTold version decided r → 0 < length r.objects
+so_far-is_record : (version : Version) (decided : ℕ) (r : RecordState) → IsRecordSoFar version decided r → 0 < length r.objects
     → length r.sets ≡ decided → IsRecord r
-IsRecord-told version decided r is some all = record {
+so_far-is_record version decided r is some all = record {
   site = is.site;
   objects = record {
     some = some;
@@ -118,27 +118,27 @@ IsRecord-told version decided r is some all = record {
   windows = rw all is.windows.each;
 }
 
--- a record of which nothing is missing is told
-pub told_whole : (version : Version) (decided : ℕ) (r : RecordState) → IsTold version decided r → 0 < length r.objects
+-- rows of a record of which nothing is missing tell it
+pub whole_tells : (version : Version) (decided : ℕ) (r : RecordState) → IsRecordSoFar version decided r → 0 < length r.objects
     → length r.sets ≡ decided → Tells (rows_so_far version decided r) r
-told_whole version decided r is some all = record {
-  valid = IsRecord-told version decided r is some all;
+whole_tells version decided r is some all = record {
+  valid = so_far-is_record version decided r is some all;
   version = version;
-  limits = is.limits.told;
+  limits = is.limits.tells;
   same = ap (λ d. rows_so_far version d r) (sym all);
 }
 
 -- so is what is closed
-closed_told : (stage : Stage) (r : RecordState) → IsStage stage → closed stage ≡ Some r → Tells (stage_rows stage) r
-closed_told unread r is h = absurd cc
-closed_told (told version decided q) r is h =
+closed_tells : (stage : Stage) (r : RecordState) → IsStage stage → closed stage ≡ Some r → Tells (stage_rows stage) r
+closed_tells unread r is h = absurd cc
+closed_tells (reading version decided q) r is h =
     let (tests, same) = kept (has_updates decided q) q r h in
     let (some, all) = and_parts (has_objects q) (length q.sets == decided) tests in
     subst (Tells (rows_so_far version decided q)) same
-    (told_whole version decided q is (ltb-true 0 (length q.objects) some) (eqb-true (length q.sets) decided all))
+    (whole_tells version decided q is (ltb-true 0 (length q.objects) some) (eqb-true (length q.sets) decided all))
 
 pub what_is_read_is_told : WhatIsReadIsTold
 what_is_read_is_told rows r h =
     let (stage, ran, end) = bound closed (run unread rows) r h in
     let (is, same) = run_whole rows stage ran in
-    subst (λ l. Tells l r) same (closed_told stage r is end)
+    subst (λ l. Tells l r) same (closed_tells stage r is end)

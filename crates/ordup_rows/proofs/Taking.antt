@@ -27,9 +27,9 @@ use Rattle.ordup_rows.proofs.Growth.{change_rows-grow, change_rows-new, ends, gr
 use Rattle.ordup_rows.proofs.Growth.{grow_sets, grow_window, rows_after, last_members-of, last_name-of, last_set-of, member_rows-grow}
 use Rattle.ordup_rows.proofs.Growth.{member_rows-new, with_change-last, with_member-last}
 use Rattle.ordup_rows.proofs.Refusals.{entry_taken, group_taken, member_taken, none_is, object_taken, set_taken}
-use Rattle.ordup_rows.proofs.ToldSoFar.{AreGroups-grow, AreGroups-none, AreGroups-push, AreLimits-none, AreLimits-push, AreObjects-push}
-use Rattle.ordup_rows.proofs.ToldSoFar.{AreSetsSoFar, AreWindowsSoFar}
-use Rattle.ordup_rows.proofs.ToldSoFar.{HasGroup, IsTold, all_at, all_front, all_none, increasing-push, told_by_parts}
+use Rattle.ordup_rows.proofs.RecordsSoFar.{AreGroups-grow, AreGroups-none, AreGroups-push, AreLimits-none, AreLimits-push, AreObjects-push}
+use Rattle.ordup_rows.proofs.RecordsSoFar.{AreSetsSoFar, AreWindowsSoFar}
+use Rattle.ordup_rows.proofs.RecordsSoFar.{HasGroup, IsRecordSoFar, all_at, all_front, all_none, increasing-push, so_far_by_parts}
 use Rattle.ordup_rows.proofs.Versions.{amount_spelled, can_tell-read}
 use Rattle.ordup_rows.proofs.Words.{change_spelled, scope_spelled}
 
@@ -40,7 +40,7 @@ either false o p y h = inr (refl, h)
 
 -- a record with a row more
 pub record Takes (version : Version) (decided : ℕ) (r : RecordState) (row : Row) (next : RecordState) : Type 0 where
-  pub told : IsTold version decided next
+  pub is : IsRecordSoFar version decided next
   pub rows : rows_so_far version decided next ≡ rows_so_far version decided r ++ row ∷ []
 
 abbrev pub row_by : Columns → Row
@@ -141,13 +141,13 @@ change_next decided objects sets c are some free =
     → Changes decided objects l (change_row objects (length l) (length (last_set l) + 1) c) (with_change l c) in
     subst P (sym e) (change_last decided objects front m c) are free
 
-module _ (version : Version) (decided : ℕ) (r : RecordState) (is : IsTold version decided r) (c : Columns) where
+module _ (version : Version) (decided : ℕ) (r : RecordState) (is : IsRecordSoFar version decided r) (c : Columns) where
   -- a row of these columns is taken
   taken : (q next : RecordState) (k x y z : List ℕ) → q.site ≡ r.site → q ≡ next → c.kind ≡ k → c.first ≡ x → c.second ≡ y → c.third ≡ z
-      → rows_after version decided q ≡ rows_after version decided r ++ (k ∷ x ∷ y ∷ z ∷ []) ∷ [] → IsTold version decided q
+      → rows_after version decided q ≡ rows_after version decided r ++ (k ∷ x ∷ y ∷ z ∷ []) ∷ [] → IsRecordSoFar version decided q
       → Takes version decided r (row_by c) next
-  taken q next k x y z site same e1 e2 e3 e4 rows told = subst (Takes version decided r (row_by c)) same (record {
-    told = told;
+  taken q next k x y z site same e1 e2 e3 e4 rows so_far = subst (Takes version decided r (row_by c)) same (record {
+    is = so_far;
     rows = rw (site, e1, e2, e3, e4) (ap (λ rows. head_row version r.site decided ∷ rows) rows);
   })
 
@@ -162,7 +162,7 @@ module _ (version : Version) (decided : ℕ) (r : RecordState) (is : IsTold vers
       let n = length (r.objects ++ (c.second, value) ∷ []) in
       taken _ next _ _ _ _ refl same kind (written c.first _ count) refl (signed_decimal-number_of c.third value read).1
       (grow_object version decided r (c.second, value) none)
-      (told_by_parts is.site is.updates (AreObjects-push r.objects c.second value is.objects new) (AreGroups-none n r.groups none.0)
+      (so_far_by_parts is.site is.updates (AreObjects-push r.objects c.second value is.objects new) (AreGroups-none n r.groups none.0)
       (AreLimits-none version decided n r.groups r.limits none.1.0)
       (record { count = is.sets.count; each = is.sets.each; known = all_none (AreKnown n) r.sets none.1.1.0 })
       is.reports is.rounds is.windows (inl (omega (arith, length_push r.objects (c.second, value)))) is.full)
@@ -178,7 +178,7 @@ module _ (version : Version) (decided : ℕ) (r : RecordState) (is : IsTold vers
       let joined = join r.objects r.groups c.second x is.groups (none_is _ free) in
       let groups = with_membership r.groups c.second x in
       taken _ next _ _ _ _ refl same kind (written c.first _ count) refl (sym named.1) (grow_groups version decided r groups _ none joined.rows)
-      (told_by_parts is.site is.updates is.objects joined.groups
+      (so_far_by_parts is.site is.updates is.objects joined.groups
       (AreLimits-none version decided (length r.objects) groups r.limits none.0)
       is.sets is.reports is.rounds is.windows (inl (omega (arith, named.0))) is.full)
 
@@ -195,7 +195,7 @@ module _ (version : Version) (decided : ℕ) (r : RecordState) (is : IsTold vers
       let new = entry_taken (length r.objects) r.groups decided r.limits e may (none_is _ free) in
       taken _ next _ _ _ _ refl same kind (written c.first _ count) (scope_spelled r.objects r.groups c.second scope spelled)
       (amount_spelled version c.third limit scope read) (grow_limit version decided r e (before_changes r before))
-      (told_by_parts is.site is.updates is.objects is.groups
+      (so_far_by_parts is.site is.updates is.objects is.groups
       (AreLimits-push version decided (length r.objects) r.groups r.limits e is.limits new (can_tell-read version c.third limit read))
       is.sets is.reports is.rounds is.windows (inl (ltb-true 0 (length r.objects) some)) is.full)
 
@@ -206,7 +206,7 @@ module _ (version : Version) (decided : ℕ) (r : RecordState) (is : IsTold vers
   changed next k x y z sets e1 e2 e3 e4 before some more same =
       let none = before_reports r before in
       taken (record r { sets = sets }) next k x y z refl same e1 e2 e3 e4 (grow_sets version decided r sets _ none more.rows)
-      (told_by_parts is.site is.updates is.objects is.groups is.limits more.sets is.reports is.rounds is.windows
+      (so_far_by_parts is.site is.updates is.objects is.groups is.limits more.sets is.reports is.rounds is.windows
       (inl some) (inr none))
 
   take_first_change : (change : Change) (next : RecordState) → c.kind ≡ codes "change" → c.second ≡ decimal 1
@@ -248,11 +248,11 @@ module _ (version : Version) (decided : ℕ) (r : RecordState) (is : IsTold vers
       (ltb-true 0 (length r.objects) some, eqb-true (length r.sets) decided all)
 
   -- what only the last lists of a record may change
-  last_told : (reports : List ReportChange) (rounds : List ℕ) (windows : List Window)
+  last_parts : (reports : List ReportChange) (rounds : List ℕ) (windows : List Window)
       → (0 < length r.objects) × (length r.sets ≡ decided) → AreReportChanges decided reports → AreRoundPlaces decided rounds
-      → AreWindowsSoFar decided windows → IsTold version decided (record r { reports = reports; rounds = rounds; windows = windows })
-  last_told reports rounds windows (some, all) a b c =
-      told_by_parts is.site is.updates is.objects is.groups is.limits is.sets a b c (inl some) (inl all)
+      → AreWindowsSoFar decided windows → IsRecordSoFar version decided (record r { reports = reports; rounds = rounds; windows = windows })
+  last_parts reports rounds windows (some, all) a b c =
+      so_far_by_parts is.site is.updates is.objects is.groups is.limits is.sets a b c (inl some) (inl all)
 
   take_report : (next : RecordState) → c.kind ≡ codes "report" → with_report decided r c ≡ Some next → Takes version decided r (row_by c) next
   take_report next kind h =
@@ -269,7 +269,7 @@ module _ (version : Version) (decided : ℕ) (r : RecordState) (is : IsTold vers
       let above = ltb-true (last_number numbers) reported rises in
       taken _ next _ _ _ _ refl same kind (natural_spelled c.first place read).1 (natural_spelled c.second reported read2).1
       (same_bytes c.third _ dash) (grow_report version decided r l (before_rounds r before))
-      (last_told (r.reports ++ l ∷ []) r.rounds r.windows (updated all) (record {
+      (last_parts (r.reports ++ l ∷ []) r.rounds r.windows (updated all) (record {
         places = rw map-append (increasing-push places place is.reports.places after);
         each = All-push (λ (c : ReportChange). (0 < c.place) × (c.place ≤ decided)) r.reports l is.reports.each
             (omega (arith, after), leb-true place decided within);
@@ -287,7 +287,7 @@ module _ (version : Version) (decided : ℕ) (r : RecordState) (is : IsTold vers
       let after = ltb-true (last_number r.rounds) place later in
       taken _ next _ _ _ _ refl same kind (written c.first _ count) (natural_spelled c.second place read).1 (same_bytes c.third _ dash)
       (grow_round version decided r place (before_windows r before))
-      (last_told r.reports (r.rounds ++ place ∷ []) r.windows (updated all) is.reports (record {
+      (last_parts r.reports (r.rounds ++ place ∷ []) r.windows (updated all) is.reports (record {
         ascending = increasing-push r.rounds place is.rounds.ascending after;
         each = All-push (λ k. (0 < k) × (k ≤ decided)) r.rounds place is.rounds.each
             (omega (arith, after), leb-true place decided within);
@@ -303,7 +303,7 @@ module _ (version : Version) (decided : ℕ) (r : RecordState) (is : IsTold vers
       let w : Window = record { from = from; to = to } in
       taken _ next _ _ _ _ refl same kind (written c.first _ count) (natural_spelled c.second from read).1
       (natural_spelled c.third to read2).1 (grow_window version decided r w)
-      (last_told r.reports r.rounds (r.windows ++ w ∷ []) (updated all) is.reports is.rounds (record {
+      (last_parts r.reports r.rounds (r.windows ++ w ∷ []) (updated all) is.reports is.rounds (record {
         few = omega (arith, ltb-true (length r.windows) most_windows room, length_push r.windows w);
         each = All-push (λ (w : Window). (w.from ≤ decided) × (w.to ≤ decided)) r.windows w is.windows.each
             (leb-true from decided start, leb-true to decided end);

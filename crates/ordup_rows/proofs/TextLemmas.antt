@@ -65,7 +65,7 @@ texts_have_one_list_of_rows text rows more (s, x, h, end) (t, y, k, close) =
     let (n, f) = front_of_all st.StartRecord t text y more rows k (s, x, h, end) in
     both_fronts rows more m n e f
 
--- ---- what is told, and what is malformed
+-- ---- what a text tells, and where it is malformed
 
 -- a bad row is the first one, whatever comes after
 bad_before : (rows more all : List Row) (n : ℕ) → all ≡ rows ++ more → IsBadRow rows n → IsFirstBadRow all n
@@ -78,8 +78,8 @@ bad_before rows more all n e (some, within, before, bad) =
     ))
 
 pub texts_tell_one_record : TextsTellOneRecord
-texts_tell_one_record text r q (rows, are, tells) (more, all, told) =
-    rows_tell_one_record rows r q tells (subst (λ l. Tells l q) (texts_have_one_list_of_rows text more rows all are) told)
+texts_tell_one_record text r q (rows, are, tells) (more, all, also) =
+    rows_tell_one_record rows r q tells (subst (λ l. Tells l q) (texts_have_one_list_of_rows text more rows all are) also)
 
 pub told_texts_are_not_malformed : ToldTextsAreNotMalformed
 told_texts_are_not_malformed text r n (rows, are, tells) (inl (front, (s, x, h), bad)) =

@@ -2,24 +2,24 @@
 use Rattle.std.specs.Prelude.{◌≡◌, ◌⊎◌, ℕ, ◌+◌, List, ◌∷◌, ◌++◌, length, Some, None}
 use Rattle.ordup_audit.specs.Records.{IsRecord, RecordState}
 use Rattle.ordup_rows.specs.Rows.{Row, rows_in}
-use Rattle.ordup_rows.specs.Stages.{Stage, step, run, closed, told_by, unread}
+use Rattle.ordup_rows.specs.Stages.{Stage, step, run, closed, record_read, unread}
 use Rattle.ordup_rows.specs.Telling.{CanGoOn, IsFirstBadRow, Tells}
 use Rattle.ordup_rows.specs.Versions.{CanTell}
 use Rattle.ordup_rows.specs.declared.version.Version.{Version}
 
 -- rows that are read to the end tell what was read
 abbrev pub WhatIsReadIsTold : Type 0
-WhatIsReadIsTold = (rows : List Row) (r : RecordState) → told_by rows ≡ Some r → Tells rows r
+WhatIsReadIsTold = (rows : List Row) (r : RecordState) → record_read rows ≡ Some r → Tells rows r
 
 -- and rows that tell a record are read to the end as it
 abbrev pub WhatIsToldIsRead : Type 0
-WhatIsToldIsRead = (rows : List Row) (r : RecordState) → Tells rows r → told_by rows ≡ Some r
+WhatIsToldIsRead = (rows : List Row) (r : RecordState) → Tells rows r → record_read rows ≡ Some r
 
 -- The rows of a record are read as it in each version that can tell its limits. So rows of both versions are read as the same record
 -- where all its limits hold from place 1 on.
 abbrev pub RowsOfEachVersionAreRead : Type 0
 RowsOfEachVersionAreRead =
-    (version : Version) (r : RecordState) → IsRecord r → CanTell version r.limits → told_by (rows_in version r) ≡ Some r
+    (version : Version) (r : RecordState) → IsRecord r → CanTell version r.limits → record_read (rows_in version r) ≡ Some r
 
 -- so rows tell no two records
 abbrev pub RowsTellOneRecord : Type 0

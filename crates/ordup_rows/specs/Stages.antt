@@ -206,7 +206,7 @@ with_window decided r c = do
       && nat_le from decided && nat_le to decided)
       (record r { windows = r.windows ++ (record { from = from; to = to }) ∷ [] })
 
--- the record with what a row of a kind tells, where the row may stand there
+-- the record with one row more, where a row of this kind may stand there
 abbrev pub with_row : Version → ℕ → RecordState → RowKind → Columns → Option RecordState
 with_row version decided r kind.Object c = with_object r c
 with_row version decided r kind.Member c = with_member_row r c
@@ -216,12 +216,13 @@ with_row version decided r kind.Report c = with_report decided r c
 with_row version decided r kind.Round c = with_round decided r c
 with_row version decided r kind.Window c = with_window decided r c
 
--- how far a reading has come: no row yet, or the version, so many decided updates, and what the rows told of the record
+-- how far a reading has come: no row was read; or the version, how many updates are decided, and the record as far as its rows
+-- were read
 pub data Stage : Type 0 where
   unread : Stage
-  told : Version → ℕ → RecordState → Stage
+  reading : Version → ℕ → RecordState → Stage
 
--- a record of which no more is told than the name of the site
+-- a record of which nothing is there but the name of its site
 abbrev pub record_at : List ℕ → RecordState
 record_at site = record {
   site = site;
@@ -234,22 +235,22 @@ record_at site = record {
   windows = [];
 }
 
--- what the first row tells
+-- the stage after the first row
 abbrev pub head_of : Columns → Option Stage
 head_of c = do
   version ← version_of c.first
   decided ← natural_of c.third
   then_some
       (bytes_eq c.kind (codes "ordup") && is_name c.second && nat_le decided most_updates)
-      (told version decided (record_at c.second))
+      (reading version decided (record_at c.second))
 
 -- the stage after one row more, where the row may stand there
 abbrev pub step : Stage → Row → Option Stage
 step unread row = option_and_then head_of (columns_of row)
-step (told version decided r) row = do
+step (reading version decided r) row = do
   c ← columns_of row
   kind ← kind_of c.kind
-  option_map (λ next. told version decided next) (with_row version decided r kind c)
+  option_map (λ next. reading version decided next) (with_row version decided r kind c)
 
 -- the stage after rows, where each may stand there
 abbrev pub run : Stage → List Row → Option Stage
@@ -259,8 +260,8 @@ run stage (row ∷ rows) = option_and_then (λ next. run next rows) (step stage 
 -- the record, where no row is missing
 abbrev pub closed : Stage → Option RecordState
 closed unread = None
-closed (told version decided r) = then_some (has_updates decided r) r
+closed (reading version decided r) = then_some (has_updates decided r) r
 
--- the record that rows tell, as they are read one after another
-abbrev pub told_by : List Row → Option RecordState
-told_by rows = option_and_then closed (run unread rows)
+-- the record that is read from rows, one after another: none where a row may not stand where it stands, or where rows are missing
+abbrev pub record_read : List Row → Option RecordState
+record_read rows = option_and_then closed (run unread rows)

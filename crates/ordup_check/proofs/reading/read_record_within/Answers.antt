@@ -3,7 +3,7 @@ use Rattle.std.proofs.lemmas.Result.{err_from_is_err_and}
 use Rattle.ordup_check.specs.StageViews.{stage_of}
 use Rattle.ordup_check.proofs.Cuts.{missing_within, read_bad, read_whole, tells_whole, tells_within}
 use Rattle.ordup_check.proofs.ReadSteps.{malformed-number}
-use Rattle.ordup_check.proofs.ToldAnswers.{answers_told, faults_told}
+use Rattle.ordup_check.proofs.TextAnswers.{record_answered, fault_answered}
 use Rattle.ordup_check.proofs.reading.read_record_within.Goals as goal
 
 pub returns-in_err-stage-clause-malformed : goal.returns-in_err-stage-clause-malformed
@@ -45,13 +45,13 @@ returns-in-Ok-None-clause-malformed g c n e =
 pub returns-in_err-stage-clause-told : goal.returns-in_err-stage-clause-told
 returns-in_err-stage-clause-told g c text r is few told =
     let failed = err_from_is_err_and c.from_residual.result c.from_residual.ensures.1 in
-    rw failed.1 (faults_told c.args.limit (g.R.Read.remaining c.args.input.now) text failed.0 r is few told
+    rw failed.1 (fault_answered c.args.limit (g.R.Read.remaining c.args.input.now) text failed.0 r is few told
     (rw failed.1 at (returns-in_err-stage-clause-malformed g c)))
 
 pub returns-in-Ok-Some-clause-told : goal.returns-in-Ok-Some-clause-told
 returns-in-Ok-Some-clause-told g c text r is few told =
-    answers_told (g.R.Read.remaining c.args.input.now) text c.in-Ok-Some.record r is told (returns-in-Ok-Some-clause-read g c)
+    record_answered (g.R.Read.remaining c.args.input.now) text c.in-Ok-Some.record r is told (returns-in-Ok-Some-clause-read g c)
 
 pub returns-in-Ok-None-clause-told : goal.returns-in-Ok-None-clause-told
 returns-in-Ok-None-clause-told g c text r is few told =
-    faults_told c.args.limit (g.R.Read.remaining c.args.input.now) text _ r is few told (returns-in-Ok-None-clause-malformed g c)
+    fault_answered c.args.limit (g.R.Read.remaining c.args.input.now) text _ r is few told (returns-in-Ok-None-clause-malformed g c)

@@ -3,7 +3,7 @@ use Rattle.std.specs.Prelude.{slice_index}
 use Rattle.std.proofs.lemmas.List.{get_or_read}
 use Rattle.ordup_limits.proofs.EntryLemmas.{in_force-test}
 use Rattle.ordup_audit.specs.LeastStarts.{AreLeastStarts}
-use Rattle.ordup_audit.proofs.LeastStartLemmas.{told-by-start}
+use Rattle.ordup_audit.proofs.LeastStartLemmas.{over-by-start}
 use Rattle.ordup_audit.proofs.least_starts.LeastStarts.passes_a_limit.Goals as goal
 
 pub returns-in-Some : goal.returns-in-Some
@@ -13,5 +13,5 @@ returns-in-Some g c =
     let are : AreLeastStarts (is_within r) (length r.sets + 1) starts = rw c.in-Some.is at c.requires.starts in
     let here : c.index.result.now ≡ slice_index starts c.args.to =
     get_or_read starts c.args.to c.index.result.now (omega (arith, are.count, c.requires.last)) c.index.ensures 0 in
-    rw here (told-by-start (is_within r) c.args.from (slice_index starts c.args.to) c.args.to
+    rw here (over-by-start (is_within r) c.args.from (slice_index starts c.args.to) c.args.to
     (in_force-test (history_of r) r.groups r.limits) (are.each c.args.to (omega (arith, c.requires.last))))

@@ -8,17 +8,17 @@ use Rattle.ordup_check.specs.Limits.{IsMalformedWithin}
 use Rattle.ordup_check.specs.declared.reading.RecordReadFault.{RecordReadFault}
 use Rattle.ordup_check.specs.declared.reading.RecordReadFault.TheVariants as fault
 
-pub answers_told : (o : Option (List ℕ)) (text : List ℕ) (q r : RecordState) → o ≡ Some text → TextTells (strip_bom text) r
+pub record_answered : (o : Option (List ℕ)) (text : List ℕ) (q r : RecordState) → o ≡ Some text → TextTells (strip_bom text) r
     → IfSome o (λ text. TextTells (strip_bom text) q) → AnswersRecord (Ok q) r
-answers_told o text q r is told read = texts_tell_one_record (strip_bom text) q r (rw is at read) told
+record_answered o text q r is tells read = texts_tell_one_record (strip_bom text) q r (rw is at read) tells
 
-pub faults_told : (limit : ℕ) (o : Option (List ℕ)) (text : List ℕ) (e : RecordReadFault) (r : RecordState) → o ≡ Some text
+pub fault_answered : (limit : ℕ) (o : Option (List ℕ)) (text : List ℕ) (e : RecordReadFault) (r : RecordState) → o ≡ Some text
     → length text ≤ limit → TextTells (strip_bom text) r
     → ((n : ℕ) → e ≡ fault.Malformed n → IfSome o (λ text. IsMalformedWithin limit text n)) → AnswersRecord (Err e) r
-faults_told limit o text fault.Read r is few told malformed = tt
-faults_told limit o text fault.NoMemory r is few told malformed = tt
-faults_told limit o text (fault.Malformed n) r is few told malformed =
+fault_answered limit o text fault.Read r is few tells malformed = tt
+fault_answered limit o text fault.NoMemory r is few tells malformed = tt
+fault_answered limit o text (fault.Malformed n) r is few tells malformed =
     elim (rw is at (malformed n refl)) [
-      | inl whole ↦ told_texts_are_not_malformed (strip_bom text) r n told whole.1
+      | inl whole ↦ told_texts_are_not_malformed (strip_bom text) r n tells whole.1
       | inr long ↦ absurd (omega (arith, few, long.0))
     ]

@@ -2,7 +2,7 @@ use Rattle.ordup_audit.proofs.Common.{◌++◌, ◌-◌, ◌<◌, ◌∙◌, ◌
 use Rattle.ordup_audit.proofs.Common.{List, rules, set_refusal, subst}
 use Rattle.ordup_rows.specs.Stages.{last_set}
 use Rattle.ordup_check.proofs.RowLemmas.{refused_row}
-use Rattle.ordup_check.proofs.told.Told.add_next_change.Goals as goal
+use Rattle.ordup_check.proofs.partial_record.PartialRecord.add_next_change.Goals as goal
 
 pub returns-in-Err : goal.returns-in-Err
 returns-in-Err c =

@@ -1,4 +1,4 @@
-//! What rows tell of a record, row by row.
+//! A record as far as its rows were read, and how each row is added.
 ghost use Rattle.std.specs.Prelude.{◌≡◌, ◌≢◌, ◌<◌, ◌≤◌, ◌&&◌, ◌++◌, ◌∷◌, [], false, not, IfOk, length, map};
 ghost use Rattle.std.specs.Bool.{then_some};
 ghost use Rattle.std.specs.Option.{is_none};
@@ -11,7 +11,7 @@ ghost use Rattle.ordup_rows.specs.Stages.{with_first_change};
 ghost use Rattle.ordup_rows.specs.Stages.{with_limit, with_member_row, with_next_change, with_object, with_report, with_round, with_row};
 ghost use Rattle.ordup_rows.specs.Stages.{with_value, with_window};
 ghost use Rattle.ordup_check.specs.ColumnViews.{columns_view};
-ghost use Rattle.ordup_check.specs.ToldViews.{AreUpdatesKnown, Takes, told_of};
+ghost use Rattle.ordup_check.specs.PartialRecords.{AreUpdatesKnown, Takes, record_so_far};
 
 use crate::row_columns::{RowColumns, amount, change, natural, scope, value, writes};
 use ordup_audit::ReportChange;
@@ -39,9 +39,9 @@ fn not_taken(refusal: Refusal) -> Result<bool, AllocError>
 /// The number of the refusal for want of memory.
 const NO_MEMORY: u8 = 26;
 
-/// What the rows so far told of a record.
+/// A record as far as its rows were read.
 #[derive(Drop)]
-pub struct Told {
+pub struct PartialRecord {
     pub site: Name,
     pub objects: ObjectTable,
     pub groups: Groups,
@@ -52,59 +52,59 @@ pub struct Told {
     pub windows: Vec<Window>,
 }
 
-impl Told {
+impl PartialRecord {
     fn is_before_windows(&self) -> bool
-        ensures { result ≡ is_before_windows (told_of self.now) }
+        ensures { result ≡ is_before_windows (record_so_far self.now) }
     {
         self.windows.is_empty()
     }
 
     fn is_before_rounds(&self) -> bool
-        ensures { result ≡ is_before_rounds (told_of self.now) }
+        ensures { result ≡ is_before_rounds (record_so_far self.now) }
     {
         self.rounds.is_empty() && self.is_before_windows()
     }
 
     fn is_before_reports(&self) -> bool
-        ensures { result ≡ is_before_reports (told_of self.now) }
+        ensures { result ≡ is_before_reports (record_so_far self.now) }
     {
         self.reports.is_empty() && self.is_before_rounds()
     }
 
     fn is_before_changes(&self) -> bool
-        ensures { result ≡ is_before_changes (told_of self.now) }
+        ensures { result ≡ is_before_changes (record_so_far self.now) }
     {
         self.sets.is_empty() && self.is_before_reports()
     }
 
     fn is_before_limits(&self) -> bool
-        ensures { result ≡ is_before_limits (told_of self.now) }
+        ensures { result ≡ is_before_limits (record_so_far self.now) }
     {
         self.limits.entries().is_empty() && self.is_before_changes()
     }
 
     fn is_before_members(&self) -> bool
-        ensures { result ≡ is_before_members (told_of self.now) }
+        ensures { result ≡ is_before_members (record_so_far self.now) }
     {
         self.groups.len() == 0 && self.is_before_limits()
     }
 
     fn has_objects(&self) -> bool
-        ensures { result ≡ has_objects (told_of self.now) }
+        ensures { result ≡ has_objects (record_so_far self.now) }
     {
         self.objects.len() > 0
     }
 
     /// Whether an object is there, and each decided update.
     pub fn has_updates(&self, decided: u64) -> bool
-        ensures { result ≡ has_updates decided (told_of self.now) }
+        ensures { result ≡ has_updates decided (record_so_far self.now) }
     {
         self.has_objects() && self.sets.len() as u64 == decided
     }
 
     /// Takes the object of a row with this value.
     fn add_value(&mut self, c: &RowColumns<'_>, value: i64) -> Result<bool, AllocError>
-        ensures { Takes result self.new (with_value (told_of self.old) (columns_view c.now) value) }
+        ensures { Takes result self.new (with_value (record_so_far self.old) (columns_view c.now) value) }
     {
         if !self.is_before_members() || !writes(c.first, self.objects.len() as u64 + 1) {
             return Ok(false);
@@ -117,7 +117,7 @@ impl Told {
 
     /// Takes the object of a row.
     fn add_object(&mut self, c: &RowColumns<'_>) -> Result<bool, AllocError>
-        ensures { Takes result self.new (with_object (told_of self.old) (columns_view c.now)) }
+        ensures { Takes result self.new (with_object (record_so_far self.old) (columns_view c.now)) }
     {
         let Some(value) = value(c.third) else {
             return Ok(false);
@@ -127,7 +127,7 @@ impl Told {
 
     /// Takes the member of a row: of the last group, or the first of a new one.
     fn add_member(&mut self, c: &RowColumns<'_>) -> Result<bool, AllocError>
-        ensures { Takes result self.new (with_member_row (told_of self.old) (columns_view c.now)) }
+        ensures { Takes result self.new (with_member_row (record_so_far self.old) (columns_view c.now)) }
     {
         let Some(member) = self.objects.find(c.third) else {
             return Ok(false);
@@ -172,7 +172,7 @@ impl Told {
         requires later { last_place self.old.limits ≤ place }
         ensures { let e = entry_of scope amount place in Takes result self.new (then_some
             (not (has_entry self.old.limits e) && is_none (change_refusal (length self.old.objects) self.old.groups self.old.limits e))
-            (record (told_of self.old) { limits = self.old.limits ++ e ∷ [] })) }
+            (record (record_so_far self.old) { limits = self.old.limits ++ e ∷ [] })) }
     {
         // For the proof: the limits are in the order of their places.
         let _scopes = self.limits.len();
@@ -194,7 +194,7 @@ impl Told {
         decided: u64,
         c: &RowColumns<'_>,
     ) -> Result<bool, AllocError>
-        ensures { Takes result self.new (with_limit version decided (told_of self.old) (columns_view c.now)) }
+        ensures { Takes result self.new (with_limit version decided (record_so_far self.old) (columns_view c.now)) }
     {
         let Some(scope) = scope(&self.objects, &self.groups, c.second) else {
             return Ok(false);
@@ -219,7 +219,7 @@ impl Told {
         c: &RowColumns<'_>,
         change: Change,
     ) -> Result<bool, AllocError>
-        ensures { Takes result self.new (with_first_change decided (told_of self.old) (columns_view c.now) change) }
+        ensures { Takes result self.new (with_first_change decided (record_so_far self.old) (columns_view c.now) change) }
     {
         let place = self.sets.len() as u64;
         if !self.is_before_reports() || place >= decided || !writes(c.first, place + 1) {
@@ -236,7 +236,7 @@ impl Told {
     fn add_next_change(&mut self, c: &RowColumns<'_>, change: Change) -> Result<bool, AllocError>
         requires some { 0 < length self.old.sets.items }
         requires known { AreKnown (length self.old.objects) (last_set self.old.sets.items) }
-        ensures { Takes result self.new (with_next_change (told_of self.old) (columns_view c.now) change) }
+        ensures { Takes result self.new (with_next_change (record_so_far self.old) (columns_view c.now) change) }
     {
         let last = self.sets.len() - 1;
         let count = self.sets[last].changes().len() as u64;
@@ -259,8 +259,8 @@ impl Told {
         c: &RowColumns<'_>,
         change: Change,
     ) -> Result<bool, AllocError>
-        requires { AreUpdatesKnown (told_of self.old) }
-        ensures { Takes result self.new (with_any_change decided (told_of self.old) (columns_view c.now) change) }
+        requires { AreUpdatesKnown (record_so_far self.old) }
+        ensures { Takes result self.new (with_any_change decided (record_so_far self.old) (columns_view c.now) change) }
     {
         if writes(c.second, 1) {
             self.add_first_change(decided, c, change)
@@ -273,8 +273,8 @@ impl Told {
 
     /// Takes the change of a row.
     fn add_change(&mut self, decided: u64, c: &RowColumns<'_>) -> Result<bool, AllocError>
-        requires { AreUpdatesKnown (told_of self.old) }
-        ensures { Takes result self.new (with_change_row decided (told_of self.old) (columns_view c.now)) }
+        requires { AreUpdatesKnown (record_so_far self.old) }
+        ensures { Takes result self.new (with_change_row decided (record_so_far self.old) (columns_view c.now)) }
     {
         let Some(change) = change(&self.objects, c.third) else {
             return Ok(false);
@@ -304,7 +304,7 @@ impl Told {
 
     /// Whether a report change may come next.
     fn may_report(&self, decided: u64, place: u64, reported: u64) -> bool
-        ensures { result ≡ may_report decided (told_of self.now) place reported }
+        ensures { result ≡ may_report decided (record_so_far self.now) place reported }
     {
         self.has_updates(decided)
             && self.is_before_rounds()
@@ -316,7 +316,7 @@ impl Told {
 
     /// Takes the report change of a row.
     fn add_report(&mut self, decided: u64, c: &RowColumns<'_>) -> Result<bool, AllocError>
-        ensures { Takes result self.new (with_report decided (told_of self.old) (columns_view c.now)) }
+        ensures { Takes result self.new (with_report decided (record_so_far self.old) (columns_view c.now)) }
     {
         let Some(place) = natural(c.first) else {
             return Ok(false);
@@ -343,7 +343,7 @@ impl Told {
 
     /// Whether the round of a place may come next.
     fn may_round(&self, decided: u64, place: u64) -> bool
-        ensures { result ≡ may_round decided (told_of self.now) place }
+        ensures { result ≡ may_round decided (record_so_far self.now) place }
     {
         self.has_updates(decided)
             && self.is_before_windows()
@@ -353,7 +353,7 @@ impl Told {
 
     /// Takes the round of a row.
     fn add_round(&mut self, decided: u64, c: &RowColumns<'_>) -> Result<bool, AllocError>
-        ensures { Takes result self.new (with_round decided (told_of self.old) (columns_view c.now)) }
+        ensures { Takes result self.new (with_round decided (record_so_far self.old) (columns_view c.now)) }
     {
         let Some(place) = natural(c.second) else {
             return Ok(false);
@@ -370,7 +370,7 @@ impl Told {
 
     /// Takes the window of a row.
     fn add_window(&mut self, decided: u64, c: &RowColumns<'_>) -> Result<bool, AllocError>
-        ensures { Takes result self.new (with_window decided (told_of self.old) (columns_view c.now)) }
+        ensures { Takes result self.new (with_window decided (record_so_far self.old) (columns_view c.now)) }
     {
         let Some(from) = natural(c.second) else {
             return Ok(false);
@@ -400,8 +400,8 @@ impl Told {
         kind: RowKind,
         c: &RowColumns<'_>,
     ) -> Result<bool, AllocError>
-        requires { AreUpdatesKnown (told_of self.old) }
-        ensures { Takes result self.new (with_row version decided (told_of self.old) kind (columns_view c.now)) }
+        requires { AreUpdatesKnown (record_so_far self.old) }
+        ensures { Takes result self.new (with_row version decided (record_so_far self.old) kind (columns_view c.now)) }
     {
         match kind {
             RowKind::Object => self.add_object(c),

@@ -1,4 +1,4 @@
--- What is kept of a record while rows tell it, and how its lists grow.
+-- What is kept of a record while its rows are read, and how its lists grow.
 use Rattle.ordup_audit.proofs.Common.{◌++◌, ◌+◌, ◌-◌, ◌<◌, ◌∙◌, ◌∷◌, ◌≡◌, ◌≤◌, ◌⊎◌, [], All, All-nil, All-push, ap, AreDistinct, AreGroups}
 use Rattle.ordup_audit.proofs.Common.{AreEntries, AreEntriesKnown, AreKnown, AreMembersKnown, AreNames, AreReportChanges, AreRoundPlaces}
 use Rattle.ordup_audit.proofs.Common.{Entries, get_or-map, HoldFrom, IsScopeKnown, length-map, refl, subst, false}
@@ -32,7 +32,7 @@ pub record AreLimitsSoFar (version : Version) (decided n : ℕ) (groups : GroupL
   pub entries : AreEntries limits
   pub known : AreEntriesKnown n groups limits
   pub begun : HoldFrom (decided + 1) limits
-  pub told : CanTell version limits
+  pub tells : CanTell version limits
 
 -- the updates so far
 pub record AreSetsSoFar (decided n : ℕ) (sets : List (List Change)) : Type 0 where
@@ -45,7 +45,7 @@ pub record AreWindowsSoFar (decided : ℕ) (windows : List Window) : Type 0 wher
   pub each : All (λ (w : Window). (w.from ≤ decided) × (w.to ≤ decided)) windows
 
 -- what is kept
-pub record IsTold (version : Version) (decided : ℕ) (r : RecordState) : Type 0 where
+pub record IsRecordSoFar (version : Version) (decided : ℕ) (r : RecordState) : Type 0 where
   pub site : is_name r.site ≡ true
   pub updates : decided ≤ most_updates
   pub objects : AreObjectsSoFar r.objects
@@ -59,12 +59,12 @@ pub record IsTold (version : Version) (decided : ℕ) (r : RecordState) : Type 0
   pub full : (length r.sets ≡ decided) ⊎ IsBeforeReports r
 
 -- what is kept, part by part
-pub told_by_parts : {version : Version} {decided : ℕ} {r : RecordState} → is_name r.site ≡ true → decided ≤ most_updates → AreObjectsSoFar r.objects
+pub so_far_by_parts : {version : Version} {decided : ℕ} {r : RecordState} → is_name r.site ≡ true → decided ≤ most_updates → AreObjectsSoFar r.objects
     → AreGroups (length r.objects) r.groups → AreLimitsSoFar version decided (length r.objects) r.groups r.limits
     → AreSetsSoFar decided (length r.objects) r.sets → AreReportChanges decided r.reports → AreRoundPlaces decided r.rounds
     → AreWindowsSoFar decided r.windows → (0 < length r.objects) ⊎ IsBeforeMembers r → (length r.sets ≡ decided) ⊎ IsBeforeReports r
-    → IsTold version decided r
-told_by_parts a b c d e g h i j k l = record {
+    → IsRecordSoFar version decided r
+so_far_by_parts a b c d e g h i j k l = record {
   site = a;
   updates = b;
   objects = c;
@@ -179,7 +179,7 @@ AreLimits-none version decided n groups limits e = rw e (record {
   };
   known = All-nil (λ (e : LimitEntry). IsScopeKnown n groups e.limit.scope);
   begun = All-nil (λ (e : LimitEntry). e.place ≤ decided + 1);
-  told = All-nil (λ (e : LimitEntry). CanTellPlace version e.place);
+  tells = All-nil (λ (e : LimitEntry). CanTellPlace version e.place);
 })
 
 pub AreLimits-push : (version : Version) (decided n : ℕ) (groups : GroupList) (limits : Entries) (e : LimitEntry)
@@ -192,7 +192,7 @@ AreLimits-push version decided n groups limits e are new tells =
           (AreEntries-changed limits e are.entries hold new.begun new.few new.room);
       known = All-push (λ (f : LimitEntry). IsScopeKnown n groups f.limit.scope) limits e are.known new.known;
       begun = All-push (λ (f : LimitEntry). f.place ≤ decided + 1) limits e are.begun new.within;
-      told = All-push (λ (f : LimitEntry). CanTellPlace version f.place) limits e are.told tells;
+      tells = All-push (λ (f : LimitEntry). CanTellPlace version f.place) limits e are.tells tells;
     }
 
 -- ---- groups

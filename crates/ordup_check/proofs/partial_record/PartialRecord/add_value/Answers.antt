@@ -1,6 +1,6 @@
 use Rattle.ordup_audit.proofs.Common.{rules, to_z-of_z, w64}
 use Rattle.ordup_check.proofs.RowLemmas.{refused_row}
-use Rattle.ordup_check.proofs.told.Told.add_value.Goals as goal
+use Rattle.ordup_check.proofs.partial_record.PartialRecord.add_value.Goals as goal
 
 pub returns-in-Err : goal.returns-in-Err
 returns-in-Err c =

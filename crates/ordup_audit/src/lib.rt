@@ -20,4 +20,5 @@ mod windows;
 pub use checking::check;
 pub use record::{Record, RecordParts};
 pub use report_change::ReportChange;
+pub use rows::member_count;
 pub use verdict::{Reason, Verdict};

@@ -1,6 +1,7 @@
 //! Where the parts of a record stand among its rows, which are counted from 1.
 
-ghost use Rattle.std.specs.Prelude.{◌≡◌, ◌≤◌, ◌<◌, length};
+ghost use Rattle.std.specs.Prelude.{◌≡◌, ◌≤◌, ◌<◌, ◌*◌, length};
+ghost use Rattle.ordup_objects.specs.Sizes.{most_changes, most_groups, most_members, most_updates};
 ghost use Rattle.ordup_audit.specs.Rows.{member_count, change_count, rows_before_changes, change_row, rows_before_windows, window_row, last_row};
 
 use crate::record::Record;
@@ -14,7 +15,7 @@ pub(crate) fn change_row<A: Allocator + Copy>(
     place: usize,
 ) -> u64
     requires updates { updates ≤ length audited.now.sets }
-    requires place { place < 64 }
+    requires place { place < most_changes }
     ensures { result ≡ change_row audited.now updates place }
 {
     rows_before_changes(audited) + change_count(audited, updates) + place as u64 + 1
@@ -51,10 +52,10 @@ fn rows_before_changes<A: Allocator + Copy>(audited: &Record<A>) -> u64
     1 + objects + member_count(audited.groups()) + limits
 }
 
-/// How many members all groups have.
-fn member_count<A: Allocator + Copy>(groups: &Groups<A>) -> u64
+/// How many members all groups have: each member of each group has a row in a record.
+pub fn member_count<A: Allocator + Copy>(groups: &Groups<A>) -> u64
     ensures members { result ≡ member_count groups.now }
-    ensures few { result ≤ 2048 }
+    ensures few { result ≤ most_groups * most_members }
 {
     let mut count = 0;
     for place in 0..groups.len() {
@@ -67,7 +68,7 @@ fn member_count<A: Allocator + Copy>(groups: &Groups<A>) -> u64
 fn change_count<A: Allocator + Copy>(audited: &Record<A>, updates: u64) -> u64
     requires { updates ≤ length audited.now.sets }
     ensures changes { result ≡ change_count audited.now updates }
-    ensures few { result ≤ 64000000 }
+    ensures few { result ≤ most_updates * most_changes }
 {
     // For the proof: there are few enough updates for the sum to fit.
     let _decided = audited.decided();

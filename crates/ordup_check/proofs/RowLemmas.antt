@@ -21,7 +21,8 @@ use Rattle.ordup_objects.specs.declared.refusal.Refusal.{Refusal}
 use Rattle.ordup_objects.specs.declared.refusal.Refusal.TheVariants.{BadName, NameTaken, OutOfRange, TooMany, UnknownObject, NoMemory}
 use Rattle.ordup_check.specs.ColumnViews.{change_in_range, op_in_range, sound_change, value_of}
 use Rattle.ordup_rows.specs.Columns.{Columns, change_by, change_in, op_in, writes}
-use Rattle.ordup_rows.specs.Stages.{has_entry, is_before_limits, is_last_group, member_count, membership_refusal}
+use Rattle.ordup_audit.specs.Rows.{member_count}
+use Rattle.ordup_rows.specs.Stages.{has_entry, is_before_limits, is_last_group, membership_refusal}
 use Rattle.ordup_rows.specs.Stages.{with_member_row, with_membership, is_before_members, is_before_reports, last_set}
 use Rattle.ordup_rows.specs.Stages.{with_any_change, with_change_row, with_object, with_value}
 use Rattle.ordup_rows.proofs.Columns.{kept}

@@ -6,7 +6,7 @@ ghost use Rattle.ordup_objects.specs.Sets.{AreKnown};
 ghost use Rattle.ordup_limits.specs.Entries.{change_refusal, entry_of};
 ghost use Rattle.ordup_rows.specs.Stages.{has_entry, has_objects, has_updates, is_before_changes, is_before_limits, is_before_members};
 ghost use Rattle.ordup_rows.specs.Stages.{is_before_reports, is_before_rounds, is_before_windows, is_last_group, last_number, last_place};
-ghost use Rattle.ordup_rows.specs.Stages.{last_set, may_hold_from, may_report, may_round, member_count, with_any_change, with_change_row};
+ghost use Rattle.ordup_rows.specs.Stages.{last_set, may_hold_from, may_report, may_round, with_any_change, with_change_row};
 ghost use Rattle.ordup_rows.specs.Stages.{with_first_change};
 ghost use Rattle.ordup_rows.specs.Stages.{with_limit, with_member_row, with_next_change, with_object, with_report, with_round, with_row};
 ghost use Rattle.ordup_rows.specs.Stages.{with_value, with_window};
@@ -14,7 +14,7 @@ ghost use Rattle.ordup_check.specs.ColumnViews.{columns_view};
 ghost use Rattle.ordup_check.specs.PartialRecords.{AreUpdatesKnown, Takes, record_so_far};
 
 use crate::row_columns::{RowColumns, amount, change, natural, scope, value, writes};
-use ordup_audit::ReportChange;
+use ordup_audit::{ReportChange, member_count};
 use ordup_limits::{GroupId, Groups, LimitTable, Scope};
 use ordup_objects::sizes::MOST_UPDATES;
 use ordup_objects::{Change, MessageSet, Name, ObjectTable, Refusal};
@@ -413,18 +413,6 @@ impl PartialRecord {
             RowKind::Window => self.add_window(decided, c),
         }
     }
-}
-
-/// How many members the groups have.
-fn member_count(groups: &Groups) -> u64
-    ensures count { result ≡ member_count groups.now }
-    ensures few { result ≤ 2048 }
-{
-    let mut count = 0;
-    for place in 0..groups.len() {
-        count += groups.members(GroupId::new(place as u8)).len() as u64;
-    }
-    count
 }
 
 /// Whether the last group has this name.

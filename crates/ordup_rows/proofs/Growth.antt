@@ -4,13 +4,15 @@ use Rattle.ordup_audit.proofs.Common.{drop, eqb-true, get_or-append_seam, GroupL
 use Rattle.ordup_audit.proofs.Common.{map-append, nil_from_length, Objects, RecordState, refl, sym, true, Window, with_member, ℕ, ℤ}
 use Rattle.std.specs.Prelude.{slice_index_or, slice_set}
 use Rattle.std.proofs.Math.Seq.{set-append_seam}
+use Rattle.std.proofs.lemmas.List.Sums.{sum_by-append, sum_by-cons}
 use Rattle.ordup_objects.specs.Tables.{with_entry}
 use Rattle.ordup_limits.specs.declared.limit_entry.LimitEntry.{LimitEntry}
+use Rattle.ordup_audit.specs.Rows.{member_count}
 use Rattle.ordup_audit.specs.declared.report_change.ReportChange.{ReportChange}
 use Rattle.ordup_rows.specs.Rows.{Row, change_row, change_rows, counted, limit_row, member_row, member_rows, object_row, report_row}
 use Rattle.ordup_rows.specs.Rows.{round_row, rows_so_far, window_row}
 use Rattle.ordup_rows.specs.Stages.{is_before_changes, is_before_limits, is_before_members, is_before_reports, is_before_rounds}
-use Rattle.ordup_rows.specs.Stages.{is_before_windows, last_name, last_set, member_count, with_change}
+use Rattle.ordup_rows.specs.Stages.{is_before_windows, last_name, last_set, with_change}
 use Rattle.ordup_rows.specs.declared.version.Version.{Version}
 
 -- ---- what is not there yet
@@ -102,16 +104,19 @@ pub counted-push : {X : Type 0} (row : ℕ → X → Row) (i n : ℕ) (xs : List
 counted-push row i n [] x is = let e : i ≡ n = omega arith in ap (λ k. row k x ∷ []) e
 counted-push row i n (y ∷ xs) x is = ap (λ rows. row i y ∷ rows) (counted-push row (i + 1) n xs x (omega arith))
 
+pub member_count-more : (g : List ℕ × List ℕ) (groups : GroupList) → member_count (g ∷ groups) ≡ length g.1 + member_count groups
+member_count-more g groups = sum_by-cons (λ (g : List ℕ × List ℕ). length g.1) g groups
+
+pub member_count-append : (groups more : GroupList) → member_count (groups ++ more) ≡ member_count groups + member_count more
+member_count-append groups more = sum_by-append (λ (g : List ℕ × List ℕ). length g.1) groups more
+
 pub member_rows-append : (objects : Objects) (i n : ℕ) (groups more : GroupList) → n ≡ i + member_count groups
     → member_rows objects i (groups ++ more) ≡ member_rows objects i groups ++ member_rows objects n more
 member_rows-append objects i n [] more is = let e : i ≡ n = omega arith in ap (λ k. member_rows objects k more) e
 member_rows-append objects i n (g ∷ groups) more is =
-    ap (λ rows. counted (member_row objects g.0) i g.1 ++ rows) (member_rows-append objects (i + length g.1) n groups more (omega arith))
+    ap (λ rows. counted (member_row objects g.0) i g.1 ++ rows) (member_rows-append objects (i + length g.1) n groups more
+    (omega (arith, is, member_count-more g groups)))
     ∙ sym (append_assoc (counted (member_row objects g.0) i g.1) _ _)
-
-pub member_count-append : (groups more : GroupList) → member_count (groups ++ more) ≡ member_count groups + member_count more
-member_count-append [] more = omega arith
-member_count-append (g ∷ groups) more = omega (arith, member_count-append groups more)
 
 pub change_rows-append : (objects : Objects) (k n : ℕ) (sets more : List (List Change)) → n ≡ k + length sets
     → change_rows objects k (sets ++ more) ≡ change_rows objects k sets ++ change_rows objects n more

@@ -20,12 +20,13 @@ use Rattle.ordup_rows.specs.Forming.{csv_text}
 use Rattle.ordup_rows.specs.Rows.{Row, amount_text, change_row, change_rows, change_word, counted, head_row, limit_row, member_row}
 use Rattle.ordup_rows.specs.Rows.{member_rows, name_at, object_row, operation_text, report_row, round_row, row_line, rows_in, rows_text}
 use Rattle.ordup_rows.specs.Rows.{scope_text, window_row}
-use Rattle.ordup_rows.specs.Stages.{member_count}
+use Rattle.ordup_audit.specs.Rows.{member_count}
 use Rattle.ordup_rows.specs.Versions.{version_text}
 use Rattle.ordup_rows.specs.declared.version.Version.{Version}
 use Rattle.ordup_rows.specs.declared.version.Version.TheVariants.{First, Second}
 use Rattle.ordup_audit.proofs.AscendingLemmas.{rounds-few}
 use Rattle.ordup_rows.proofs.Columns.{parts_3}
+use Rattle.ordup_rows.proofs.Growth.{member_count-more}
 use Rattle.ordup_rows.proofs.ReadingBack.{HasNumber, member_count-few}
 use Rattle.ordup_rows.proofs.RecordsSoFar.{HasKnown, HasName}
 use Rattle.ordup_rows.proofs.Words.{decimal_bytes, name_bytes, name_of}
@@ -201,9 +202,9 @@ groups_lines objects i (g ∷ groups) names called known few =
     (counted_lines (member_row objects g.0) (λ x. x < length objects) 4096 (λ k x most lt.
     IsLine-columns (code (codes "member") refl) (decimal_plain k (omega arith)) (name_plain g.0 (called 0 g (omega arith)))
     (named_plain objects x names lt) (lit≤ tt))
-    i g.1 (omega arith) (known 0 g (omega arith)))
+    i g.1 (omega (arith, few, member_count-more g groups)) (known 0 g (omega arith)))
     (groups_lines objects (i + length g.1) groups names (All-tail HasName g groups called)
-    (All-tail (HasKnown (length objects)) g groups known) (omega arith))
+    (All-tail (HasKnown (length objects)) g groups known) (omega (arith, few, member_count-more g groups)))
 
 -- a change of a set that is known
 record IsWritten (n : ℕ) (c : Change) : Type 0 where

@@ -13,17 +13,19 @@ use Rattle.std.proofs.lemmas.Bool.{and_right}
 use Rattle.ordup_grammar.proofs.Decimals.{number_of-signed_decimal}
 use Rattle.ordup_objects.specs.Sets.{AreInRange}
 use Rattle.std.proofs.Math.Seq.{take-append_seam}
+use Rattle.std.proofs.lemmas.List.Sums.{sum_by-le}
 use Rattle.ordup_limits.specs.Entries.{are_one_entry, has_few, latest}
 use Rattle.ordup_limits.specs.Sizes.{most_entries}
 use Rattle.ordup_limits.specs.declared.limit_entry.LimitEntry.{LimitEntry}
 use Rattle.ordup_limits.proofs.EntryLemmas.{latest-take}
 use Rattle.ordup_audit.specs.declared.report_change.ReportChange.{ReportChange}
 use Rattle.ordup_audit.specs.Records.{AreObjects}
+use Rattle.ordup_audit.specs.Rows.{member_count}
 use Rattle.ordup_rows.specs.Columns.{change_by, writes}
 use Rattle.ordup_rows.specs.Laws.{RowsOfEachVersionAreRead, RowsTellOneRecord, WhatIsToldIsRead}
 use Rattle.ordup_rows.specs.Rows.{Row, change_row, change_rows, change_text, counted, head_row, limit_row, member_row, member_rows, name_at}
 use Rattle.ordup_rows.specs.Rows.{object_row, report_row, round_row, rows_in, window_row}
-use Rattle.ordup_rows.specs.Stages.{Stage, closed, is_last_group, last_name, last_number, member_count, record_at, run, step, reading, record_read}
+use Rattle.ordup_rows.specs.Stages.{Stage, closed, is_last_group, last_name, last_number, record_at, run, step, reading, record_read}
 use Rattle.ordup_rows.specs.Stages.{unread}
 use Rattle.ordup_rows.specs.Versions.{CanTell, CanTellPlace}
 use Rattle.ordup_rows.specs.declared.version.Version.{Version}
@@ -155,9 +157,8 @@ step_more_member v d r front g x n found count small free =
     rw (found, reads, is_last front g, with_member-last front g x, last_members-of front g, free) refl
 
 pub member_count-few : (groups : GroupList) → All HasGroup groups → member_count groups ≤ most_members * length groups
-member_count-few [] are = omega arith
-member_count-few (g ∷ groups) are =
-    omega (arith, member_count-few groups (All-tail HasGroup g groups are), (are 0 g (omega arith)).few)
+member_count-few groups are =
+    omega (arith, sum_by-le (λ (g : List ℕ × List ℕ). length g.1) most_members groups (λ k g lt. (are k g lt).few))
 
 module _ (v : Version) (d : ℕ) (r : RecordState) (is : IsRecord r) where
   new_group : (done : GroupList) (name : List ℕ) (x : ℕ) (ms : List ℕ) (more : GroupList)

@@ -3,11 +3,12 @@ use Rattle.ordup_audit.proofs.Common.{◌*◌, ◌+◌, ◌∷◌, ◌≡◌, �
 use Rattle.ordup_audit.proofs.Common.{length, length-append, length-map, List, most_changes, Objects, RecordState, refl, suc, ℕ}
 use Rattle.ordup_rows.specs.Rows.{Row, change_row, change_rows, counted, member_row, member_rows}
 use Rattle.ordup_rows.specs.Rows.{row_line, rows_in, rows_of, rows_text}
-use Rattle.ordup_rows.specs.Stages.{member_count}
+use Rattle.ordup_audit.specs.Rows.{member_count}
 use Rattle.ordup_rows.specs.TextLaws.{WrittenRecordsAreShort}
 use Rattle.ordup_rows.specs.Versions.{version_for}
 use Rattle.ordup_rows.specs.declared.version.Version.{Version}
 use Rattle.ordup_audit.proofs.AscendingLemmas.{reports-few, rounds-few}
+use Rattle.ordup_rows.proofs.Growth.{member_count-more}
 use Rattle.ordup_rows.proofs.PlainLemmas.{IsLine, all_lines}
 use Rattle.ordup_rows.proofs.ReadingBack.{member_count-few}
 
@@ -36,6 +37,7 @@ length-member_rows objects i (g ∷ groups) =
       length-append (counted (member_row objects g.0) i g.1) (member_rows objects (i + length g.1) groups),
       length-counted (member_row objects g.0) i g.1,
       length-member_rows objects (i + length g.1) groups,
+      member_count-more g groups,
     )
 
 length-change_rows : (objects : Objects) (k : ℕ) (sets : List (List Change)) → All IsSet sets

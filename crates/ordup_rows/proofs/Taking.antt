@@ -9,13 +9,14 @@ use Rattle.ordup_audit.proofs.Common.{Window, with_member, ℕ}
 use Rattle.ordup_grammar.specs.Numbers.{number_of}
 use Rattle.ordup_grammar.proofs.Decimals.{signed_decimal-number_of}
 use Rattle.ordup_limits.specs.Entries.{entry_of}
+use Rattle.ordup_audit.specs.Rows.{member_count}
 use Rattle.ordup_audit.specs.declared.report_change.ReportChange.{ReportChange}
 use Rattle.ordup_rows.specs.Columns.{Columns, amount_by, change_by, natural_of, scope_of, writes}
 use Rattle.ordup_rows.specs.RowKinds.{kind_text}
 use Rattle.ordup_rows.specs.Rows.{Row, change_row, change_rows, change_text, head_row, member_row, member_rows, rows_so_far}
 use Rattle.ordup_rows.specs.Stages.{has_updates, is_before_reports}
 use Rattle.ordup_rows.specs.Stages.{is_last_group, last_name, last_number, last_set}
-use Rattle.ordup_rows.specs.Stages.{member_count, membership_refusal, with_change, with_change_row, with_first_change}
+use Rattle.ordup_rows.specs.Stages.{membership_refusal, with_change, with_change_row, with_first_change}
 use Rattle.ordup_rows.specs.Stages.{with_limit, with_member_row, with_membership, with_next_change, with_object, with_report, with_round}
 use Rattle.ordup_rows.specs.Stages.{with_row, with_window}
 use Rattle.ordup_rows.specs.declared.row_kind.RowKind.{RowKind}

@@ -16,6 +16,7 @@ use Rattle.ordup_log.specs.Groups.{GroupList, group_refusal, last_members, membe
 use Rattle.ordup_limits.specs.Entries.{Entries, are_one_entry, change_refusal, entry_of}
 use Rattle.ordup_limits.specs.declared.limit_entry.LimitEntry.{LimitEntry}
 use Rattle.ordup_audit.specs.Records.{RecordState, most_windows}
+use Rattle.ordup_audit.specs.Rows.{member_count}
 use Rattle.ordup_audit.specs.declared.report_change.ReportChange.{ReportChange}
 use Rattle.ordup_rows.specs.Columns.{◌>>=◌, Columns, columns_of, amount_by, natural_of, writes, scope_of, change_by}
 use Rattle.ordup_rows.specs.RowKinds.{kind_of}
@@ -84,11 +85,6 @@ membership_refusal n groups name x =
 -- the groups with this member
 abbrev pub with_membership : GroupList → List ℕ → ℕ → GroupList
 with_membership groups name x = if is_last_group groups name then with_member groups x else groups ++ (name, x ∷ []) ∷ []
-
--- how many members the groups have
-abbrev pub member_count : GroupList → ℕ
-member_count [] = 0
-member_count (g ∷ groups) = length g.1 + member_count groups
 
 -- the record with the member of a row
 abbrev pub with_member_row : RecordState → Columns → Option RecordState

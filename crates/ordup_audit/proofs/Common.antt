@@ -55,6 +55,7 @@ pub use Rattle.ordup_rounds.specs.Schedules.{awaited_place, base, StaysWithin}
 pub use Rattle.ordup_rounds.specs.Windows.{IsWindow}
 pub use Rattle.ordup_rounds.specs.declared.window.Window.{Window}
 pub use Rattle.ordup_audit.specs.RecordInside.{AreParts, state_of}
-pub use Rattle.ordup_audit.specs.Records.{AreGroups, AreReportChanges, history_of, is_within, IsRecord, most_windows, RecordState}
+pub use Rattle.ordup_audit.specs.Records.{AreGroups, AreReportChanges, history_of, is_within, IsRecord, RecordState}
 pub use Rattle.ordup_audit.specs.Records.{report_at}
+pub use Rattle.ordup_audit.specs.Sizes.{most_windows}
 pub use Rattle.ordup_audit.specs.Validity.{IsLegalFront, IsValid}

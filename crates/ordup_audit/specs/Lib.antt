@@ -1,3 +1,4 @@
+pub mod Sizes
 pub mod Records
 pub mod RecordInside
 pub mod Validity

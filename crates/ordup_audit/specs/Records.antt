@@ -14,6 +14,7 @@ use Rattle.ordup_limits.specs.Entries.{Entries, in_force, HoldFrom, AreEntries, 
 use Rattle.ordup_log.specs.Groups.{AreGroupsKnown}
 use Rattle.ordup_rounds.specs.Rounds.{AreRoundPlaces}
 use Rattle.ordup_rounds.specs.declared.window.Window.{Window}
+use Rattle.ordup_audit.specs.Sizes.{most_windows}
 use Rattle.ordup_audit.specs.declared.report_change.ReportChange.{ReportChange}
 
 -- a site's name; the objects with their initial values; the groups; the limits of the site by place; the decided updates; where the
@@ -40,7 +41,7 @@ is_within r a b = within (history_of r) r.groups (in_force r.limits b) a b
 abbrev pub report_at : List ReportChange → ℕ → ℕ
 report_at changes k = fold (λ reported c. if nat_le c.place k then c.reported else reported) 0 changes
 
--- 1 to 256 objects of distinct names, with values in range
+-- an object or more, of distinct names, with values in range
 pub record AreObjects (objects : Objects) : Type 0 where
   pub some : 0 < length objects
   pub few : length objects ≤ most_objects
@@ -48,7 +49,7 @@ pub record AreObjects (objects : Objects) : Type 0 where
   pub names : AreNames objects
   pub distinct : AreDistinct objects
 
--- at most 32 groups of distinct names, each with 1 to 64 distinct members among the first n objects
+-- groups of distinct names, each with a member or more, distinct and among the first n objects
 pub record AreGroups (n : ℕ) (groups : GroupList) : Type 0 where
   pub few : length groups ≤ most_groups
   pub each : All (λ g. IsGroup g.1) groups
@@ -62,10 +63,6 @@ pub record AreReportChanges (decided : ℕ) (changes : List ReportChange) : Type
   pub each : All (λ (c : ReportChange). (0 < c.place) × (c.place ≤ decided)) changes
   pub rising : IsStrictlyIncreasing (map (λ (c : ReportChange). c.reported) changes)
   pub reported : All (λ (c : ReportChange). (0 < c.reported) × (c.reported ≤ most_updates)) changes
-
--- the most windows of a record
-abbrev pub most_windows : ℕ
-most_windows = 1000000
 
 -- what each record keeps, a wrong one too: it is complete, and what it speaks of is there
 pub record IsRecord (r : RecordState) : Type 0 where

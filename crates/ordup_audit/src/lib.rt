@@ -14,6 +14,7 @@ mod record;
 mod report_change;
 mod rows;
 mod same;
+pub mod sizes;
 mod verdict;
 mod windows;
 

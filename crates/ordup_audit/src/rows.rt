@@ -2,6 +2,7 @@
 
 ghost use Rattle.std.specs.Prelude.{◌≡◌, ◌≤◌, ◌<◌, ◌*◌, length};
 ghost use Rattle.ordup_objects.specs.Sizes.{most_changes, most_groups, most_members, most_updates};
+ghost use Rattle.ordup_audit.specs.Sizes.{most_rows_before_changes, most_rows_before_windows};
 ghost use Rattle.ordup_audit.specs.Rows.{member_count, change_count, rows_before_changes, change_row, rows_before_windows, window_row, last_row};
 
 use crate::record::Record;
@@ -43,7 +44,7 @@ pub(crate) fn last_row<A: Allocator + Copy>(audited: &Record<A>) -> u64
 /// How many rows there are before the changes: the head row, and those of the objects, the members and the limits.
 fn rows_before_changes<A: Allocator + Copy>(audited: &Record<A>) -> u64
     ensures rows { result ≡ rows_before_changes audited.now }
-    ensures few { result ≤ 10000 }
+    ensures few { result ≤ most_rows_before_changes }
 {
     let objects = audited.objects().len() as u64;
     // For the proof: there are few enough entries for the sum to be small.
@@ -82,7 +83,7 @@ fn change_count<A: Allocator + Copy>(audited: &Record<A>, updates: u64) -> u64
 /// How many rows there are before the windows.
 fn rows_before_windows<A: Allocator + Copy>(audited: &Record<A>) -> u64
     ensures rows { result ≡ rows_before_windows audited.now }
-    ensures few { result ≤ 100000000 }
+    ensures few { result ≤ most_rows_before_windows }
 {
     let changes = change_count(audited, audited.decided());
     let reports = audited.reports().len() as u64;

@@ -14,6 +14,7 @@ ghost use Rattle.ordup_check.specs.ColumnViews.{columns_view};
 ghost use Rattle.ordup_check.specs.PartialRecords.{AreUpdatesKnown, Takes, record_so_far};
 
 use crate::row_columns::{RowColumns, amount, change, natural, scope, value, writes};
+use ordup_audit::sizes::MOST_WINDOWS;
 use ordup_audit::{ReportChange, member_count};
 use ordup_limits::{GroupId, Groups, LimitTable, Scope};
 use ordup_objects::sizes::MOST_UPDATES;
@@ -21,9 +22,6 @@ use ordup_objects::{Change, MessageSet, Name, ObjectTable, Refusal};
 use ordup_rounds::Window;
 use ordup_rows::{RowKind, Version};
 use std::alloc::AllocError;
-
-/// The most windows of a record.
-const MOST_WINDOWS: usize = 1_000_000;
 
 /// What becomes of a row that is refused: it is not taken, unless it was memory that was refused.
 fn not_taken(refusal: Refusal) -> Result<bool, AllocError>

@@ -4,6 +4,7 @@ use Rattle.ordup_audit.proofs.Common.{length, length-append, length-map, List, m
 use Rattle.ordup_rows.specs.Rows.{Row, change_row, change_rows, counted, member_row, member_rows}
 use Rattle.ordup_rows.specs.Rows.{row_line, rows_in, rows_of, rows_text}
 use Rattle.ordup_audit.specs.Rows.{member_count}
+use Rattle.ordup_audit.specs.Sizes.{most_rows_before_windows, most_windows}
 use Rattle.ordup_rows.specs.TextLaws.{WrittenRecordsAreShort}
 use Rattle.ordup_rows.specs.Versions.{version_for}
 use Rattle.ordup_rows.specs.declared.version.Version.{Version}
@@ -53,7 +54,7 @@ length-change_rows objects k (m ∷ sets) are =
       length-change_rows objects (k + 1) sets (λ i d lt. are (suc i) d (omega arith)),
     )
 
-rows_few : (version : Version) (r : RecordState) → IsRecord r → length (rows_in version r) ≤ 67003393
+rows_few : (version : Version) (r : RecordState) → IsRecord r → length (rows_in version r) ≤ most_rows_before_windows + most_windows
 rows_few version r is =
     let members = member_count-few r.groups is.groups.each in
     let changes = length-change_rows r.objects 1 r.sets is.sets in

@@ -15,8 +15,9 @@ use Rattle.ordup_objects.specs.declared.refusal.Refusal.{Refusal}
 use Rattle.ordup_log.specs.Groups.{GroupList, group_refusal, last_members, member_refusal, with_member}
 use Rattle.ordup_limits.specs.Entries.{Entries, are_one_entry, change_refusal, entry_of}
 use Rattle.ordup_limits.specs.declared.limit_entry.LimitEntry.{LimitEntry}
-use Rattle.ordup_audit.specs.Records.{RecordState, most_windows}
+use Rattle.ordup_audit.specs.Records.{RecordState}
 use Rattle.ordup_audit.specs.Rows.{member_count}
+use Rattle.ordup_audit.specs.Sizes.{most_windows}
 use Rattle.ordup_audit.specs.declared.report_change.ReportChange.{ReportChange}
 use Rattle.ordup_rows.specs.Columns.{◌>>=◌, Columns, columns_of, amount_by, natural_of, writes, scope_of, change_by}
 use Rattle.ordup_rows.specs.RowKinds.{kind_of}

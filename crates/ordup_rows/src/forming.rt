@@ -1,6 +1,7 @@
 //! A record to rows.
-ghost use Rattle.std.specs.Prelude.{◌≡◌, ℕ, ℤ, ◌+◌, ◌<◌, ◌≤◌, ◌∷◌, [], List, IfOk, OnOk, length, map, slice_index_or};
+ghost use Rattle.std.specs.Prelude.{◌≡◌, ℕ, ℤ, ◌+◌, ◌*◌, ◌<◌, ◌≤◌, ◌∷◌, [], List, IfOk, OnOk, length, map, slice_index_or};
 ghost use Rattle.ordup_objects.specs.Sets.{AreKnown, IsKnown};
+ghost use Rattle.ordup_objects.specs.Sizes.{most_groups, most_members};
 ghost use Rattle.ordup_log.specs.Groups.{AreMembersKnown};
 ghost use Rattle.ordup_log.specs.Spans.{IsScopeKnown};
 ghost use Rattle.ordup_limits.specs.Entries.{AreEntriesKnown};
@@ -127,7 +128,7 @@ fn push_members<A: Allocator + Copy>(
 ) -> Result<(), AllocError>
     requires clean { IsClean rows.old }
     requires known { AreMembersKnown (length objects.now) members.now }
-    requires few { first + length members.now ≤ 4096 }
+    requires few { first + length members.now ≤ 1 + most_groups * most_members }
     ensures clean { OnOk result (IsClean rows.new) }
     ensures text { OnOk result (AddsRows rows.old rows.new (counted (member_row objects.now group.now) first members.now)) }
 {

@@ -21,8 +21,7 @@ pub fn check<A: Allocator + Copy>(audited: &Record<A>) -> Verdict
     ensures valid { IsValid audited.now → result ≡ Verdict.Fewest (length audited.now.rounds) }
     ensures no_fewer { IfFewest result (λ n. NoFewerRounds audited.now n) }
 {
-    // For the proof: what each record keeps.
-    let _decided = audited.decided();
+    audited.keeps();
     match first_reason(audited) {
         Some((row, reason)) => Verdict::No { row, reason },
         None => Verdict::Fewest(audited.rounds().len() as u64),
@@ -34,8 +33,7 @@ fn first_reason<A: Allocator + Copy>(audited: &Record<A>) -> Option<(u64, Reason
     ensures none { IfNone result (IsVerdict audited.now (Verdict.Fewest (length audited.now.rounds))) }
     ensures some { IfSome result (λ found. IsVerdict audited.now (Verdict.No found.0 found.1)) }
 {
-    // For the proof: what each record keeps.
-    let _decided = audited.decided();
+    audited.keeps();
     if let Some(row) = first_illegal(audited) {
         return Some((row, Reason::NotLegal));
     }

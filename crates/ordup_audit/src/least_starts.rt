@@ -40,8 +40,7 @@ impl<A: Allocator + Copy> LeastStarts<A> {
         requires starts { AreStartsOf audited.now self.now }
         ensures { result ≡ not (is_within audited.now from to) }
     {
-        // For the proof: the objects and groups of the limits are there.
-        let _decided = audited.decided();
+        audited.keeps();
         match &self.starts {
             Some(starts) => from < starts[to as usize],
             None => {

@@ -20,8 +20,7 @@ pub(crate) fn first_illegal<A: Allocator + Copy>(audited: &Record<A>) -> Option<
     ensures none { IfNone result (AreUpdatesLegal audited.now) }
     ensures some { IfSome result (λ row. IsIllegalRow audited.now row) }
 {
-    // For the proof: the objects of the updates are there.
-    let _decided = audited.decided();
+    audited.keeps();
     if audited.is_legal() {
         return None;
     }

@@ -27,8 +27,7 @@ pub(crate) fn window_row<A: Allocator + Copy>(audited: &Record<A>, place: usize)
     requires { place < length audited.now.windows }
     ensures { result ≡ window_row audited.now place }
 {
-    // For the proof: there are few enough windows for the sum to fit.
-    let _decided = audited.decided();
+    audited.keeps();
     rows_before_windows(audited) + place as u64 + 1
 }
 
@@ -36,8 +35,7 @@ pub(crate) fn window_row<A: Allocator + Copy>(audited: &Record<A>, place: usize)
 pub(crate) fn last_row<A: Allocator + Copy>(audited: &Record<A>) -> u64
     ensures { result ≡ last_row audited.now }
 {
-    // For the proof: there are few enough windows for the sum to fit.
-    let _decided = audited.decided();
+    audited.keeps();
     rows_before_windows(audited) + audited.windows().len() as u64
 }
 
@@ -71,8 +69,7 @@ fn change_count<A: Allocator + Copy>(audited: &Record<A>, updates: u64) -> u64
     ensures changes { result ≡ change_count audited.now updates }
     ensures few { result ≤ most_updates * most_changes }
 {
-    // For the proof: there are few enough updates for the sum to fit.
-    let _decided = audited.decided();
+    audited.keeps();
     let mut count = 0;
     for place in 0..updates {
         count += audited.set(place + 1).changes().len() as u64;

@@ -21,8 +21,7 @@ pub(crate) fn first_light<A: Allocator + Copy>(
     ensures none { IfNone result (AreWindowsOver audited.now) }
     ensures some { IfSome result (λ row. IsLightRow audited.now row) }
 {
-    // For the proof: each window ends at a decided place.
-    let _decided = audited.decided();
+    audited.keeps();
     for (place, window) in audited.windows().iter().enumerate() {
         if !starts.passes_a_limit(audited, window.from, window.to) {
             return Some(window_row(audited, place));

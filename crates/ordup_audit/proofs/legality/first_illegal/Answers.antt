@@ -21,7 +21,7 @@ first_out_of_range-requires-clause-known g c =
     let set : c.changes-changes.result.now ≡ get_or r.sets c.len-legal.result [] =
     c.changes-changes.ensures.changes ∙ c.set.ensures ∙ ap (λ k. get_or r.sets k []) at in
     known-at (length r.objects) c.len-legal.result r.sets c.changes-changes.result.now c.log-log.result.now
-    c.decided-decided.ensures.sound.known
+    c.keeps.ensures.known
     there set (ap length c.log-log.ensures.front.start ∙ length-map r.objects _)
 
 pub returns-clause-some : goal.returns-clause-some

@@ -23,19 +23,15 @@ use ordup_rounds::Window;
 use ordup_rows::{RowKind, Version};
 use std::alloc::AllocError;
 
-/// What becomes of a row that is refused: it is not taken, unless it was memory that was refused.
+/// What becomes of a row whose part is refused: it is not taken, unless memory was refused.
 fn not_taken(refusal: Refusal) -> Result<bool, AllocError>
     ensures { IfOk result (λ taken. (taken ≡ false) × (refusal ≢ Refusal.NoMemory)) }
 {
-    if refusal.number() == NO_MEMORY {
-        Err(AllocError)
-    } else {
-        Ok(false)
+    match refusal {
+        Refusal::NoMemory => Err(AllocError),
+        _ => Ok(false),
     }
 }
-
-/// The number of the refusal for want of memory.
-const NO_MEMORY: u8 = 26;
 
 /// A record as far as its rows were read.
 #[derive(Drop)]

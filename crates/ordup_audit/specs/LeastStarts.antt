@@ -1,4 +1,4 @@
--- From which places spans pass no limit.
+-- The least places from which spans pass no limit.
 use Rattle.std.specs.Prelude.{◌≡◌, ℕ, ◌<◌, ◌+◌, Bool, true, false, List, length, slice_index, IfSome}
 use Rattle.ordup_objects.specs.Serial.{History}
 use Rattle.ordup_log.specs.Groups.{GroupList}
@@ -21,7 +21,7 @@ pub record AreLeastStarts (test : ℕ → ℕ → Bool) (n : ℕ) (starts : List
   pub count : length starts ≡ n
   pub each : (b : ℕ) → b < n → IsLeastStart test (slice_index starts b) b
 
--- the starts, where there are any, are those of 0 and of each decided place
+-- the starts, if they are there, are those of 0 and of each decided place
 abbrev pub AreStartsOf : {A : Type 0} → RecordState → LeastStarts A → Type 0
 AreStartsOf r least = IfSome least.starts (λ starts. AreLeastStarts (is_within r) (length r.sets + 1) starts.items)
 

@@ -20,19 +20,19 @@ AreUpdatesLegal r = PassesBelow (is_update_legal r) (length r.sets)
 abbrev pub ArePlacesWithin : RecordState → Type 0
 ArePlacesWithin r = PassesBelow (is_place_within r) (length r.sets)
 
--- each window is over a limit
+-- each window passes a limit
 abbrev pub AreWindowsOver : RecordState → Type 0
 AreWindowsOver r = PassesBelow (is_window_over r) (length r.windows)
 
--- no two windows that follow one another meet
+-- no window begins before the one before it ends
 abbrev pub AreWindowsApart : RecordState → Type 0
 AreWindowsApart r = PassesBelow (is_window_apart r) (length r.windows)
 
--- nothing of a window was reported
+-- nothing of a window was reported when its last place was decided
 abbrev pub AreWindowsUnreported : RecordState → Type 0
 AreWindowsUnreported r = PassesBelow (is_window_unreported r) (length r.windows)
 
--- ---- where it is broken first, and the row
+-- ---- what fails first, and its row
 
 -- the first change out of range of the first update that is not legal
 abbrev pub IsIllegalRow : RecordState → ℕ → Type 0
@@ -44,15 +44,15 @@ IsIllegalRow r row =
 abbrev pub IsBrokenRow : RecordState → ℕ → Type 0
 IsBrokenRow r row = (i : ℕ) × IsFirstFailure (is_place_within r) (length r.sets) i × (row ≡ change_row r i 0)
 
--- the first window that is over no limit
+-- the first window that passes no limit
 abbrev pub IsLightRow : RecordState → ℕ → Type 0
 IsLightRow r row = (j : ℕ) × IsFirstFailure (is_window_over r) (length r.windows) j × (row ≡ window_row r j)
 
--- the first window that meets the one before it
+-- the first window that begins before the one before it ends
 abbrev pub IsMeetingRow : RecordState → ℕ → Type 0
 IsMeetingRow r row = (j : ℕ) × IsFirstFailure (is_window_apart r) (length r.windows) j × (row ≡ window_row r j)
 
--- the first window of which something was reported
+-- the first window of which something was reported when its last place was decided
 abbrev pub IsReportedRow : RecordState → ℕ → Type 0
 IsReportedRow r row = (j : ℕ) × IsFirstFailure (is_window_unreported r) (length r.windows) j × (row ≡ window_row r j)
 

@@ -11,8 +11,8 @@ use ordup_limits::{Groups, LagLedger, LimitEntry};
 use ordup_log::Log;
 use std::alloc::Allocator;
 
-/// Puts the limits of the entries that hold from a place or before into a ledger that has those of the first so many. It answers how
-/// many it has then.
+/// Puts the limits of the entries that hold from a place or before into a ledger, which has those of the first `begun` entries. It
+/// answers how many entries the ledger has then.
 pub(crate) fn begin<A: Allocator + Copy>(
     ledger: &mut LagLedger<A>,
     log: &Log<A>,

@@ -11,10 +11,16 @@ use crate::verdict::{Reason, Verdict};
 use crate::windows::{first_light, first_meeting, first_reported};
 use std::alloc::Allocator;
 
-/// Whether a record shows that its rounds are the fewest: its updates are legal, its rounds keep the limits, and there are as
-/// many windows, each over a limit alone, apart from the others, and after what was reported.
+/// Whether a record shows that its rounds are the fewest: its updates are legal, its rounds keep the limits, and it has as many
+/// windows as rounds, each over a limit alone, apart from the others, and after what was reported.
 ///
-/// Each reason is looked for in the whole record before the next one. It is never refused for memory.
+/// The call needs no memory: it may take some, and answers the same without. It promises, clause by clause:
+///
+/// - `verdict`: each reason is looked for in the whole record before the next one, in the order of [`Reason`]. The verdict is the
+///   first that is found, with its row; or the number of rounds, where none is found.
+/// - `fewest`: where it is a number, the record is valid, and the number is that of its rounds.
+/// - `valid`: where the record is valid, the verdict is the number of its rounds.
+/// - `no_fewer`: where it is a number, no schedule that keeps the limits has fewer rounds.
 pub fn check<A: Allocator + Copy>(audited: &Record<A>) -> Verdict
     ensures verdict { IsVerdict audited.now result }
     ensures fewest { IfFewest result (λ n. IsValid audited.now × (n ≡ length audited.now.rounds)) }
@@ -28,7 +34,7 @@ pub fn check<A: Allocator + Copy>(audited: &Record<A>) -> Verdict
     }
 }
 
-/// The first reason against a record, and its row.
+/// The first reason against a record, and its row; none for a valid record.
 fn first_reason<A: Allocator + Copy>(audited: &Record<A>) -> Option<(u64, Reason)>
     ensures none { IfNone result (IsVerdict audited.now (Verdict.Fewest (length audited.now.rounds))) }
     ensures some { IfSome result (λ found. IsVerdict audited.now (Verdict.No found.0 found.1)) }

@@ -1,4 +1,4 @@
-//! How far a list of places is passed, while its reader goes through all places in order.
+//! How many entries of a list are up to a place, for a reader that goes through all places in order.
 
 ghost use Rattle.std.specs.Prelude.{◌≡◌, ◌<◌, ◌≤◌, ◌+◌, ℕ, length, map};
 ghost use Rattle.std.specs.List.Sorted.{IsStrictlyIncreasing};
@@ -9,7 +9,7 @@ ghost use Rattle.ordup_audit.specs.Cursors.{AreUpto};
 
 use crate::report_change::ReportChange;
 
-/// How many of the changes are up to a place, where so many are before it.
+/// How many of the changes are up to a place, where `passed` of them are before it.
 pub(crate) fn pass_reports(changes: &[ReportChange], passed: usize, place: u64) -> usize
     requires some { 0 < place }
     requires ascending { IsStrictlyIncreasing (map (λ c. c.place) changes.now) }
@@ -22,7 +22,7 @@ pub(crate) fn pass_reports(changes: &[ReportChange], passed: usize, place: u64) 
     passed
 }
 
-/// What was reported with the last of the changes that are passed.
+/// What the last of the passed changes reported, 0 where none is passed.
 pub(crate) fn reported(changes: &[ReportChange], passed: usize) -> u64
     requires { passed ≤ length changes.now }
     ensures { (k : ℕ) → AreUpto k (map (λ c. c.place) changes.now) passed → result ≡ report_at changes.now k }
@@ -33,7 +33,7 @@ pub(crate) fn reported(changes: &[ReportChange], passed: usize) -> u64
     changes[passed - 1].reported
 }
 
-/// How many of the rounds are up to a place, where so many are before it.
+/// How many of the rounds are up to a place, where `passed` of them are before it.
 pub(crate) fn pass_rounds(rounds: &[u64], passed: usize, place: u64) -> usize
     requires some { 0 < place }
     requires ascending { IsStrictlyIncreasing rounds.now }
@@ -46,7 +46,7 @@ pub(crate) fn pass_rounds(rounds: &[u64], passed: usize, place: u64) -> usize
     passed
 }
 
-/// The place of the last of the rounds that are passed.
+/// The place of the last of the passed rounds, 0 where none is passed.
 pub(crate) fn awaited(rounds: &[u64], passed: usize) -> u64
     requires passed { passed ≤ length rounds.now }
     requires ascending { IsStrictlyIncreasing rounds.now }

@@ -1,4 +1,4 @@
-//! From which places the spans of a record pass no limit.
+//! The least place from which the span up to a decided place passes no limit.
 
 ghost use Rattle.std.specs.Prelude.{◌≡◌, ◌≤◌, ◌+◌, IfSome, length, not, false};
 ghost use Rattle.ordup_objects.specs.Serial.{IsLegalHistory};
@@ -13,7 +13,7 @@ use ordup_limits::{Groups, LagLedger, LimitTable};
 use ordup_log::Log;
 use std::alloc::{Allocator, Global};
 
-/// For each decided place the least place from which the span up to it passes none of the limits in force there, and so for 0.
+/// For place 0 and each decided place: the least place from which the span up to it passes none of the limits in force there.
 ///
 /// A span passes a limit where it begins before the least start of its end. Where no memory was given for the starts, each span
 /// is found in the log.
@@ -23,7 +23,7 @@ pub(crate) struct LeastStarts<A: Allocator + Copy = Global> {
 }
 
 impl<A: Allocator + Copy> LeastStarts<A> {
-    /// Those of a record. They cost by its updates, and by a search for each place at which a limit begins to hold.
+    /// The least starts of a record. The time grows with its updates, and with the places at which limits begin to hold.
     pub(crate) fn of(audited: &Record<A>) -> Self
         requires { IsLegalHistory (history_of audited.now) }
         ensures { AreStartsOf audited.now result }
@@ -33,7 +33,7 @@ impl<A: Allocator + Copy> LeastStarts<A> {
         }
     }
 
-    /// Whether the span from a place to another passes a limit.
+    /// Whether the span from one place to another passes a limit.
     pub(crate) fn passes_a_limit(&self, audited: &Record<A>, from: u64, to: u64) -> bool
         requires legal { IsLegalHistory (history_of audited.now) }
         requires last { to ≤ length audited.now.sets }
@@ -81,8 +81,8 @@ fn find_starts<A: Allocator + Copy>(audited: &Record<A>) -> Option<Vec<u64, A>>
     Some(starts)
 }
 
-/// Moves the start of a ledger's span to the least start of its end, and answers it. It is no earlier, unless limits have begun to
-/// hold at the end.
+/// Moves the start of a ledger's span to the least start of its end, and answers it. It is no earlier than the start was, unless
+/// limits have begun to hold at the end.
 fn next_start<A: Allocator + Copy>(
     ledger: &mut LagLedger<A>,
     log: &Log<A>,
@@ -103,7 +103,7 @@ fn next_start<A: Allocator + Copy>(
     take_off(ledger, log, groups, from, to)
 }
 
-/// Takes updates off the start of a ledger's span until it passes no limit, and answers where it begins then.
+/// Takes updates off the start of a ledger's span until the span passes no limit, and answers where it begins then.
 fn take_off<A: Allocator + Copy>(
     ledger: &mut LagLedger<A>,
     log: &Log<A>,
@@ -125,7 +125,7 @@ fn take_off<A: Allocator + Copy>(
     start
 }
 
-/// Finds the least start of a place by halves, puts a ledger at the span from there, and answers it.
+/// Finds the least start of a place by binary search, puts the ledger at the span from there, and answers the start.
 fn search<A: Allocator + Copy>(
     ledger: &mut LagLedger<A>,
     log: &Log<A>,

@@ -30,7 +30,7 @@ pub(crate) fn first_illegal<A: Allocator + Copy>(audited: &Record<A>) -> Option<
     Some(change_row(audited, legal, first_out_of_range(log, changes)))
 }
 
-/// The place among the changes of a set of the first whose result after all updates is out of range.
+/// The index of the first change of a set whose result after all updates of the log is out of range.
 fn first_out_of_range<A: Allocator + Copy>(log: &Log<A>, changes: &[Change]) -> usize
     requires known { AreKnown (length log.now.start) changes.now }
     requires numbers { AreInRange changes.now }

@@ -1,7 +1,10 @@
-//! The audit of a site: its record, in the store's own types, and the check whether the record shows that the rounds are the fewest.
+//! The audit of a site: its record, as a value, and the check whether the record shows that the site's rounds are the fewest.
 //!
-//! It stands on no store: an auditor has the record alone. The one contract above this layer: `check` answers the fewest rounds
-//! exactly for valid records, and else the first reason against a record, and its row.
+//! It stands on no store: an auditor has the record alone. A record holds what is declared, the decided updates, and the reports,
+//! rounds and windows of one site. Nothing in it has to be true.
+//!
+//! The one contract above this layer: `check` answers the fewest rounds exactly for valid records, and for all others the first
+//! reason against the record, with its row.
 #![tactic(auto)]
 
 mod beginning;

@@ -35,7 +35,7 @@ pub struct RecordParts<A: Allocator + Copy = Global> {
 /// What an auditor has of a site: the updates that are decided, the limits of the site, what it had reported at each
 /// decision, its rounds, and a window for each round.
 ///
-/// Nothing in a record has to be true: whether it shows that the rounds are the fewest is for a checker to find out.
+/// Nothing in a record has to be true: [`check`](crate::check) finds out whether it shows that the rounds are the fewest.
 #[derive(Drop)]
 pub struct Record<A: Allocator + Copy = Global> {
     parts: RecordParts<A>,
@@ -114,7 +114,7 @@ impl<A: Allocator + Copy> Record<A> {
         self.parts.log.len() + self.parts.rest.len() as u64
     }
 
-    /// The set of the decided update with this number.
+    /// The message set of the decided update with this number, counted from 1.
     pub fn set(&self, number: u64) -> &MessageSet<A>
         requires first { 0 < number }
         requires last { number ≤ length self.now.sets }
@@ -174,8 +174,8 @@ impl<A: Allocator + Copy> Record<A> {
         self.parts.windows.as_slice()
     }
 
-    /// Whether two records say the same: of the site's name, the decided updates, the objects, groups and limits, the reports,
-    /// the rounds and the windows.
+    /// Whether two records are the same: the site's name, the objects, groups and limits, the decided updates, the reports, the
+    /// rounds and the windows.
     pub fn same(&self, other: &Record<A>) -> bool
         ensures { IsTrue result ↔ (self.now ≡ other.now) }
     {

@@ -11,7 +11,7 @@ pub struct ReportChange {
     pub reported: u64,
 }
 
-/// What was reported at the decision of a place, by the changes in the order of their places.
+/// What was reported at the decision of a place: by the last of the changes at or before it, 0 where there is none.
 pub(crate) fn reported_at(changes: &[ReportChange], place: u64) -> u64
     requires { IsStrictlyIncreasing (map (λ c. c.place) changes.now) }
     ensures { result ≡ report_at changes.now place }

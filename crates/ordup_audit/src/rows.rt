@@ -39,7 +39,7 @@ pub(crate) fn last_row<A: Allocator + Copy>(audited: &Record<A>) -> u64
     rows_before_windows(audited) + audited.windows().len() as u64
 }
 
-/// How many rows there are before the changes: the head row, and those of the objects, the members and the limits.
+/// How many rows there are before those of the changes: the head row, and those of the objects, the members and the limits.
 fn rows_before_changes<A: Allocator + Copy>(audited: &Record<A>) -> u64
     ensures rows { result ≡ rows_before_changes audited.now }
     ensures few { result ≤ most_rows_before_changes }
@@ -63,7 +63,7 @@ pub fn member_count<A: Allocator + Copy>(groups: &Groups<A>) -> u64
     count
 }
 
-/// How many changes the first so many updates have.
+/// How many changes the first updates have.
 fn change_count<A: Allocator + Copy>(audited: &Record<A>, updates: u64) -> u64
     requires { updates ≤ length audited.now.sets }
     ensures changes { result ≡ change_count audited.now updates }
@@ -77,7 +77,7 @@ fn change_count<A: Allocator + Copy>(audited: &Record<A>, updates: u64) -> u64
     count
 }
 
-/// How many rows there are before the windows.
+/// How many rows there are before those of the windows.
 fn rows_before_windows<A: Allocator + Copy>(audited: &Record<A>) -> u64
     ensures rows { result ≡ rows_before_windows audited.now }
     ensures few { result ≤ most_rows_before_windows }

@@ -1,4 +1,4 @@
-//! Whether the windows of a record are over a limit alone, apart, and after what was reported.
+//! Whether each window of a record is over a limit alone, apart from the others, and after what was reported.
 
 ghost use Rattle.std.specs.Prelude.{IfNone, IfSome};
 ghost use Rattle.ordup_objects.specs.Serial.{IsLegalHistory};

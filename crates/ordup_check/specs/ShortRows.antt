@@ -3,7 +3,7 @@ use Rattle.std.specs.Prelude.{ℕ, ◌-◌, ◌==◌, ◌||◌, Bool, true, fals
 use Rattle.ordup_check.specs.declared.short_rows.Place.{Place}
 use Rattle.ordup_check.specs.declared.short_rows.Place.TheVariants as at
 
--- after how many bytes of a row one more is too many
+-- the most bytes of a row
 abbrev pub most_row_bytes : ℕ
 most_row_bytes = 300
 
@@ -34,7 +34,7 @@ is_row _ = false
 abbrev pub left_after : Place → ℕ → Option ℕ
 left_after place left = if is_row place then Some most_row_bytes else if left == 0 then None else Some (left - 1)
 
--- The text from a place on, where the row may have so many bytes more: all of it, or up to the first byte too many of a row.
+-- The text from a place on, where the row may have this many bytes more: all of it, or up to the first byte that is too many of a row.
 abbrev pub ends_at_long_row : Place → ℕ → List ℕ → List ℕ
 ends_at_long_row place left [] = []
 ends_at_long_row place left (b ∷ rest) =

@@ -1,7 +1,7 @@
-//! The auditor's library: an auditor trusts nothing else. All that an auditor calls is to be had here. What is made here is the reader
-//! of records.
+//! The auditor's library: all that an auditor calls is here, and an auditor trusts nothing else. The reader of records is made here;
+//! the check and the writer stand in the crates below.
 //!
-//! The one contract above this layer: rows are read as the record that they tell, or up to the first row that breaks a rule.
+//! The one contract above this layer: a text is read as the record that it tells, or up to the first row that breaks a rule.
 #![tactic(auto)]
 
 mod limited;

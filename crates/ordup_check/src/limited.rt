@@ -4,18 +4,18 @@ ghost use Rattle.ordup_check.specs.Limits.{cut_at, never};
 
 use std::io::{self, ErrorKind, Read};
 
-/// Passes on a reader's bytes, and fails where there are more than so many.
+/// A reader that passes on the bytes of another, and fails where there are more than a limit.
 #[derive(Drop)]
 pub struct Limited<R> {
     input: R,
-    /// How many bytes may come yet.
+    /// How many bytes may still come.
     left: u64,
-    /// Whether one more came.
+    /// Whether one more came than the limit.
     is_over: bool,
 }
 
 impl<R: Read> Limited<R> {
-    /// A reader of at most so many bytes.
+    /// A reader of at most `limit` bytes.
     pub fn new(input: R, limit: u64) -> Self
         ensures input { result.input ≡ input }
         ensures left { result.left ≡ limit }

@@ -47,42 +47,49 @@ pub struct PartialRecord {
 }
 
 impl PartialRecord {
+    /// Whether no window is there yet.
     fn is_before_windows(&self) -> bool
         ensures { result ≡ is_before_windows (record_so_far self.now) }
     {
         self.windows.is_empty()
     }
 
+    /// Whether no round is there yet, and nothing that comes after the rounds.
     fn is_before_rounds(&self) -> bool
         ensures { result ≡ is_before_rounds (record_so_far self.now) }
     {
         self.rounds.is_empty() && self.is_before_windows()
     }
 
+    /// Whether no report is there yet, and nothing that comes after the reports.
     fn is_before_reports(&self) -> bool
         ensures { result ≡ is_before_reports (record_so_far self.now) }
     {
         self.reports.is_empty() && self.is_before_rounds()
     }
 
+    /// Whether no update is there yet, and nothing that comes after the updates.
     fn is_before_changes(&self) -> bool
         ensures { result ≡ is_before_changes (record_so_far self.now) }
     {
         self.sets.is_empty() && self.is_before_reports()
     }
 
+    /// Whether no limit is there yet, and nothing that comes after the limits.
     fn is_before_limits(&self) -> bool
         ensures { result ≡ is_before_limits (record_so_far self.now) }
     {
         self.limits.entries().is_empty() && self.is_before_changes()
     }
 
+    /// Whether no member is there yet, and nothing that comes after the members.
     fn is_before_members(&self) -> bool
         ensures { result ≡ is_before_members (record_so_far self.now) }
     {
         self.groups.len() == 0 && self.is_before_limits()
     }
 
+    /// Whether an object is there.
     fn has_objects(&self) -> bool
         ensures { result ≡ has_objects (record_so_far self.now) }
     {
@@ -96,7 +103,7 @@ impl PartialRecord {
         self.has_objects() && self.sets.len() as u64 == decided
     }
 
-    /// Takes the object of a row with this value.
+    /// Takes the object of a row, which has this value.
     fn add_value(&mut self, c: &RowColumns<'_>, value: i64) -> Result<bool, AllocError>
         ensures { Takes result self.new (with_value (record_so_far self.old) (columns_view c.now) value) }
     {
@@ -152,8 +159,8 @@ impl PartialRecord {
         }
     }
 
-    /// Whether the next limit may hold from a place: from 1 to the one after the last decided place, and not before the limit
-    /// before it.
+    /// Whether the next limit may hold from a place: one from 1 to the place after the last decided one, and no earlier than that of
+    /// the limit before it.
     fn may_hold_from(&self, decided: u64, place: u64) -> bool
         ensures { result ≡ may_hold_from decided self.now.limits place }
     {
@@ -226,7 +233,7 @@ impl PartialRecord {
         Ok(true)
     }
 
-    /// Takes one change more of the last update.
+    /// Takes the next change of the last update.
     fn add_next_change(&mut self, c: &RowColumns<'_>, change: Change) -> Result<bool, AllocError>
         requires some { 0 < length self.old.sets.items }
         requires known { AreKnown (length self.old.objects) (last_set self.old.sets.items) }
@@ -246,7 +253,7 @@ impl PartialRecord {
         }
     }
 
-    /// Takes this change of a row.
+    /// Takes the change of a row, of the last update or of the next.
     fn add_any_change(
         &mut self,
         decided: u64,

@@ -1,4 +1,4 @@
-//! Rows to a record.
+//! From a text to a record.
 ghost use Rattle.std.specs.Prelude.{All, ◌≡◌, ◌==◌, false, ◌≤◌, ◌++◌, ℕ, List, Some, IfErr, IfOk, IfSome, OnOk, length};
 ghost use Rattle.csv.specs.Reading.{source_of, strip_bom};
 ghost use Rattle.csv.specs.Records.{fields_of};
@@ -34,13 +34,14 @@ use std::io::Read;
 pub enum RecordReadFault {
     /// A read failed, or there were more bytes than the limit.
     Read,
-    /// The row with this number, counted from 1, is the first that breaks a rule; or it is the one after the last, and rows are missing.
+    /// The row with this number, counted from 1, is the first that breaks a rule; or it is the one after the last row, and rows are
+    /// missing.
     Malformed { row: u64 },
     /// Memory was refused.
     NoMemory,
 }
 
-/// Puts updates into a log up to the first that is not legal, and those from it on apart.
+/// Splits updates into a log of those before the first that is not legal, and the sets from that one on.
 fn split_sets(
     alloc: Global,
     objects: &ObjectTable,
@@ -97,7 +98,7 @@ fn whole_record(alloc: Global, read: PartialRecord) -> Result<Record, AllocError
     }))
 }
 
-/// The record, where no row is missing.
+/// The record, if no row is missing.
 fn close(alloc: Global, stage: Stage) -> Result<Option<Record>, AllocError>
     requires { IfSome (closed (stage_of stage)) IsRecord }
     ensures { IfOk result (λ r. r ≡ closed (stage_of stage)) }
@@ -130,7 +131,8 @@ fn see_row(row: &ByteRecord)
     see_bytes(row.as_slice());
 }
 
-/// Reads rows to the end, or to the first that may not stand there: how far they came, and the number of the row after the last.
+/// Reads rows to the end, or to the first that may not stand where it stands. It answers the stage after them, and the number of the
+/// row that would be next.
 fn read_rows<R: Read>(alloc: Global, rdr: &mut Reader<R>) -> Result<(Stage, u64), RecordReadFault>
     requires { IsFresh rdr.old }
     ensures taken { IfOk result (λ p. IfSome (source_of R.remaining rdr.old) (λ text. IsTaken text (stage_of p.0) p.1)) }
@@ -160,7 +162,14 @@ fn read_rows<R: Read>(alloc: Global, rdr: &mut Reader<R>) -> Result<(Stage, u64)
     Err(RecordReadFault::Read)
 }
 
-/// Reads a record of at most so many bytes. A byte order mark before its text is passed over.
+/// Reads a record of at most `limit` bytes. A byte order mark at the start is passed over. It promises, clause by clause, of a reader
+/// whose bytes are known:
+///
+/// - `read`: the record is the one that the text tells.
+/// - `limited`: it is read from a text within the limit alone.
+/// - `malformed`: `Malformed` has the number of the first row that breaks a rule; or of the row after the last, where rows are
+///   missing. Of a text over the limit this holds however the text goes on after the limit.
+/// - `told`: a text within the limit that tells a record is answered by that record, unless a read fails or memory is refused.
 pub fn read_record_within<R: Read>(
     alloc: Global,
     input: &mut R,
@@ -185,7 +194,15 @@ pub fn read_record_within<R: Read>(
     }
 }
 
-/// Reads a record of at most 8 GiB.
+/// Reads a record of at most 8 GiB. A byte order mark at the start is passed over. It promises, clause by clause, of a reader whose
+/// bytes are known:
+///
+/// - `read`: the record is the one that the text tells.
+/// - `limited`: it is read from a text of at most 8 GiB alone.
+/// - `malformed`: `Malformed` has the number of the first row that breaks a rule; or of the row after the last, where rows are
+///   missing. Of a longer text this holds however the text goes on after 8 GiB.
+/// - `told`: a text within the limit that tells a record is answered by that record, unless a read fails or memory is refused.
+/// - `written`: so is the text of each record, as [`write_record`](crate::write_record) writes it.
 pub fn read_record<R: Read>(alloc: Global, input: &mut R) -> Result<Record, RecordReadFault>
     ensures read { IfOk result (λ r. IfSome (R.remaining input.old) (λ text. TextTells (strip_bom text) r)) }
     ensures limited { OnOk result (IfSome (R.remaining input.old) (λ text. length text ≤ most_record_bytes)) }

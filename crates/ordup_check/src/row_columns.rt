@@ -107,7 +107,7 @@ pub fn scope(objects: &ObjectTable, groups: &Groups, column: &[u8]) -> Option<Sc
     }
 }
 
-/// The amount of a limit and the place from which it holds, as a column of a version tells them.
+/// The amount of a limit and the place from which it holds, by its column in rows of a version.
 pub fn amount(version: Version, column: &[u8]) -> Option<(u64, u64)>
     ensures { result ≡ amount_by version column.now }
 {
@@ -134,7 +134,7 @@ fn place_of_at(column: &[u8]) -> Option<usize>
     column.iter().position(|byte| *byte == b'@')
 }
 
-/// The operation that is spelled, where its number is in range and its object is one.
+/// The operation of a change word, where its number is in range and the object that it reads is declared.
 fn op(objects: &ObjectTable, operation: &Operation<'_>) -> Option<Op>
     ensures { result ≡ op_in_range objects.now operation.now }
 {
@@ -144,7 +144,7 @@ fn op(objects: &ObjectTable, operation: &Operation<'_>) -> Option<Op>
     }
 }
 
-/// The change that a column spells, where its number is in range and its objects are some.
+/// The change that a column spells, where its number is in range and its objects are declared.
 pub fn change(objects: &ObjectTable, column: &[u8]) -> Option<Change>
     ensures { result ≡ change_in_range objects.now column.now }
 {

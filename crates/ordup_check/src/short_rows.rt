@@ -4,11 +4,10 @@ ghost use Rattle.ordup_check.specs.ShortRows.{ends_at_long_row, left_after, most
 
 use std::io::{self, Read};
 
-/// After how many bytes of a row one more is too many. The longest row of a record has a third of them, and quotes make a row less than
-/// three times as long.
+/// The most bytes of a row. The longest row of a record has a third of them, and quotes make a row less than three times as long.
 const MOST_ROW_BYTES: u64 = 300;
 
-/// What the next byte of a text follows.
+/// Where the next byte of a text stands: what it follows.
 #[derive(Clone, Copy)]
 pub enum Place {
     /// Nothing: a byte order mark may stand here.
@@ -103,7 +102,7 @@ impl Place {
     }
 }
 
-/// Passes on a reader's bytes, and ends with the first that is too many of a row, so that no row takes more than little memory.
+/// A reader that passes on the bytes of another, and ends with the first byte that is too many of a row. So a row takes little memory.
 #[derive(Drop)]
 pub struct ShortRows<R> {
     input: R,
@@ -130,7 +129,7 @@ impl<R: Read> ShortRows<R> {
     }
 }
 
-/// What came of bytes that were gone over.
+/// How far bytes were gone over.
 #[derive(Clone, Copy)]
 struct Passed {
     /// How many of them are passed on.

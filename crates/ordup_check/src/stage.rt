@@ -80,7 +80,7 @@ fn take_later_row(
 }
 
 /// Takes a row, where it may stand there, and answers whether it did.
-// In place, since a stage has tables: with each row they were moved a few times.
+// In place, since a stage has tables: by value they would be moved a few times with each row.
 pub fn take_row(alloc: Global, stage: &mut Stage, row: &ByteRecord) -> Result<bool, AllocError>
     requires { AreStageUpdatesKnown (stage_of stage.old) }
     ensures { IfOk result (λ is_taken. then_some is_taken (stage_of stage.new) ≡ step (stage_of stage.old) (fields_of row.now)) }

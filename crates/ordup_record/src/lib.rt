@@ -1,6 +1,6 @@
-//! The record of a site of a primary, as an auditor gets it.
+//! How a primary gives the record of a site to an auditor. The record itself is of the audit, which knows no primary.
 //!
-//! The one contract above this layer: a record of a primary holds what the primary has, and is valid.
+//! The one contract above this layer: the record of a site holds what the primary has of it, and is valid.
 #![tactic(auto)]
 
 mod recording;

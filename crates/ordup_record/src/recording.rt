@@ -10,9 +10,13 @@ use ordup_objects::{Refusal, SiteId};
 use ordup_primary::Primary;
 use std::alloc::Allocator;
 
-/// The record of a site: what the primary has of it. It is valid.
+/// The record of a site of a primary. It promises, clause by clause:
 ///
-/// It is refused `UnknownSite` where there is no such site, and `NoMemory`.
+/// - `content`: the record holds what the primary has: the declarations, the decided updates, and the limits, reports, rounds and
+///   windows of the site.
+/// - `valid`: it is valid, so an auditor who checks it finds the rounds to be the fewest.
+/// - `allowed`: a record is given of a site that is declared.
+/// - `refused`: the call is refused `UnknownSite` where the site is not declared, and else `NoMemory` alone.
 pub fn record_of<A: Allocator + Copy>(
     alloc: A,
     primary: &Primary<A>,

@@ -35,7 +35,7 @@ use Rattle.ordup_rows.proofs.Words.{decimal_bytes, name_bytes, name_of}
 abbrev pub is_special : ℕ → Bool
 is_special b = needs_byte default_writer b || (b == 0)
 
--- a column of at most so many bytes, with none of these
+-- a column of at most this many bytes, with none of these
 pub record IsPlain (most : ℕ) (column : List ℕ) : Type 0 where
   pub plain : list_any is_special column ≡ false
   pub few : length column ≤ most

@@ -170,7 +170,7 @@ neither : {A : Type 0} (a b : Option A) → option_or a b ≡ None → (a ≡ No
 neither None b h = (refl, h)
 neither (Some x) b h = absurd cc
 
--- a limit that may come after these, where so many updates are decided
+-- a limit that may come after these, where this many updates are decided
 pub record IsNewEntry (n : ℕ) (groups : GroupList) (decided : ℕ) (entries : Entries) (e : LimitEntry) : Type 0 where
   pub known : IsScopeKnown n groups e.limit.scope
   pub few : e.limit.amount ≤ greatest_amount

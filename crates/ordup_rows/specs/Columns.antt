@@ -55,11 +55,11 @@ is_number n (Some m) = m == n
 abbrev pub writes : List ℕ → ℕ → Bool
 writes column n = is_number n (natural_of column)
 
--- a column begins with these bytes
+-- a column begins with this prefix
 abbrev pub has_prefix : List ℕ → List ℕ → Bool
 has_prefix prefix column = bytes_eq (take (length prefix) column) prefix
 
--- what stands after so many bytes as these
+-- what stands after this prefix, of a column that has it
 abbrev pub after_prefix : List ℕ → List ℕ → List ℕ
 after_prefix prefix column = drop (length prefix) column
 

@@ -102,7 +102,7 @@ round_row i place = codes "round" ∷ decimal i ∷ decimal place ∷ codes "-" 
 abbrev pub window_row : ℕ → Window → Row
 window_row i w = codes "window" ∷ decimal i ∷ decimal w.from ∷ decimal w.to ∷ []
 
--- the rows of a version that tell what is there of a record that has so many decided updates
+-- the rows, in a version, of a record as far as it is there, where this many updates are decided
 abbrev pub rows_so_far : Version → ℕ → RecordState → List Row
 rows_so_far version decided r =
     head_row version r.site decided

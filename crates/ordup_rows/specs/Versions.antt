@@ -6,12 +6,12 @@ use Rattle.ordup_limits.specs.Entries.{Entries}
 use Rattle.ordup_rows.specs.declared.version.Version.{Version}
 use Rattle.ordup_rows.specs.declared.version.Version.TheVariants.{First, Second}
 
--- what the first row tells a version by
+-- the column of the first row that spells a version
 abbrev pub version_text : Version → List ℕ
 version_text First = codes "1"
 version_text Second = codes "2"
 
--- the version that a column tells
+-- the version that a column spells
 abbrev pub version_of : List ℕ → Option Version
 version_of column =
     if bytes_eq column (codes "1") then Some First

@@ -371,7 +371,7 @@ fn push_windows<A: Allocator + Copy>(
     Ok(())
 }
 
-/// The text of a record, with all of its rows.
+/// The text of a record.
 pub fn form<A: Allocator + Copy>(alloc: A, whole: &Record<A>) -> Result<Vec<u8, A>, AllocError>
     ensures { IfOk result (λ text. text.items ≡ rows_text (rows_of whole.now)) }
 {

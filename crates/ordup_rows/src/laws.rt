@@ -25,12 +25,12 @@ pub fn what_is_read_is_told()
     ensures { WhatIsReadIsTold }
 {}
 
-/// A law: rows that tell a record are read to the end as it. So the rows of a record are read back as that record.
+/// A law: rows that tell a record are read to the end as that record. So the rows of a record are read back as it.
 pub fn what_is_told_is_read()
     ensures { WhatIsToldIsRead }
 {}
 
-/// A law: the rows of a record are read as it in each version that can tell its limits.
+/// A law: the rows of a record, in each version that can tell its limits, are read as that record.
 pub fn rows_of_each_version_are_read()
     ensures { RowsOfEachVersionAreRead }
 {}

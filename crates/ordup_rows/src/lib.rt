@@ -1,4 +1,6 @@
-//! Records as rows: what an auditor is sent of a site, as comma-separated values.
+//! Records as text: rows of comma-separated values, as an auditor gets them.
+//!
+//! It says which rows tell a record, and has the laws of that. It writes records; the reader stands above it.
 //!
 //! The one contract above this layer: rows tell one record, or have one first bad row; and a record is written as its rows.
 #![tactic(auto)]

@@ -1,7 +1,7 @@
 ghost use Rattle.std.specs.Prelude.{◌≡◌};
 ghost use Rattle.ordup_rows.specs.RowKinds.{kind_of};
 
-/// What a row after the first tells of, by its first column.
+/// What a row after the first is about, by its first column.
 #[derive(Clone, Copy, Debug, PartialEq, Eq)]
 pub enum RowKind {
     /// `object`: an object and its initial value.
@@ -12,16 +12,16 @@ pub enum RowKind {
     Limit,
     /// `change`: a change of a decided update.
     Change,
-    /// `report`: a place from which on the site had reported more.
+    /// `report`: a place at whose decision the site had reported more than before.
     Report,
     /// `round`: a place at which the site was forced.
     Round,
-    /// `window`: a stretch of places that is over a limit alone.
+    /// `window`: a span that is over a limit alone.
     Window,
 }
 
 impl RowKind {
-    /// The kind that a first column spells.
+    /// The kind of a row with this first column.
     pub fn parse(column: &[u8]) -> Option<RowKind>
         ensures { result ≡ kind_of column.now }
     {

@@ -11,7 +11,7 @@ use ordup_limits::{Groups, LimitEntry, Scope};
 use ordup_objects::{ObjectTable, Op};
 use std::alloc::{AllocError, Allocator};
 
-/// Fills a column with what a row tells a scope by.
+/// Fills a column with the text of a scope.
 pub fn put_scope<A: Allocator + Copy>(
     column: &mut Vec<u8, A>,
     objects: &ObjectTable<A>,
@@ -36,7 +36,7 @@ pub fn put_scope<A: Allocator + Copy>(
     }
 }
 
-/// Adds to a column what a row of a version tells the amount of a limit by, and the place from which it holds.
+/// Adds to a column the amount of a limit, and in the second version the place from which it holds.
 pub fn add_amount<A: Allocator + Copy>(
     column: &mut Vec<u8, A>,
     version: Version,
@@ -58,7 +58,7 @@ pub fn add_amount<A: Allocator + Copy>(
     }
 }
 
-/// Fills a column with the word of a change, by its parts.
+/// Fills a column with the three parts of the word of a change, with a colon between each two.
 fn put_word<A: Allocator + Copy>(
     column: &mut Vec<u8, A>,
     kind: &[u8],
@@ -88,7 +88,7 @@ fn put_number_word<A: Allocator + Copy>(
     put_word(column, kind, object, digits.format(number).as_bytes())
 }
 
-/// Fills a column with the word of a change of an object of this name.
+/// Fills a column with the word of a change, by the name of its object and its operation.
 pub fn put_change<A: Allocator + Copy>(
     column: &mut Vec<u8, A>,
     objects: &ObjectTable<A>,

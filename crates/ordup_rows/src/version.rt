@@ -4,17 +4,17 @@ ghost use Rattle.ordup_rows.specs.Versions.{version_for, version_of, version_tex
 
 use ordup_limits::LimitEntry;
 
-/// The version of the rows of a record, which the first row tells.
+/// The version of the rows of a record. The second column of the first row has it.
 #[derive(Clone, Copy, Debug, PartialEq, Eq)]
 pub enum Version {
-    /// `1`: a limit has a row with its amount, and holds from place 1 on.
+    /// `1`: the row of a limit has its amount. Each limit holds from place 1 on.
     First,
-    /// `2`: the row of a limit tells the place too from which it holds.
+    /// `2`: the row of a limit has its amount, and the place from which it holds.
     Second,
 }
 
 impl Version {
-    /// The version that a column tells.
+    /// The version that a column spells.
     pub fn parse(column: &[u8]) -> Option<Version>
         ensures { result ≡ version_of column.now }
     {
@@ -38,7 +38,7 @@ impl Version {
         }
     }
 
-    /// What the first row tells the version by.
+    /// The column of the first row that spells the version.
     pub fn as_bytes(self) -> &'static [u8]
         ensures { result.now ≡ version_text self }
     {

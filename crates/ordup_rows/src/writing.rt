@@ -12,13 +12,17 @@ use std::io::Write;
 /// Why not all of a record was written.
 #[derive(Clone, Copy, Debug, PartialEq, Eq)]
 pub enum RecordWriteFault {
-    /// A write failed, or took nothing.
+    /// A write failed, or took no byte.
     Write,
     /// Memory was refused, before the first write.
     NoMemory,
 }
 
-/// Writes a record: all of its text, or a front of it where the writer fails. It flushes nothing.
+/// Writes a record. It does not flush the writer. It promises, clause by clause, of a writer whose bytes are known:
+///
+/// - `written`: after success the text of the record stands after what the writer held before.
+/// - `front`: in every case a front of that text stands there, which may be none of it or all.
+/// - `refused`: where memory was refused, the writer is as it was.
 pub fn write_record<A: Allocator + Copy, W: Write>(
     alloc: A,
     whole: &Record<A>,

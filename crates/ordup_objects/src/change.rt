@@ -2,39 +2,7 @@ ghost use Rattle.std.specs.Prelude.{◌≡◌, IfSome, option_map};
 ghost use Rattle.ordup_objects.specs.Ops.{number_of, op_with, source_of};
 ghost use Rattle.ordup_objects.specs.States.{State, value_at, result_of, IsInRange};
 
-use std::marker::Model;
-
-/// The place of an object in the order of declaration, counted from 0.
-#[derive(Clone, Copy, Debug, PartialEq, Eq)]
-pub struct ObjectId {
-    index: u16,
-}
-
-impl Model for ObjectId {
-    ghost use Rattle.std.specs.Prelude.{ℕ};
-
-    ghost Value = { ℕ };
-
-    ghost view = { λ o. o.index };
-
-    ghost inverse = { λ n. record { index = n } };
-}
-
-impl ObjectId {
-    /// The object at this place.
-    pub fn new(index: u16) -> Self
-        ensures { result ≡ index }
-    {
-        ObjectId { index }
-    }
-
-    /// The place of the object.
-    pub fn index(self) -> usize
-        ensures { result ≡ self }
-    {
-        self.index as usize
-    }
-}
+use crate::ids::ObjectId;
 
 /// What a change by a number does to its object's value.
 #[derive(Clone, Copy, Debug, PartialEq, Eq)]

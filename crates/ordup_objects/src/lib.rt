@@ -5,6 +5,7 @@
 
 mod change;
 mod hints;
+mod ids;
 mod laws;
 mod message_set;
 mod name;
@@ -15,8 +16,9 @@ mod results;
 pub mod sizes;
 mod values;
 
-pub use change::{Change, NumberOp, ObjectId, Op};
+pub use change::{Change, NumberOp, Op};
 pub use hints::Hints;
+pub use ids::{ObjectId, SiteId};
 pub use laws::{
     longer_histories_keep_marks, longer_histories_keep_object_spans,
     longer_histories_keep_serial_results, prefixes_of_legal_histories_are_legal,
@@ -26,6 +28,6 @@ pub use message_set::MessageSet;
 pub use name::Name;
 pub use name_table::NameTable;
 pub use object_table::ObjectTable;
-pub use refusal::{Refusal, SiteId};
+pub use refusal::Refusal;
 pub use results::Results;
 pub use values::Values;

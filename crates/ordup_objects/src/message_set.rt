@@ -7,7 +7,8 @@ ghost use Rattle.ordup_objects.specs.States.{in_range};
 ghost use Rattle.ordup_objects.specs.SetInside.{changes_of};
 ghost use Rattle.ordup_objects.specs.Sets.{is_known, are_known, are_in_range, are_of_one_object, set_refusal, IsSet, AreKnown};
 
-use crate::change::{Change, ObjectId, Op};
+use crate::change::{Change, Op};
+use crate::ids::ObjectId;
 use crate::object_table::ObjectTable;
 use crate::refusal::Refusal;
 use crate::sizes::MOST_CHANGES;

@@ -4,7 +4,7 @@ ghost use Rattle.ordup_objects.specs.Tables.{place_of, object_refusal, initial_s
 ghost use Rattle.ordup_objects.specs.Refusals.{IsRefusal};
 ghost use Rattle.ordup_objects.specs.States.{value_at, IsState};
 
-use crate::change::ObjectId;
+use crate::ids::ObjectId;
 use crate::name::Name;
 use crate::name_table::NameTable;
 use crate::refusal::Refusal;

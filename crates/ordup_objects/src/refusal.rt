@@ -1,39 +1,7 @@
 ghost use Rattle.std.specs.Prelude.{◌≡◌};
 
-use std::marker::Model;
+use crate::ids::SiteId;
 use thiserror::Error;
-
-/// The place of a site in the order of declaration, counted from 0.
-#[derive(Clone, Copy, Debug, PartialEq, Eq)]
-pub struct SiteId {
-    index: u8,
-}
-
-impl Model for SiteId {
-    ghost use Rattle.std.specs.Prelude.{ℕ};
-
-    ghost Value = { ℕ };
-
-    ghost view = { λ s. s.index };
-
-    ghost inverse = { λ n. record { index = n } };
-}
-
-impl SiteId {
-    /// The site at this place.
-    pub fn new(index: u8) -> Self
-        ensures { result ≡ index }
-    {
-        SiteId { index }
-    }
-
-    /// The place of the site.
-    pub fn index(self) -> usize
-        ensures { result ≡ self }
-    {
-        self.index as usize
-    }
-}
 
 /// Why a call was refused. A refused call leaves everything as it was.
 ///

@@ -5,7 +5,8 @@ ghost use Rattle.ordup_objects.specs.Sets.{IsKnown, AreKnown, AreInRange};
 ghost use Rattle.ordup_objects.specs.Tables.{initial_state};
 ghost use Rattle.ordup_objects.specs.Weights.{distances_of};
 
-use crate::change::{Change, ObjectId};
+use crate::change::Change;
+use crate::ids::ObjectId;
 use crate::message_set::MessageSet;
 use crate::object_table::ObjectTable;
 use crate::refusal::Refusal;

@@ -39,15 +39,11 @@ impl<A: Allocator + Copy> Changes<A> {
         ensures err { IfErr result (λ _. changes_of self.new ≡ changes_of self.old) }
     {
         match self {
-            Changes::One(changes) => match Vec::from_slice(alloc, &[changes[0], change]) {
-                Ok(changes) => *self = Changes::Many(changes),
-                Err(_) => return Err(Refusal::NoMemory),
-            },
-            Changes::Many(changes) => {
-                if changes.push(change).is_err() {
-                    return Err(Refusal::NoMemory);
-                }
+            Changes::One(changes) => {
+                let changes = Vec::from_slice(alloc, &[changes[0], change])?;
+                *self = Changes::Many(changes);
             }
+            Changes::Many(changes) => changes.push(change)?,
         }
         Ok(())
     }
@@ -127,10 +123,7 @@ impl<A: Allocator + Copy> MessageSet<A> {
     {
         let changes = match self.changes() {
             [change] => Changes::One([*change]),
-            changes => match Vec::from_slice(alloc, changes) {
-                Ok(changes) => Changes::Many(changes),
-                Err(_) => return Err(Refusal::NoMemory),
-            },
+            changes => Changes::Many(Vec::from_slice(alloc, changes)?),
         };
         Ok(MessageSet { changes })
     }

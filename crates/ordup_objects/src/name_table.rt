@@ -108,9 +108,7 @@ impl<V, A: Allocator + Copy> NameTable<V, A> {
         ensures err { OnErr result (self.new ≡ self.old) }
     {
         let place = self.entries.len();
-        let Ok(_) = self.entries.insert(name, entry) else {
-            return Err(AllocError);
-        };
+        self.entries.insert(name, entry)?;
         self.hints.note(name.as_bytes(), place);
         Ok(())
     }

@@ -55,9 +55,7 @@ impl<A: Allocator + Copy> ObjectTable<A> {
         let mut objects = NameTable::new(alloc);
         for place in 0..self.objects.len() {
             let (name, initial) = self.objects.at(place);
-            if objects.push(*name, *initial).is_err() {
-                return Err(Refusal::NoMemory);
-            }
+            objects.push(*name, *initial)?;
         }
         Ok(ObjectTable { objects })
     }
@@ -83,10 +81,8 @@ impl<A: Allocator + Copy> ObjectTable<A> {
         if place == MOST_OBJECTS {
             return Err(Refusal::TooMany);
         }
-        match self.objects.push(name, initial) {
-            Ok(()) => Ok(ObjectId::new(place as u16)),
-            Err(_) => Err(Refusal::NoMemory),
-        }
+        self.objects.push(name, initial)?;
+        Ok(ObjectId::new(place as u16))
     }
 
     /// The object of this name, if there is one.

@@ -1,6 +1,7 @@
 ghost use Rattle.std.specs.Prelude.{◌≡◌};
 
 use crate::ids::SiteId;
+use std::alloc::{AllocError, AllocFailed};
 use thiserror::Error;
 
 /// Why a call was refused. A refused call leaves everything as it was.
@@ -89,6 +90,26 @@ pub enum Refusal {
     /// The site does not hold what its log says.
     #[error("Mixed {}", site.index())]
     Mixed { site: SiteId },
+}
+
+impl From<AllocError> for Refusal {
+    ghost use Rattle.ordup_objects.specs.declared.refusal.Refusal.TheVariants.{NoMemory};
+
+    ghost from_gives = { λ _ refusal. refusal ≡ NoMemory };
+
+    fn from(_error: AllocError) -> Refusal {
+        Refusal::NoMemory
+    }
+}
+
+impl<T: Drop> From<AllocFailed<T>> for Refusal {
+    ghost use Rattle.ordup_objects.specs.declared.refusal.Refusal.TheVariants.{NoMemory};
+
+    ghost from_gives = { λ _ refusal. refusal ≡ NoMemory };
+
+    fn from(_failed: AllocFailed<T>) -> Refusal {
+        Refusal::NoMemory
+    }
 }
 
 impl Refusal {

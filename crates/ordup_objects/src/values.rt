@@ -38,10 +38,8 @@ impl<A: Allocator + Copy> Values<A> {
         ensures initial { IfOk result (λ values. values ≡ initial_state objects.now) }
         ensures refused { IfErr result (λ e. e ≡ Refusal.NoMemory) }
     {
-        match initial_values(alloc, objects) {
-            Ok(values) => Ok(Values { values }),
-            Err(_) => Err(Refusal::NoMemory),
-        }
+        let values = initial_values(alloc, objects)?;
+        Ok(Values { values })
     }
 
     /// The same values once more. It is refused `NoMemory` alone.
@@ -49,10 +47,8 @@ impl<A: Allocator + Copy> Values<A> {
         ensures copied { IfOk result (λ values. values ≡ self.now) }
         ensures refused { IfErr result (λ e. e ≡ Refusal.NoMemory) }
     {
-        match Vec::from_slice(alloc, self.values.as_slice()) {
-            Ok(values) => Ok(Values { values }),
-            Err(_) => Err(Refusal::NoMemory),
-        }
+        let values = Vec::from_slice(alloc, self.values.as_slice())?;
+        Ok(Values { values })
     }
 
     /// How many objects have a value.

@@ -168,7 +168,15 @@ impl<A: Allocator + Copy> MessageSet<A> {
         }
     }
 
-    /// Whether the objects of each change are among the first so many.
+    /// What each set keeps, for the proofs of its users. It does nothing.
+    #[inline(always)]
+    pub fn keeps(&self)
+        ensures { IsSet self.now }
+    {
+        let _ = &self.changes;
+    }
+
+    /// Whether the objects of each change are among the first `objects`.
     pub fn are_known(&self, objects: usize) -> bool
         ensures known { result ≡ are_known objects self.now }
         ensures fact { IsTrue result → AreKnown objects self.now }

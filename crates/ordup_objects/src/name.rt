@@ -72,6 +72,14 @@ impl Name {
         &self.bytes[..self.len]
     }
 
+    /// What each name keeps, for the proofs of its users. It does nothing.
+    #[inline(always)]
+    pub fn keeps(&self)
+        ensures { IsTrue (is_name self.now) }
+    {
+        let _ = &self.bytes;
+    }
+
     /// Whether these bytes spell the name.
     #[inline(always)]
     pub(crate) fn is_spelled(&self, bytes: &[u8]) -> bool

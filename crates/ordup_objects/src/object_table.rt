@@ -91,8 +91,7 @@ impl<A: Allocator + Copy> ObjectTable<A> {
         ensures within { IfSome result (λ o. o < length self.now) }
     {
         let place = self.objects.find(name)?;
-        // For the proof: there are few enough objects for the place to fit.
-        let _few = &self.objects;
+        self.keeps();
         Some(ObjectId::new(place as u16))
     }
 
@@ -106,6 +105,17 @@ impl<A: Allocator + Copy> ObjectTable<A> {
         ensures distinct { AreDistinct self.now }
     {
         self.objects.len()
+    }
+
+    /// What each table keeps, for the proofs of its users. It does nothing.
+    #[inline(always)]
+    pub fn keeps(&self)
+        ensures few { length self.now ≤ most_objects }
+        ensures state { IsState (initial_state self.now) }
+        ensures names { AreNames self.now }
+        ensures distinct { AreDistinct self.now }
+    {
+        self.objects.keeps();
     }
 
     /// The name of an object.

@@ -60,6 +60,14 @@ impl<A: Allocator + Copy> Values<A> {
         self.values.len()
     }
 
+    /// What each state keeps, for the proofs of its users. It does nothing.
+    #[inline(always)]
+    pub fn keeps(&self)
+        ensures { IsState self.now }
+    {
+        let _ = &self.values;
+    }
+
     /// The value of an object.
     pub fn get(&self, object: ObjectId) -> i64
         requires { object < length self.now }

@@ -3,8 +3,8 @@
 //! The one contract above this layer: a message set applies to the values as its meaning says, as a whole or not at all.
 #![tactic(auto)]
 
+mod bytes;
 mod change;
-mod hints;
 mod ids;
 mod laws;
 mod message_set;
@@ -16,8 +16,8 @@ mod results;
 pub mod sizes;
 mod values;
 
+pub use bytes::Hints;
 pub use change::{Change, NumberOp, Op};
-pub use hints::Hints;
 pub use ids::{ObjectId, SiteId};
 pub use laws::{
     longer_histories_keep_marks, longer_histories_keep_object_spans,

@@ -1,10 +1,11 @@
-ghost use Rattle.std.specs.Prelude.{◌≡◌, ℕ, ◌<◌, ◌≤◌, ◌↔◌, IsOk, IfOk, IfErr, IsTrue, ◌*◌, length, nat_eq, ◌∷◌, []};
+ghost use Rattle.std.specs.Prelude.{◌≡◌, ◌↔◌, IsOk, IfOk, IfErr, IsTrue, nat_eq, ◌∷◌, []};
 ghost use Rattle.std.specs.List.{list_all};
 ghost use Rattle.std.specs.Cmp.Lexicographic.{pointwise, nat_list_eq_equiv};
 ghost use Rattle.std.specs.Cmp.Rules.{comparing, hashing};
 ghost use Rattle.std.proofs.Common.{rules};
 ghost use Rattle.ordup_objects.specs.Names.{is_letter, is_name_byte, is_name};
 
+use crate::bytes::are_alike;
 use crate::refusal::Refusal;
 use crate::sizes::MOST_NAME_BYTES;
 use indexmap::Equivalent;
@@ -15,8 +16,7 @@ use std::marker::Model;
 #[derive(Clone, Copy, Debug)]
 pub struct Name {
     bytes: [u8; MOST_NAME_BYTES],
-    // As wide as a word of the machine. With a byte for it a name that moves goes in pieces of one to five bytes, which are read
-    // back as wider ones; without that the load of queries takes 6 to 8 in 100 less time.
+    // As wide as a machine word, so that a name moves in wide pieces: see `bytes`.
     len: usize,
 }
 
@@ -87,38 +87,6 @@ impl Name {
     {
         are_alike(bytes, self.as_bytes())
     }
-}
-
-/// Whether two runs of bytes are the same, of which the second has up to 16: by the first and the last of them, which are
-/// compared as numbers and hold all bytes.
-#[inline(always)]
-fn are_alike(a: &[u8], b: &[u8]) -> bool
-    requires { length b.now ≤ 16 }
-    ensures { result ≡ pointwise nat_eq a.now b.now }
-{
-    let len = b.len();
-    if a.len() != len {
-        return false;
-    }
-    if len >= 8 {
-        have_alike_ends::<8>(a, b)
-    } else if len >= 4 {
-        have_alike_ends::<4>(a, b)
-    } else if len >= 2 {
-        have_alike_ends::<2>(a, b)
-    } else {
-        len == 0 || a[0] == b[0]
-    }
-}
-
-/// Whether the first and the last N bytes of two runs of one length are the same, where these are all bytes.
-#[inline(always)]
-fn have_alike_ends<const N: usize>(a: &[u8], b: &[u8]) -> bool
-    requires { (length a.now ≡ length b.now) × (N ≤ length b.now) × (length b.now ≤ 2 * N) }
-    ensures { result ≡ pointwise nat_eq a.now b.now }
-{
-    (a.first_chunk::<N>().unwrap() == b.first_chunk::<N>().unwrap())
-        & (a.last_chunk::<N>().unwrap() == b.last_chunk::<N>().unwrap())
 }
 
 fn is_letter(byte: u8) -> bool

@@ -2,7 +2,7 @@ ghost use Rattle.std.specs.Prelude.{◌≡◌, ℕ, ◌<◌, None, Some, IfSome,
 ghost use Rattle.ordup_objects.specs.Names.{is_name};
 ghost use Rattle.ordup_objects.specs.Tables.{names_of, place_of, with_entry, AreNames, AreDistinct};
 
-use crate::hints::Hints;
+use crate::bytes::Hints;
 use crate::name::{Name, NameBytes};
 use indexmap::IndexMap;
 use std::alloc::{AllocError, Allocator, Global};
@@ -65,8 +65,7 @@ impl<V, A: Allocator + Copy> NameTable<V, A> {
     }
 
     /// The place of the name that these bytes spell, if it is there.
-    // The place that is guessed is looked at before the bytes are hashed: in the mixed load that takes 8 in 100 of all
-    // instructions away.
+    // The guess is tried before the bytes are hashed: see `bytes`.
     pub fn find(&self, name: &[u8]) -> Option<usize>
         ensures place { result ≡ place_of name.now self.now }
         ensures within { IfSome result (λ i. i < length self.now) }

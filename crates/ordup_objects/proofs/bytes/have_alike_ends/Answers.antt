@@ -1,5 +1,5 @@
 use Rattle.ordup_objects.proofs.NameLemmas.{same_ends}
-use Rattle.ordup_objects.proofs.name.have_alike_ends.Goals as goal
+use Rattle.ordup_objects.proofs.bytes.have_alike_ends.Goals as goal
 
 pub returns : goal.returns
 returns g c =

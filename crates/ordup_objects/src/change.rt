@@ -34,7 +34,7 @@ impl NumberOp {
     }
 }
 
-/// What becomes of an object's value. Numbers lie from -1,000,000,000 to 1,000,000,000.
+/// What a change does to its object's value. Numbers lie from -1,000,000,000 to 1,000,000,000.
 #[derive(Clone, Copy, Debug, PartialEq, Eq)]
 pub enum Op {
     /// The value plus the number.
@@ -66,7 +66,7 @@ impl Op {
         }
     }
 
-    /// The object whose value the operation reads besides its own, if there is one.
+    /// The object that the operation takes its value from, if there is one.
     pub fn source(self) -> Option<ObjectId>
         ensures { option_map (λ o. o) result ≡ source_of self }
     {
@@ -76,7 +76,7 @@ impl Op {
         }
     }
 
-    /// What the operation makes of a value, with the value of its source before the message set where it has one.
+    /// The value after the operation. An operation with a source takes the value that the source had before the message set.
     pub fn result(self, value: i64, source: i64) -> i64
         requires value { IsInRange value }
         requires number { IfSome (number_of self) IsInRange }
@@ -98,6 +98,6 @@ impl Op {
 pub struct Change {
     /// The object that changes.
     pub object: ObjectId,
-    /// What becomes of its value.
+    /// What the change does to its value.
     pub op: Op,
 }

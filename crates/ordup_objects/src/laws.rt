@@ -4,14 +4,14 @@ ghost use Rattle.ordup_objects.specs.Weights.{ValuesMoveByTheirWeights, LongerHi
 
 /// A law: a value moves by no more than the span between weighs.
 ///
-/// It is the triangle inequality of whole numbers, by which a lagging copy knows how stale it is at most.
+/// This is the triangle inequality of whole numbers. It bounds how stale a lagging copy can be.
 pub fn values_move_by_their_weights()
     ensures { ValuesMoveByTheirWeights }
 {}
 
 /// A law: updates that are added later leave the serial results as they were.
 ///
-/// So what a site holds of a log stays the serial result of a prefix, however the log grows.
+/// So the values of a site stay the serial result of a prefix of the log, however the log grows.
 pub fn longer_histories_keep_serial_results()
     ensures { LongerHistoriesKeepSerialResults }
 {}
@@ -30,7 +30,7 @@ pub fn longer_histories_keep_object_spans()
 
 /// A law: the marks of a place of a history are those of the same place of each longer one.
 ///
-/// So what a query took as its reference stays one, however the log grows.
+/// So the reference of a query stays one, however the log grows.
 pub fn longer_histories_keep_marks()
     ensures { LongerHistoriesKeepMarks }
 {}

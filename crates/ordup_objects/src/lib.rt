@@ -1,6 +1,6 @@
-//! The objects of the store: their names, changes, message sets and values.
+//! The objects of the store: their names and values, and the message sets that change them.
 //!
-//! The one contract above this layer: a message set applies to the values as its meaning says, as a whole or not at all.
+//! What the layers above rely on: a message set applies as its definition says, as a whole or not at all.
 #![tactic(auto)]
 
 mod bytes;

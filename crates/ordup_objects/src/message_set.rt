@@ -18,13 +18,13 @@ use std::marker::Model;
 
 /// 1 to 64 changes of distinct objects, which apply as a whole: all read the state before the set.
 ///
-/// It is the message set of Pu and Leff, in which an update is propagated to the replicas.
+/// This is the message set of Pu and Leff, which carries an update to the replicas.
 #[derive(Debug, Drop)]
 pub struct MessageSet<A: Allocator + Copy = Global> {
     changes: Changes<A>,
 }
 
-/// A single change in place, as most sets have, or a list of changes.
+/// A single change in place, which is what most sets are, or a list of changes.
 #[derive(Debug, Drop)]
 enum Changes<A: Allocator + Copy> {
     One([Change; 1]),
@@ -32,7 +32,7 @@ enum Changes<A: Allocator + Copy> {
 }
 
 impl<A: Allocator + Copy> Changes<A> {
-    /// The same changes with one more as the last. It is refused `NoMemory` alone.
+    /// Adds a change as the last. The only refusal is `NoMemory`.
     fn push(&mut self, alloc: A, change: Change) -> Result<(), Refusal>
         ensures pushed { IfOk result (λ _. changes_of self.new ≡ changes_of self.old ++ change ∷ []) }
         ensures refused { IfErr result (λ e. e ≡ Refusal.NoMemory) }
@@ -116,7 +116,7 @@ impl<A: Allocator + Copy> MessageSet<A> {
         })
     }
 
-    /// The same set once more. It is refused `NoMemory` alone.
+    /// A copy of the set. The only refusal is `NoMemory`.
     pub fn copy(&self, alloc: A) -> Result<Self, Refusal>
         ensures copied { IfOk result (λ set. set ≡ self.now) }
         ensures refused { IfErr result (λ e. e ≡ Refusal.NoMemory) }

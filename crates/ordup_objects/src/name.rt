@@ -37,7 +37,7 @@ impl Model for Name {
 }
 
 impl Name {
-    /// The name that these bytes spell. Other bytes than a name's are refused `BadName`.
+    /// The name that these bytes spell. Bytes that spell no name are refused `BadName`.
     pub fn new(bytes: &[u8]) -> Result<Self, Refusal>
         ensures name { IfOk result (λ n. n ≡ bytes.now) }
         ensures ok { IsOk result ↔ IsTrue (is_name bytes.now) }
@@ -142,7 +142,7 @@ impl Hash for Name {
     }
 }
 
-/// The bytes by which a name is looked up. They may be no name, and then there is none to find.
+/// The bytes by which a name is looked up. Where they spell no name, none is found.
 #[derive(Clone, Copy)]
 pub(crate) struct NameBytes<'a> {
     pub(crate) bytes: &'a [u8],

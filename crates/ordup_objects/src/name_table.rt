@@ -10,7 +10,7 @@ use std::hash::{BuildHasherDefault, FoldHasher};
 use std::marker::Model;
 use std::mem;
 
-/// Names in order of declaration, each with an entry of its own.
+/// Names in order of declaration, each with an entry.
 #[derive(Drop)]
 pub struct NameTable<V, A: Allocator + Copy = Global> {
     entries: IndexMap<Name, V, BuildHasherDefault<FoldHasher>, A>,
@@ -39,7 +39,7 @@ impl<V, A: Allocator + Copy> NameTable<V, A> {
         }
     }
 
-    /// The allocator that the table takes its memory from.
+    /// The allocator of the table.
     pub fn allocator(&self) -> &A {
         self.entries.allocator()
     }
@@ -98,7 +98,7 @@ impl<V, A: Allocator + Copy> NameTable<V, A> {
         self.entries.get_index(place).unwrap()
     }
 
-    /// Puts another entry beside the name at a place, and gives back the one that was there.
+    /// Replaces the entry of the name at a place, and returns the entry that was there.
     pub fn replace(&mut self, place: usize, entry: V) -> V
         requires { place < length self.old }
         ensures replaced { self.new ≡ with_entry self.old place entry }
@@ -107,7 +107,7 @@ impl<V, A: Allocator + Copy> NameTable<V, A> {
         mem::replace(self.entries.get_index_mut(place).unwrap(), entry)
     }
 
-    /// Adds a name that is not there.
+    /// Adds a name that is not in the table.
     pub fn push(&mut self, name: Name, entry: V) -> Result<(), AllocError>
     where
         V: Drop,

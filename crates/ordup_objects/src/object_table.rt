@@ -42,12 +42,12 @@ impl<A: Allocator + Copy> ObjectTable<A> {
         }
     }
 
-    /// The allocator that the table takes its memory from.
+    /// The allocator of the table.
     pub(crate) fn allocator(&self) -> A {
         *self.objects.allocator()
     }
 
-    /// The same objects once more. It is refused `NoMemory` alone.
+    /// A copy of the table. The only refusal is `NoMemory`.
     pub fn copy(&self, alloc: A) -> Result<Self, Refusal>
         ensures copied { IfOk result (λ table. table ≡ self.now) }
         ensures refused { IfErr result (λ e. e ≡ Refusal.NoMemory) }

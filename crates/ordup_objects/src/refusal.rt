@@ -6,7 +6,7 @@ use thiserror::Error;
 
 /// Why a call was refused. A refused call leaves everything as it was.
 ///
-/// Each refusal has a number and a name, by which answers show it.
+/// Answers show a refusal by its number and its name.
 #[derive(Clone, Copy, Debug, PartialEq, Eq, Error)]
 pub enum Refusal {
     /// The line is no command.
@@ -36,13 +36,13 @@ pub enum Refusal {
     /// A number, or the result of a change, is out of range.
     #[error("OutOfRange")]
     OutOfRange,
-    /// A size would be passed.
+    /// A size would be exceeded.
     #[error("TooMany")]
     TooMany,
     /// Something that must have a member has none.
     #[error("Empty")]
     Empty,
-    /// Something comes twice.
+    /// Something is given twice.
     #[error("Repeated")]
     Repeated,
     /// The log has all the updates that it may have.
@@ -84,7 +84,7 @@ pub enum Refusal {
     /// The site lags by more than the new limit.
     #[error("LagOver")]
     LagOver,
-    /// There was no memory for it.
+    /// Memory was refused.
     #[error("NoMemory")]
     NoMemory,
     /// The site does not hold what its log says.
@@ -115,7 +115,7 @@ impl<T: Drop> From<AllocFailed<T>> for Refusal {
 impl Refusal {
     ghost use Rattle.ordup_objects.specs.Refusals.{refusal_number, refusal_name};
 
-    /// The number by which answers show the refusal, from 1 to 27.
+    /// The number of the refusal in answers, from 1 to 27.
     pub fn number(&self) -> u8
         ensures { result ≡ refusal_number self.now }
     {
@@ -150,7 +150,7 @@ impl Refusal {
         }
     }
 
-    /// The name by which answers show the refusal.
+    /// The name of the refusal in answers.
     pub fn name(&self) -> &'static str
         ensures { result.now ≡ refusal_name self.now }
     {

@@ -6,7 +6,7 @@ use std::marker::Model;
 
 /// What each change of a message set makes of its object's value, in the order of the changes.
 ///
-/// `Values::results` computes them in place, once; `Values::push_distances` and `Values::put` go by them.
+/// `Values::results` computes them once, in place. `Values::push_distances` and `Values::put` use them.
 #[derive(Debug, Drop)]
 pub struct Results {
     pub(crate) results: [i64; MOST_CHANGES],
@@ -31,7 +31,7 @@ impl Results {
         }
     }
 
-    /// The results, in the order of the changes. What stands after them says nothing.
+    /// The results, in the order of the changes. What stands after them has no meaning.
     pub fn as_slice(&self) -> &[i64]
         ensures results { result.now ≡ self.now }
         ensures room { length result.now ≡ most_changes }

@@ -33,7 +33,7 @@ impl<A: Allocator + Copy> Model for Values<A> {
 }
 
 impl<A: Allocator + Copy> Values<A> {
-    /// The initial values of the objects. It is refused `NoMemory` alone.
+    /// The initial values of the objects. The only refusal is `NoMemory`.
     pub fn initial(alloc: A, objects: &ObjectTable<A>) -> Result<Self, Refusal>
         ensures initial { IfOk result (λ values. values ≡ initial_state objects.now) }
         ensures refused { IfErr result (λ e. e ≡ Refusal.NoMemory) }
@@ -42,7 +42,7 @@ impl<A: Allocator + Copy> Values<A> {
         Ok(Values { values })
     }
 
-    /// The same values once more. It is refused `NoMemory` alone.
+    /// A copy of the values. The only refusal is `NoMemory`.
     pub fn copy(&self, alloc: A) -> Result<Self, Refusal>
         ensures copied { IfOk result (λ values. values ≡ self.now) }
         ensures refused { IfErr result (λ e. e ≡ Refusal.NoMemory) }
@@ -86,7 +86,7 @@ impl<A: Allocator + Copy> Values<A> {
 
     /// Applies a message set as a whole: all its changes read the values before it.
     ///
-    /// Where a result is out of range it is refused `OutOfRange`, and no value changes.
+    /// The set is refused `OutOfRange` where a result is out of range. Then no value changes.
     pub fn apply(&mut self, set: &MessageSet<A>) -> Result<(), Refusal>
         requires { AreKnown (length self.old) set.now }
         ensures ok { OnOk result (self.new ≡ after set.now self.old) }
@@ -108,7 +108,7 @@ impl<A: Allocator + Copy> Values<A> {
         self.results(set, &mut Results::new()).is_ok()
     }
 
-    /// Computes what each change of a set makes of its object's value. It is refused `OutOfRange` alone, where a result is out of
+    /// Computes what each change of a set makes of its object's value. The only refusal is `OutOfRange`, where a result is out of
     /// range.
     pub fn results(&self, set: &MessageSet<A>, results: &mut Results) -> Result<(), Refusal>
         requires { AreKnown (length self.now) set.now }
@@ -119,7 +119,8 @@ impl<A: Allocator + Copy> Values<A> {
         results_of(self.values.as_slice(), set.changes(), &mut results.results)
     }
 
-    /// Adds to a list that has room how far each change of a set would move its object's value, by its results on these values.
+    /// Adds how far each change of a set would move its object's value to a list that has room. The results are those of the set on
+    /// these values.
     pub fn push_distances(
         &self,
         set: &MessageSet<A>,
@@ -135,7 +136,7 @@ impl<A: Allocator + Copy> Values<A> {
         put_distances(distances, values, set.changes(), &results.results);
     }
 
-    /// Applies a legal set by its results on these values. It computes nothing again.
+    /// Applies a legal set. The results are those of the set on these values, and none is computed again.
     pub fn put(&mut self, set: &MessageSet<A>, results: &Results)
         requires known { AreKnown (length self.old) set.now }
         requires legal { IsTrue (is_legal set.now self.old) }

@@ -84,6 +84,15 @@ impl<A: Allocator + Copy> Values<A> {
         self.values.as_slice()
     }
 
+    /// What a change makes of its object's value.
+    pub fn result(&self, change: &Change) -> i64
+        requires known { IsKnown (length self.now) change.now }
+        requires number { IfSome (number_of change.now.op) IsInRange }
+        ensures { result ≡ result_at self.now change.now }
+    {
+        result_at(self.values.as_slice(), change)
+    }
+
     /// Applies a message set as a whole: all its changes read the values before it.
     ///
     /// The set is refused `OutOfRange` where a result is out of range. Then no value changes.

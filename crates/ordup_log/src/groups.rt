@@ -6,42 +6,11 @@ ghost use Rattle.ordup_objects.specs.Repeats.{repeats};
 ghost use Rattle.ordup_objects.specs.Refusals.{IsRefusal};
 ghost use Rattle.ordup_log.specs.Groups.{group_refusal, member_refusal, members_at, last_members, with_member, are_members_known, AreMembersKnown, IsGroup};
 
+use crate::ids::GroupId;
 use ordup_objects::sizes::{MOST_GROUPS, MOST_MEMBERS};
 use ordup_objects::{Name, NameTable, ObjectId, ObjectTable, Refusal};
 use std::alloc::{Allocator, Global};
 use std::marker::Model;
-
-/// The place of a group in the order of declaration, counted from 0.
-#[derive(Clone, Copy, Debug, PartialEq, Eq)]
-pub struct GroupId {
-    index: u8,
-}
-
-impl Model for GroupId {
-    ghost use Rattle.std.specs.Prelude.{ℕ};
-
-    ghost Value = { ℕ };
-
-    ghost view = { λ g. g.index };
-
-    ghost inverse = { λ n. record { index = n } };
-}
-
-impl GroupId {
-    /// The group at this place.
-    pub fn new(index: u8) -> Self
-        ensures { result ≡ index }
-    {
-        GroupId { index }
-    }
-
-    /// The place of the group.
-    pub fn index(self) -> usize
-        ensures { result ≡ self }
-    {
-        self.index as usize
-    }
-}
 
 /// Groups of objects in order of declaration: at most 32, each with 1 to 64 distinct members.
 #[derive(Drop)]

@@ -4,13 +4,15 @@
 #![tactic(auto)]
 
 mod groups;
+mod ids;
 mod laws;
 mod log;
 mod postings;
 mod scope;
 mod steps;
 
-pub use groups::{GroupId, Groups};
+pub use groups::Groups;
+pub use ids::GroupId;
 pub use laws::{inner_spans_weigh_less, longer_histories_keep_spans, values_move_by_spans};
 pub use log::Log;
 pub use scope::Scope;

@@ -1,4 +1,4 @@
-use crate::groups::GroupId;
+use crate::ids::GroupId;
 use ordup_objects::ObjectId;
 
 /// What a weight is taken on.

@@ -11,7 +11,7 @@ use Rattle.std.proofs.Math.ListN.{length-set}
 use Rattle.std.proofs.lemmas.Bool.{lt-ltb, ne_eqb}
 use Rattle.std.proofs.lemmas.Cmp.{nat_eq_equiv}
 use Rattle.std.proofs.lemmas.List.{length_push, length-map, get_or-map, map-append}
-use Rattle.std.proofs.lemmas.List.Elements.{All-map, All-same, All-push, All-set}
+use Rattle.std.proofs.lemmas.List.Elements.{All-map, All-set}
 use Rattle.ordup_objects.specs.Tables.{names_of, place_of, with_entry, AreNames, AreDistinct}
 use Rattle.ordup_objects.proofs.TableLemmas.{take-next}
 use Rattle.ordup_objects.proofs.RepeatLemmas.{repeats-push, list_any-alike}
@@ -37,16 +37,6 @@ pub place_of-none : (found : Option ℕ) (place : Option ℕ) → option_map (λ
     → place ≡ None
 place_of-none None place e none = sym e
 place_of-none (Some x) place e none = cc
-
--- groups keep their invariant by one group more
-pub groups-push : {Z : Type 0} (groups more : List (List ℕ × Vec ℕ Z)) (name : List ℕ) (members : Vec ℕ Z)
-    → length groups < most_groups → All (λ g. IsGroup g.1.items) groups → IsGroup members.items
-    → more ≡ groups ++ (name, members) ∷ [] → (length more ≤ most_groups) × All (λ g. IsGroup g.1.items) more
-groups-push {Z} groups more name members room are is e = (
-  omega (arith, ap length e, length_push groups (name, members)),
-  All-same (λ (g : List ℕ × Vec ℕ Z). IsGroup g.1.items) more (groups ++ (name, members) ∷ []) e
-      (All-push (λ (g : List ℕ × Vec ℕ Z). IsGroup g.1.items) groups (name, members) are is),
-)
 
 -- what callers see of groups are groups
 pub are_groups-view : {Z : Type 0} (groups : List (List ℕ × Vec ℕ Z)) (view : List (List ℕ × List ℕ))

@@ -48,12 +48,8 @@ impl<A: Allocator + Copy> Groups<A> {
         let mut groups = NameTable::new(alloc);
         for place in 0..self.groups.len() {
             let (name, members) = self.groups.at(place);
-            let Ok(members) = Vec::from_slice(alloc, members.as_slice()) else {
-                return Err(Refusal::NoMemory);
-            };
-            if groups.push(*name, members).is_err() {
-                return Err(Refusal::NoMemory);
-            }
+            let members = Vec::from_slice(alloc, members.as_slice())?;
+            groups.push(*name, members)?;
         }
         Ok(Groups { groups })
     }
@@ -92,13 +88,9 @@ impl<A: Allocator + Copy> Groups<A> {
         if has_repeat(members) {
             return Err(Refusal::Repeated);
         }
-        let Ok(members) = Vec::from_slice(*self.groups.allocator(), members) else {
-            return Err(Refusal::NoMemory);
-        };
-        match self.groups.push(name, members) {
-            Ok(()) => Ok(GroupId::new(place as u8)),
-            Err(_) => Err(Refusal::NoMemory),
-        }
+        let members = Vec::from_slice(*self.groups.allocator(), members)?;
+        self.groups.push(name, members)?;
+        Ok(GroupId::new(place as u8))
     }
 
     /// Adds a member to the last group.
@@ -129,10 +121,8 @@ impl<A: Allocator + Copy> Groups<A> {
         let mut members = self.groups.replace(last, Vec::new(alloc));
         let added = members.push(member);
         self.groups.replace(last, members);
-        match added {
-            Ok(()) => Ok(()),
-            Err(_) => Err(Refusal::NoMemory),
-        }
+        added?;
+        Ok(())
     }
 
     /// The group of this name, if there is one.

@@ -129,20 +129,13 @@ impl<A: Allocator + Copy> Log<A> {
         if self.sets.len() == MOST_UPDATES {
             return Err(Refusal::LogFull);
         }
-        let Ok(()) = self.end.results(&set, &mut self.results) else {
-            return Err(Refusal::OutOfRange);
-        };
+        self.end.results(&set, &mut self.results)?;
         let count = set.changes().len();
-        if self.sets.reserve(1).is_err()
-            || self.distances.reserve(count).is_err()
-            || self.begins.reserve(1).is_err()
-            || self.all.reserve(1).is_err()
-        {
-            return Err(Refusal::NoMemory);
-        }
-        let Ok(()) = take_room(&mut self.postings, set.changes()) else {
-            return Err(Refusal::NoMemory);
-        };
+        self.sets.reserve(1)?;
+        self.distances.reserve(count)?;
+        self.begins.reserve(1)?;
+        self.all.reserve(1)?;
+        take_room(&mut self.postings, set.changes())?;
         let number = self.sets.len() as u64 + 1;
         let begin = self.distances.len();
         self.end

@@ -16,13 +16,9 @@ pub(crate) fn no_postings<A: Allocator + Copy>(
     ensures none { IfOk result (λ v. All (λ list. list.items ≡ []) v.items) }
     ensures refused { IfErr result (λ e. e ≡ Refusal.NoMemory) }
 {
-    let Ok(mut postings) = Vec::with_capacity(alloc, count) else {
-        return Err(Refusal::NoMemory);
-    };
+    let mut postings = Vec::with_capacity(alloc, count)?;
     for _object in 0..count {
-        if postings.push(Vec::new(alloc)).is_err() {
-            return Err(Refusal::NoMemory);
-        }
+        postings.push(Vec::new(alloc))?;
     }
     Ok(postings)
 }

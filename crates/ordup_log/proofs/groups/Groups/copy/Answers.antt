@@ -11,8 +11,8 @@ push-requires g c =
 pub loop-place-preserved : goal.loop-place-preserved
 loop-place-preserved g c =
     ap groups_of (search rules)
-    ∙ groups_of-next c.loop-place.groups c.self.inside.groups c.loop-place.place c.at.result.0.now c.in-Ok.members c.at.result.1.now
-    c.loop-place.invariant c.at.ensures.entry (c.in-Ok.ensures.items ∙ c.as_slice.ensures.value)
+    ∙ groups_of-next c.loop-place.groups c.self.inside.groups c.loop-place.place c.at.result.0.now c.in_ok-members.members c.at.result.1.now
+    c.loop-place.invariant c.at.ensures.entry (c.in_ok-members.ensures.items ∙ c.as_slice.ensures.value)
 
 pub invariant_of-result : goal.invariant_of-result
 invariant_of-result g c =

@@ -143,7 +143,19 @@ impl<A: Allocator + Copy> Groups<A> {
         ensures names { AreNames self.now }
         ensures distinct { AreDistinct self.now }
     {
+        self.keeps();
         self.groups.len()
+    }
+
+    /// What each table keeps, for the proofs of its users. It does nothing.
+    #[inline(always)]
+    pub fn keeps(&self)
+        ensures few { length self.now ≤ most_groups }
+        ensures groups { All (λ g. IsGroup g.1) self.now }
+        ensures names { AreNames self.now }
+        ensures distinct { AreDistinct self.now }
+    {
+        self.groups.keeps();
     }
 
     /// The name of a group.

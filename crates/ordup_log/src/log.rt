@@ -68,8 +68,7 @@ impl<A: Allocator + Copy> Log<A> {
         ensures copied { IfOk result (λ log. log ≡ prefix_of self.now count) }
         ensures refused { IfErr result (λ e. e ≡ Refusal.NoMemory) }
     {
-        // For the proof: there are few enough updates, and each is legal.
-        let _all = self.len();
+        self.keeps();
         let mut log = Log::over(alloc, self.start.copy(alloc)?)?;
         for place in 0..count {
             let set = self.set(place + 1).copy(alloc)?;
@@ -106,6 +105,15 @@ impl<A: Allocator + Copy> Log<A> {
         ensures legal { IsLegalHistory self.now }
     {
         self.sets.len() as u64
+    }
+
+    /// What each log keeps, for the proofs of its users. It does nothing.
+    #[inline(always)]
+    pub fn keeps(&self)
+        ensures few { length self.now.sets ≤ most_updates }
+        ensures legal { IsLegalHistory self.now }
+    {
+        let _ = &self.sets;
     }
 
     /// How many objects the log is over.
@@ -199,9 +207,8 @@ impl<A: Allocator + Copy> Log<A> {
         ensures weight { result ≡ weight self.now groups.now scope (number - 1) }
         ensures few { result ≤ greatest_weight }
     {
-        // For the proof: each update is legal, and a group has few enough members for the weight to be small.
-        let _updates = self.len();
-        let _groups = groups.len();
+        self.keeps();
+        groups.keeps();
         self.span(scope, groups, number - 1, number)
     }
 
@@ -215,8 +222,7 @@ impl<A: Allocator + Copy> Log<A> {
         ensures span { result ≡ span self.now groups.now scope from to }
         ensures few { result ≤ most_updates * greatest_weight }
     {
-        // For the proof: there are few enough updates for the weight to be small.
-        let _updates = self.len();
+        self.keeps();
         match scope {
             Scope::Object(object) => self.span_on(object, from, to),
             Scope::Group(group) => self.span_on_members(groups.members(group), from, to),
@@ -260,8 +266,7 @@ impl<A: Allocator + Copy> Log<A> {
         ensures span { result ≡ object_span self.now object from to }
         ensures few { result ≤ most_updates * greatest_distance }
     {
-        // For the proof: there are few enough updates, each of which weighs little.
-        let _updates = self.len();
+        self.keeps();
         self.running_weight(object, to) - self.running_weight(object, from)
     }
 

@@ -7,8 +7,8 @@ pub returns-in_err-append-clause-refused : goal.returns-in_err-append-clause-ref
 returns-in_err-append-clause-refused g c =
     let set = c.in_ok-set.ensures.copied ∙ c.set.ensures.set in
     let taken =
-    append_refusal-prefix c.args.self.now c.loop-place.log c.in_ok-set.set c.loop-place.place c.len-all.ensures.legal
-    c.len-all.ensures.few (omega arith) c.loop-place.invariant set in
+    append_refusal-prefix c.args.self.now c.loop-place.log c.in_ok-set.set c.loop-place.place c.keeps.ensures.legal
+    c.keeps.ensures.few (omega arith) c.loop-place.invariant set in
     let failed = err_from_is_err_and c.from_residual-in_err-append.result c.from_residual-in_err-append.ensures.1 in
     rw (failed.1, failed.2) (rw taken at c.in_err-append.ensures.refused)
 

@@ -44,8 +44,8 @@ returns-in-All-clause-few g c =
       c.running_weight_on_all.ensures,
       span-add h [] Everything c.args.from c.args.to c.requires.forward,
       sum_from-few (weight h [] Everything) greatest_weight c.args.from (c.args.to - c.args.from)
-          (λ j lt. all_weight-few h c.len-updates.ensures.legal j (omega (arith, lt, c.requires.last, c.requires.forward))),
-      c.len-updates.ensures.few,
+          (λ j lt. all_weight-few h c.keeps.ensures.legal j (omega (arith, lt, c.requires.last, c.requires.forward))),
+      c.keeps.ensures.few,
       c.requires.last,
     )
 
@@ -53,4 +53,4 @@ pub returns-in-Count-clause-span : goal.returns-in-Count-clause-span
 returns-in-Count-clause-span g c = rw c.in-Count.is (sym (span-count c.args.self.now c.args.groups.now c.args.from c.args.to))
 
 pub returns-in-Count-clause-few : goal.returns-in-Count-clause-few
-returns-in-Count-clause-few g c = omega (arith, c.len-updates.ensures.few, c.requires.last)
+returns-in-Count-clause-few g c = omega (arith, c.keeps.ensures.few, c.requires.last)

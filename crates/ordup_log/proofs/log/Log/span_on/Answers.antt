@@ -34,7 +34,7 @@ returns-clause-few g c =
       c.running_weight-2.ensures,
       object_span-add h x c.args.from c.args.to c.requires.forward,
       sum_from-few (object_weight h x) greatest_distance c.args.from (c.args.to - c.args.from)
-          (λ j lt. object_weight-few h c.len-updates.ensures.legal x j (omega (arith, lt, c.requires.last, c.requires.forward))),
-      c.len-updates.ensures.few,
+          (λ j lt. object_weight-few h c.keeps.ensures.legal x j (omega (arith, lt, c.requires.last, c.requires.forward))),
+      c.keeps.ensures.few,
       c.requires.last,
     )

@@ -15,6 +15,6 @@ returns-clause-few g c =
       arith,
       c.span.ensures.span,
       span-one h groups c.args.scope c.args.number c.requires.first,
-      weight-few h c.len-updates.ensures.legal groups c.len-groups.ensures.groups c.args.scope c.requires.known (c.args.number - 1)
+      weight-few h c.keeps.ensures.legal groups c.keeps-2.ensures.groups c.args.scope c.requires.known (c.args.number - 1)
           (omega (arith, c.requires.first, c.requires.last)),
     )

@@ -179,6 +179,13 @@ impl<A: Allocator + Copy> Log<A> {
         self.set(number).copy(alloc)
     }
 
+    /// The values after all updates.
+    pub fn end(&self) -> &Values<A>
+        ensures { result.now ≡ serial self.now (length self.now.sets) }
+    {
+        &self.end
+    }
+
     /// The value of an object after all updates.
     pub fn end_value(&self, object: ObjectId) -> i64
         requires { object < length self.now.start }

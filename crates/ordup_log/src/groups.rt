@@ -40,7 +40,7 @@ impl<A: Allocator + Copy> Groups<A> {
         }
     }
 
-    /// The same groups once more. It is refused `NoMemory` alone.
+    /// A copy of the groups. The only refusal is `NoMemory`.
     pub fn copy(&self, alloc: A) -> Result<Self, Refusal>
         ensures copied { IfOk result (λ groups. groups ≡ self.now) }
         ensures refused { IfErr result (λ e. e ≡ Refusal.NoMemory) }

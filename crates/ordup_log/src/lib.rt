@@ -1,6 +1,6 @@
 //! The log: the updates in their global order, groups of objects, and what updates weigh.
 //!
-//! The one contract above this layer: each place of the log is a set that is legal there, and spans are sums of weights.
+//! What the layers above rely on: each place of the log holds a set that is legal there, and spans are sums of weights.
 #![tactic(auto)]
 
 mod groups;

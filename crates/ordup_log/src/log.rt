@@ -25,7 +25,7 @@ pub struct Log<A: Allocator + Copy = Global> {
     begins: Vec<usize, A>,
     /// For each object the places with a weight above 0 on it, each with the running weight up to it.
     postings: Vec<Vec<(u64, u64), A>, A>,
-    /// The same on all objects together.
+    /// The same for all objects together.
     all: Vec<(u64, u64), A>,
     end: Values<A>,
     // Kept from one update to the next, since new room is zeroed.
@@ -53,7 +53,7 @@ impl<A: Allocator + Copy> Log<A> {
     ghost use Rattle.ordup_log.specs.Spans.{weight, span, IsScopeKnown};
     ghost use Rattle.ordup_log.specs.Postings.{postings_of};
 
-    /// A log without updates, over the initial values of the objects. It is refused `NoMemory` alone.
+    /// A log without updates, over the initial values of the objects. The only refusal is `NoMemory`.
     pub fn new(alloc: A, objects: &ObjectTable<A>) -> Result<Self, Refusal>
         ensures empty { IfOk result (λ log. log ≡ record { start = initial_state objects.now; sets = [] }) }
         ensures refused { IfErr result (λ e. e ≡ Refusal.NoMemory) }
@@ -62,7 +62,7 @@ impl<A: Allocator + Copy> Log<A> {
         Log::over(alloc, start)
     }
 
-    /// The log with just the first so many updates, over the same initial values. It is refused `NoMemory` alone.
+    /// A copy of the log with its first `count` updates. The only refusal is `NoMemory`.
     pub fn copy_prefix(&self, alloc: A, count: u64) -> Result<Self, Refusal>
         requires { count ≤ length self.now.sets }
         ensures copied { IfOk result (λ log. log ≡ prefix_of self.now count) }
@@ -77,7 +77,7 @@ impl<A: Allocator + Copy> Log<A> {
         Ok(log)
     }
 
-    /// A log without updates, over these values. It is refused `NoMemory` alone.
+    /// A log without updates, over these values. The only refusal is `NoMemory`.
     fn over(alloc: A, start: Values<A>) -> Result<Self, Refusal>
         ensures empty { IfOk result (λ log. log ≡ record { start = start; sets = [] }) }
         ensures refused { IfErr result (λ e. e ≡ Refusal.NoMemory) }
@@ -123,7 +123,7 @@ impl<A: Allocator + Copy> Log<A> {
         self.start.len()
     }
 
-    /// Adds a message set as the last update, and answers its number.
+    /// Adds a message set as the last update, and returns its number.
     ///
     /// It is refused `LogFull` after 1,000,000 updates, `OutOfRange` where a result is out of range, and `NoMemory`.
     pub fn append(&mut self, set: MessageSet<A>) -> Result<u64, Refusal>
@@ -168,7 +168,7 @@ impl<A: Allocator + Copy> Log<A> {
         &self.sets[number as usize - 1]
     }
 
-    /// The set of the update with this number, once more. It is refused `NoMemory` alone.
+    /// A copy of the set of the update with this number. The only refusal is `NoMemory`.
     pub fn copy_set(&self, number: u64) -> Result<MessageSet<A>, Refusal>
         requires first { 0 < number }
         requires last { number ≤ length self.now.sets }
@@ -221,7 +221,7 @@ impl<A: Allocator + Copy> Log<A> {
 
     /// The weight of the span from a place to another: the sum over the updates after the first, up to the second.
     ///
-    /// It is the difference of two running weights, each found by binary search; on a group, the sum over the members.
+    /// It is the difference of two running weights, each found by binary search. On a group it is the sum over the members.
     pub fn span(&self, scope: Scope, groups: &Groups<A>, from: u64, to: u64) -> u64
         requires forward { from ≤ to }
         requires last { to ≤ length self.now.sets }
@@ -277,7 +277,7 @@ impl<A: Allocator + Copy> Log<A> {
         self.running_weight(object, to) - self.running_weight(object, from)
     }
 
-    /// The weights of a span on several objects, added up.
+    /// The sum of the weights of a span on several objects.
     fn span_on_members(&self, members: &[ObjectId], from: u64, to: u64) -> u64
         requires forward { from ≤ to }
         requires last { to ≤ length self.now.sets }
@@ -293,7 +293,7 @@ impl<A: Allocator + Copy> Log<A> {
     }
 }
 
-/// So many numbers of a list from a place on.
+/// `count` numbers of a list, from `begin` on.
 fn part(numbers: &[u64], begin: usize, count: usize) -> &[u64]
     requires { begin + count ≤ length numbers.now }
     ensures { result.now ≡ take count (drop begin numbers.now) }

@@ -7,7 +7,7 @@ ghost use Rattle.ordup_log.specs.Postings.{last_weight, posted, HasRoomAt};
 use ordup_objects::{Change, Refusal};
 use std::alloc::{AllocError, Allocator};
 
-/// No postings of so many objects.
+/// Empty postings for `count` objects.
 pub(crate) fn no_postings<A: Allocator + Copy>(
     alloc: A,
     count: usize,
@@ -23,7 +23,7 @@ pub(crate) fn no_postings<A: Allocator + Copy>(
     Ok(postings)
 }
 
-/// Takes the room for a posting on each changed object.
+/// Reserves room for a posting on each changed object.
 pub(crate) fn take_room<A: Allocator + Copy>(
     postings: &mut Vec<Vec<(u64, u64), A>, A>,
     changes: &[Change],
@@ -39,7 +39,7 @@ pub(crate) fn take_room<A: Allocator + Copy>(
     Ok(())
 }
 
-/// Posts an update on the objects that it moves, by how far each of its changes moves its object's value.
+/// Posts an update on the objects that it moves: on each, how far its change moves the value.
 pub(crate) fn post_all<A: Allocator + Copy>(
     postings: &mut Vec<Vec<(u64, u64), A>, A>,
     changes: &[Change],

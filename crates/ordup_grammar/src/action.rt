@@ -3,10 +3,10 @@ ghost use Rattle.ordup_grammar.specs.Actions.{action_of, begin_of, proposal_of};
 ghost use Rattle.ordup_grammar.specs.Declarations.{limit_of};
 ghost use Rattle.ordup_grammar.specs.Words.{two_words};
 
+use crate::bytes::is_spelled;
 use crate::change_words::ChangeWords;
 use crate::declaration::ScopeWord;
 use crate::number::Number;
-use crate::spelled::is_spelled;
 use crate::word::Word;
 use crate::words::Words;
 

@@ -3,8 +3,8 @@ ghost use Rattle.ordup_grammar.specs.Commands.{command_of};
 ghost use Rattle.ordup_grammar.specs.Declarations.{declaration_of};
 
 use crate::action::Action;
+use crate::bytes::is_spelled;
 use crate::declaration::Declaration;
-use crate::spelled::is_spelled;
 use crate::word::Word;
 use crate::words::Words;
 

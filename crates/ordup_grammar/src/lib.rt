@@ -4,17 +4,15 @@
 #![tactic(auto)]
 
 mod action;
+mod bytes;
 mod change_words;
 mod command;
 mod declaration;
 mod line_buffer;
 mod number;
 mod operation;
-mod position;
-mod printed;
 mod request;
 pub mod sizes;
-mod spelled;
 mod word;
 mod words;
 

@@ -4,7 +4,7 @@ ghost use Rattle.ordup_grammar.specs.Lines.{IsPart};
 ghost use Rattle.ordup_grammar.specs.Requests.{is_printed, request_of};
 ghost use Rattle.std.specs.List.{list_all};
 
-use crate::printed::printed_prefix;
+use crate::bytes::printed_prefix;
 use crate::request::Request;
 use crate::sizes::MOST_LINE_BYTES;
 use memchr::memchr;
@@ -57,7 +57,7 @@ impl<'a> LinePart<'a> {
 
 /// What stands before the first line feed, and what stands after it.
 ///
-/// It goes over the bytes once, and so knows of most lines that each of their bytes is printed.
+/// Of most lines it finds in the same pass that each byte is printed: see `bytes`.
 pub fn split_line(bytes: &[u8]) -> Option<(LinePart<'_>, &[u8])>
     ensures { MatchOption result (IsPart bytes.now) (λ found.
         IsPart found.0 × (bytes.now ≡ found.0 ++ 10 ∷ found.1.now)) }

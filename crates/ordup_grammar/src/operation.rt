@@ -1,8 +1,8 @@
 ghost use Rattle.std.specs.Prelude.{◌≡◌, ◌==◌, None, is_some, position, if◌then◌else◌};
 ghost use Rattle.ordup_grammar.specs.Operations.{number_op_of, operation_of};
 
+use crate::bytes::position_of;
 use crate::number::Number;
-use crate::position::position_of;
 use crate::word::Word;
 use ordup_objects::NumberOp;
 

@@ -2,8 +2,8 @@ ghost use Rattle.std.specs.Prelude.{◌≡◌, ◌≤◌, [], ◌∷◌, ◌==�
 ghost use Rattle.std.specs.List.{slice_split, starts_with};
 ghost use Rattle.ordup_grammar.specs.Words.{words_of, only_word, two_words, name_and_number, only_number};
 
+use crate::bytes::position_of;
 use crate::number::Number;
-use crate::position::position_of;
 use crate::word::Word;
 use std::marker::Model;
 

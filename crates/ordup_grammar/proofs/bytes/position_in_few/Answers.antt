@@ -1,6 +1,6 @@
 use Rattle.std.proofs.Common.{◌==◌, sym, arith, rules}
 use Rattle.std.proofs.lemmas.List.Sums.{position_or_len_is}
-use Rattle.ordup_grammar.proofs.position.position_in_few.Goals as goal
+use Rattle.ordup_grammar.proofs.bytes.position_in_few.Goals as goal
 
 pub returns-else-text-place : goal.returns-else-text-place
 returns-else-text-place c =

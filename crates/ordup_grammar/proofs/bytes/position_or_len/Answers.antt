@@ -1,6 +1,6 @@
 use Rattle.std.proofs.Common.{sym, inl, inr, ◌-◌, length, arith}
 use Rattle.ordup_grammar.proofs.PositionLemmas.{first_in_block, others_past_block}
-use Rattle.ordup_grammar.proofs.position.position_or_len.Goals as goal
+use Rattle.ordup_grammar.proofs.bytes.position_or_len.Goals as goal
 
 pub returns-then-len-lt8 : goal.returns-then-len-lt8
 returns-then-len-lt8 c =

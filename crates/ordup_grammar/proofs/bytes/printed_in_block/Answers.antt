@@ -1,5 +1,5 @@
 use Rattle.ordup_grammar.proofs.PrintedLemmas.{printed_before_mark, printed_without_mark}
-use Rattle.ordup_grammar.proofs.printed.printed_in_block.Goals as goal
+use Rattle.ordup_grammar.proofs.bytes.printed_in_block.Goals as goal
 
 pub returns-then-unprinted-eq0 : goal.returns-then-unprinted-eq0
 returns-then-unprinted-eq0 c =

@@ -1,6 +1,6 @@
 use Rattle.std.proofs.Common.{arith}
 use Rattle.ordup_grammar.proofs.PrintedLemmas.{goes_past_block, stops_in_block}
-use Rattle.ordup_grammar.proofs.printed.printed_prefix.Goals as goal
+use Rattle.ordup_grammar.proofs.bytes.printed_prefix.Goals as goal
 
 pub returns-then-printed-lt-BLOCK : goal.returns-then-printed-lt-BLOCK
 returns-then-printed-lt-BLOCK c =

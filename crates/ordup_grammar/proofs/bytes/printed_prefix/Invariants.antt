@@ -1,7 +1,7 @@
 use Rattle.std.proofs.Common.{◌≡◌, ◌+◌, ◌-◌, ◌≤◌, drop, length}
 use Rattle.std.specs.List.{prefix_len}
 use Rattle.ordup_grammar.specs.Requests.{is_printed}
-use Rattle.ordup_grammar.proofs.printed.printed_prefix.Given as goal
+use Rattle.ordup_grammar.proofs.bytes.printed_prefix.Given as goal
 
 -- all bytes so far are printed
 abbrev pub invariant-loop-place : goal.invariant-loop-place

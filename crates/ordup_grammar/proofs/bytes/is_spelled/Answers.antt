@@ -1,6 +1,6 @@
 use Rattle.std.proofs.Common.{arith, sym, ◌∙◌}
 use Rattle.ordup_grammar.proofs.SpelledLemmas.{last_four_tell}
-use Rattle.ordup_grammar.proofs.spelled.is_spelled.Goals as goal
+use Rattle.ordup_grammar.proofs.bytes.is_spelled.Goals as goal
 
 pub returns : goal.returns
 returns c =

@@ -1,3 +1,4 @@
+pub mod Sizes
 pub mod NumberInside
 pub mod Numbers
 pub mod Lines

@@ -5,12 +5,13 @@ use Rattle.std.specs.Prelude.{option_map, slice_index, unsigned_abs, ◌<◌, �
 use Rattle.std.specs.Fmt.{signed_decimal}
 use Rattle.std.specs.Str.{all_ascii_digits}
 use Rattle.std.specs.Str.Parse.{digits_value}
+use Rattle.ordup_grammar.specs.Sizes.{most_digits}
 
 -- whether digits stand as a number is written: 1 to 19 of them, with no zero in front of others
 abbrev pub is_plain : List ℕ → Bool
 is_plain digits =
     nat_lt 0 (length digits)
-    && nat_le (length digits) 19
+    && nat_le (length digits) most_digits
     && (not (slice_index digits 0 == 48) || (length digits == 1))
     && all_ascii_digits digits
 
@@ -36,9 +37,9 @@ amount_of (negsuc n) = 18446744073709551615
 
 -- the decimal text of a number of at most 19 digits reads back as that number
 abbrev pub DecimalsReadBack : Type 0
-DecimalsReadBack = (z : ℤ) → unsigned_abs z < 10 ^ 19 → number_of (signed_decimal z) ≡ Some z
+DecimalsReadBack = (z : ℤ) → unsigned_abs z < 10 ^ most_digits → number_of (signed_decimal z) ≡ Some z
 
 -- a word that reads as a number is the decimal text of that number, which has at most 19 digits
 abbrev pub NumbersAreDecimals : Type 0
 NumbersAreDecimals =
-    (word : List ℕ) (z : ℤ) → number_of word ≡ Some z → (unsigned_abs z < 10 ^ 19) × (word ≡ signed_decimal z)
+    (word : List ℕ) (z : ℤ) → number_of word ≡ Some z → (unsigned_abs z < 10 ^ most_digits) × (word ≡ signed_decimal z)

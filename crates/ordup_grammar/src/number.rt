@@ -1,7 +1,9 @@
 ghost use Rattle.std.specs.Prelude.{◌≡◌, ◌<◌, ◌≤◌, unsigned_abs};
 ghost use Rattle.std.specs.Int.{saturate_signed, w64};
+ghost use Rattle.ordup_objects.specs.Sizes.{greatest_value};
 ghost use Rattle.ordup_grammar.specs.Numbers.{magnitude_of, number_of, amount_of, DecimalsReadBack, NumbersAreDecimals};
 
+use crate::sizes::MOST_DIGITS;
 use std::marker::Model;
 
 /// A whole number as a script writes it: at most 19 digits, so between -(10^19 - 1) and 10^19 - 1. Zero has no sign.
@@ -47,8 +49,8 @@ impl Number {
     /// The number where it fits, else the `i64` nearest to it.
     pub fn value(self) -> i64
         ensures nearest { result ≡ saturate_signed w64 self }
-        ensures exact { unsigned_abs self ≤ 1000000000 → result ≡ self }
-        ensures far { 1000000000 < unsigned_abs self → 1000000000 < unsigned_abs result }
+        ensures exact { unsigned_abs self ≤ greatest_value → result ≡ self }
+        ensures far { greatest_value < unsigned_abs self → greatest_value < unsigned_abs result }
     {
         if self.sign < 0 {
             0i64.saturating_sub_unsigned(self.magnitude)
@@ -73,7 +75,7 @@ impl Number {
 fn parse_magnitude(digits: &[u8]) -> Option<u64>
     ensures { result ≡ magnitude_of digits.now }
 {
-    if digits.is_empty() || digits.len() > 19 || (digits[0] == b'0' && digits.len() > 1) {
+    if digits.is_empty() || digits.len() > MOST_DIGITS || (digits[0] == b'0' && digits.len() > 1) {
         return None;
     }
     let mut magnitude = 0u64;

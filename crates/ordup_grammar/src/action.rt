@@ -87,8 +87,8 @@ impl<'a> Action<'a> {
     }
 
     /// The proposal that words spell.
-    // A function of its own, as the next ones: the places of its values are cleared where it begins, and so for its lines alone.
-    // That takes 2 to 4 in 100 off a line's instructions.
+    // A function of its own, like the next ones, so that the room for its values is cleared for its own lines alone. That takes 2
+    // to 4 percent of a line's instructions away.
     #[inline(always)]
     fn parse_proposal(rest: &Words<'a>) -> Option<Action<'a>>
         ensures { result ≡ proposal_of rest.now }

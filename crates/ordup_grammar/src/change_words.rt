@@ -17,7 +17,7 @@ pub struct ChangeWord<'a> {
 
 impl<'a> ChangeWord<'a> {
     /// The change that a word spells: a kind, an object of at least one byte and an operand, between colons.
-    // Inlined, as the calls below, for the reason that `Words::two_words` is: a change is three words.
+    // Inlined, as the calls below, for the same reason as `Words::two_words`: a change is three words.
     #[inline(always)]
     pub fn parse(word: &Word<'a>) -> Option<ChangeWord<'a>>
         ensures { result ≡ change_of word.now }
@@ -35,7 +35,7 @@ impl<'a> ChangeWord<'a> {
     }
 }
 
-/// The changes that words spell, each of which spells one. A proposal makes them.
+/// The changes of a proposal: each of its words spells one.
 #[derive(Debug, Drop)]
 pub struct ChangeWords<'a> {
     words: Words<'a>,
@@ -76,7 +76,7 @@ impl<'a> ChangeWords<'a> {
         })
     }
 
-    /// The same changes once more.
+    /// A copy of the changes.
     pub fn copy(&self) -> ChangeWords<'a>
         ensures { result ≡ self.now }
     {

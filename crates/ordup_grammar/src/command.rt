@@ -44,7 +44,7 @@ impl<'a> Command<'a> {
     }
 
     /// The declaration that a first word and the words after it spell.
-    // A function of its own: the place of the declaration is cleared where it begins, and so for declarations alone.
+    // A function of its own, so that the room for a declaration is cleared for declarations alone.
     #[inline(always)]
     fn parse_declaration(first: &Word<'_>, rest: &Words<'a>) -> Option<Command<'a>>
         ensures { result ≡ option_map (λ d. Command.Declare d) (declaration_of first.now rest.now) }

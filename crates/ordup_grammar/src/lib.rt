@@ -1,6 +1,6 @@
 //! The grammar of scripts: the words of a line, the numbers and changes that they spell, and the command that they ask for.
 //!
-//! The one contract above this layer: what a line asks for is a function of its bytes, whether it comes whole or in pieces.
+//! What the layers above rely on: what a line asks for depends on its bytes alone, whether they come whole or in pieces.
 #![tactic(auto)]
 
 mod action;

@@ -1,4 +1,4 @@
-//! Lines that come in pieces: where one ends, and what no piece has ended yet.
+//! Lines that come in pieces: where a line ends, and the part of a line that no piece has ended yet.
 ghost use Rattle.std.specs.Prelude.{◌≡◌, ℕ, List, [], ◌∷◌, ◌++◌, ◌<◌, MatchOption, true, false, length};
 ghost use Rattle.ordup_grammar.specs.Lines.{IsPart};
 ghost use Rattle.ordup_grammar.specs.Requests.{is_printed, request_of};
@@ -115,7 +115,7 @@ impl LineBuffer {
         self.len == 0
     }
 
-    /// Holds more of a line that did not end yet.
+    /// Adds bytes to the line, which does not end among them.
     pub fn hold(&mut self, more: &[u8])
         requires { IsPart more.now }
         ensures { (part : List ℕ) → Holds self.old part → Holds self.new (part ++ more.now) }
@@ -129,7 +129,7 @@ impl LineBuffer {
         self.is_long = kept < more.len();
     }
 
-    /// What the line that is held asks for, where it ends here.
+    /// What the line asks for, if it ends here.
     #[tactic(auto, unfolding(crate::specs::Requests::request_of))]
     pub fn request(&self) -> Request<'_>
         ensures { result ≡ request_of self.now }
@@ -141,7 +141,7 @@ impl LineBuffer {
         }
     }
 
-    /// Holds nothing any more.
+    /// Forgets the line.
     pub fn clear(&mut self)
         ensures { Holds self.new [] }
     {

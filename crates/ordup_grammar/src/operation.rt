@@ -16,8 +16,8 @@ pub enum Operation<'a> {
 }
 
 impl<'a> Operation<'a> {
-    /// The operation that the first part of a change word spells with what stands behind its second colon. That is one part where
-    /// it has no colon; a number has none.
+    /// The operation that the first part of a change word spells, with what stands behind the second colon. The operand is a single
+    /// part where it has no colon itself. A number has none.
     pub(crate) fn parse(kind: &[u8], operand: &'a [u8]) -> Option<Operation<'a>>
         ensures { result ≡ (if is_some (position (λ byte. byte == 58) operand.now) then None else operation_of kind.now operand.now) }
     {

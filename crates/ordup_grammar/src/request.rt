@@ -15,12 +15,12 @@ pub enum Request<'a> {
     Nothing,
     /// The command that its words spell.
     Command(Command<'a>),
-    /// It is no command: it is too long, has a byte that is not printed, or its words spell none.
+    /// The line is no command: it is too long, has a byte that is not printed, or its words spell none.
     NoCommand,
 }
 
 impl<'a> Request<'a> {
-    /// What a line asks for that is this part.
+    /// What the line with these bytes asks for.
     #[tactic(auto, unfolding(crate::specs::Requests::request_of))]
     #[inline(always)]
     pub fn of(part: &LinePart<'a>) -> Request<'a>

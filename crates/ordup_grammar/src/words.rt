@@ -27,7 +27,7 @@ impl<'a> Words<'a> {
         Words { line }
     }
 
-    /// The same words once more. They are no more than the bytes of the line, and one.
+    /// A copy of the words. There is at most one more of them than the line has bytes.
     pub fn copy(&self) -> Words<'a>
         ensures same { result ≡ self.now }
         ensures few { length self.now ≤ 9223372036854775808 }
@@ -57,8 +57,8 @@ impl<'a> Words<'a> {
     }
 
     /// The word, where there is exactly one.
-    // Inlined over a call that answers by two numbers. The place of an `Option` of a word would be cleared for each line and for
-    // each command of one word, which takes 2 in 100 more instructions.
+    // Inlined over a call that returns two numbers. If the call returned an `Option` of a word, room for it would be cleared for
+    // each line and for each command of one word, which takes 2 percent more instructions.
     #[inline(always)]
     pub(crate) fn only_word(&self) -> Option<Word<'a>>
         ensures { result ≡ only_word self.now }
@@ -72,7 +72,7 @@ impl<'a> Words<'a> {
     }
 
     /// The words, where there are exactly two.
-    // Inlined: the words that a call answers are written in parts and read back as wider ones.
+    // Inlined: the words that a call returns are written in parts and read back in wider ones, which waits for the cache.
     #[inline(always)]
     pub(crate) fn two_words(&self) -> Option<(Word<'a>, Word<'a>)>
         ensures { result ≡ two_words self.now }
@@ -99,7 +99,7 @@ impl<'a> Words<'a> {
     }
 }
 
-/// The bytes of a line's word, where there is exactly one, and else no byte. A word has one.
+/// The bytes of the only word of a line, or none where there is not exactly one word.
 #[inline(never)]
 fn word_or_nothing(line: &[u8]) -> &[u8]
     ensures { only_word (words_of line.now) ≡ (if length result.now == 0 then None else Some result.now) }

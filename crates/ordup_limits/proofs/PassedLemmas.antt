@@ -37,7 +37,7 @@ pub IsBelow-extended : (n : ℕ) (first last : ℕ → Bool) (passed touched cou
 IsBelow-extended n first last passed touched counts was below on =
     IsBelow-either n _ _ (IsBelow-either n _ _ (IsBelow-mask n first passed was) below) (IsBelow-mask n last counts on)
 
--- ---- limits that are looked at once more
+-- ---- limits that are looked at again
 
 -- a limit that is looked at is left, or taken out where it is kept
 pub bits-looked : (mask rest passed next : ℕ) (kept : ℕ → Bool) (z : ℕ) → z < 64 → bit_at rest z ≡ 1

@@ -20,7 +20,7 @@ abbrev pub is_on_count : Scope → Bool
 is_on_count Count = true
 is_on_count _ = false
 
--- what a span of so many updates weighs on the scope of limit i, by what the updates up to its places weigh
+-- what a span of this many updates weighs on the scope of limit i, by what the updates up to its places weigh
 abbrev pub lag : ℕ → List ℕ → List ℕ → Scope → ℕ → ℕ
 lag updates added taken Count i = updates
 lag updates added taken _ i = slice_index added i - slice_index taken i

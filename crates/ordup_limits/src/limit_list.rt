@@ -42,7 +42,7 @@ impl LimitList {
         }
     }
 
-    /// The same limits once more.
+    /// A copy of the list.
     pub(crate) fn copy(&self) -> Self
         ensures { result ≡ self.now }
     {

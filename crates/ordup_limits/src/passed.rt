@@ -21,7 +21,7 @@ pub(crate) fn counts_of(limits: &[Limit]) -> u64
     counts
 }
 
-/// The limits that a span of so many updates passes, a bit for each.
+/// The limits that a span of this many updates passes, a bit for each.
 pub(crate) fn passed_of(limits: &[Limit], updates: u64, added: &[u64], taken: &[u64]) -> u64
     requires few { length limits.now ≤ most_limits }
     requires added { length added.now ≡ most_limits }
@@ -37,7 +37,7 @@ pub(crate) fn passed_of(limits: &[Limit], updates: u64, added: &[u64], taken: &[
     passed
 }
 
-/// Those of a mask's limits that a span of so many updates passes, a bit for each.
+/// Those of a mask's limits that a span of this many updates passes, a bit for each.
 pub(crate) fn passed_among(
     limits: &[Limit],
     updates: u64,
@@ -65,7 +65,7 @@ pub(crate) fn passed_among(
     passed
 }
 
-/// Whether a span of so many updates keeps a limit.
+/// Whether a span of this many updates keeps a limit.
 fn is_kept(limits: &[Limit], updates: u64, added: &[u64], taken: &[u64], place: usize) -> bool
     requires place { place < length limits.now }
     requires few { length limits.now ≤ most_limits }

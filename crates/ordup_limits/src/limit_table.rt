@@ -49,7 +49,7 @@ impl<A: Allocator + Copy> LimitTable<A> {
         }
     }
 
-    /// The same entries once more. It is refused `NoMemory` alone.
+    /// A copy of the table. It is refused `NoMemory` alone.
     pub fn copy(&self, alloc: A) -> Result<Self, Refusal>
         ensures copied { IfOk result (λ limits. limits ≡ self.now) }
         ensures refused { IfErr result (λ e. e ≡ Refusal.NoMemory) }
@@ -172,6 +172,13 @@ impl<A: Allocator + Copy> LimitTable<A> {
             return Err(Refusal::TooMany);
         }
         Ok(())
+    }
+
+    /// What each table keeps, for the proofs of its users. It does nothing.
+    pub fn keeps(&self)
+        ensures { AreEntries self.now }
+    {
+        let _ = &self.entries;
     }
 
     /// How many scopes have a limit, at most 64.

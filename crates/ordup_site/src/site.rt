@@ -38,22 +38,20 @@ impl<A: Allocator + Copy> Model for Site<A> {
 }
 
 impl<A: Allocator + Copy> Site<A> {
-    /// A site that applied nothing: it holds the initial values of the objects. It is refused `NoMemory` alone.
+    /// A site that applied nothing: it holds the initial values of the objects. The only refusal is `NoMemory`.
     pub fn new(alloc: A, objects: &ObjectTable<A>) -> Result<Self, Refusal>
         ensures state { IfOk result (λ site. site ≡ record { applied = 0; values = initial_state objects.now; travelled = replicate (length objects.now) 0 }) }
         ensures start { IfOk result (λ site. (h : History) → h.start ≡ initial_state objects.now → HasApplied site h 0) }
         ensures refused { IfErr result (λ e. e ≡ Refusal.NoMemory) }
     {
         let values = Values::initial(alloc, objects)?;
-        match vec![in alloc; 0; objects.len()] {
-            Ok(travelled) => Ok(Site {
-                applied: 0,
-                values,
-                travelled,
-                results: Results::new(),
-            }),
-            Err(_) => Err(Refusal::NoMemory),
-        }
+        let travelled = vec![in alloc; 0; objects.len()]?;
+        Ok(Site {
+            applied: 0,
+            values,
+            travelled,
+            results: Results::new(),
+        })
     }
 
     /// Applies a message set. It takes no memory, and its work grows with the changes of the set alone.
@@ -135,8 +133,7 @@ fn move_values<A: Allocator + Copy>(
     requires bounded { All (λ t. t ≤ greatest_distance * most_updates) travelled.old }
     ensures { Moves set.now values.old travelled.old values.new travelled.new }
 {
-    // For the proof: the values are in range.
-    let _objects = values.len();
+    values.keeps();
     let changes = set.changes();
     let _ = values.results(set, results);
     travel_on(values, changes, results.as_slice(), travelled);
@@ -159,8 +156,7 @@ fn travel_on<A: Allocator + Copy>(
     requires bounded { All (λ t. t ≤ greatest_distance * most_updates) travelled.old }
     ensures { travelled.new ≡ travelled_on values.now changes.now travelled.old }
 {
-    // For the proof: the values are in range.
-    let _objects = values.len();
+    values.keeps();
     for (i, change) in changes.iter().enumerate() {
         let moved = results[i].abs_diff(values.get(change.object));
         travelled[change.object.index()] += moved;

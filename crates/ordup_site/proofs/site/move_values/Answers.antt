@@ -5,5 +5,5 @@ pub returns : goal.returns
 returns g c =
     let moved = rw c.changes-changes.ensures.changes at c.travel_on.ensures in
     Moves-applied c.args.set.now c.args.values.now c.put.new.self c.args.travelled.now c.travel_on.new.travelled
-    c.changes-changes.ensures.set c.requires.known c.requires.legal c.len-objects.ensures.state c.requires.same
+    c.changes-changes.ensures.set c.requires.known c.requires.legal c.keeps.ensures c.requires.same
     c.put.ensures.after c.put.ensures.len moved

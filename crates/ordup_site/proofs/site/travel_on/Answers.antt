@@ -17,7 +17,7 @@ loop-i-preserved g c =
     let moved : c.abs_diff-moved.result ≡ distance_by v d = apart ∙ ap (λ r. distance r (value_at v d.object))
     (result_is v c.args.changes.now c.args.results.now c.loop-i.i d (omega arith) c.requires.results c.index-changes-i.is) in
     let small : c.abs_diff-moved.result ≤ greatest_distance = rw moved
-    (distance_by-few v c.args.changes.now c.loop-i.i d c.len-objects.ensures.state c.requires.legal (omega arith) c.index-changes-i.is) in
+    (distance_by-few v c.args.changes.now c.loop-i.i d c.keeps.ensures c.requires.legal (omega arith) c.index-changes-i.is) in
     record {
       left =
           travelled_on_more v c.args.changes.now c.loop-i.travelled c.loop-i.i c.index.result c.abs_diff-moved.result d (omega arith)

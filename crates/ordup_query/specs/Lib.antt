@@ -1,3 +1,4 @@
+pub mod Sizes
 pub mod Imports
 pub mod Queries
 pub mod QueryInside

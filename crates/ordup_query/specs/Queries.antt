@@ -5,6 +5,7 @@ use Rattle.ordup_objects.specs.declared.refusal.Refusal.{Refusal}
 use Rattle.ordup_objects.specs.declared.refusal.Refusal.TheVariants.{OutOfRange, TooMany, OverImport}
 use Rattle.ordup_site.specs.Sites.{SiteState}
 use Rattle.ordup_query.specs.declared.answer.ReadAnswer.{ReadAnswer}
+use Rattle.ordup_query.specs.Sizes.{most_reads, greatest_import_limit}
 use Rattle.ordup_query.specs.Imports.{charge}
 
 -- the reference, the marks of the objects there, the limit, and what the accepted reads added up to
@@ -18,12 +19,12 @@ pub record QueryState : Type 0 where
 
 -- why a query with this limit is refused, if it is
 abbrev pub begin_refusal : ℕ → Option Refusal
-begin_refusal limit = if nat_lt 1000000000000000000 limit then Some OutOfRange else None
+begin_refusal limit = if nat_lt greatest_import_limit limit then Some OutOfRange else None
 
 -- why a query refuses a read, if it does: it made as many as it may, or its total would pass the limit
 abbrev pub read_refusal : ℕ → ℕ → ℕ → ℕ → Option Refusal
 read_refusal reads limit total import =
-    if reads == 256 then Some TooMany else
+    if reads == most_reads then Some TooMany else
     if nat_lt limit (total + import) then Some OverImport else None
 
 -- why it refuses a read of an object at a site, if it does

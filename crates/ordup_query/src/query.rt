@@ -4,6 +4,7 @@ ghost use Rattle.ordup_objects.specs.Serial.{History, serial};
 ghost use Rattle.ordup_objects.specs.Weights.{distance};
 ghost use Rattle.ordup_site.specs.Sites.{HasApplied};
 ghost use Rattle.ordup_query.specs.declared.answer.ReadAnswer.{ReadAnswer};
+ghost use Rattle.ordup_query.specs.Sizes.{most_reads};
 ghost use Rattle.ordup_query.specs.Imports.{import_of, charge};
 ghost use Rattle.ordup_objects.specs.Marks.{mark_at, AreMarks};
 ghost use Rattle.ordup_query.specs.Queries.{begin_refusal, refusal_at, value_sum, import_sum, HasRead};
@@ -109,12 +110,12 @@ impl<A: Allocator + Copy> Query<A> {
         })
     }
 
-    /// Ends the query, and answers what its accepted reads added up to.
+    /// Ends the query, and returns what its accepted reads added up to.
     pub fn end(self) -> QueryAnswer
         ensures answer { result ≡ record { place = self.place; sum = self.sum; total = self.total; reads = self.reads } }
         ensures reads { (answers : List ReadAnswer) → HasRead self answers → result ≡ record { place = self.place; sum = value_sum (map (λ a. a.value) answers); total = import_sum (map (λ a. a.import) answers); reads = length answers } }
         ensures within { result.total ≤ self.limit }
-        ensures few { result.reads ≤ 256 }
+        ensures few { result.reads ≤ most_reads }
     {
         QueryAnswer {
             place: self.place,

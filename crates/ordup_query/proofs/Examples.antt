@@ -28,7 +28,7 @@ site = record { applied = 1; values = pos 3 ∷ pos 8 ∷ []; travelled = 3 ∷ 
 charges : (charge site (8 ∷ 3 ∷ []) 0 ≡ 5) × (charge site (8 ∷ 3 ∷ []) 1 ≡ 5) × (charge site (3 ∷ 8 ∷ []) 1 ≡ 0)
 charges = (refl, refl, refl)
 
--- a query that may import 10, with this total and so many reads; a read of x is charged 5
+-- a query that may import 10, with this total and this many reads; a read of x is charged 5
 abbrev query : ℕ → ℕ → QueryState
 query total reads = record { place = 2; marks = 8 ∷ 3 ∷ []; limit = 10; sum = pos 0; total = total; reads = reads }
 

@@ -1,15 +1,15 @@
-/// What an accepted read is answered.
+/// The answer to an accepted read.
 #[derive(Clone, Copy, Debug, PartialEq, Eq)]
 pub struct ReadAnswer {
     /// The value of the object at the site.
     pub value: i64,
-    /// What the read imports, in the unit of the values: the value at the reference is no further off.
+    /// What the read imports, in the unit of the values: the value at the reference is no further away.
     pub import: u64,
     /// What the query imported by its accepted reads, this one among them.
     pub total: u64,
 }
 
-/// What a query is answered at its end.
+/// The answer to the end of a query.
 #[derive(Clone, Copy, Debug, PartialEq, Eq)]
 pub struct QueryAnswer {
     /// The reference: the place of the log that the query's imports are measured against.

@@ -1,6 +1,6 @@
 //! Queries: reads at a site that may lag or lead, and what they import.
 //!
-//! The one contract above this layer: a query's total is within its limit, and each read is charged what it imports by the
+//! What the layers above rely on: a query's total is within its limit, and each read is charged what it imports by the
 //! query's reference.
 #![tactic(auto)]
 

@@ -104,7 +104,9 @@ impl<A: Allocator + Copy> Record<A> {
     #[inline(always)]
     pub fn keeps(&self)
         ensures { IsRecord self.now }
-    {}
+    {
+        let _ = &self.parts;
+    }
 
     /// How many updates are decided.
     pub fn decided(&self) -> u64

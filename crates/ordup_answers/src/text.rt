@@ -20,19 +20,15 @@ pub fn push_refused<A: Allocator + Copy>(
 ) -> Result<(), AllocError>
     ensures { OnOk result ((refusal ≡ Refusal.NoMemory → ⊥) × (out.new.text ≡ out.old.text ++ refused_text refusal)) }
 {
-    let number = refusal.number();
-    if number == NO_MEMORY {
+    if let Refusal::NoMemory = refusal {
         return Err(AllocError);
     }
     out.push(b"refused ")?;
-    out.push_number(u64::from(number))?;
+    out.push_number(u64::from(refusal.number()))?;
     out.push(b" ")?;
     out.push(refusal.name().as_bytes())?;
     out.push(b"\n")
 }
-
-/// The number of the refusal for want of memory.
-const NO_MEMORY: u8 = 26;
 
 /// Adds the answer to the start.
 pub fn push_started<A: Allocator + Copy>(out: &mut TextBuffer<A>) -> Result<(), AllocError>

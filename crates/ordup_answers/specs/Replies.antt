@@ -8,6 +8,7 @@ use Rattle.ordup_world.specs.Events.{reply as event_answer}
 use Rattle.ordup_world.specs.declared.event.Event.{Event}
 use Rattle.ordup_grammar.specs.Lines.{Line}
 use Rattle.ordup_grammar.specs.Requests.{request_of}
+use Rattle.ordup_grammar.specs.declared.action.Action.{Action}
 use Rattle.ordup_grammar.specs.declared.command.Command.{Command}
 use Rattle.ordup_grammar.specs.declared.command.Command.TheVariants.{Declare, Start, Certify, Act}
 use Rattle.ordup_grammar.specs.declared.declaration.Declaration.{Declaration}
@@ -60,6 +61,10 @@ module _ {A : Type 0} where
   abbrev pub reply_or_refusal : Session A → Result (Reply A) Refusal → Reply A
   reply_or_refusal s (Ok given) = given
   reply_or_refusal s (Err r) = (s, refused_text r)
+
+  -- the reply to an action
+  abbrev pub action_reply : Session A → Action → Reply A
+  action_reply s a = reply_or_refusal s (command_reply s (Act a))
 
   -- the reply to what a line asks for
   abbrev pub request_reply : Session A → Request → Reply A

@@ -4,10 +4,10 @@ ghost use Rattle.ordup_primary.specs.Declarations.{Declared};
 ghost use Rattle.ordup_world.specs.Events.{Past};
 ghost use Rattle.ordup_world.specs.Worlds.{StandsFor};
 ghost use Rattle.ordup_grammar.specs.declared.action.Action.{Action};
-ghost use Rattle.ordup_answers.specs.Answers.{Leaves, LeavesByAction};
+ghost use Rattle.ordup_answers.specs.Answers.{Leaves};
 ghost use Rattle.ordup_answers.specs.Events.{query_name, read_of};
 ghost use Rattle.ordup_answers.specs.Refusals.{Gives};
-ghost use Rattle.ordup_answers.specs.Replies.{event_reply};
+ghost use Rattle.ordup_answers.specs.Replies.{action_reply, event_reply};
 ghost use Rattle.ordup_answers.specs.Sessions.{Session, IsWorldOf};
 
 use crate::changes::set_in;
@@ -26,7 +26,7 @@ pub(crate) fn answer_action<A: Allocator + Copy>(
     action: &Action<'_>,
     out: &mut TextBuffer<A>,
 ) -> Result<(), AllocError>
-    ensures { OnOk result ((s : Session A) → LeavesByAction world.old world.new out.old.text out.new.text action.now s) }
+    ensures { OnOk result ((s : Session A) → IsWorldOf world.old s → Leaves (IsWorldOf world.new) out.old.text out.new.text (action_reply s action.now)) }
 {
     let setup = world.primary().setup();
     match action {
@@ -67,7 +67,7 @@ fn answer_proposal<A: Allocator + Copy>(
     words: &ChangeWords<'_>,
     out: &mut TextBuffer<A>,
 ) -> Result<(), AllocError>
-    ensures { OnOk result ((s : Session A) → LeavesByAction world.old world.new out.old.text out.new.text (Action.Propose words.now) s) }
+    ensures { OnOk result ((s : Session A) → IsWorldOf world.old s → Leaves (IsWorldOf world.new) out.old.text out.new.text (action_reply s (Action.Propose words.now))) }
 {
     match set_in(alloc, world.primary().setup().objects(), words) {
         Ok(set) => answer_event(world, Event::Propose(set), &[], &[], out),
@@ -84,7 +84,7 @@ fn answer_begin<A: Allocator + Copy>(
     limit: &Number,
     out: &mut TextBuffer<A>,
 ) -> Result<(), AllocError>
-    ensures { OnOk result ((s : Session A) → LeavesByAction world.old world.new out.old.text out.new.text (Action.Begin query.now site.now limit.now) s) }
+    ensures { OnOk result ((s : Session A) → IsWorldOf world.old s → Leaves (IsWorldOf world.new) out.old.text out.new.text (action_reply s (Action.Begin query.now site.now limit.now))) }
 {
     match Name::new(query.as_bytes()) {
         Ok(name) => {
@@ -107,7 +107,7 @@ fn answer_read<A: Allocator + Copy>(
     object: &Word<'_>,
     out: &mut TextBuffer<A>,
 ) -> Result<(), AllocError>
-    ensures { OnOk result ((s : Session A) → LeavesByAction world.old world.new out.old.text out.new.text (Action.Read query.now object.now) s) }
+    ensures { OnOk result ((s : Session A) → IsWorldOf world.old s → Leaves (IsWorldOf world.new) out.old.text out.new.text (action_reply s (Action.Read query.now object.now))) }
 {
     match read_of(world.primary().setup(), query, object) {
         Ok((name, place)) => {
@@ -128,7 +128,7 @@ fn answer_end<A: Allocator + Copy>(
     query: &Word<'_>,
     out: &mut TextBuffer<A>,
 ) -> Result<(), AllocError>
-    ensures { OnOk result ((s : Session A) → LeavesByAction world.old world.new out.old.text out.new.text (Action.End query.now) s) }
+    ensures { OnOk result ((s : Session A) → IsWorldOf world.old s → Leaves (IsWorldOf world.new) out.old.text out.new.text (action_reply s (Action.End query.now))) }
 {
     match query_name(query) {
         Ok(name) => answer_event(world, Event::End(name), query.as_bytes(), &[], out),
@@ -143,7 +143,7 @@ fn answer_abandon<A: Allocator + Copy>(
     query: &Word<'_>,
     out: &mut TextBuffer<A>,
 ) -> Result<(), AllocError>
-    ensures { OnOk result ((s : Session A) → LeavesByAction world.old world.new out.old.text out.new.text (Action.Abandon query.now) s) }
+    ensures { OnOk result ((s : Session A) → IsWorldOf world.old s → Leaves (IsWorldOf world.new) out.old.text out.new.text (action_reply s (Action.Abandon query.now))) }
 {
     match query_name(query) {
         Ok(name) => answer_event(world, Event::Abandon(name), query.as_bytes(), &[], out),
@@ -158,7 +158,7 @@ fn answer_show<A: Allocator + Copy>(
     site: &Word<'_>,
     out: &mut TextBuffer<A>,
 ) -> Result<(), AllocError>
-    ensures { OnOk result ((s : Session A) → LeavesByAction world.old world.new out.old.text out.new.text (Action.Show site.now) s) }
+    ensures { OnOk result ((s : Session A) → IsWorldOf world.old s → Leaves (IsWorldOf world.new) out.old.text out.new.text (action_reply s (Action.Show site.now))) }
 {
     let event = Event::Show(find_site(world.primary().setup(), site));
     answer_event(world, event, site.as_bytes(), &[], out)
@@ -173,7 +173,7 @@ fn answer_relimit<A: Allocator + Copy>(
     amount: &Number,
     out: &mut TextBuffer<A>,
 ) -> Result<(), AllocError>
-    ensures { OnOk result ((s : Session A) → LeavesByAction world.old world.new out.old.text out.new.text (Action.Relimit site.now scope.now amount.now) s) }
+    ensures { OnOk result ((s : Session A) → IsWorldOf world.old s → Leaves (IsWorldOf world.new) out.old.text out.new.text (action_reply s (Action.Relimit site.now scope.now amount.now))) }
 {
     let setup = world.primary().setup();
     let event = Event::Relimit {

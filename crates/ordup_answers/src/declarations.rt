@@ -36,10 +36,8 @@ fn declare_object<A: Allocator + Copy>(
 ) -> Result<(), Refusal>
     ensures { Makes (with_declaration setup.old (Declaration.Object name.now initial)) setup.old setup.new result }
 {
-    match setup.object(name.as_bytes(), initial.value()) {
-        Ok(_) => Ok(()),
-        Err(refusal) => Err(refusal),
-    }
+    setup.object(name.as_bytes(), initial.value())?;
+    Ok(())
 }
 
 /// Declares a group, whose members are what words name.
@@ -54,10 +52,8 @@ fn declare_group<A: Allocator + Copy>(
     let Ok(members) = find_objects(alloc, setup.objects(), members) else {
         return Err(Refusal::NoMemory);
     };
-    match setup.group(name.as_bytes(), &members) {
-        Ok(_) => Ok(()),
-        Err(refusal) => Err(refusal),
-    }
+    setup.group(name.as_bytes(), &members)?;
+    Ok(())
 }
 
 /// Declares a site.
@@ -68,10 +64,8 @@ fn declare_site<A: Allocator + Copy>(
 ) -> Result<(), Refusal>
     ensures { Makes (with_declaration setup.old (Declaration.Site name.now capacity)) setup.old setup.new result }
 {
-    match setup.site(name.as_bytes(), capacity.amount()) {
-        Ok(_) => Ok(()),
-        Err(refusal) => Err(refusal),
-    }
+    setup.site(name.as_bytes(), capacity.amount())?;
+    Ok(())
 }
 
 /// Declares a limit of a site.

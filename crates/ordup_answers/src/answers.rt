@@ -1,4 +1,4 @@
-//! What a line is answered: what its command does to the setup or to the world, and the text that says so.
+//! The answer to a line: what its command does to the setup or to the world, and the text that says so.
 ghost use Rattle.std.specs.Prelude.{◌≡◌, ◌++◌, [], None, Some, IfOk, IfErr, OnOk};
 ghost use Rattle.ordup_answers.specs.Sessions.{Session, Declares, IsWorldOf, Stands};
 ghost use Rattle.ordup_answers.specs.Replies.{request_reply, command_reply, reply_or_refusal, declared_text};
@@ -19,8 +19,11 @@ use std::alloc::{AllocError, Allocator};
 use std::mem;
 
 /// Answers what a line asks for.
-// Inlined into the loop over lines, with the reading of a line before it: what a line asks for is not moved from one to the other,
-// which takes 4 in 100 off the instructions of the mixed load.
+///
+/// Where it succeeds: for each session in which the script stands before, it stands after in the session that the reply to the line
+/// leaves, and the text of the reply was added to `out`. It fails only where an allocation was refused, and then the run ends.
+// Inlined into the loop over lines, with the reading of a line before it. So what a line asks for is not moved from one to the other,
+// which takes 4 percent off the instructions of the mixed load.
 #[inline(always)]
 pub fn answer<A: Allocator + Copy>(
     alloc: A,
@@ -37,7 +40,7 @@ pub fn answer<A: Allocator + Copy>(
     }
 }
 
-/// Carries a command out and answers it. Before the start nothing but declarations and the start belongs.
+/// Carries a command out and answers it. Before the start it refuses all but declarations and the start, and after it these.
 #[inline(always)]
 fn carry_out<A: Allocator + Copy>(
     alloc: A,
@@ -64,7 +67,7 @@ fn carry_out<A: Allocator + Copy>(
     }
 }
 
-/// Declares what a declaration says.
+/// Declares what a declaration says, and answers it.
 fn answer_declaration<A: Allocator + Copy>(
     alloc: A,
     setup: &mut Setup<A>,
@@ -94,7 +97,7 @@ fn push_declared<A: Allocator + Copy>(
     }
 }
 
-/// Starts the store with what is declared, where it is not started yet.
+/// Starts the store with what is declared, where it is not started yet, and answers that.
 fn answer_start<A: Allocator + Copy>(
     alloc: A,
     store: &mut ScriptEnd<A>,
@@ -114,8 +117,10 @@ fn answer_start<A: Allocator + Copy>(
     }
 }
 
-/// The store that starts with what is declared. Refused for want of memory it gives the declarations up, and for all else it
-/// leaves them.
+/// The store that starts with what is declared.
+///
+/// Where it starts, nothing refuses the start, and its world is that of the declarations and of no event. Where it is refused, it is
+/// for the reason that the start has, and the declarations stay; where that is want of memory, they are given up.
 fn start<A: Allocator + Copy>(alloc: A, setup: &mut Setup<A>) -> Result<World<A>, Refusal>
     ensures started { IfOk result (λ w. (start_refusal setup.old ≡ None) × IsWorldOf {A = A} w (running setup.old [])) }
     ensures refused { IfErr result (λ e. (e ≡ Refusal.NoMemory → ⊥) → (start_refusal setup.old ≡ Some e) × (setup.new ≡ setup.old)) }
@@ -128,8 +133,8 @@ fn start<A: Allocator + Copy>(alloc: A, setup: &mut Setup<A>) -> Result<World<A>
 
 /// Answers how many rounds a site has, which are the fewest, and the windows that show it.
 ///
-/// That is what the check of the site's record would answer, and no record is formed for it: each record of a primary is valid,
-/// and of a valid record the check answers the number of its rounds.
+/// The check of the site's record would answer the same number, so no record is formed: each record of a primary is valid, and of a
+/// valid record the check answers the number of its rounds.
 fn certify<A: Allocator + Copy>(
     world: &World<A>,
     name: &Word<'_>,

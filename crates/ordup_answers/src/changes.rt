@@ -1,5 +1,5 @@
-//! Change words to message sets. The nearest number is taken in place of one that 64 bits do not hold, which is out of
-//! range too.
+//! The message sets that words of changes spell. A number that 64 bits do not hold is taken as the nearest one that they hold, which is
+//! out of range too.
 ghost use Rattle.std.specs.Prelude.{◌≡◌, IfOk};
 ghost use Rattle.ordup_answers.specs.Changes.{op_in, change_in, changes_in, set_in};
 ghost use Rattle.ordup_answers.specs.NearestNumbers.{nearest_operation, nearest_change, nearest_changes};
@@ -49,7 +49,7 @@ fn changes_in<A: Allocator + Copy>(
 
 /// The message set that the words of a proposal spell.
 ///
-/// It is refused as `MessageSet::new` refuses its changes, and `NoMemory`.
+/// It is the set of the changes that the words spell, or it is refused as `MessageSet::new` refuses these, or with `NoMemory`.
 pub fn set_in<A: Allocator + Copy>(
     alloc: A,
     objects: &ObjectTable<A>,
@@ -57,7 +57,7 @@ pub fn set_in<A: Allocator + Copy>(
 ) -> Result<MessageSet<A>, Refusal>
     ensures { Gives (set_in objects.now words.now) result }
 {
-    // Most sets have a single change, and need no list.
+    // Most sets have a single change, and take no memory for a list.
     if let Some(word) = words.only() {
         return MessageSet::single(objects, change_in(objects, &word));
     }

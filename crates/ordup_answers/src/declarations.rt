@@ -1,4 +1,4 @@
-//! Declarations of a script to those of a setup.
+//! Declares in a setup what the declarations of a script say.
 ghost use Rattle.ordup_answers.specs.Declarations.{with_declaration};
 ghost use Rattle.ordup_answers.specs.Refusals.{Makes};
 
@@ -8,7 +8,9 @@ use ordup_objects::Refusal;
 use ordup_world::Setup;
 use std::alloc::Allocator;
 
-/// Declares what a declaration says, or refuses it as the setup does. It is refused `NoMemory` too.
+/// Declares what a declaration says.
+///
+/// The setup has one declaration more, or it stays and the call is refused for the first reason that applies, or with `NoMemory`.
 pub fn declare<A: Allocator + Copy>(
     alloc: A,
     setup: &mut Setup<A>,

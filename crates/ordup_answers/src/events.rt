@@ -1,4 +1,4 @@
-//! Actions of a script to events of the world, and to their answers.
+//! Answers the actions of a script: makes an event of each, and answers what the world does with it.
 ghost use Rattle.std.specs.Prelude.{OnOk};
 ghost use Rattle.ordup_primary.specs.Declarations.{Declared};
 ghost use Rattle.ordup_world.specs.Events.{Past};
@@ -20,6 +20,9 @@ use ordup_world::{Event, Setup, World};
 use std::alloc::{AllocError, Allocator};
 
 /// Lets an action happen, and answers it.
+///
+/// Where it succeeds: for each session in which the world stands before, it stands after in the one that the reply to the action leaves,
+/// and the text of the reply was added.
 pub(crate) fn answer_action<A: Allocator + Copy>(
     alloc: A,
     world: &mut World<A>,
@@ -58,8 +61,8 @@ pub(crate) fn answer_action<A: Allocator + Copy>(
 }
 
 /// Answers a proposal.
-// A function of its own, as the next ones: the places of its values are cleared where it begins, and so for its actions alone.
-// That takes 3 in 100 off a line's instructions.
+// A function of its own, as the next ones are. The memory of a function's values is cleared where the function begins, so that of
+// these values is cleared for a proposal alone. That takes 3 percent off the instructions of a line.
 #[inline(always)]
 fn answer_proposal<A: Allocator + Copy>(
     alloc: A,
@@ -75,7 +78,7 @@ fn answer_proposal<A: Allocator + Copy>(
     }
 }
 
-/// Answers the begin of a query.
+/// Answers that a query begins.
 #[inline(always)]
 fn answer_begin<A: Allocator + Copy>(
     world: &mut World<A>,
@@ -99,7 +102,7 @@ fn answer_begin<A: Allocator + Copy>(
     }
 }
 
-/// Answers a read.
+/// Answers a read of a query.
 #[inline(always)]
 fn answer_read<A: Allocator + Copy>(
     world: &mut World<A>,
@@ -121,7 +124,7 @@ fn answer_read<A: Allocator + Copy>(
     }
 }
 
-/// Answers the end of a query.
+/// Answers that a query ends.
 #[inline(always)]
 fn answer_end<A: Allocator + Copy>(
     world: &mut World<A>,
@@ -151,7 +154,7 @@ fn answer_abandon<A: Allocator + Copy>(
     }
 }
 
-/// Answers what a site holds.
+/// Answers with what a site has.
 #[inline(always)]
 fn answer_show<A: Allocator + Copy>(
     world: &mut World<A>,
@@ -164,7 +167,7 @@ fn answer_show<A: Allocator + Copy>(
     answer_event(world, event, site.as_bytes(), &[], out)
 }
 
-/// Answers a change of a limit.
+/// Answers that a limit changes.
 #[inline(always)]
 fn answer_relimit<A: Allocator + Copy>(
     world: &mut World<A>,
@@ -184,8 +187,8 @@ fn answer_relimit<A: Allocator + Copy>(
     answer_event(world, event, site.as_bytes(), &[], out)
 }
 
-/// Steps the world by an event, and answers it by these names: of a site or a query, and of an object.
-// Inlined, with the steps: where the event is known, it is not moved.
+/// Steps the world by an event, and answers it. The subject is the site or the query that it names, if it names one.
+// Inlined, with the steps, so that an event is not moved where it is known.
 #[inline(always)]
 fn answer_event<A: Allocator + Copy>(
     world: &mut World<A>,
@@ -217,7 +220,7 @@ fn read_of<A: Allocator + Copy>(
     Ok((query_name(query)?, object))
 }
 
-/// The name of a query. No query is open by what is no name.
+/// The name of a query. Where the word is no name, no query is open by it.
 #[inline(always)]
 fn query_name(query: &Word<'_>) -> Result<Name, Refusal>
     ensures { Gives (query_name query.now) result }

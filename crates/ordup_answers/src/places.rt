@@ -1,5 +1,5 @@
-//! Words to places: which objects, groups and sites they name. A word that names nothing is taken as the place after the
-//! last, which every call refuses as unknown in its turn.
+//! Which objects, groups and sites words name. A word that names nothing stands for the index after the last one, which each call
+//! refuses as unknown in its turn.
 ghost use Rattle.std.specs.Prelude.{◌≡◌, IfOk};
 ghost use Rattle.ordup_answers.specs.Places.{place_among, places_among, scope_in};
 

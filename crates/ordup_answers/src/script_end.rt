@@ -22,7 +22,7 @@ impl<A: Allocator + Copy> ScriptEnd<A> {
         ScriptEnd::Declared(Setup::new(alloc))
     }
 
-    /// Goes on with a started store.
+    /// Stands with a started store from now on.
     pub(crate) fn run(&mut self, world: World<A>)
         ensures { self.new ≡ ScriptEnd.Running world }
     {

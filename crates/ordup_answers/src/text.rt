@@ -13,7 +13,7 @@ use ordup_text::{
 use ordup_world::{Answer, QueryAnswer, ReadAnswer, Settled, Setup};
 use std::alloc::{AllocError, Allocator};
 
-/// Adds the answer to what was refused. Want of memory is no answer: it ends the run.
+/// Adds the answer to what was refused. Want of memory has no answer: it ends the run.
 pub fn push_refused<A: Allocator + Copy>(
     out: &mut TextBuffer<A>,
     refusal: Refusal,
@@ -66,8 +66,10 @@ fn push_shown<A: Allocator + Copy>(
     out.push(b"\n")
 }
 
-/// Adds the answer to an event that names this subject, a site or a query, and this object.
-// Inlined: where the answer is known, its text alone is left to add. The compiler leaves a function out of that which would grow
+/// Adds the answer to an event. The subject is the site or the query that the event names, and the object the one that it names.
+///
+/// Where it succeeds, the answer was not a refusal for want of memory, and its text was added.
+// Inlined, so that where the answer is known its text alone is left to add. The compiler does not inline a function that would grow
 // very large, so what adds a text with a name and a number stays a call, for each length of its first part.
 #[inline(always)]
 pub fn push_answer<A: Allocator + Copy>(
@@ -111,7 +113,7 @@ pub fn push_answer<A: Allocator + Copy>(
     }
 }
 
-/// Adds what a read gave.
+/// Adds the answer to a read.
 fn push_read<A: Allocator + Copy>(
     out: &mut TextBuffer<A>,
     query: &[u8],
@@ -122,7 +124,7 @@ fn push_read<A: Allocator + Copy>(
 {
     out.push(b"ok read ")?;
     out.push(query)?;
-    // For all that follows, so that it is looked for once.
+    // Room for all that follows, made once.
     out.make_room(object.len() + 3 * MOST_DIGITS + 25)?;
     out.put(b" ");
     out.put(object);
@@ -136,7 +138,7 @@ fn push_read<A: Allocator + Copy>(
     Ok(())
 }
 
-/// Adds what the reads of a query came to.
+/// Adds the answer to the end of a query: what its reads came to.
 fn push_ended<A: Allocator + Copy>(
     out: &mut TextBuffer<A>,
     query: &[u8],
@@ -153,7 +155,7 @@ fn push_ended<A: Allocator + Copy>(
     out.push(b"\n")
 }
 
-/// Adds what came of a settlement.
+/// Adds the answer to a settlement.
 fn push_settled<A: Allocator + Copy>(
     out: &mut TextBuffer<A>,
     setup: &Setup<A>,

@@ -2,7 +2,7 @@
 use Rattle.std.specs.Prelude.{◌≡◌, ◌⊎◌, ℕ, Ok, Err}
 use Rattle.ordup_text.specs.Fronts.{AppendsFront}
 use Rattle.ordup_command_line.specs.declared.command_line.Job.{Job}
-use Rattle.ordup_cli.specs.Bytes.{Bytes}
+use Rattle.ordup_script.specs.Streams.{Bytes, Streams}
 use Rattle.ordup_cli.specs.Faults.{Outcome, fault_text, status_of}
 use Rattle.ordup_cli.specs.Jobs.{Does}
 
@@ -16,9 +16,9 @@ IsTold old new (Err fault) = AppendsFront old new (fault_text fault)
 abbrev pub IsUsage : Bytes → Bytes → ℕ → Type 0
 IsUsage old new status = ((status ≡ 0) ⊎ (status ≡ 3)) ⊎ (((status ≡ 2) ⊎ (status ≡ 4)) × (new ≡ old))
 
--- a job was done, it was told how it ended, and the status says so too; or no job was, and nothing was read
-abbrev pub Acts : Bytes → Bytes → Bytes → Bytes → Bytes → Bytes → ℕ → Type 0
-Acts had has old new before after status =
-    ((job : Job) × (outcome : Outcome) × Does job had has old new outcome × IsTold before after outcome
-    × (status ≡ status_of outcome))
-    ⊎ ((has ≡ had) × IsUsage old new status)
+-- a job was done over the input and the output, the faults grew by how it ended, and the status says so too; or no job was
+-- done, and nothing was read
+abbrev pub Acts : Streams → Bytes → Bytes → ℕ → Type 0
+Acts s before after status =
+    ((job : Job) × (outcome : Outcome) × Does job s outcome × IsTold before after outcome × (status ≡ status_of outcome))
+    ⊎ ((s.has ≡ s.had) × IsUsage s.old s.new status)

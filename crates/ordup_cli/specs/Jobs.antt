@@ -22,10 +22,11 @@ use Rattle.ordup_answers.specs.declared.script_end.ScriptEnd.{ScriptEnd}
 use Rattle.ordup_answers.specs.declared.script_end.ScriptEnd.TheVariants.{Declared, Running}
 use Rattle.ordup_text.specs.Fronts.{AppendsFront}
 use Rattle.ordup_script.specs.Runs.{Runs}
+use Rattle.ordup_script.specs.Streams.{Bytes, Streams}
+use Rattle.ordup_script.specs.declared.sizes.TheConstants.{MOST_SCRIPT_BYTES}
 use Rattle.ordup_script.specs.declared.stream.ScriptFault.{ScriptFault}
 use Rattle.ordup_command_line.specs.declared.command_line.Job.{Job}
 use Rattle.ordup_command_line.specs.declared.command_line.Job.TheVariants as job
-use Rattle.ordup_cli.specs.Bytes.{Bytes, most_script_bytes}
 use Rattle.ordup_cli.specs.Faults.{Outcome, of_script}
 use Rattle.ordup_cli.specs.Plans.{RunsPlan}
 use Rattle.ordup_cli.specs.declared.fault.Fault.TheVariants as fault
@@ -41,9 +42,9 @@ abbrev pub outcome_of_run : RunEnd → Outcome
 outcome_of_run (Ok end) = Ok 0
 outcome_of_run (Err fault) = Err (of_script fault)
 
--- a script was run over these bytes, and what is written for it was written
-abbrev pub Answers : Bytes → Bytes → Bytes → Bytes → Outcome → Type 0
-Answers had has old new outcome = (end : RunEnd) × Runs had has old new most_script_bytes end × (outcome ≡ outcome_of_run end)
+-- a script was run over these streams, and what is written for it was written
+abbrev pub Answers : Streams → Outcome → Type 0
+Answers s outcome = (end : RunEnd) × Runs s MOST_SCRIPT_BYTES end × (outcome ≡ outcome_of_run end)
 
 -- ---- the record of a site is printed
 
@@ -71,10 +72,12 @@ PrintsAfter site (Ok (Running world)) old new outcome =
 PrintsAfter site (Ok (Declared setup)) old new outcome = (outcome ≡ Err fault.NotStarted) × (new ≡ old)
 PrintsAfter site (Err fault) old new outcome = (outcome ≡ Err (of_script fault)) × (new ≡ old)
 
--- a script was run over these bytes with its answers left out, and then the record of the site of this name was printed
-abbrev pub Records : List ℕ → Bytes → Bytes → Bytes → Bytes → Outcome → Type 0
-Records site had has old new outcome =
-    (end : RunEnd) × Runs had has None None most_script_bytes end × PrintsAfter site end old new outcome
+-- a script was run from this reader with its answers left out, and then the record of the site of this name was printed
+abbrev pub Records : List ℕ → Streams → Outcome → Type 0
+Records site s outcome =
+    (end : RunEnd)
+    × Runs (record { had = s.had; has = s.has; old = None; new = None }) MOST_SCRIPT_BYTES end
+    × PrintsAfter site end s.old s.new outcome
 
 -- ---- a record is checked
 
@@ -129,9 +132,9 @@ Checks had old new (Err fault.Mixed) = ⊥
 
 -- ---- any of these
 
--- the job was done over these bytes, and ended so
-abbrev pub Does : Job → Bytes → Bytes → Bytes → Bytes → Outcome → Type 0
-Does job.Run had has old new outcome = Answers had has old new outcome
-Does (job.Record site) had has old new outcome = Records (string_bytes site) had has old new outcome
-Does job.Check had has old new outcome = Checks had old new outcome
-Does (job.Threads callers) had has old new outcome = RunsPlan had has old new outcome
+-- the job was done over these streams, and ended so
+abbrev pub Does : Job → Streams → Outcome → Type 0
+Does job.Run s outcome = Answers s outcome
+Does (job.Record site) s outcome = Records (string_bytes site) s outcome
+Does job.Check s outcome = Checks s.had s.old s.new outcome
+Does (job.Threads callers) s outcome = RunsPlan s outcome

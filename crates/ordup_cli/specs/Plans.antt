@@ -6,11 +6,12 @@ use Rattle.ordup_objects.specs.declared.refusal.Refusal.{Refusal}
 use Rattle.ordup_objects.specs.declared.refusal.Refusal.TheVariants.{NoMemory}
 use Rattle.ordup_text.specs.Fronts.{AppendsFront}
 use Rattle.ordup_script.specs.PlanReadings.{ReadsPlan}
+use Rattle.ordup_script.specs.Streams.{Bytes, Streams}
+use Rattle.ordup_script.specs.declared.sizes.TheConstants.{MOST_SCRIPT_BYTES}
 use Rattle.ordup_script.specs.declared.plan.Plan.{Plan}
 use Rattle.ordup_script.specs.declared.plan.PlanFault.{PlanFault}
 use Rattle.ordup_plan.specs.Outcomes.{IsOutcome}
 use Rattle.ordup_cli.specs.Faults.{Outcome, of_plan}
-use Rattle.ordup_cli.specs.Bytes.{Bytes, most_script_bytes}
 use Rattle.ordup_cli.specs.declared.fault.Fault.{Fault}
 use Rattle.ordup_cli.specs.declared.fault.Fault.TheVariants as fault
 
@@ -31,7 +32,7 @@ abbrev pub fault_of : Refusal → Fault
 fault_of NoMemory = fault.NoMemory
 fault_of e = fault.Mixed
 
--- what a run of so many sets printed that ended so: its outcome; or nothing, where it has none
+-- what a run of this many sets printed: its outcome; or nothing, where it has none
 abbrev pub PrintsOutcome : Result (List ℕ) Refusal → ℕ → Bytes → Bytes → Outcome → Type 0
 PrintsOutcome (Ok text) sets old new outcome = IsOutcome sets text × Prints text old new outcome
 PrintsOutcome (Err e) sets old new outcome = (outcome ≡ Err (fault_of e)) × (new ≡ old)
@@ -42,7 +43,9 @@ PrintsAfterPlan (Ok plan) old new outcome =
     (run : Result (List ℕ) Refusal) × PrintsOutcome run (length plan.sets.items) old new outcome
 PrintsAfterPlan (Err fault) old new outcome = (outcome ≡ Err (of_plan fault)) × (new ≡ old)
 
--- a plan was read from these bytes, and its outcome printed
-abbrev pub RunsPlan : Bytes → Bytes → Bytes → Bytes → Outcome → Type 0
-RunsPlan had has old new outcome =
-    (read : Result (Plan Global) PlanFault) × ReadsPlan had has most_script_bytes read × PrintsAfterPlan read old new outcome
+-- a plan was read from this reader, and its outcome printed
+abbrev pub RunsPlan : Streams → Outcome → Type 0
+RunsPlan s outcome =
+    (read : Result (Plan Global) PlanFault)
+    × ReadsPlan (record { had = s.had; has = s.has; limit = MOST_SCRIPT_BYTES }) read
+    × PrintsAfterPlan read s.old s.new outcome

@@ -24,8 +24,12 @@ pub fn act<T: Threads + Wait + Sync, R: Read, W: Write, E: Write>(
     output: &mut W,
     faults: &mut E,
 ) -> u8
-    ensures { Acts (R.remaining input.old) (R.remaining input.new) (W.contents output.old) (W.contents output.new)
-        (E.contents faults.old) (E.contents faults.new) result }
+    ensures { Acts (record {
+      had = R.remaining input.old;
+      has = R.remaining input.new;
+      old = W.contents output.old;
+      new = W.contents output.new;
+    }) (E.contents faults.old) (E.contents faults.new) result }
 {
     match job_of(alloc, words) {
         Ok(Some(job)) => end(do_job(rt, alloc, &job, input, output), faults),

@@ -34,7 +34,12 @@ pub(crate) fn do_job<T: Threads + Wait + Sync, R: Read, W: Write>(
     input: &mut R,
     output: &mut W,
 ) -> Outcome
-    ensures { Does job.now (R.remaining input.old) (R.remaining input.new) (W.contents output.old) (W.contents output.new) result }
+    ensures { Does job.now (record {
+      had = R.remaining input.old;
+      has = R.remaining input.new;
+      old = W.contents output.old;
+      new = W.contents output.new;
+    }) result }
 {
     match job {
         Job::Run => run(alloc, input, output),
@@ -47,7 +52,12 @@ pub(crate) fn do_job<T: Threads + Wait + Sync, R: Read, W: Write>(
 /// Runs a script and prints its answers.
 // What a script came to is dropped by a call, as what the jobs below made is: where it goes out of scope, the proof takes it apart.
 fn run<R: Read, W: Write>(alloc: Global, input: &mut R, output: &mut W) -> Outcome
-    ensures { Answers (R.remaining input.old) (R.remaining input.new) (W.contents output.old) (W.contents output.new) result }
+    ensures { Answers (record {
+      had = R.remaining input.old;
+      has = R.remaining input.new;
+      old = W.contents output.old;
+      new = W.contents output.new;
+    }) result }
 {
     match run_script(alloc, input, output) {
         Ok(end) => {
@@ -65,7 +75,12 @@ fn print_record<R: Read, W: Write>(
     input: &mut R,
     output: &mut W,
 ) -> Outcome
-    ensures { Records site.now (R.remaining input.old) (R.remaining input.new) (W.contents output.old) (W.contents output.new) result }
+    ensures { Records site.now (record {
+      had = R.remaining input.old;
+      has = R.remaining input.new;
+      old = W.contents output.old;
+      new = W.contents output.new;
+    }) result }
 {
     match run_script(alloc, input, &mut io::sink()) {
         Ok(ScriptEnd::Running(world)) => {

@@ -22,7 +22,12 @@ pub(crate) fn run_plan<T: Threads + Wait + Sync, R: Read, W: Write>(
     input: &mut R,
     output: &mut W,
 ) -> Outcome
-    ensures { RunsPlan (R.remaining input.old) (R.remaining input.new) (W.contents output.old) (W.contents output.new) result }
+    ensures { RunsPlan (record {
+      had = R.remaining input.old;
+      has = R.remaining input.new;
+      old = W.contents output.old;
+      new = W.contents output.new;
+    }) result }
 {
     let Plan { setup, sets } = match read_plan(alloc, input) {
         Ok(plan) => plan,

@@ -1,6 +1,6 @@
 -- What each line adds to a plan.
 use Rattle.std.proofs.Common.{◌≡◌, ◌∙◌, refl, sym, ap, ℕ, List, [], ◌∷◌}
-use Rattle.std.proofs.Common.{true, ◌++◌, Option, Result, Ok, Err, inl, inr}
+use Rattle.std.proofs.Common.{true, ◌++◌, Result, Ok, Err, inl, inr}
 use Rattle.ordup_grammar.specs.Requests.{request_of}
 use Rattle.ordup_grammar.specs.declared.request.Request.{Request}
 use Rattle.ordup_grammar.specs.Lines.{Line}
@@ -10,6 +10,7 @@ use Rattle.ordup_script.specs.Plans.{request_in, first_plan, malformed, plan_of,
 use Rattle.ordup_script.specs.Readings.{Reads, Takes, TookOr}
 use Rattle.ordup_script.specs.declared.line_reader.Extent.TheVariants as extent
 use Rattle.ordup_script.specs.Scripts.{after_lines, lines_of}
+use Rattle.ordup_script.specs.Streams.{Input}
 use Rattle.ordup_script.specs.declared.plan.Planning.{Planning}
 use Rattle.ordup_script.specs.declared.plan.PlanFault.{PlanFault}
 use Rattle.ordup_script.specs.declared.plan.PlanFault.TheVariants as fault
@@ -53,34 +54,35 @@ takes_line before after request line r is leads = record {
 }
 
 -- where the lines that were read end in a fault, the reading does
-pub ends_in_fault : {A : Type 0} (now : Planning A) (had has : Option (List ℕ)) (limit : ℕ) (e : PlanFault)
-    → Reads had has limit (HasPlanned now) HasRefused (Err e)
-    → ReadsPlan {A = A} had has limit (Err e)
-ends_in_fault now had has limit fault.Read (script, consumed, inl each) = absurd (each [])
-ends_in_fault now had has limit fault.Read (script, consumed, inr end) = absurd end.2
-ends_in_fault now had has limit fault.TooLong (script, consumed, inl each) = absurd (each [])
-ends_in_fault now had has limit fault.TooLong (script, consumed, inr end) = absurd end.2
-ends_in_fault now had has limit (fault.Malformed n) (script, consumed, inl each) =
+pub ends_in_fault : {A : Type 0} (now : Planning A) (input : Input) (e : PlanFault)
+    → Reads input (HasPlanned now) HasRefused (Err e)
+    → ReadsPlan {A = A} input (Err e)
+ends_in_fault now input fault.Read (script, consumed, inl each) = absurd (each [])
+ends_in_fault now input fault.Read (script, consumed, inr end) = absurd end.2
+ends_in_fault now input fault.TooLong (script, consumed, inl each) = absurd (each [])
+ends_in_fault now input fault.TooLong (script, consumed, inr end) = absurd end.2
+ends_in_fault now input (fault.Malformed n) (script, consumed, inl each) =
     (script, consumed, inl (λ rest. ap plan_result (each rest)))
-ends_in_fault now had has limit (fault.Malformed n) (script, consumed, inr (end, within, is)) = (
+ends_in_fault now input (fault.Malformed n) (script, consumed, inr (end, within, is)) = (
   script,
   consumed,
   inr (end, within, ap plan_result is),
 )
-ends_in_fault now had has limit fault.NoMemory reads = tt
+ends_in_fault now input fault.NoMemory reads = tt
 
 -- where all lines were taken, the reading ends as the plan does
-pub ends_as_plan : {A : Type 0} (now : Planning A) (had has : Option (List ℕ)) (limit : ℕ) (r : Result (Unit {0}) PlanFault)
-    → Reads had has limit (HasPlanned now) HasRefused (Ok extent.Whole) → Tells (plan_result (plan_state now)) now.plan r
-    → ReadsInto had has limit now.plan r
-ends_as_plan now had has limit (Ok done) (script, consumed, within, end, took) tells =
+pub ends_as_plan : {A : Type 0} (now : Planning A) (input : Input) (r : Result (Unit {0}) PlanFault)
+    → Reads input (HasPlanned now) HasRefused (Ok extent.Whole)
+    → Tells (plan_result (plan_state now)) now.plan r
+    → ReadsInto input now.plan r
+ends_as_plan now input (Ok done) (script, consumed, within, end, took) tells =
     let is : plan_of script ≡ Ok (now.plan.setup, now.plan.sets.items) = ap plan_result (sym took) ∙ tells in
     (script, consumed, within, end, is, completes (lines_of true script) _ _ is)
-ends_as_plan now had has limit (Err fault.Read) reads tells = absurd tells
-ends_as_plan now had has limit (Err fault.TooLong) reads tells = absurd tells
-ends_as_plan now had has limit (Err (fault.Malformed n)) (script, consumed, within, end, took) tells = (
+ends_as_plan now input (Err fault.Read) reads tells = absurd tells
+ends_as_plan now input (Err fault.TooLong) reads tells = absurd tells
+ends_as_plan now input (Err (fault.Malformed n)) (script, consumed, within, end, took) tells = (
   script,
   consumed,
   inr (end, within, ap plan_result (sym took) ∙ tells),
 )
-ends_as_plan now had has limit (Err fault.NoMemory) reads tells = tt
+ends_as_plan now input (Err fault.NoMemory) reads tells = tt

@@ -153,7 +153,7 @@ module _ {T F : Type 0} {took : T → T → List Line → Type 0} {stopped : T �
   pub stops_in : {first a b : T} {h i : Line} {e : F} {script front : List ℕ} (had mid has : Option (List ℕ)) (limit : ℕ)
       (piece : List ℕ) → Consumes had mid script → Consumes mid has piece → length script ≤ limit
       → front ≡ take (limit - length script) piece → IsRead (took first a) h script → ReadsOn took stopped a h b i front (Err e)
-      → Reads had has limit (took first b) (stopped first b) (Err e)
+      → Reads (record { had = had; has = has; limit = limit }) (took first b) (stopped first b) (Err e)
   stops_in {first = first} {script = script} had mid has limit piece before next within is read reads = (
     script ++ piece,
     Consumes-trans had mid has script piece before next,
@@ -165,7 +165,7 @@ module _ {T F : Type 0} {took : T → T → List Line → Type 0} {stopped : T �
       (piece : List ℕ) → Consumes had mid script → Consumes mid has piece → length script ≤ limit
       → limit < length script + length piece → front ≡ take (limit - length script) piece → IsRead (took first a) h script
       → ReadsOn took stopped a h b i front (Ok tt)
-      → Reads had has limit (took first b) (stopped first b) (Ok extent.UpToLimit)
+      → Reads (record { had = had; has = has; limit = limit }) (took first b) (stopped first b) (Ok extent.UpToLimit)
   reads_to_limit {first = first} {b = b} {script = script} had mid has limit piece before next within over is read reads = (
     script ++ piece,
     Consumes-trans had mid has script piece before next,

@@ -10,6 +10,7 @@ use Rattle.ordup_script.specs.Output.{out, written}
 use Rattle.ordup_script.specs.Readings.{Reads}
 use Rattle.ordup_text.specs.Fronts.{AppendsFront}
 use Rattle.ordup_script.specs.Runs.{Runs}
+use Rattle.ordup_script.specs.Streams.{Streams}
 use Rattle.ordup_script.specs.declared.stream.Answerer.{Answerer}
 use Rattle.ordup_script.specs.declared.stream.ScriptFault.{ScriptFault}
 use Rattle.ordup_script.specs.declared.stream.ScriptFault.TheVariants as fault
@@ -39,13 +40,17 @@ told_all A had has old new script took end grew =
     told_end A had has old new script took end (out A script, [], sym (append-nil (out A script)), grew)
 
 -- the run ends so for either fault
-of_fault : (A : Type 0) (had has old new : Option (List ℕ)) (limit : ℕ) (e : ScriptFault)
-    → (e ≡ fault.Write) ⊎ (e ≡ fault.NoMemory) → IfSome had (λ all. AppendsFront old new (out A all))
-    → Runs {A = A} had has old new limit (Err e)
-of_fault A had has old new limit e (inl is) front = rw is front
-of_fault A had has old new limit e (inr is) front = rw is front
+of_fault : (A : Type 0) (s : Streams) (limit : ℕ) (e : ScriptFault) → (e ≡ fault.Write) ⊎ (e ≡ fault.NoMemory)
+    → IfSome s.had (λ all. AppendsFront s.old s.new (out A all))
+    → Runs {A = A} s limit (Err e)
+of_fault A s limit e (inl is) front = rw is front
+of_fault A s limit e (inr is) front = rw is front
 
 module _ {W A : Type 0} (contents : W → Option (List ℕ)) where
+  -- from the first answerer to this writer
+  abbrev over : Answerer W A → W → Option (List ℕ) → Option (List ℕ) → Streams
+  over first output had has = record { had = had; has = has; old = contents first.output.now; new = contents output }
+
   -- all that the lines gave was sent
   pub sent_all : (first now : Answerer W A) (lines : List Line) → HasAnswered contents first now lines → now.answers.now.text ≡ []
       → Appends (contents first.output.now) (contents now.output.now) (written A lines).1
@@ -54,11 +59,12 @@ module _ {W A : Type 0} (contents : W → Option (List ℕ)) where
   -- it stopped at a line
   pub stopped : (first now : Answerer W A) (output : W) (had has : Option (List ℕ)) (limit : ℕ) (e : ScriptFault)
       → (IsLater first now → output ≡ now.output.now)
-      → Reads had has limit (HasAnswered contents first now) (HasStopped contents first now) (Err e)
-      → Runs {A = A} had has (contents first.output.now) (contents output) limit (Err e)
+      → Reads (record { had = had; has = has; limit = limit }) (HasAnswered contents first now) (HasStopped contents first now) (Err e)
+      → Runs {A = A} (over first output had has) limit (Err e)
   stopped first now output had has limit e same (script, took, inl each) =
-      subst (λ o. Runs {A = A} had has (contents first.output.now) (contents o) limit (Err e)) (sym (same (each []).later))
-      (of_fault A had has _ _ limit e (each []).cause (told_front A had has _ _ limit script took (λ rest. (each rest).front)))
+      subst (λ o. Runs {A = A} (over first o had has) limit (Err e)) (sym (same (each []).later))
+      (of_fault A (over first now.output.now had has) limit e (each []).cause
+      (told_front A had has _ _ limit script took (λ rest. (each rest).front)))
   stopped first now output had has limit e same (script, took, inr (end, within, h)) =
-      subst (λ o. Runs {A = A} had has (contents first.output.now) (contents o) limit (Err e)) (sym (same h.later))
-      (of_fault A had has _ _ limit e h.cause (told_end A had has _ _ script took end h.front))
+      subst (λ o. Runs {A = A} (over first o had has) limit (Err e)) (sym (same h.later))
+      (of_fault A (over first now.output.now had has) limit e h.cause (told_end A had has _ _ script took end h.front))

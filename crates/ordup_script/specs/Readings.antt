@@ -1,12 +1,13 @@
 -- What reading the lines of a script leaves.
 use Rattle.std.specs.Prelude.{◌≡◌, ◌⊎◌, ℕ, Bool, true, false, List, ◌++◌}
-use Rattle.std.specs.Prelude.{◌<◌, ◌≤◌, length, take, Option, Result, Ok, Err}
+use Rattle.std.specs.Prelude.{◌<◌, ◌≤◌, length, take, Result, Ok, Err}
 use Rattle.std.specs.Io.KnownBytes.{Consumes, IsAtEnd}
 use Rattle.ordup_grammar.specs.Lines.{Line}
 use Rattle.ordup_grammar.specs.LineBuffers.{Holds}
 use Rattle.ordup_script.specs.declared.line_reader.Extent.{Extent}
 use Rattle.ordup_script.specs.declared.line_reader.Extent.TheVariants as extent
 use Rattle.ordup_script.specs.Scripts.{lines_of}
+use Rattle.ordup_script.specs.Streams.{Input}
 
 -- these lines of a script ended, and this part of one did not
 pub record IsCut (script : List ℕ) (lines : List Line) (part : List ℕ) : Type 0 where
@@ -53,17 +54,22 @@ module _ {T F : Type 0} (took : T → T → List Line → Type 0) (stopped : T �
 -- what was read of a script, and which of its lines were taken: all of them where all was read; before a failed read, and of
 -- too long a script, those that a line feed ended, within the limit;
 -- or it stopped at a line within the limit, whatever comes after, or at the end
-abbrev pub Reads : {F : Type 0} → Option (List ℕ) → Option (List ℕ) → ℕ → (List Line → Type 0)
-    → (List Line → F → Type 0) → Result Extent F
-    → Type 0
-Reads had has limit took stopped (Ok extent.Whole) =
-    (script : List ℕ) × Consumes had has script × (length script ≤ limit) × IsAtEnd has × took (lines_of true script)
-Reads had has limit took stopped (Ok extent.BeforeFailure) =
-    (script : List ℕ) × Consumes had has script × (length script ≤ limit) × took (lines_of false script)
-Reads had has limit took stopped (Ok extent.UpToLimit) =
-    (script : List ℕ) × Consumes had has script × (limit < length script) × took (lines_of false (take limit script))
-Reads had has limit took stopped (Err e) =
+abbrev pub Reads : {F : Type 0} → Input → (List Line → Type 0) → (List Line → F → Type 0) → Result Extent F → Type 0
+Reads input took stopped (Ok extent.Whole) =
     (script : List ℕ)
-    × Consumes had has script
-    × (((rest : List ℕ) → stopped (lines_of true (take limit script ++ rest)) e)
-    ⊎ (IsAtEnd has × (length script ≤ limit) × stopped (lines_of true script) e))
+    × Consumes input.had input.has script
+    × (length script ≤ input.limit)
+    × IsAtEnd input.has
+    × took (lines_of true script)
+Reads input took stopped (Ok extent.BeforeFailure) =
+    (script : List ℕ) × Consumes input.had input.has script × (length script ≤ input.limit) × took (lines_of false script)
+Reads input took stopped (Ok extent.UpToLimit) =
+    (script : List ℕ)
+    × Consumes input.had input.has script
+    × (input.limit < length script)
+    × took (lines_of false (take input.limit script))
+Reads input took stopped (Err e) =
+    (script : List ℕ)
+    × Consumes input.had input.has script
+    × (((rest : List ℕ) → stopped (lines_of true (take input.limit script ++ rest)) e)
+    ⊎ (IsAtEnd input.has × (length script ≤ input.limit) × stopped (lines_of true script) e))

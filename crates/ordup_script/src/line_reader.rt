@@ -93,7 +93,11 @@ pub(crate) fn read_lines<T: LineTaker, R: Read>(
     requires start { T.took taker.old taker.old [] }
     requires clear { T.is_clear taker.old }
     requires room { limit < T.room taker.old }
-    ensures lines { Reads (R.remaining input.old) (R.remaining input.new) limit (T.took taker.old taker.new) (T.stopped taker.old taker.new) result }
+    ensures lines { Reads (record {
+      had = R.remaining input.old;
+      has = R.remaining input.new;
+      limit = limit;
+    }) (T.took taker.old taker.new) (T.stopped taker.old taker.new) result }
     ensures clear { OnOk result (T.is_clear taker.new) }
     ensures room { OnOk result (T.room taker.old ≤ T.room taker.new + limit + 1) }
 {

@@ -19,7 +19,11 @@ fn read_into<A: Allocator + Copy, R: Read>(
     requires start { HasPlanned planning.old [] }
     requires lines { planning.old.lines ≡ 0 }
     requires few { limit ≤ MOST_SCRIPT_BYTES }
-    ensures { ReadsInto (R.remaining input.old) (R.remaining input.new) limit planning.new.plan result }
+    ensures { ReadsInto (record {
+      had = R.remaining input.old;
+      has = R.remaining input.new;
+      limit = limit;
+    }) planning.new.plan result }
 {
     match read_lines(planning, input, limit)? {
         Extent::Whole => planning.end(),
@@ -35,7 +39,11 @@ pub fn read_plan_within<A: Allocator + Copy, R: Read>(
     limit: u64,
 ) -> Result<Plan<A>, PlanFault>
     requires { limit ≤ MOST_SCRIPT_BYTES }
-    ensures { ReadsPlan (R.remaining input.old) (R.remaining input.new) limit result }
+    ensures { ReadsPlan (record {
+      had = R.remaining input.old;
+      has = R.remaining input.new;
+      limit = limit;
+    }) result }
 {
     let mut planning = Planning::new(alloc);
     read_into(&mut planning, input, limit)?;
@@ -47,7 +55,11 @@ pub fn read_plan<A: Allocator + Copy, R: Read>(
     alloc: A,
     input: &mut R,
 ) -> Result<Plan<A>, PlanFault>
-    ensures { ReadsPlan (R.remaining input.old) (R.remaining input.new) MOST_SCRIPT_BYTES result }
+    ensures { ReadsPlan (record {
+      had = R.remaining input.old;
+      has = R.remaining input.new;
+      limit = MOST_SCRIPT_BYTES;
+    }) result }
 {
     read_plan_within(alloc, input, MOST_SCRIPT_BYTES)
 }

@@ -10,8 +10,7 @@ use crate::line_taker::LineTaker;
 use crate::sizes::{MOST_SCRIPT_BYTES, PIECE};
 use ordup_answers::{ScriptEnd, answer};
 use ordup_grammar::Request;
-use ordup_text::send;
-use ordup_text::TextBuffer;
+use ordup_text::{TextBuffer, send};
 use std::alloc::{Allocator, Global};
 use std::io::{Read, Write};
 
@@ -91,8 +90,12 @@ fn run_in<A: Allocator + Copy, R: Read, W: Write>(
 ) -> Result<(), ScriptFault>
     requires store { Stands store.old first_session }
     requires answers { answers.old.text ≡ [] }
-    ensures { RunsIn (R.remaining input.old) (R.remaining input.new)
-        (W.contents output.old) (W.contents output.new) limit store.new result }
+    ensures { RunsIn (record {
+      had = R.remaining input.old;
+      has = R.remaining input.new;
+      old = W.contents output.old;
+      new = W.contents output.new;
+    }) limit store.new result }
 {
     let mut answerer = Answerer {
         store,
@@ -116,8 +119,12 @@ pub fn run_script_within<A: Allocator + Copy, R: Read, W: Write>(
     output: &mut W,
     limit: u64,
 ) -> Result<ScriptEnd<A>, ScriptFault>
-    ensures { Runs (R.remaining input.old) (R.remaining input.new)
-        (W.contents output.old) (W.contents output.new) limit result }
+    ensures { Runs (record {
+      had = R.remaining input.old;
+      has = R.remaining input.new;
+      old = W.contents output.old;
+      new = W.contents output.new;
+    }) limit result }
 {
     let mut store = ScriptEnd::new(alloc);
     let mut answers = TextBuffer::new(alloc);
@@ -131,8 +138,12 @@ pub fn run_script<A: Allocator + Copy, R: Read, W: Write>(
     input: &mut R,
     output: &mut W,
 ) -> Result<ScriptEnd<A>, ScriptFault>
-    ensures { Runs (R.remaining input.old) (R.remaining input.new)
-        (W.contents output.old) (W.contents output.new) MOST_SCRIPT_BYTES result }
+    ensures { Runs (record {
+      had = R.remaining input.old;
+      has = R.remaining input.new;
+      old = W.contents output.old;
+      new = W.contents output.new;
+    }) MOST_SCRIPT_BYTES result }
 {
     run_script_within(alloc, input, output, MOST_SCRIPT_BYTES)
 }

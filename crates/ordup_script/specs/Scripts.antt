@@ -3,6 +3,10 @@ use Rattle.std.specs.Prelude.{ℕ, Bool, ◌&&◌, ◌==◌, not, List, [], ◌�
 use Rattle.std.specs.List.{slice_split}
 use Rattle.ordup_grammar.specs.Lines.{Line, cut, is_line_feed}
 
+-- the most lines or bytes that a number of 64 bits counts
+abbrev pub most_counted : ℕ
+most_counted = 18446744073709551615
+
 -- the lines among the parts between line feeds: the last part is a line only where it counts and has a byte
 abbrev pub lines_among : Bool → List (List ℕ) → List Line
 lines_among counts [] = []

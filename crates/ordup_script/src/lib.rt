@@ -1,10 +1,10 @@
-//! Scripts: lines of commands from a reader, and their answers to a writer.
+//! Scripts and plans, from bytes to bytes. A script is lines of commands that a reader gives, and their answers go to a writer. A plan
+//! is a script of declarations, `start` and then proposals alone; it is read, and answers nothing.
 //!
 //! The one contract above this layer: what is written is a function of what is read, by lines.
 #![tactic(auto)]
 
 mod line_reader;
-mod line_taker;
 mod plan;
 mod plan_reader;
 pub mod sizes;

@@ -1,13 +1,62 @@
-//! The lines of a script from a reader, which come in pieces. A line that lies within a piece is taken where it lies; what a
-//! piece leaves unended is held until a later piece ends it.
+//! Reads the lines of a script, and gives each of them to a taker. Scripts and plans are read by this one loop.
+//!
+//! It is fast by these means:
+//!
+//! - **A piece on the stack.** The input is read into one array of 65,536 bytes. So reading takes no memory, however long the script
+//!   is, and one read gives some thousands of lines.
+//! - **A line is taken where it lies.** `split_line` cuts it off the front of the piece, and copies nothing. One pass over the line,
+//!   sixteen bytes at a time, finds its end and tells whether all of its bytes are printed. `memchr` looks for the end only where
+//!   one of them is not. That takes 6 percent off the instructions of a line.
+//! - **Only what a piece leaves unended is held.** It is copied into a `LineBuffer`, which has room for the 4,096 bytes that a line
+//!   may have. So a line that is too long takes no memory either.
+//! - **A taker is given a `Request`**: what the line asks for, and not its bytes. The taking is inlined into the loop, so that a
+//!   request is not moved. That takes 4 to 6 percent off.
+//! - **A taker hands out once for each piece**, and before that where it has as many bytes to write as a piece has. So there is
+//!   about one write for each read.
 ghost use Rattle.std.specs.Prelude.{◌≡◌, ◌+◌, ◌<◌, ◌≤◌, ℕ, List, [], ◌∷◌, ◌++◌, OnOk, length};
-ghost use Rattle.ordup_grammar.specs.Lines.{IsPart};
-ghost use Rattle.ordup_script.specs.Readings.{EndsIn, Reads, ReadsOn};
+ghost use Rattle.ordup_grammar.specs.Lines.{IsPart, Line};
+ghost use Rattle.ordup_grammar.specs.Requests.{request_of};
+ghost use Rattle.ordup_script.specs.Readings.{EndsIn, Reads, ReadsOn, Takes};
 
-use crate::line_taker::LineTaker;
 use crate::sizes::PIECE;
 use ordup_grammar::{LineBuffer, LinePart, Request, split_line};
 use std::io::Read;
+
+/// What takes the lines of a script, one after another: it answers them, or makes a plan of them.
+pub(crate) trait LineTaker {
+    /// Why it takes no more of them.
+    type Fault;
+
+    // What was `first` took these lines, and is this now.
+    ghost took: { Self → Self → List Line → Type 0 };
+
+    // What was `first` stopped for this fault at one of these lines, and is this now.
+    ghost stopped: { Self → Self → List Line → Self.Fault → Type 0 };
+
+    // All that the lines gave was handed out.
+    ghost is_clear: { Self → Type 0 };
+
+    // How many more lines it can take.
+    ghost room: { Self → ℕ };
+
+    /// Takes the next line, which asks for this.
+    ///
+    /// After whatever lines were taken before, this line was taken too, or the taker stopped at it. It can take at most one line
+    /// fewer than before.
+    fn take(&mut self, request: &Request<'_>) -> Result<(), Self::Fault>
+        requires { 0 < room self.old }
+        ensures lines { (line : Line) → request.now ≡ request_of line → Takes took stopped self.old self.new (line ∷ []) result }
+        ensures room { OnOk result (room self.old ≤ room self.new + 1) };
+
+    /// Hands out what the lines gave so far.
+    ///
+    /// The same lines were taken as before, or the taker stopped. All that they gave was handed out. It can take as many lines as
+    /// before.
+    fn hand_out(&mut self) -> Result<(), Self::Fault>
+        ensures lines { Takes took stopped self.old self.new [] result }
+        ensures clear { OnOk result (is_clear self.new) }
+        ensures room { OnOk result (room self.old ≤ room self.new) };
+}
 
 /// How much of a script was read.
 pub(crate) enum Extent {
@@ -19,7 +68,9 @@ pub(crate) enum Extent {
     UpToLimit,
 }
 
-/// Has the line taken that is held, and holds nothing any more.
+/// Gives the taker the line that is held, and holds nothing after it.
+///
+/// After whatever was read before, a line feed was read, or the taker stopped. It can take at most one line fewer.
 fn take_held<T: LineTaker>(held: &mut LineBuffer, taker: &mut T) -> Result<(), T::Fault>
     requires { 0 < T.room taker.old }
     ensures lines { ReadsOn T.took T.stopped taker.old held.old taker.new held.new (10 ∷ []) result }
@@ -30,7 +81,9 @@ fn take_held<T: LineTaker>(held: &mut LineBuffer, taker: &mut T) -> Result<(), T
     Ok(())
 }
 
-/// Has the line taken that this part ends.
+/// Gives the taker the line that this part ends. Where nothing is held the part is the line, and is taken where it lies.
+///
+/// After whatever was read before, the part and a line feed were read, or the taker stopped. It can take at most one line fewer.
 #[inline(always)]
 fn end_line<T: LineTaker>(
     held: &mut LineBuffer,
@@ -49,7 +102,10 @@ fn end_line<T: LineTaker>(
     take_held(held, taker)
 }
 
-/// Has the lines taken that end in the next piece of a script, and all handed out that they gave.
+/// Gives the taker each line that ends in the next piece of a script, holds what is left of the piece, and has the taker hand out.
+///
+/// After whatever was read before, this piece was read, or the taker stopped. All that the lines gave was handed out. The taker can
+/// take fewer lines than before by at most the number of bytes in the piece.
 fn read_piece<T: LineTaker>(
     held: &mut LineBuffer,
     taker: &mut T,
@@ -69,7 +125,10 @@ fn read_piece<T: LineTaker>(
     taker.hand_out()
 }
 
-/// Has the line taken that is left at the end of a script, if one is, and all handed out that it gave.
+/// Gives the taker the line that no line feed ended, if there is one, and has the taker hand out.
+///
+/// After whatever was read before, the script ended here, or the taker stopped. All that the lines gave was handed out. The taker can
+/// take at most one line fewer.
 fn read_last_line<T: LineTaker>(held: &mut LineBuffer, taker: &mut T) -> Result<(), T::Fault>
     requires clear { T.is_clear taker.old }
     requires room { 0 < T.room taker.old }
@@ -84,7 +143,10 @@ fn read_last_line<T: LineTaker>(held: &mut LineBuffer, taker: &mut T) -> Result<
     taker.hand_out()
 }
 
-/// Reads a script of at most so many bytes to its end, has each of its lines taken, and all handed out that they gave.
+/// Reads a script of at most `limit` bytes to its end, gives each line to the taker, and has it hand out.
+///
+/// The taker took the lines of what was read, or stopped at one of them (`Reads`). All that they gave was handed out. The taker can
+/// take fewer lines than before by at most `limit` and one.
 pub(crate) fn read_lines<T: LineTaker, R: Read>(
     taker: &mut T,
     input: &mut R,

@@ -3,32 +3,33 @@ ghost use Rattle.ordup_grammar.specs.declared.action.Action.{Action};
 ghost use Rattle.ordup_grammar.specs.declared.command.Command.{Command};
 ghost use Rattle.ordup_script.specs.Plans.{request_in, command_in, plan_result, planning, malformed};
 ghost use Rattle.ordup_script.specs.Plannings.{Tells, HasPlanned, HasRefused, LeadsTo, plan_state};
+ghost use Rattle.ordup_script.specs.Scripts.{most_counted};
 
-use crate::line_taker::LineTaker;
+use crate::line_reader::LineTaker;
 use ordup_answers::{declare, set_in};
 use ordup_grammar::{Action, ChangeWords, Command, Declaration, Request};
 use ordup_objects::{MessageSet, Refusal};
 use ordup_world::Setup;
 use std::alloc::{Allocator, Global};
 
-/// What is declared, and the message sets that are to be proposed, in their order.
+/// What is declared, and the message sets to propose, in their order.
 #[derive(Drop)]
 pub struct Plan<A: Allocator + Copy = Global> {
     /// The declarations, which are complete.
     pub setup: Setup<A>,
-    /// The sets, each of them over the objects of the setup. Whether they are legal one after the other is not tested.
+    /// The sets, each of them over the objects of the setup. No test has been made whether they are legal one after the other.
     pub sets: Vec<MessageSet<A>, A>,
 }
 
 /// Why a plan was not read to its end.
 #[derive(Clone, Copy, Debug, PartialEq, Eq)]
 pub enum PlanFault {
-    /// A read failed. The lines that a line feed ended belong.
+    /// A read failed. Each line before that a line feed ended belongs.
     Read,
-    /// The plan has more bytes than a script may. The lines that a line feed ended within them belong.
+    /// The plan has more bytes than it may. Each line that a line feed ended within them belongs.
     TooLong,
-    /// This line does not belong, the first to do so. All lines are counted, from 1. Where there is no `start` it is the
-    /// one after the last.
+    /// This is the first line that does not belong. All lines are counted, from 1. Where there is no `start` it is the line after the
+    /// last.
     Malformed { line: u64 },
     /// An allocation was refused.
     NoMemory,
@@ -53,7 +54,7 @@ impl<A: Allocator + Copy> LineTaker for Planning<A> {
 
     ghost is_clear = { λ planning. Unit {0} };
 
-    ghost room = { λ planning. 18446744073709551615 - planning.lines };
+    ghost room = { λ planning. most_counted - planning.lines };
 
     fn take(&mut self, request: &Request<'_>) -> Result<(), PlanFault> {
         self.take_line(request)
@@ -83,8 +84,10 @@ impl<A: Allocator + Copy> Planning<A> {
     }
 
     /// Takes what the next line asks for.
+    ///
+    /// The plan stands as that leaves it, or the line is the first that does not belong. One line more is counted.
     fn take_line(&mut self, request: &Request<'_>) -> Result<(), PlanFault>
-        requires { self.old.lines < 18446744073709551615 }
+        requires { self.old.lines < most_counted }
         ensures plan { LeadsTo self.new (request_in (plan_state self.old) request.now) result }
         ensures lines { self.new.lines ≡ self.old.lines + 1 }
     {
@@ -96,9 +99,9 @@ impl<A: Allocator + Copy> Planning<A> {
         }
     }
 
-    /// Ends the plan. Without a start the line after the last does not belong.
+    /// Ends the plan: it is what its lines come to. Without a start the line after the last does not belong.
     pub(crate) fn end(&self) -> Result<(), PlanFault>
-        requires { self.now.lines < 18446744073709551615 }
+        requires { self.now.lines < most_counted }
         ensures { Tells (plan_result (plan_state self.now)) self.now.plan result }
     {
         if self.is_started {

@@ -10,7 +10,7 @@ use crate::sizes::MOST_SCRIPT_BYTES;
 use std::alloc::Allocator;
 use std::io::Read;
 
-/// Reads a plan of at most so many bytes, which stands before its first line.
+/// Reads a plan of at most `limit` bytes, of which no line was taken yet.
 fn read_into<A: Allocator + Copy, R: Read>(
     planning: &mut Planning<A>,
     input: &mut R,
@@ -32,7 +32,15 @@ fn read_into<A: Allocator + Copy, R: Read>(
     }
 }
 
-/// Reads a plan of at most so many bytes, no more than a script may have.
+/// Reads a plan of at most `limit` bytes, which are no more than a script may have.
+///
+/// - `Ok`: the reader was read to its end and had at most as many bytes. The plan is what all of its lines declare and propose: a
+///   store can start with the setup, and each set is a message set over its objects.
+/// - `Malformed`: the line is the first that does not belong, whatever comes after it. Or the plan ended within the limit without a
+///   `start`, and it is the line after the last.
+/// - `Read`: a read failed, and each line that a line feed ended before belongs.
+/// - `TooLong`: there are more bytes, and each line that a line feed ended within the limit belongs.
+/// - `NoMemory`: an allocation was refused.
 pub fn read_plan_within<A: Allocator + Copy, R: Read>(
     alloc: A,
     input: &mut R,
@@ -50,7 +58,8 @@ pub fn read_plan_within<A: Allocator + Copy, R: Read>(
     Ok(planning.plan)
 }
 
-/// Reads a plan: declarations, `start`, and then proposals alone.
+/// Reads a plan: declarations, `start`, and then proposals alone. It answers as `read_plan_within` does with the limit
+/// `MOST_SCRIPT_BYTES`.
 pub fn read_plan<A: Allocator + Copy, R: Read>(
     alloc: A,
     input: &mut R,

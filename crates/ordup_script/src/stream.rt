@@ -1,12 +1,12 @@
-//! A script from a reader to a writer.
-ghost use Rattle.std.specs.Prelude.{◌≡◌, []};
+//! Runs a script: its lines come from a reader, and their answers go to a writer.
+ghost use Rattle.std.specs.Prelude.{◌≡◌, ◌+◌, []};
 ghost use Rattle.ordup_answers.specs.Sessions.{Stands, first_session};
 ghost use Rattle.ordup_script.specs.Answerers.{HasAnswered, HasStopped};
 ghost use Rattle.ordup_script.specs.Readings.{Takes};
 ghost use Rattle.ordup_script.specs.Runs.{Runs, RunsIn};
+ghost use Rattle.ordup_script.specs.Scripts.{most_counted};
 
-use crate::line_reader::{Extent, read_lines};
-use crate::line_taker::LineTaker;
+use crate::line_reader::{Extent, LineTaker, read_lines};
 use crate::sizes::{MOST_SCRIPT_BYTES, PIECE};
 use ordup_answers::{ScriptEnd, answer};
 use ordup_grammar::Request;
@@ -17,7 +17,7 @@ use std::io::{Read, Write};
 /// Why a script was not run to its end.
 #[derive(Clone, Copy, Debug, PartialEq, Eq)]
 pub enum ScriptFault {
-    /// A read failed. The lines that a line feed ended were answered.
+    /// A read failed. The lines that a line feed ended before were answered.
     Read,
     /// The script has more bytes than it may. The lines that a line feed ended within them were answered.
     TooLong,
@@ -28,7 +28,7 @@ pub enum ScriptFault {
 }
 
 /// Answers the lines of a script. It keeps the answers that were not written yet.
-// It owns nothing, since no proof knows what a value that owns memory leaves behind a reference in it.
+// It owns no memory: of a value that does, a proof does not know what it leaves behind the references in it.
 #[derive(Drop)]
 struct Answerer<'a, W, A: Allocator + Copy = Global> {
     store: &'a mut ScriptEnd<A>,
@@ -45,8 +45,8 @@ impl<W: Write, A: Allocator + Copy> LineTaker for Answerer<'_, W, A> {
 
     ghost is_clear = { λ answerer. answerer.answers.now.text ≡ [] };
 
-    // More than a script has bytes.
-    ghost room = { λ _. 18446744073709551616 };
+    // One more than any limit.
+    ghost room = { λ _. most_counted + 1 };
 
     #[inline(always)]
     fn take(&mut self, request: &Request<'_>) -> Result<(), ScriptFault> {
@@ -69,7 +69,9 @@ impl<W: Write, A: Allocator + Copy> LineTaker for Answerer<'_, W, A> {
 }
 
 impl<W: Write, A: Allocator + Copy> Answerer<'_, W, A> {
-    /// Hands the answers out where they have as many bytes as a piece.
+    /// Hands the answers out once they have as many bytes as a piece.
+    ///
+    /// The same lines were answered as before, or the taker stopped.
     fn hand_out_many(&mut self) -> Result<(), ScriptFault>
         ensures { Takes (HasAnswered W.contents) (HasStopped W.contents) self.old self.new [] result }
     {
@@ -80,7 +82,7 @@ impl<W: Write, A: Allocator + Copy> Answerer<'_, W, A> {
     }
 }
 
-/// Runs a script of at most so many bytes, where none of its lines was answered yet.
+/// Runs a script of at most `limit` bytes, of which no line was answered yet.
 fn run_in<A: Allocator + Copy, R: Read, W: Write>(
     store: &mut ScriptEnd<A>,
     answers: &mut TextBuffer<A>,
@@ -112,7 +114,14 @@ fn run_in<A: Allocator + Copy, R: Read, W: Write>(
     }
 }
 
-/// Runs a script of at most so many bytes.
+/// Runs a script of at most `limit` bytes: reads it to its end, answers each line, and writes the answers.
+///
+/// - `Ok`: the reader was read to its end and had at most `limit` bytes. The answers to all lines were written, and nothing else. The
+///   script stands where its last line leaves it.
+/// - `Read`: a read failed. The answers to the lines that a line feed ended before were written.
+/// - `TooLong`: there are more bytes. The answers to the lines that a line feed ended within the limit were written.
+/// - `Write`: a write or a flush failed, or a write took nothing. A front of the answers to all that the reader had was written.
+/// - `NoMemory`: an allocation was refused. Such a front was written too.
 pub fn run_script_within<A: Allocator + Copy, R: Read, W: Write>(
     alloc: A,
     input: &mut R,
@@ -132,7 +141,7 @@ pub fn run_script_within<A: Allocator + Copy, R: Read, W: Write>(
     Ok(store)
 }
 
-/// Runs a script: reads it to its end, answers each line, and writes the answers.
+/// Runs a script. It answers as `run_script_within` does with the limit `MOST_SCRIPT_BYTES`.
 pub fn run_script<A: Allocator + Copy, R: Read, W: Write>(
     alloc: A,
     input: &mut R,

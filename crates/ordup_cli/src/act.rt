@@ -12,10 +12,11 @@ use std::io::{Read, Write};
 use std::sync::Wait;
 use std::thread::Threads;
 
-/// Does what the words ask for, and answers the exit status.
+/// Does what the words ask for, and answers the exit status. The first word is the program's name.
 ///
-/// The first word is the program's name. What is asked for is read from the input and goes to the output; faults go to the
-/// third, a line each, and one that cannot be written keeps its status.
+/// Either one of the jobs was done over the input and the output: then nothing but the line of its fault, or a front of that line, was
+/// written to `faults`, and the status is that of how the job ended. Or no job was done and nothing was read: the help or the version was
+/// printed, or the words were wrong or there was no memory to look at them, and then nothing was printed.
 pub fn act<T: Threads + Wait + Sync, R: Read, W: Write, E: Write>(
     rt: &T,
     alloc: Global,
@@ -38,7 +39,7 @@ pub fn act<T: Threads + Wait + Sync, R: Read, W: Write, E: Write>(
     }
 }
 
-/// Ends the program after a job: tells its fault, if it has one, and answers the exit status.
+/// Ends the program after a job: answers the exit status, and tells the fault if there is one.
 fn end<E: Write>(outcome: Outcome, faults: &mut E) -> u8
     ensures status { result ≡ status_of outcome }
     ensures told { IsTold (E.contents faults.old) (E.contents faults.new) outcome }
@@ -49,7 +50,7 @@ fn end<E: Write>(outcome: Outcome, faults: &mut E) -> u8
     }
 }
 
-/// Shows the help or the version that was asked for, or says what is wrong with the words.
+/// Shows the help or the version where the words ask for it, or says what is wrong with the words.
 fn show_usage<W: Write, E: Write>(output: &mut W, faults: &mut E, error: &Error) -> u8
     ensures { IsUsage (W.contents output.old) (W.contents output.new) result }
 {

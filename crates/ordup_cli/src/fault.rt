@@ -1,4 +1,4 @@
-//! Why a job was not done, and how that is told.
+//! The faults of jobs: why a job was not done, its line of text and its exit status.
 ghost use Rattle.std.specs.Prelude.{◌≡◌, OnOk, ◌++◌};
 ghost use Rattle.std.specs.Fmt.{decimal};
 ghost use Rattle.std.specs.Io.KnownBytes.{Appends};
@@ -14,7 +14,7 @@ use std::io::Write;
 
 /// The exit status where a record is not valid, or a site does not agree with the log.
 pub(crate) const NOT_VALID: u8 = 1;
-/// The exit status where the words ask for nothing that the program does, or name no site.
+/// The exit status where the words ask for no job, or name no site.
 pub(crate) const WRONG_WORDS: u8 = 2;
 /// The exit status where the input or the output failed, or the script did not start.
 const INPUT_OR_OUTPUT_FAILED: u8 = 3;
@@ -30,7 +30,7 @@ pub(crate) enum Fault {
     TooLong,
     /// A write or a flush failed, or a write took nothing.
     Write,
-    /// This row of a record is the first that breaks a rule of the format, or this line of a plan.
+    /// This row of a record, or this line of a plan, is the first that breaks a rule of the format.
     Malformed { row: u64 },
     /// The script did not start its store.
     NotStarted,
@@ -105,7 +105,7 @@ impl Fault {
     }
 }
 
-/// Tells a fault in a line, or in a front of it where it cannot be written, and answers its exit status.
+/// Tells a fault: answers its exit status, and writes its line, or a front of it where the writer fails.
 pub(crate) fn tell<E: Write>(faults: &mut E, fault: Fault) -> u8
     ensures status { result ≡ fault_status fault }
     ensures text { AppendsFront (E.contents faults.old) (E.contents faults.new) (fault_text fault) }

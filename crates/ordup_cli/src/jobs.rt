@@ -1,4 +1,4 @@
-//! What the words of the program ask for: a script or a plan is run, the record of a site is printed, a record is checked.
+//! The jobs of the program: it runs a script or a plan, prints the record of a site, or checks a record.
 ghost use Rattle.std.specs.Prelude.{◌≡◌, IfErr, IfOk, string_bytes};
 ghost use Rattle.ordup_objects.specs.Tables.{place_of};
 ghost use Rattle.std.specs.Io.KnownBytes.{Keeps};
@@ -26,7 +26,7 @@ pub(crate) const DONE: u8 = 0;
 /// How a job ended: with an exit status, or with a fault.
 pub(crate) type Outcome = Result<u8, Fault>;
 
-/// Does a job: reads what it asks for from the input, and prints what comes of it on the output.
+/// Does a job: reads the input, and prints on the output what comes of it.
 pub(crate) fn do_job<T: Threads + Wait + Sync, R: Read, W: Write>(
     rt: &T,
     alloc: Global,
@@ -50,7 +50,10 @@ pub(crate) fn do_job<T: Threads + Wait + Sync, R: Read, W: Write>(
 }
 
 /// Runs a script and prints its answers.
-// What a script came to is dropped by a call, as what the jobs below made is: where it goes out of scope, the proof takes it apart.
+///
+/// The script was run over these streams (`Runs`), and the outcome is that of its end: done, or its fault.
+// The end of the script is dropped by a call, and so is what the jobs below make: where such a value goes out of scope, the proof takes
+// it apart.
 fn run<R: Read, W: Write>(alloc: Global, input: &mut R, output: &mut W) -> Outcome
     ensures { Answers (record {
       had = R.remaining input.old;
@@ -69,6 +72,9 @@ fn run<R: Read, W: Write>(alloc: Global, input: &mut R, output: &mut W) -> Outco
 }
 
 /// Runs a script and prints the record of a site in place of the answers.
+///
+/// The script was run from this reader, and no answer was written. Then the record of what the primary has of the site was printed. Where the
+/// run failed, no store started, or there is no such site, nothing was written, and the outcome says so.
 fn print_record<R: Read, W: Write>(
     alloc: Global,
     site: &[u8],
@@ -96,7 +102,7 @@ fn print_record<R: Read, W: Write>(
     }
 }
 
-/// Prints the record of the site of this name.
+/// Prints the record of the site of this name. Where there is none, nothing is written.
 fn print_site<W: Write>(alloc: Global, site: &[u8], primary: &Primary, output: &mut W) -> Outcome
     ensures { PrintsSite primary.now (place_of site.now primary.now.setup.sites) (W.contents output.old) (W.contents output.new) result }
 {
@@ -113,7 +119,7 @@ fn print_site<W: Write>(alloc: Global, site: &[u8], primary: &Primary, output: &
     }
 }
 
-/// Prints a record.
+/// Prints a record: all of its rows, or a front of them where the writer fails, or nothing for want of memory.
 fn print_rows<W: Write>(alloc: Global, shown: &Record, output: &mut W) -> Outcome
     ensures { PrintsRecord shown.now (W.contents output.old) (W.contents output.new) result }
 {
@@ -125,6 +131,11 @@ fn print_rows<W: Write>(alloc: Global, shown: &Record, output: &mut W) -> Outcom
 }
 
 /// Checks a record and prints the verdict.
+///
+/// - Where it ends with a status or a write fault, the text is not too long, and it tells a record. The verdict on it was printed, or a
+///   front of that line.
+/// - `Malformed`: the row is the first that breaks a rule. Nothing was written.
+/// - `Read`, `NoMemory`: nothing was written.
 fn check_record<R: Read, W: Write>(alloc: Global, input: &mut R, output: &mut W) -> Outcome
     ensures { Checks (R.remaining input.old) (W.contents output.old) (W.contents output.new) result }
 {
@@ -138,7 +149,7 @@ fn check_record<R: Read, W: Write>(alloc: Global, input: &mut R, output: &mut W)
     }
 }
 
-/// Prints a verdict, and answers the exit status that goes with it.
+/// Prints the line of a verdict, and answers the exit status that goes with it.
 fn print_verdict<W: Write>(alloc: Global, verdict: Verdict, output: &mut W) -> Outcome
     ensures { PrintsVerdict verdict (W.contents output.old) (W.contents output.new) result }
 {

@@ -1,4 +1,5 @@
-//! The program `ordup`: its words on the command line, and what they do.
+//! The program `ordup`: it does the job that the words on the command line ask for, from standard input to standard output, and ends
+//! with an exit status.
 #![tactic(auto)]
 
 mod act;
@@ -45,7 +46,7 @@ fn main(rt: HostRuntime) -> ExitCode {
     ))
 }
 
-/// The words that the program was started with. An argument that is no text is an error.
+/// The words that the program was started with. It is an error where one of them is no text.
 fn arguments<R: Env + AllocGlobal>(rt: &R, alloc: Global) -> io::Result<Vec<String>> {
     let mut words = Vec::new(alloc);
     for word in std::env::args(rt)? {
@@ -63,7 +64,7 @@ fn texts<'a>(alloc: Global, words: &'a [String]) -> Result<Vec<&'a str>, AllocEr
     Ok(texts)
 }
 
-/// Tells why the words could not be had, and answers the exit status: there was no memory, or one of them is no text.
+/// Tells why the words could not be read, and answers the exit status: there was no memory, or one of them is no text.
 fn tell_lost_words<E: Write>(faults: &mut E, why: ErrorKind) -> u8 {
     if why == ErrorKind::OutOfMemory {
         return tell(faults, Fault::NoMemory);

@@ -1,4 +1,4 @@
-//! A plan is run in threads.
+//! The job of running a plan in threads.
 ghost use Rattle.std.specs.Prelude.{◌≡◌};
 ghost use Rattle.ordup_cli.specs.Plans.{Prints, RunsPlan, fault_of};
 
@@ -14,7 +14,10 @@ use std::num::NonZeroU8;
 use std::sync::Wait;
 use std::thread::Threads;
 
-/// Runs a plan by so many callers, and prints what came of it.
+/// Runs a plan by this many callers, and prints what came of it.
+///
+/// A plan was read from this reader (`ReadsPlan`), and the text that was printed is an outcome of as many sets as it has. Where no plan was
+/// read, or its run has no outcome, nothing was written, and the fault says why.
 pub(crate) fn run_plan<T: Threads + Wait + Sync, R: Read, W: Write>(
     rt: &T,
     alloc: Global,
@@ -39,7 +42,7 @@ pub(crate) fn run_plan<T: Threads + Wait + Sync, R: Read, W: Write>(
     }
 }
 
-/// The fault of a plan that was run and has no outcome.
+/// Why the run of a plan has no outcome.
 fn fault_of(refusal: Refusal) -> Fault
     ensures { result ≡ fault_of refusal }
 {
@@ -49,7 +52,7 @@ fn fault_of(refusal: Refusal) -> Fault
     }
 }
 
-/// Prints a text.
+/// Prints a text: all of it, or a front of it where the writer fails.
 fn print<W: Write>(text: &[u8], output: &mut W) -> Outcome
     ensures { Prints text.now (W.contents output.old) (W.contents output.new) result }
 {

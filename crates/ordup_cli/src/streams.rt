@@ -1,4 +1,4 @@
-//! The program over a reader and two writers in memory.
+//! Runs the program in tests, over a reader and two writers in memory, which may fail.
 ghost use Rattle.std.specs.Prelude.{◌≡◌, Some, IfOk};
 
 use crate::act::act;
@@ -23,7 +23,7 @@ pub(crate) struct Streams {
     pub(crate) fault_room: usize,
     /// Whether a flush succeeds.
     pub(crate) can_flush: bool,
-    /// How what fails does so.
+    /// How the reader and the writers fail.
     pub(crate) failure: Failure,
 }
 
@@ -32,12 +32,12 @@ pub(crate) struct Streams {
 pub(crate) enum Failure {
     /// By an error of this kind.
     Error(ErrorKind),
-    /// By nothing: a write takes no bytes. Reads and flushes fail by an error.
+    /// A write takes no bytes. Reads and flushes fail by an error.
     Nothing,
 }
 
 impl Failure {
-    /// What a write comes to that fails.
+    /// The result of a write that fails.
     fn of_write(self) -> io::Result<usize>
         ensures { IfOk result (λ count. count ≡ 0) }
     {
@@ -47,7 +47,7 @@ impl Failure {
         }
     }
 
-    /// The error of a read or of a flush that fails.
+    /// The error of a read or a flush that fails.
     fn error(self) -> io::Error {
         match self {
             Failure::Error(kind) => io::Error::from(kind),
@@ -56,7 +56,7 @@ impl Failure {
     }
 }
 
-/// A reader that gives all, and writers that take all.
+/// A reader that gives everything, and writers that take everything.
 pub(crate) const SOUND: Streams = Streams {
     at_once: ALL,
     given: ALL,
@@ -66,7 +66,7 @@ pub(crate) const SOUND: Streams = Streams {
     failure: Failure::Error(ErrorKind::Other),
 };
 
-/// What is left of a run of the program.
+/// How a run of the program ended, and what it wrote.
 #[derive(Drop)]
 pub(crate) struct Ended {
     pub(crate) status: u8,
@@ -75,7 +75,7 @@ pub(crate) struct Ended {
 }
 
 impl Ended {
-    /// Whether the run ended with this status, and wrote this.
+    /// Whether the run ended with this status, and wrote exactly this.
     pub(crate) fn is(&self, status: u8, output: &[u8], faults: &[u8]) -> bool {
         self.status == status
             && self.output.as_slice() == output
@@ -83,7 +83,7 @@ impl Ended {
     }
 }
 
-/// Gives at most so many bytes a call, and fails once so many were given.
+/// Gives at most `at_once` bytes a call, and fails after `before_failure` bytes.
 #[derive(Drop)]
 struct ShortReader<'a> {
     left: &'a [u8],
@@ -110,7 +110,7 @@ impl<'a> Read for ShortReader<'a> {
     }
 }
 
-/// Takes so many bytes, and then fails.
+/// Takes `room` bytes, and then fails.
 #[derive(Drop)]
 struct ShortWriter {
     taken: Vec<u8>,
@@ -142,7 +142,7 @@ impl Write for ShortWriter {
 }
 
 impl ShortWriter {
-    /// A writer with room for so many bytes, which nothing was written to.
+    /// A writer with this room, to which nothing was written.
     fn new(alloc: Global, room: usize, streams: Streams) -> Self {
         ShortWriter {
             taken: Vec::new(alloc),
@@ -153,7 +153,7 @@ impl ShortWriter {
     }
 }
 
-/// Runs the program on words and an input, over streams that behave so.
+/// Runs the program on words and an input, over these streams.
 pub(crate) fn run_over<T: Threads + Wait + Sync + AllocGlobal>(
     rt: &T,
     words: &[&str],
@@ -177,7 +177,7 @@ pub(crate) fn run_over<T: Threads + Wait + Sync + AllocGlobal>(
     }
 }
 
-/// Runs the program on words and an input.
+/// Runs the program on words and an input, over sound streams.
 pub(crate) fn run_on<T: Threads + Wait + Sync + AllocGlobal>(
     rt: &T,
     words: &[&str],

@@ -2,7 +2,7 @@ use clap::{Arg, Command, Error, value_parser};
 use std::alloc::{AllocError, Global};
 use std::num::NonZeroU8;
 
-/// What the words ask for.
+/// What the words ask the program to do.
 #[derive(Debug, Drop)]
 pub enum Job {
     /// Runs a script.
@@ -21,9 +21,9 @@ pub enum Job {
     },
 }
 
-/// The job that the words name, of which the first is the program's name. None of them names no job.
+/// The job that the words name. The first word is the program's name. None where they name no job.
 ///
-/// It is an error where the words are wrong, where they ask for the help or the version, and for want of memory.
+/// It is an error where the words are wrong, where they ask for the help or the version, and where an allocation was refused.
 pub fn job_of(alloc: Global, words: &[&str]) -> Result<Option<Job>, Error> {
     let matches = command(alloc)?.try_get_matches_from(words)?;
     match matches.subcommand() {
@@ -40,7 +40,7 @@ pub fn job_of(alloc: Global, words: &[&str]) -> Result<Option<Job>, Error> {
     }
 }
 
-/// The job of a plan with so many callers. None where there is none.
+/// The job of running a plan by this many callers. None for no callers.
 fn callers_of(callers: Option<u8>) -> Option<Job> {
     let callers = NonZeroU8::new(callers?)?;
     Some(Job::Threads { callers })
@@ -85,7 +85,7 @@ fn command<'a>(alloc: Global) -> Result<Command<'a>, AllocError> {
 /// What `ordup --version` shows after the program's name.
 const VERSION: &str = "0.1.0";
 
-/// What is said of a word that the program does not take, such as the name of a file.
+/// What follows the message about a word that the program does not take, such as the name of a file.
 pub const FILE_TIP: &str = "
 A script, a record or a plan comes on standard input: ordup run < FILE
 ";
@@ -146,7 +146,7 @@ Reads a script from standard input to its end and prints no answers. Then it
 prints the record of the site as rows of comma-separated values: what was
 declared, the updates that were decided, what the site had reported at each
 decision, its forced rounds, and a window of updates for each of them, which is
-over a limit alone. So, of a site with a limit of 5 on x:
+over a limit alone. For example, of a site with a limit of 5 on x:
 
     ./ordup record a < FILE
     ordup,1,a,2                site a, of which 2 updates were decided
@@ -192,11 +192,11 @@ first. Then it prints what came of it:
     propose add:x:1      certified a 2
     propose add:x:1
 
-So many proposals are in the log, so many were refused, and so many were not
-acknowledged within 1,000,000 turns of their caller. Of each site: how many
-updates it applied, its forced rounds, its values, and the number of rounds that
-no schedule that keeps its limits goes below. With several callers the order of
-the log is as the threads meet.
+The first lines say how many proposals are in the log, how many were refused,
+and how many were not acknowledged within 1,000,000 turns of their caller. The
+lines of a site say how many updates it applied, its forced rounds, its values,
+and the number of rounds that no schedule that keeps its limits goes below. With
+several callers the order of the log depends on how the threads meet.
 
 Exit statuses: 0 done; 3 with `malformed LINE` (the first line that does not
 belong), `read fault`, `write fault` or `input too long` on standard error; 4

@@ -1,7 +1,7 @@
-//! The words on the command line: what they ask the program for, the help and the version.
+//! The command line: which job the words ask the program for, the help and the version.
 //!
-//! It stands on no crate of ordup, so that the program is proved without what the command-line library asks of a proof.
-//! What it makes of the words is tested with the program.
+//! It stands on the library clap and on no crate of ordup. The check of what clap asks for is long, and so it is made once and not
+//! again with each change of the program. No contract says which job the words ask for: the tests of the program do.
 #![tactic(auto)]
 
 mod command_line;

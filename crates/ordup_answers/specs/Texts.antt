@@ -22,11 +22,18 @@ refused_text r = codes "refused " ++ decimal (refusal_number r) ++ 32 ∷ [] ++ 
 abbrev pub started_text : List ℕ
 started_text = codes "ok start" ++ 10 ∷ []
 
+-- the numbers that a shown site has
+pub record ShownNumbers : Type 0 where
+  pub sent : ℕ
+  pub applied : ℕ
+  pub reported : ℕ
+  pub rounds : ℕ
+
 -- `ok show S sent A applied B reported C rounds N X=V ..`
-abbrev pub shown_text : List ℕ → ℕ → ℕ → ℕ → ℕ → List (List ℕ × ℤ) → List ℤ → List ℕ
-shown_text site sent applied reported rounds objects values =
-    codes "ok show " ++ site ++ codes " sent " ++ decimal sent ++ codes " applied " ++ decimal applied
-    ++ codes " reported " ++ decimal reported ++ codes " rounds " ++ decimal rounds ++ values_text objects values ++ 10 ∷ []
+abbrev pub shown_text : List ℕ → ShownNumbers → List (List ℕ × ℤ) → List ℤ → List ℕ
+shown_text site n objects values =
+    codes "ok show " ++ site ++ codes " sent " ++ decimal n.sent ++ codes " applied " ++ decimal n.applied
+    ++ codes " reported " ++ decimal n.reported ++ codes " rounds " ++ decimal n.rounds ++ values_text objects values ++ 10 ∷ []
 
 -- ` S` for each of these sites
 abbrev pub sites_text : List (List ℕ × ℕ) → List ℕ → List ℕ
@@ -68,7 +75,7 @@ answer_text setup subject object (ReadOut answer) = read_text subject object ans
 answer_text setup subject object (Ended answer) = ended_text subject answer
 answer_text setup subject object (Abandoned query) = named_text (codes "ok abandoned ") query
 answer_text setup subject object (Shown sent applied reported rounds values) =
-    shown_text subject sent applied reported rounds setup.objects values
+    shown_text subject (record { sent = sent; applied = applied; reported = reported; rounds = rounds }) setup.objects values
 answer_text setup subject object (Refused r) = refused_text r
 
 -- ` A-B`

@@ -39,7 +39,7 @@ pub fn push_started<A: Allocator + Copy>(out: &mut TextBuffer<A>) -> Result<(), 
 
 /// The numbers that a shown site has.
 #[derive(Clone, Copy)]
-struct SiteNumbers {
+struct ShownNumbers {
     sent: u64,
     applied: u64,
     reported: u64,
@@ -50,11 +50,16 @@ struct SiteNumbers {
 fn push_shown<A: Allocator + Copy>(
     out: &mut TextBuffer<A>,
     site: &[u8],
-    numbers: SiteNumbers,
+    numbers: ShownNumbers,
     objects: &ObjectTable<A>,
     values: &[i64],
 ) -> Result<(), AllocError>
-    ensures { OnOk result (out.new.text ≡ out.old.text ++ shown_text site.now numbers.sent numbers.applied numbers.reported numbers.rounds objects.now values.now) }
+    ensures { OnOk result (out.new.text ≡ out.old.text ++ shown_text site.now (record {
+      sent = numbers.sent;
+      applied = numbers.applied;
+      reported = numbers.reported;
+      rounds = numbers.rounds;
+    }) objects.now values.now) }
 {
     out.push(b"ok show ")?;
     out.push(site)?;
@@ -101,7 +106,7 @@ pub fn push_answer<A: Allocator + Copy>(
             rounds,
             values,
         } => {
-            let numbers = SiteNumbers {
+            let numbers = ShownNumbers {
                 sent: *sent,
                 applied: *applied,
                 reported: *reported,

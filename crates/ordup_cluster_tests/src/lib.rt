@@ -6,4 +6,6 @@ mod cluster;
 #[cfg(test)]
 mod feed;
 #[cfg(test)]
+mod fixtures;
+#[cfg(test)]
 mod holds;

@@ -1,12 +1,11 @@
 //! Limits of a site that change while the cluster runs. It has the sites of the fixtures: a has a limit on x of 5.
 use super::fixtures::{
-    a, add, apply_at, b, expect_closed, expect_proposed, expect_settled, opened, opened_pair, seen,
-    x,
+    add, apply_at, expect_closed, expect_proposed, expect_settled, opened, opened_pair,
 };
-use ordup_audit::{Verdict, check};
+use crate::fixtures::{a, b, seen, x, z};
 use ordup_cluster::{Cluster, Session};
 use ordup_limits::{GroupId, Limit, LimitEntry, Scope};
-use ordup_objects::{MessageSet, ObjectId, Refusal, SiteId};
+use ordup_objects::{MessageSet, Refusal, SiteId};
 use ordup_primary::Primary;
 use ordup_record::record_of;
 use std::alloc::Global;
@@ -72,7 +71,7 @@ fn close_lowered(rt: &impl Abort, alloc: Global, cluster: Cluster) {
 /// What a scope names is looked at first, then the site, then the amount.
 fn expect_order<R: Wait + Abort>(rt: &R, cluster: &Cluster) {
     let past = 1_000_000_000_000_000_001;
-    let on_z = Scope::Object(ObjectId::new(2));
+    let on_z = Scope::Object(z());
     let on_a_group = Scope::Group(GroupId::new(0));
     expect_changed(rt, cluster, b(), on_z, past, Err(Refusal::UnknownObject));
     expect_changed(

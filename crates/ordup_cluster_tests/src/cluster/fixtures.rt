@@ -1,106 +1,41 @@
-//! Clusters of the objects x at 0 and y at 10, and what is done with them.
-ghost use Rattle.std.specs.Prelude.{◌≡◌, ◌≤◌};
+//! Clusters, and what is done with them.
+ghost use Rattle.std.specs.Prelude.{◌≤◌};
 
+use crate::fixtures::{self, a, declared, seen, x, x_y_and_z};
 use ordup_cluster::{Closed, Cluster, OpenGate, SeenValue, Session};
 use ordup_limits::Scope;
-use ordup_objects::{Change, MessageSet, ObjectId, ObjectTable, Op, Refusal, SiteId};
-use ordup_primary::{Setup, Window};
+use ordup_objects::{MessageSet, ObjectId, Refusal, SiteId};
+use ordup_primary::Window;
 use std::alloc::Global;
 use std::process::Abort;
 use std::sync::Wait;
 
-/// The object x.
-pub fn x() -> ObjectId
-    ensures { result ≡ 0 }
-{
-    ObjectId::new(0)
-}
-
-/// The object y.
-pub fn y() -> ObjectId
-    ensures { result ≡ 1 }
-{
-    ObjectId::new(1)
-}
-
-/// The site a.
-pub fn a() -> SiteId
-    ensures { result ≡ 0 }
-{
-    SiteId::new(0)
-}
-
-/// The site b.
-pub fn b() -> SiteId
-    ensures { result ≡ 1 }
-{
-    SiteId::new(1)
-}
-
-/// Declares x and y, and the site a, whose feed has room for 4 updates, with this limit on that scope.
-fn declare(setup: &mut Setup, scope: Scope, limit: u64) -> Result<(), Refusal> {
-    setup.object(b"x", 0)?;
-    setup.object(b"y", 10)?;
-    let a = setup.site(b"a", 4)?;
-    setup.limit(a, scope, limit)
-}
-
-/// A cluster of the site a, with this limit on that scope.
+/// A cluster of the site a, whose feed has room for 4 updates, with this limit on that scope.
 pub fn opened(
     rt: &impl Abort,
     alloc: Global,
     scope: Scope,
     limit: u64,
 ) -> Result<Cluster, Refusal> {
-    let mut setup = Setup::new(alloc);
-    let Ok(()) = declare(&mut setup, scope, limit) else {
-        panic!(rt; "the declarations are refused")
-    };
-    Cluster::new(alloc, setup)
-}
-
-/// Declares what the cluster of one site has, with a limit on x of 5, and the site b, which has no limit.
-fn declare_pair(setup: &mut Setup) -> Result<SiteId, Refusal> {
-    declare(setup, Scope::Object(x()), 5)?;
-    setup.site(b"b", 4)
+    Cluster::new(
+        alloc,
+        declared(rt, alloc, &[("a", 4, Some((scope, limit)))]),
+    )
 }
 
 /// A cluster of the site a, whose limit on x is 5, and of the site b, which has no limit.
 pub fn opened_pair(rt: &impl Abort, alloc: Global) -> Result<Cluster, Refusal> {
-    let mut setup = Setup::new(alloc);
-    let Ok(_) = declare_pair(&mut setup) else {
-        panic!(rt; "the declarations are refused")
-    };
-    Cluster::new(alloc, setup)
-}
-
-/// The first objects of a table: x at 0, y at 10, and z, which no cluster has.
-fn x_y_and_z(rt: &impl Abort, alloc: Global) -> ObjectTable {
-    let mut objects = ObjectTable::new(alloc);
-    assert_eq!(rt; objects.declare(b"x", 0), Ok(x()));
-    assert_eq!(rt; objects.declare(b"y", 10), Ok(y()));
-    assert_eq!(rt; objects.declare(b"z", 0), Ok(ObjectId::new(2)));
-    objects
+    let within_5 = Some((Scope::Object(x()), 5));
+    let sites = [("a", 4, within_5), ("b", 4, None)];
+    Cluster::new(alloc, declared(rt, alloc, &sites))
 }
 
 /// The set that adds a number to x, y or z.
 pub fn add(rt: &impl Abort, alloc: Global, object: ObjectId, n: i64) -> MessageSet {
     let objects = x_y_and_z(rt, alloc);
-    let change = Change {
-        object,
-        op: Op::Add(n),
-    };
-    let Ok(set) = MessageSet::single(&objects, change) else {
-        panic!(rt; "the set is refused")
-    };
-    // Dropped by a call, which is proved once for all tests: docs/DECISIONS.md, Tests.
+    let set = fixtures::add(rt, &objects, object, n);
     drop(objects);
     set
-}
-
-/// The value of an object at a site that has applied so many updates.
-pub fn seen(value: i64, applied: u64) -> SeenValue {
-    SeenValue { value, applied }
 }
 
 /// Reads x at a site in a session, and sees this value, and that the site has applied so many updates.

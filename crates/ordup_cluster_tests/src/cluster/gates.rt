@@ -1,5 +1,6 @@
 //! What an applier tells its gate, and when it ends.
-use super::fixtures::{a, add, b, expect_proposed, opened, opened_pair, x};
+use super::fixtures::{add, expect_proposed, opened, opened_pair};
+use crate::fixtures::{a, b, x};
 use ordup_cluster::{Cluster, Gate, OpenGate, Session};
 use ordup_limits::Scope;
 use ordup_objects::{MessageSet, SiteId};

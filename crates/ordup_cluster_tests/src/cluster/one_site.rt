@@ -1,8 +1,9 @@
 //! Updates at the one site of a cluster, from the proposal to what is left at the end.
 use super::fixtures::{
-    a, add, apply_at, expect_behind, expect_closed, expect_proposed, expect_seen, expect_settled,
-    opened, seen, x,
+    add, apply_at, expect_behind, expect_closed, expect_proposed, expect_seen, expect_settled,
+    opened,
 };
+use crate::fixtures::{a, seen, x};
 use ordup_cluster::{Cluster, Session, SiteQuery};
 use ordup_limits::Scope;
 use ordup_objects::{MessageSet, Refusal};

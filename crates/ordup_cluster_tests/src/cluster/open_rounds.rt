@@ -1,28 +1,13 @@
 //! Rounds that stay open until the site a has applied what they wait for. Its feed has room for one update, and it may not lag.
-use super::fixtures::{a, add, apply_at, expect_closed, expect_proposed, expect_settled, seen, x};
+use super::fixtures::{add, apply_at, expect_closed, expect_proposed, expect_settled};
+use crate::fixtures::{a, declared, seen, x};
 use ordup_cluster::{Cluster, Session};
 use ordup_limits::Scope;
 use ordup_objects::{MessageSet, Refusal};
-use ordup_primary::{Setup, Window};
-use std::alloc::Global;
+use ordup_primary::Window;
 use std::process::Abort;
 use std::sync::Wait;
 use std::test::Fail;
-
-/// Declares x at 0, and the site a.
-fn declare(setup: &mut Setup) -> Result<(), Refusal> {
-    setup.object(b"x", 0)?;
-    let a = setup.site(b"a", 1)?;
-    setup.limit(a, Scope::All, 0)
-}
-
-fn opened(rt: &impl Abort, alloc: Global) -> Result<Cluster, Refusal> {
-    let mut setup = Setup::new(alloc);
-    let Ok(()) = declare(&mut setup) else {
-        panic!(rt; "the declarations are refused")
-    };
-    Cluster::new(alloc, setup)
-}
 
 /// Two updates, each with a round of a. The second is sent only once a has reported the first, by the one turn that learns of it.
 fn wait_for_both<R: Wait + Abort>(rt: &R, cluster: &Cluster, set: MessageSet, other: MessageSet) {
@@ -42,7 +27,8 @@ fn wait_for_both<R: Wait + Abort>(rt: &R, cluster: &Cluster, set: MessageSet, ot
 #[test]
 fn each_round_waits_for_its_own_report(rt: HostRuntime) -> Result<(), Fail> {
     let alloc = rt.alloc();
-    let cluster = opened(&rt, alloc)?;
+    let setup = declared(&rt, alloc, &[("a", 1, Some((Scope::All, 0)))]);
+    let cluster = Cluster::new(alloc, setup)?;
     let set = add(&rt, alloc, x(), 1);
     let other = add(&rt, alloc, x(), 1);
     wait_for_both(&rt, &cluster, set, other);

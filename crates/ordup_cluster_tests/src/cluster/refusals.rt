@@ -1,5 +1,6 @@
 //! Which calls of a cluster are refused, and in which order.
-use super::fixtures::{self, a, add, b, opened, x, y};
+use super::fixtures::{self, add, opened};
+use crate::fixtures::{a, b, seen, x, y, z};
 use ordup_cluster::{Cluster, SeenValue, Session};
 use ordup_limits::Scope;
 use ordup_objects::{MessageSet, ObjectId, Refusal, SiteId};
@@ -8,11 +9,6 @@ use ordup_query::{QueryAnswer, ReadAnswer};
 use std::process::Abort;
 use std::sync::Wait;
 use std::test::Fail;
-
-/// An object that no cluster has.
-fn z() -> ObjectId {
-    ObjectId::new(2)
-}
 
 /// Reads an object at a site in a session that has seen nothing, and sees this answer.
 fn expect_read<R: Wait + Abort>(
@@ -98,16 +94,7 @@ fn an_unknown_object_comes_before_an_unknown_site(rt: HostRuntime) -> Result<(),
     expect_read(&rt, &cluster, b(), z(), Err(Refusal::UnknownObject));
     expect_read(&rt, &cluster, a(), z(), Err(Refusal::UnknownObject));
     expect_read(&rt, &cluster, b(), y(), Err(Refusal::UnknownSite));
-    expect_read(
-        &rt,
-        &cluster,
-        a(),
-        y(),
-        Ok(SeenValue {
-            value: 10,
-            applied: 0,
-        }),
-    );
+    expect_read(&rt, &cluster, a(), y(), Ok(seen(10, 0)));
     drop(cluster);
     Ok(())
 }

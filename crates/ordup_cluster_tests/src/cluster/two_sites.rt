@@ -1,8 +1,9 @@
 //! Sessions over two sites, of which one lags.
 use super::fixtures::{
-    a, add, apply_at, b, expect_behind, expect_held, expect_proposed, expect_seen, expect_settled,
-    opened_pair, x,
+    add, apply_at, expect_behind, expect_held, expect_proposed, expect_seen, expect_settled,
+    opened_pair,
 };
+use crate::fixtures::{a, b, x};
 use ordup_cluster::{Cluster, Session};
 use ordup_objects::MessageSet;
 use ordup_query::ReadAnswer;

@@ -1,29 +1,14 @@
 //! Two sites that differ: a has room for two updates and may lag by four, b has room for three and no limit.
-use super::fixtures::{self, a, add, b, expect_applied, expect_closed, expect_proposed, seen, x};
+use super::fixtures::{self, add, expect_applied, expect_closed, expect_proposed};
+use crate::fixtures::{a, b, declared, seen, x};
 use ordup_cluster::{Cluster, Session};
 use ordup_limits::Scope;
 use ordup_objects::Refusal;
-use ordup_primary::{Setup, Window};
+use ordup_primary::Window;
 use std::alloc::Global;
 use std::process::Abort;
 use std::sync::Wait;
 use std::test::Fail;
-
-/// Declares x at 0, and the two sites.
-fn declare(setup: &mut Setup) -> Result<(), Refusal> {
-    setup.object(b"x", 0)?;
-    let a = setup.site(b"a", 2)?;
-    setup.site(b"b", 3)?;
-    setup.limit(a, Scope::Count, 4)
-}
-
-fn opened(rt: &impl Abort, alloc: Global) -> Result<Cluster, Refusal> {
-    let mut setup = Setup::new(alloc);
-    let Ok(()) = declare(&mut setup) else {
-        panic!(rt; "the declarations are refused")
-    };
-    Cluster::new(alloc, setup)
-}
 
 /// Waits for the fifth update with one turn, and sees this answer.
 fn expect_settled<R: Wait + Abort>(rt: &R, cluster: &Cluster, answer: Result<(), Refusal>) {
@@ -58,7 +43,8 @@ fn apply_at_a_and_then_b<R: Wait + Abort>(rt: &R, cluster: &Cluster) {
 #[test]
 fn each_site_has_a_feed_of_its_own_capacity(rt: HostRuntime) -> Result<(), Fail> {
     let alloc = rt.alloc();
-    let cluster = opened(&rt, alloc)?;
+    let sites = [("a", 2, Some((Scope::Count, 4))), ("b", 3, None)];
+    let cluster = Cluster::new(alloc, declared(&rt, alloc, &sites))?;
     propose_five(&rt, alloc, &cluster);
     apply_at_a_and_then_b(&rt, &cluster);
     expect_closed(&rt, cluster, 5, seen(5, 5), &[Window { from: 0, to: 5 }]);

@@ -3,17 +3,10 @@ ghost use Rattle.std.specs.Prelude.{◌≤◌, length};
 ghost use Rattle.ordup_objects.specs.Sizes.{most_updates};
 ghost use Rattle.ordup_cluster_tests.specs.Following.{FollowsAny};
 
-use ordup_objects::{Change, MessageSet, ObjectId, ObjectTable, Op, Refusal};
+use crate::fixtures::x;
+use ordup_objects::{Change, MessageSet, ObjectTable, Op};
 use ordup_primary::Parcel;
-use std::alloc::Global;
 use std::process::Abort;
-
-/// The object x at 0.
-pub fn x(alloc: Global) -> Result<ObjectTable, Refusal> {
-    let mut objects = ObjectTable::new(alloc);
-    objects.declare(b"x", 0)?;
-    Ok(objects)
-}
 
 /// The parcel with this number, which sets x to 1. It follows any parcels before it.
 pub fn parcel(rt: &impl Abort, objects: &ObjectTable, number: u64) -> Parcel
@@ -21,7 +14,7 @@ pub fn parcel(rt: &impl Abort, objects: &ObjectTable, number: u64) -> Parcel
     ensures { FollowsAny (length objects.now) number result }
 {
     let change = Change {
-        object: ObjectId::new(0),
+        object: x(),
         op: Op::Set(1),
     };
     let Ok(set) = MessageSet::single(objects, change) else {

@@ -1,5 +1,6 @@
 //! A feed with both ends in one thread.
-use super::fixtures::{parcel, x};
+use super::fixtures::parcel;
+use crate::fixtures::x_y_and_z;
 use ordup_feed::Feed;
 use ordup_objects::Refusal;
 use std::test::Fail;
@@ -7,7 +8,7 @@ use std::test::Fail;
 #[test]
 fn a_feed_has_room_for_1_to_1024_parcels(rt: HostRuntime) -> Result<(), Fail> {
     let alloc = rt.alloc();
-    let objects = x(alloc)?;
+    let objects = x_y_and_z(&rt, alloc);
     for (capacity, refusal) in [
         (0, Some(Refusal::OutOfRange)),
         (1, None),
@@ -24,7 +25,7 @@ fn a_feed_has_room_for_1_to_1024_parcels(rt: HostRuntime) -> Result<(), Fail> {
 #[test]
 fn a_full_feed_hands_the_parcel_back(rt: HostRuntime) -> Result<(), Fail> {
     let alloc = rt.alloc();
-    let objects = x(alloc)?;
+    let objects = x_y_and_z(&rt, alloc);
     let (mut sender, mut taker) = Feed::new(alloc, &objects, 1)?;
     let Ok(()) = sender.push(&rt, parcel(&rt, &objects, 1)) else {
         panic!(rt; "the feed has no room for a parcel")

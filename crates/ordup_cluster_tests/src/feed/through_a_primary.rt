@@ -1,64 +1,20 @@
 //! What a primary has next for a site goes into its feed.
-ghost use Rattle.std.specs.Prelude.{◌≡◌, IfOk, None};
-ghost use Rattle.ordup_primary.specs.Declarations.{start_refusal};
 ghost use Rattle.ordup_cluster_tests.specs.Following.{HasPushed};
 
+use crate::fixtures::{a, propose_add, started};
 use ordup_feed::{Feed, SendEnd, TakeEnd};
-use ordup_objects::{Change, MessageSet, ObjectId, Op, Refusal, SiteId};
-use ordup_primary::{Primary, Setup, next_updates_may_follow};
+use ordup_objects::Refusal;
+use ordup_primary::{Primary, next_updates_may_follow};
 use std::alloc::Global;
 use std::process::Abort;
 use std::sync::Wait;
 use std::test::Fail;
 
-/// Proposes the update that adds a number to the first object.
-fn add(primary: &mut Primary, n: i64) -> Result<u64, Refusal> {
-    let change = Change {
-        object: ObjectId::new(0),
-        op: Op::Add(n),
-    };
-    let set = MessageSet::single(primary.setup().objects(), change)?;
-    if !set.are_known(primary.log().objects()) {
-        return Err(Refusal::UnknownObject);
-    }
-    primary.propose(set)
-}
-
-/// Declares x at 0 and the site a.
-fn declare(setup: &mut Setup) -> Result<(), Refusal>
-    ensures { IfOk result (λ _. start_refusal setup.new ≡ None) }
-{
-    setup.object(b"x", 0)?;
-    setup.site(b"a", 1)?;
-    if setup.is_ready() {
-        Ok(())
-    } else {
-        Err(Refusal::Empty)
-    }
-}
-
-/// A primary with x and a.
-fn x_and_a(rt: &impl Abort, alloc: Global) -> Result<Primary, Refusal> {
-    let mut setup = Setup::new(alloc);
-    let Ok(()) = declare(&mut setup) else {
-        panic!(rt; "the declarations are refused")
-    };
-    Primary::new(alloc, setup)
-}
-
-/// Adds 3 to x, and then 4.
-fn add_twice(primary: &mut Primary) -> Result<(), Refusal> {
-    add(primary, 3)?;
-    add(primary, 4)?;
-    Ok(())
-}
-
-/// The primary with the two updates.
+/// The primary of the site a with two updates, which add 3 and then 4 to x.
 fn two_updates(rt: &impl Abort, alloc: Global) -> Result<Primary, Refusal> {
-    let mut primary = x_and_a(rt, alloc)?;
-    let Ok(()) = add_twice(&mut primary) else {
-        panic!(rt; "an update is refused")
-    };
+    let mut primary = started(rt, alloc, &[("a", 1, None)])?;
+    assert_eq!(rt; propose_add(rt, &mut primary, 3), Ok(1));
+    assert_eq!(rt; propose_add(rt, &mut primary, 4), Ok(2));
     Ok(primary)
 }
 
@@ -68,7 +24,7 @@ fn feed_of(rt: &impl Abort, alloc: Global, primary: &Primary) -> (SendEnd, TakeE
 {
     let _acked = primary.acked();
     assert!(rt; primary.setup().sites() > 0);
-    assert!(rt; primary.sent(SiteId::new(0)) == 0);
+    assert!(rt; primary.sent(a()) == 0);
     let Ok(ends) = Feed::new(alloc, primary.setup().objects(), 1) else {
         panic!(rt; "the feed is refused")
     };
@@ -81,7 +37,7 @@ fn send<R: Wait>(rt: &R, primary: &mut Primary, end: &mut SendEnd) -> Result<u64
     ensures { HasPushed primary.new end.new }
 {
     next_updates_may_follow();
-    let site = SiteId::new(0);
+    let site = a();
     let _acked = primary.acked();
     let parcel = primary.next_for(site)?;
     let number = parcel.number;

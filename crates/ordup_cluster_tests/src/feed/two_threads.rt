@@ -3,7 +3,8 @@ ghost use Rattle.std.specs.Prelude.{◌≡◌, ◌≤◌, ◌+◌, [], length};
 ghost use Rattle.ordup_objects.specs.Sizes.{most_updates};
 ghost use Rattle.ordup_feed.specs.Parcels.{IsNext};
 
-use super::fixtures::{parcel, x};
+use super::fixtures::parcel;
+use crate::fixtures::x_y_and_z;
 use ordup_feed::{Feed, SendEnd, TakeEnd};
 use ordup_objects::{ObjectTable, Refusal};
 use ordup_primary::Parcel;
@@ -79,7 +80,7 @@ fn send_through<R: Threads + Wait + Abort + Sync>(
     alloc: Global,
     capacity: u64,
 ) -> Result<(), Refusal> {
-    let objects = x(alloc)?;
+    let objects = x_y_and_z(rt, alloc);
     let (sender, taker) = Feed::new(alloc, &objects, capacity)?;
     let objects = &objects;
     let begun = AtomicU64::new(0);

@@ -1,21 +1,12 @@
 //! Whether a site agrees with a primary.
-use super::fixtures::{add, declare};
-use ordup_cluster::holds::agree;
-use ordup_objects::{MessageSet, Refusal, SiteId, Values};
-use ordup_primary::{Primary, Setup};
+use crate::fixtures::{a, add, propose_add, started, x};
+use ordup_holds::agree;
+use ordup_objects::{MessageSet, Values};
+use ordup_primary::Primary;
 use ordup_site::Site;
 use std::alloc::Global;
 use std::process::Abort;
 use std::test::Fail;
-
-/// A primary of what the fixture declares.
-fn first_primary(rt: &impl Abort, alloc: Global) -> Result<Primary, Refusal> {
-    let mut setup = Setup::new(alloc);
-    let Ok(()) = declare(&mut setup) else {
-        panic!(rt; "the declarations are refused")
-    };
-    Primary::new(alloc, setup)
-}
 
 /// A site of what a primary has at the start.
 fn first_site(rt: &impl Abort, alloc: Global, primary: &Primary) -> Site {
@@ -25,26 +16,23 @@ fn first_site(rt: &impl Abort, alloc: Global, primary: &Primary) -> Site {
     site
 }
 
-/// Proposes the update that adds a number to x, and notes that it was sent to the first site.
+/// Proposes the update that adds a number to x, and notes that it was sent to a.
 fn send(rt: &impl Abort, primary: &mut Primary, n: i64) {
-    let set = add(rt, primary.setup().objects(), n);
-    assert!(rt; set.are_known(primary.log().objects()));
-    assert!(rt; primary.propose(set).is_ok());
+    assert!(rt; propose_add(rt, primary, n).is_ok());
     mark_sent(rt, primary);
 }
 
-/// Notes that the next update was sent to the first site.
+/// Notes that the next update was sent to a.
 fn mark_sent(rt: &impl Abort, primary: &mut Primary) {
-    let site = SiteId::new(0);
     let _acked = primary.acked();
     assert!(rt; primary.setup().sites() > 0);
-    assert!(rt; primary.sent(site) < primary.log().len());
-    primary.mark_sent(site);
+    assert!(rt; primary.sent(a()) < primary.log().len());
+    primary.mark_sent(a());
 }
 
 /// Applies the set that adds a number to x at a site.
 fn apply(rt: &impl Abort, primary: &Primary, site: &mut Site, n: i64) {
-    let set = add(rt, primary.setup().objects(), n);
+    let set = add(rt, primary.setup().objects(), x(), n);
     apply_set(rt, site, &set);
 }
 
@@ -55,20 +43,20 @@ fn apply_set(rt: &impl Abort, site: &mut Site, set: &MessageSet) {
     site.apply(set);
 }
 
-/// Whether a site agrees, as the first site of a primary.
+/// Whether a site agrees, as the site a of a primary.
 fn agrees(rt: &impl Abort, alloc: Global, primary: &Primary, replica: &Site) -> bool {
     let _acked = primary.acked();
     assert!(rt; primary.setup().sites() > 0);
     let Ok(values) = Values::initial(alloc, primary.setup().objects()) else {
         panic!(rt; "there is no memory for values")
     };
-    agree(primary, SiteId::new(0), replica, values)
+    agree(primary, a(), replica, values)
 }
 
 #[test]
 fn a_site_agrees_where_it_holds_what_it_applied(rt: HostRuntime) -> Result<(), Fail> {
     let alloc = rt.alloc();
-    let mut primary = first_primary(&rt, alloc)?;
+    let mut primary = started(&rt, alloc, &[("a", 4, None)])?;
     let mut replica = first_site(&rt, alloc, &primary);
     send(&rt, &mut primary, 3);
     assert!(rt; agrees(&rt, alloc, &primary, &replica));
@@ -83,7 +71,7 @@ fn a_site_agrees_where_it_holds_what_it_applied(rt: HostRuntime) -> Result<(), F
 #[test]
 fn a_site_agrees_only_up_to_what_it_was_sent(rt: HostRuntime) -> Result<(), Fail> {
     let alloc = rt.alloc();
-    let mut primary = first_primary(&rt, alloc)?;
+    let mut primary = started(&rt, alloc, &[("a", 4, None)])?;
     let mut replica = first_site(&rt, alloc, &primary);
     send(&rt, &mut primary, 3);
     apply(&rt, &primary, &mut replica, 3);

@@ -1,69 +1,12 @@
 //! Turns at a full feed. Update k adds k to x, so after the first k updates x is 1 + 2 + .. + k.
 use super::fixtures::{expect_seen, expect_taken, expect_turn, number_add};
-use ordup_cluster::holds::{Book, SiteCell, open};
+use crate::fixtures::{a, declared};
+use ordup_holds::{Book, SiteCell, open};
+use ordup_limits::Scope;
 use ordup_objects::sizes::GREATEST_CAPACITY;
-use ordup_objects::{Refusal, SiteId};
-use ordup_primary::{Scope, Setup};
-use std::alloc::Global;
 use std::process::Abort;
 use std::sync::Wait;
 use std::test::Fail;
-
-/// Declares x at 0 and the site a, whose feed has room for so many updates.
-fn declare(setup: &mut Setup, capacity: u64) -> Result<SiteId, Refusal> {
-    setup.object(b"x", 0)?;
-    setup.site(b"a", capacity)
-}
-
-/// The same, with a limit of a.
-fn declare_limited(
-    setup: &mut Setup,
-    capacity: u64,
-    scope: Scope,
-    amount: u64,
-) -> Result<(), Refusal> {
-    let a = declare(setup, capacity)?;
-    setup.limit(a, scope, amount)
-}
-
-/// The same without limits, and the site b behind a.
-fn declare_two(setup: &mut Setup, capacity: u64, other: u64) -> Result<(), Refusal> {
-    declare(setup, capacity)?;
-    setup.site(b"b", other)?;
-    Ok(())
-}
-
-/// A store without limits.
-fn opened(rt: &impl Abort, alloc: Global, capacity: u64) -> Result<(Book, Vec<SiteCell>), Refusal> {
-    let mut setup = Setup::new(alloc);
-    let Ok(_) = declare(&mut setup, capacity) else {
-        panic!(rt; "the declarations are refused")
-    };
-    open(alloc, setup)
-}
-
-/// A store with a limit, whose feed has room for one update.
-fn opened_with_limit(
-    rt: &impl Abort,
-    alloc: Global,
-    scope: Scope,
-    amount: u64,
-) -> Result<(Book, Vec<SiteCell>), Refusal> {
-    let mut setup = Setup::new(alloc);
-    let Ok(()) = declare_limited(&mut setup, 1, scope, amount) else {
-        panic!(rt; "the declarations are refused")
-    };
-    open(alloc, setup)
-}
-
-/// A store of two sites without limits. The feed of the first has room for one update, that of the second for four.
-fn opened_with_two(rt: &impl Abort, alloc: Global) -> Result<(Book, Vec<SiteCell>), Refusal> {
-    let mut setup = Setup::new(alloc);
-    let Ok(()) = declare_two(&mut setup, 1, 4) else {
-        panic!(rt; "the declarations are refused")
-    };
-    open(alloc, setup)
-}
 
 /// Numbers the updates from the first number to the last one.
 fn number_all(rt: &impl Abort, book: &mut Book, first: u32, last: u32) {
@@ -83,9 +26,11 @@ fn take_all<R: Wait + Abort>(rt: &R, cell: &mut SiteCell, first: u64, last: u64)
 /// Sees that so many updates were sent to the first site, and that it reported so many.
 fn expect_known(rt: &impl Abort, book: &Book, sent: u64, reported: u64) {
     let primary = book.primary();
-    let a = SiteId::new(0);
     assert!(rt; primary.setup().sites() > 0);
-    assert_eq!(rt; (primary.sent(a), primary.reported(a)), (sent, reported));
+    assert_eq!(rt;
+        (primary.sent(a()), primary.reported(a())),
+        (sent, reported)
+    );
 }
 
 /// Five updates through a feed with room for two.
@@ -111,7 +56,8 @@ fn fill_and_empty<R: Wait + Abort>(rt: &R, book: &mut Book, cell: &mut SiteCell)
 #[test]
 fn sends_stop_at_a_full_feed_and_go_on_once_there_is_room(rt: HostRuntime) -> Result<(), Fail> {
     let alloc = rt.alloc();
-    let (mut book, mut cells) = opened(&rt, alloc, 2)?;
+    let setup = declared(&rt, alloc, &[("a", 2, None)]);
+    let (mut book, mut cells) = open(alloc, setup)?;
     assert_eq!(rt; cells.len(), 1);
     fill_and_empty(&rt, &mut book, &mut cells[0]);
     drop(book);
@@ -136,7 +82,8 @@ fn take_one_by_one<R: Wait + Abort>(rt: &R, book: &mut Book, cell: &mut SiteCell
 #[test]
 fn each_update_that_is_taken_makes_room_for_one(rt: HostRuntime) -> Result<(), Fail> {
     let alloc = rt.alloc();
-    let (mut book, mut cells) = opened(&rt, alloc, 3)?;
+    let setup = declared(&rt, alloc, &[("a", 3, None)]);
+    let (mut book, mut cells) = open(alloc, setup)?;
     assert_eq!(rt; cells.len(), 1);
     take_one_by_one(&rt, &mut book, &mut cells[0]);
     drop(book);
@@ -161,7 +108,8 @@ fn overfill<R: Wait + Abort>(rt: &R, book: &mut Book, cell: &mut SiteCell) {
 #[test]
 fn the_largest_feed_loses_nothing(rt: HostRuntime) -> Result<(), Fail> {
     let alloc = rt.alloc();
-    let (mut book, mut cells) = opened(&rt, alloc, GREATEST_CAPACITY)?;
+    let setup = declared(&rt, alloc, &[("a", GREATEST_CAPACITY, None)]);
+    let (mut book, mut cells) = open(alloc, setup)?;
     assert_eq!(rt; cells.len(), 1);
     overfill(&rt, &mut book, &mut cells[0]);
     drop(book);
@@ -179,7 +127,8 @@ fn fill_the_first<R: Wait + Abort>(rt: &R, book: &mut Book) {
 #[test]
 fn a_full_feed_keeps_nothing_from_the_other_sites(rt: HostRuntime) -> Result<(), Fail> {
     let alloc = rt.alloc();
-    let (mut book, mut cells) = opened_with_two(&rt, alloc)?;
+    let setup = declared(&rt, alloc, &[("a", 1, None), ("b", 4, None)]);
+    let (mut book, mut cells) = open(alloc, setup)?;
     assert_eq!(rt; cells.len(), 2);
     fill_the_first(&rt, &mut book);
     take_all(&rt, &mut cells[0], 1, 1);
@@ -208,7 +157,8 @@ fn wait_for_each<R: Wait + Abort>(rt: &R, book: &mut Book, cell: &mut SiteCell) 
 #[test]
 fn a_turn_learns_what_was_taken_and_acknowledges_it(rt: HostRuntime) -> Result<(), Fail> {
     let alloc = rt.alloc();
-    let (mut book, mut cells) = opened_with_limit(&rt, alloc, Scope::All, 0)?;
+    let setup = declared(&rt, alloc, &[("a", 1, Some((Scope::All, 0)))]);
+    let (mut book, mut cells) = open(alloc, setup)?;
     assert_eq!(rt; cells.len(), 1);
     wait_for_each(&rt, &mut book, &mut cells[0]);
     drop(book);
@@ -239,10 +189,9 @@ fn wait_for_the_fourth<R: Wait + Abort>(rt: &R, book: &mut Book, cell: &mut Site
 /// Sees that the first site had one round, at this place, and one window, from 0 to there.
 fn expect_round(rt: &impl Abort, book: &Book, place: u64) {
     let primary = book.primary();
-    let a = SiteId::new(0);
     assert!(rt; primary.setup().sites() > 0);
-    assert_eq!(rt; primary.rounds(a), [place].as_slice());
-    let windows = primary.windows(a);
+    assert_eq!(rt; primary.rounds(a()), [place].as_slice());
+    let windows = primary.windows(a());
     assert_eq!(rt; windows.len(), 1);
     assert_eq!(rt; (windows[0].from, windows[0].to), (0, place));
 }
@@ -250,7 +199,8 @@ fn expect_round(rt: &impl Abort, book: &Book, place: u64) {
 #[test]
 fn a_round_ends_though_the_feed_has_room_for_one(rt: HostRuntime) -> Result<(), Fail> {
     let alloc = rt.alloc();
-    let (mut book, mut cells) = opened_with_limit(&rt, alloc, Scope::Count, 3)?;
+    let setup = declared(&rt, alloc, &[("a", 1, Some((Scope::Count, 3)))]);
+    let (mut book, mut cells) = open(alloc, setup)?;
     assert_eq!(rt; cells.len(), 1);
     wait_for_the_fourth(&rt, &mut book, &mut cells[0]);
     expect_round(&rt, &book, 4);

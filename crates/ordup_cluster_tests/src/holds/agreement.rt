@@ -1,6 +1,6 @@
 //! Whether a site agrees with a primary.
 use crate::fixtures::{a, add, propose_add, started, x};
-use ordup_holds::agree;
+use ordup_cluster::holds::agree;
 use ordup_objects::{MessageSet, Values};
 use ordup_primary::Primary;
 use ordup_site::Site;

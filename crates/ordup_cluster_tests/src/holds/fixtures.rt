@@ -1,6 +1,6 @@
 //! Holds of a book and of a cell.
 use crate::fixtures::{add, seen, x};
-use ordup_holds::{Book, SiteCell, number, take, turn, view};
+use ordup_cluster::holds::{Book, SiteCell, number, take, turn, view};
 use ordup_objects::Refusal;
 use std::process::Abort;
 use std::sync::Wait;

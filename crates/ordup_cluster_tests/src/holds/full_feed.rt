@@ -1,7 +1,7 @@
 //! Turns at a full feed. Update k adds k to x, so after the first k updates x is 1 + 2 + .. + k.
 use super::fixtures::{expect_seen, expect_taken, expect_turn, number_add};
 use crate::fixtures::{a, declared};
-use ordup_holds::{Book, SiteCell, open};
+use ordup_cluster::holds::{Book, SiteCell, open};
 use ordup_limits::Scope;
 use ordup_objects::sizes::GREATEST_CAPACITY;
 use std::process::Abort;

@@ -1,7 +1,7 @@
 //! One update on its way from the book to a cell, and the report of it.
 use super::fixtures::{expect_seen, expect_taken, expect_turn, number_add};
 use crate::fixtures::{declared, x, z};
-use ordup_holds::{Book, SiteCell, open, view};
+use ordup_cluster::holds::{Book, SiteCell, open, view};
 use ordup_limits::Scope;
 use ordup_objects::Refusal;
 use std::process::Abort;

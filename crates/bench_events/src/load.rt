@@ -6,7 +6,7 @@ use ordup_objects::{Change, MessageSet, ObjectId, Op, Refusal, SiteId};
 use ordup_world::{Answer, Event, Settled, Setup, World};
 use std::alloc::{Allocator, Global};
 
-/// A site that lags reports after every so many updates.
+/// A site that lags reports each time it has applied this many updates.
 const UPDATES_UNREPORTED: u64 = 1_000;
 
 /// A store under load.
@@ -95,7 +95,7 @@ impl<A: Allocator + Copy> Load<A> {
         )
     }
 
-    /// Settles the update. Where it has a forced round, each site of the round reports, and it is settled once more.
+    /// Settles the update. Where it has a forced round, each site of the round reports, and it is settled again.
     fn settle(&mut self) -> Result<(), Refusal> {
         if let Answer::Settlement(Settled::Round { sites, .. }) = self.step(Event::Settle)? {
             for site in sites.as_slice() {

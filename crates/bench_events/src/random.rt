@@ -27,7 +27,7 @@ impl Random {
         self.next() % bound
     }
 
-    /// Whether a draw comes out that does so once in so many.
+    /// Whether a draw comes out that does so once in `count` draws.
     pub(crate) fn one_in(&mut self, count: u64) -> bool
         requires { 0 < count }
     {

@@ -17,7 +17,7 @@ use std::thread::Threads;
 /// How often a side tries before it gives up, since the other one has.
 const TRIES: u64 = 10_000_000;
 
-/// Sends so many parcels through a feed of this capacity, from one thread to another, and answers the number of the last one.
+/// Sends this many parcels through a feed of this capacity, from one thread to another, and answers the number of the last one.
 pub(crate) fn carry<R: Threads + Wait + Sync>(
     rt: &R,
     alloc: Global,
@@ -41,7 +41,7 @@ pub(crate) fn carry<R: Threads + Wait + Sync>(
     taken
 }
 
-/// Pushes so many parcels of this set, and looks after each. It answers how many of them it knows to be taken.
+/// Pushes this many parcels of this set, and looks after each. It answers how many of them it knows to be taken.
 fn send_all<R: Wait>(
     rt: &R,
     alloc: Global,
@@ -63,7 +63,7 @@ fn send_all<R: Wait>(
     Ok(known)
 }
 
-/// Pushes a parcel as soon as there is room.
+/// Pushes a parcel as soon as the feed is not full.
 fn push<R: Wait>(rt: &R, end: &mut SendEnd, mut parcel: Parcel) -> Result<(), Refusal>
     requires { IsNext end.old.start end.old.pushed parcel }
     ensures start { end.new.start ≡ end.old.start }
@@ -81,7 +81,7 @@ fn push<R: Wait>(rt: &R, end: &mut SendEnd, mut parcel: Parcel) -> Result<(), Re
     Err(Refusal::FeedFull)
 }
 
-/// Takes so many parcels, and tells after each. It answers the number of the last one.
+/// Takes this many parcels, and tells after each. It answers the number of the last one.
 fn take_all<R: Wait>(rt: &R, mut end: TakeEnd, count: u64) -> Result<u64, Refusal> {
     let mut last = 0;
     for _ in 0..count {

@@ -52,7 +52,7 @@ fn propose_three<R: Wait + Print>(
     Ok(())
 }
 
-/// Updates of which each waits for the site, whose feed has room for one.
+/// Updates of which each waits for the site, whose feed has a capacity of one.
 pub(crate) fn try_cluster_that_waits<R: Wait + Print>(
     rt: &R,
     alloc: Global,

@@ -36,7 +36,7 @@ fn add(object: u16, amount: i64) -> Change {
     }
 }
 
-/// Two sites without limits, whose feeds have room for four updates.
+/// Two sites without limits, whose feeds have a capacity of four updates.
 pub(crate) fn declare_without_limits(alloc: Global) -> Result<Setup, Refusal> {
     let mut setup = Setup::new(alloc);
     match add_two_sites(&mut setup) {
@@ -56,7 +56,7 @@ fn add_two_sites(setup: &mut Setup) -> Result<(), Refusal> {
     Ok(())
 }
 
-/// A site that may not lag, whose feed has room for one update.
+/// A site that may not lag, whose feed has a capacity of one update.
 pub(crate) fn declare_without_lag(alloc: Global) -> Result<Setup, Refusal> {
     let mut setup = Setup::new(alloc);
     match add_site_without_lag(&mut setup) {

@@ -12,15 +12,15 @@ use Rattle.ordup_world.specs.declared.event.Answer.{Answer}
 use Rattle.ordup_world.specs.declared.event.Answer.TheVariants.{Refused}
 use Rattle.ordup_grammar.specs.declared.action.Action.{Action}
 use Rattle.ordup_grammar.specs.declared.command.Command.TheVariants.{Act, Start}
-use Rattle.ordup_answers.specs.Sessions.{Session, declaring, running, Declares, IsWorldOf}
+use Rattle.ordup_answers.specs.ScriptStates.{ScriptState, declaring, running, Declares, IsWorldOf}
 use Rattle.ordup_answers.specs.Answers.{Leaves}
 use Rattle.ordup_answers.specs.Events.{event_of, names_of}
 use Rattle.ordup_answers.specs.Replies.{event_reply, command_reply, reply_or_refusal}
 use Rattle.ordup_answers.specs.Texts.{answer_text, started_text}
 
 module _ {A : Type 0} where
-  -- what holds of the session that declares so holds of each session that does
-  at_declaring : (P : Session A → Type 0) (setup : Declared) → P (declaring setup) → (s : Session A) → Declares setup s → P s
+  -- what holds of the state that declares so holds of each state that does
+  at_declaring : (P : ScriptState A → Type 0) (setup : Declared) → P (declaring setup) → (s : ScriptState A) → Declares setup s → P s
   at_declaring P setup here (declaring d) is = subst (λ (e : Declared). P (declaring e)) is here
   at_declaring P setup here (running d past) is = absurd is
 
@@ -49,7 +49,7 @@ module _ {A : Type 0} where
   pub left_by_action : (v w : WorldState) (a : Action) (names : List ℕ × List ℕ) (e : Event A) (old new : List ℕ)
       → event_of v.primary.setup a ≡ Ok e → names ≡ names_of a
       → ((d : Declared) (past : Past A) → StandsFor d v past → Leaves (IsWorldOf w) old new (event_reply d past names e))
-      → (s : Session A) → IsWorldOf v s → Leaves (IsWorldOf w) old new (reply_or_refusal s (command_reply s (Act a)))
+      → (s : ScriptState A) → IsWorldOf v s → Leaves (IsWorldOf w) old new (reply_or_refusal s (command_reply s (Act a)))
   left_by_action v w a names e old new is named left (declaring d) stands = absurd stands
   left_by_action v w a names e old new is named left (running d past) stands =
       let event : event_of d a ≡ Ok e = ap (λ d. event_of d a) (sym stands.store.declared) ∙ is in
@@ -58,8 +58,8 @@ module _ {A : Type 0} where
   -- what is left by a start
   pub left_by_start : (d : Declared) (w : WorldState) (old new : List ℕ)
       → (start_refusal d ≡ None) × IsWorldOf {A = A} w (running d []) → new ≡ old ++ started_text
-      → (s : Session A) → Declares d s
+      → (s : ScriptState A) → Declares d s
       → Leaves (IsWorldOf w) old new (reply_or_refusal s (command_reply s Start))
   left_by_start d w old new (ready, started) text s is =
-      let wanted : Session A → Type 0 = λ s. Leaves (IsWorldOf w) old new (reply_or_refusal s (command_reply s Start)) in
+      let wanted : ScriptState A → Type 0 = λ s. Leaves (IsWorldOf w) old new (reply_or_refusal s (command_reply s Start)) in
       at_declaring wanted d (rw ready (started, text)) s is

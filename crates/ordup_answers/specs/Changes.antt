@@ -9,17 +9,17 @@ use Rattle.ordup_objects.specs.declared.refusal.Refusal.{Refusal}
 use Rattle.ordup_grammar.specs.declared.change_words.ChangeWord.{ChangeWord}
 use Rattle.ordup_grammar.specs.declared.operation.Operation.{Operation}
 use Rattle.ordup_grammar.specs.declared.operation.Operation.TheVariants as word
-use Rattle.ordup_answers.specs.Places.{place_among}
+use Rattle.ordup_answers.specs.Places.{index_among}
 use Rattle.ordup_answers.specs.Refusals.{unless}
 
 -- the operation over these objects
 abbrev pub op_in : List (List ℕ × ℤ) → Operation → Op
 op_in objects (word.WithNumber k n) = op_with k n
-op_in objects (word.Take y) = Take (place_among objects y)
+op_in objects (word.Take y) = Take (index_among objects y)
 
 -- the change of these objects
 abbrev pub change_in : List (List ℕ × ℤ) → ChangeWord → Change
-change_in objects c = record { object = place_among objects c.object; op = op_in objects c.operation }
+change_in objects c = record { object = index_among objects c.object; op = op_in objects c.operation }
 
 -- the changes of these objects
 abbrev pub changes_in : List (List ℕ × ℤ) → List ChangeWord → List Change

@@ -22,7 +22,7 @@ use Rattle.ordup_grammar.specs.declared.action.Action.TheVariants.{
   Relimit,
 }
 use Rattle.ordup_answers.specs.Changes.{set_in}
-use Rattle.ordup_answers.specs.Places.{place_among, scope_in}
+use Rattle.ordup_answers.specs.Places.{index_among, scope_in}
 use Rattle.ordup_answers.specs.Refusals.{made_of}
 
 -- the name of a query: none is open by what is no name
@@ -32,24 +32,24 @@ query_name q = if is_name q then Ok q else Err UnknownQuery
 -- the query and the object that a read names
 abbrev pub read_of : Declared → List ℕ → List ℕ → Result (List ℕ × ℕ) Refusal
 read_of d q x =
-    let object = place_among d.objects x in
+    let object = index_among d.objects x in
     if nat_lt object (length d.objects) then made_of (λ name. (name, object)) (query_name q) else Err UnknownObject
 
 module _ {A : Type 0} where
   -- the event that an action stands for, or why there is none
   abbrev pub event_of : Declared → Action → Result (Event A) Refusal
   event_of d (Propose changes) = made_of (λ set. event.Propose set) (set_in d.objects changes)
-  event_of d (Send s) = Ok (event.Send (place_among d.sites s))
-  event_of d (Apply s) = Ok (event.Apply (place_among d.sites s))
-  event_of d (Report s) = Ok (event.Report (place_among d.sites s))
+  event_of d (Send s) = Ok (event.Send (index_among d.sites s))
+  event_of d (Apply s) = Ok (event.Apply (index_among d.sites s))
+  event_of d (Report s) = Ok (event.Report (index_among d.sites s))
   event_of d Settle = Ok event.Settle
   event_of d (Begin q s limit) =
-      if is_name q then Ok (event.Begin q (place_among d.sites s) (amount_of limit)) else Err BadName
+      if is_name q then Ok (event.Begin q (index_among d.sites s) (amount_of limit)) else Err BadName
   event_of d (Read q x) = made_of (λ named. event.Read named.0 named.1) (read_of d q x)
   event_of d (End q) = made_of (λ name. event.End name) (query_name q)
   event_of d (Abandon q) = made_of (λ name. event.Abandon name) (query_name q)
-  event_of d (Show s) = Ok (event.Show (place_among d.sites s))
-  event_of d (Relimit s what number) = Ok (event.Relimit (place_among d.sites s) (scope_in d what) (amount_of number))
+  event_of d (Show s) = Ok (event.Show (index_among d.sites s))
+  event_of d (Relimit s what number) = Ok (event.Relimit (index_among d.sites s) (scope_in d what) (amount_of number))
 
 -- the names in an action that its answer may tell: of a site or a query, and of an object
 abbrev pub names_of : Action → List ℕ × List ℕ

@@ -5,6 +5,6 @@ pub mod Changes
 pub mod NearestNumbers
 pub mod Declarations
 pub mod Events
-pub mod Sessions
+pub mod ScriptStates
 pub mod Replies
 pub mod Answers

@@ -17,15 +17,15 @@ use Rattle.ordup_grammar.specs.declared.request.Request.{Request}
 use Rattle.ordup_grammar.specs.declared.request.Request.TheVariants as request
 use Rattle.ordup_answers.specs.Declarations.{with_declaration}
 use Rattle.ordup_answers.specs.Events.{event_of, names_of}
-use Rattle.ordup_answers.specs.Places.{place_among}
+use Rattle.ordup_answers.specs.Places.{index_among}
 use Rattle.ordup_answers.specs.Refusals.{made_of, unless}
-use Rattle.ordup_answers.specs.Sessions.{Session, declaring, running}
+use Rattle.ordup_answers.specs.ScriptStates.{ScriptState, declaring, running}
 use Rattle.ordup_answers.specs.Texts.{refused_text, started_text, answer_text, certified_text}
 use Rattle.ordup_text.specs.Lines.{named_text}
 
--- the session after a line, and the answer's text
+-- the state after a line, and the answer's text
 abbrev pub Reply : Type 0 → Type 0
-Reply A = Session A × List ℕ
+Reply A = ScriptState A × List ℕ
 
 -- the text of the answer to a declaration
 abbrev pub declared_text : Declaration → List ℕ
@@ -48,30 +48,30 @@ module _ {A : Type 0} where
       else Err UnknownSite
 
   -- what comes of a command, or why it is refused: declarations and the start come first, all else is for a started store
-  abbrev pub command_reply : Session A → Command → Result (Reply A) Refusal
+  abbrev pub command_reply : ScriptState A → Command → Result (Reply A) Refusal
   command_reply (declaring d) (Declare x) = made_of (λ e. (declaring e, declared_text x)) (with_declaration d x)
   command_reply (declaring d) Start = unless (start_refusal d) (running d [], started_text)
   command_reply (declaring d) _ = Err NotStarted
   command_reply (running d past) (Declare x) = Err AlreadyStarted
   command_reply (running d past) Start = Err AlreadyStarted
-  command_reply (running d past) (Certify site) = certificate_reply d past site (place_among d.sites site)
+  command_reply (running d past) (Certify site) = certificate_reply d past site (index_among d.sites site)
   command_reply (running d past) (Act a) = made_of (event_reply d past (names_of a)) (event_of d a)
 
-  -- what is refused leaves the session as it is, and is told
-  abbrev pub reply_or_refusal : Session A → Result (Reply A) Refusal → Reply A
+  -- what is refused leaves the state as it is, and is told
+  abbrev pub reply_or_refusal : ScriptState A → Result (Reply A) Refusal → Reply A
   reply_or_refusal s (Ok given) = given
   reply_or_refusal s (Err r) = (s, refused_text r)
 
   -- the reply to an action
-  abbrev pub action_reply : Session A → Action → Reply A
+  abbrev pub action_reply : ScriptState A → Action → Reply A
   action_reply s a = reply_or_refusal s (command_reply s (Act a))
 
   -- the reply to what a line asks for
-  abbrev pub request_reply : Session A → Request → Reply A
+  abbrev pub request_reply : ScriptState A → Request → Reply A
   request_reply s request.Nothing = (s, [])
   request_reply s (request.Command c) = reply_or_refusal s (command_reply s c)
   request_reply s request.NoCommand = (s, refused_text Syntax)
 
 -- the reply to a line
-unfoldable pub reply : {A : Type 0} → Session A → Line → Reply A
+unfoldable pub reply : {A : Type 0} → ScriptState A → Line → Reply A
 reply s line = request_reply s (request_of line)

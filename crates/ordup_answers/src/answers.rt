@@ -1,8 +1,8 @@
 //! The answer to a line: what its command does to the setup or to the world, and the text that says so.
 ghost use Rattle.std.specs.Prelude.{◌≡◌, ◌++◌, [], None, Some, IfOk, IfErr, OnOk};
-ghost use Rattle.ordup_answers.specs.Sessions.{Session, Declares, IsWorldOf, Stands};
+ghost use Rattle.ordup_answers.specs.ScriptStates.{ScriptState, Declares, IsWorldOf, Stands};
 ghost use Rattle.ordup_answers.specs.Replies.{request_reply, command_reply, reply_or_refusal, declared_text};
-ghost use Rattle.ordup_answers.specs.Sessions.{running};
+ghost use Rattle.ordup_answers.specs.ScriptStates.{running};
 ghost use Rattle.ordup_primary.specs.Declarations.{Declared, start_refusal};
 ghost use Rattle.ordup_answers.specs.Answers.{Leaves};
 
@@ -31,7 +31,7 @@ pub fn answer<A: Allocator + Copy>(
     request: &Request<'_>,
     out: &mut TextBuffer<A>,
 ) -> Result<(), AllocError>
-    ensures { OnOk result ((s : Session A) → Stands store.old s → Leaves (Stands store.new) out.old.text out.new.text (request_reply s request.now)) }
+    ensures { OnOk result ((s : ScriptState A) → Stands store.old s → Leaves (Stands store.new) out.old.text out.new.text (request_reply s request.now)) }
 {
     match request {
         Request::Nothing => Ok(()),
@@ -48,7 +48,7 @@ fn carry_out<A: Allocator + Copy>(
     command: &Command<'_>,
     out: &mut TextBuffer<A>,
 ) -> Result<(), AllocError>
-    ensures { OnOk result ((s : Session A) → Stands store.old s → Leaves (Stands store.new) out.old.text out.new.text (reply_or_refusal s (command_reply s command.now))) }
+    ensures { OnOk result ((s : ScriptState A) → Stands store.old s → Leaves (Stands store.new) out.old.text out.new.text (reply_or_refusal s (command_reply s command.now))) }
 {
     match command {
         Command::Declare(declaration) => match store {
@@ -74,7 +74,7 @@ fn answer_declaration<A: Allocator + Copy>(
     declaration: &Declaration<'_>,
     out: &mut TextBuffer<A>,
 ) -> Result<(), AllocError>
-    ensures { OnOk result ((s : Session A) → Declares setup.old s → Leaves (Declares setup.new) out.old.text out.new.text (reply_or_refusal s (command_reply s (Command.Declare declaration.now)))) }
+    ensures { OnOk result ((s : ScriptState A) → Declares setup.old s → Leaves (Declares setup.new) out.old.text out.new.text (reply_or_refusal s (command_reply s (Command.Declare declaration.now)))) }
 {
     match declare(alloc, setup, declaration) {
         Ok(()) => push_declared(out, declaration),
@@ -103,7 +103,7 @@ fn answer_start<A: Allocator + Copy>(
     store: &mut ScriptEnd<A>,
     out: &mut TextBuffer<A>,
 ) -> Result<(), AllocError>
-    ensures { OnOk result ((s : Session A) → Stands store.old s → Leaves (Stands store.new) out.old.text out.new.text (reply_or_refusal s (command_reply s Command.Start))) }
+    ensures { OnOk result ((s : ScriptState A) → Stands store.old s → Leaves (Stands store.new) out.old.text out.new.text (reply_or_refusal s (command_reply s Command.Start))) }
 {
     let ScriptEnd::Declared(setup) = store else {
         return push_refused(out, Refusal::AlreadyStarted);
@@ -140,7 +140,7 @@ fn certify<A: Allocator + Copy>(
     name: &Word<'_>,
     out: &mut TextBuffer<A>,
 ) -> Result<(), AllocError>
-    ensures { OnOk result ((s : Session A) → IsWorldOf world.now s → Leaves (IsWorldOf world.now) out.old.text out.new.text (reply_or_refusal s (command_reply s (Command.Certify name.now)))) }
+    ensures { OnOk result ((s : ScriptState A) → IsWorldOf world.now s → Leaves (IsWorldOf world.now) out.old.text out.new.text (reply_or_refusal s (command_reply s (Command.Certify name.now)))) }
 {
     let primary = world.primary();
     let setup = primary.setup();

@@ -8,7 +8,7 @@ ghost use Rattle.ordup_answers.specs.Answers.{Leaves};
 ghost use Rattle.ordup_answers.specs.Events.{query_name, read_of};
 ghost use Rattle.ordup_answers.specs.Refusals.{Gives};
 ghost use Rattle.ordup_answers.specs.Replies.{action_reply, event_reply};
-ghost use Rattle.ordup_answers.specs.Sessions.{Session, IsWorldOf};
+ghost use Rattle.ordup_answers.specs.ScriptStates.{ScriptState, IsWorldOf};
 
 use crate::changes::set_in;
 use crate::places::{find_object, find_scope, find_site};
@@ -29,7 +29,7 @@ pub(crate) fn answer_action<A: Allocator + Copy>(
     action: &Action<'_>,
     out: &mut TextBuffer<A>,
 ) -> Result<(), AllocError>
-    ensures { OnOk result ((s : Session A) → IsWorldOf world.old s → Leaves (IsWorldOf world.new) out.old.text out.new.text (action_reply s action.now)) }
+    ensures { OnOk result ((s : ScriptState A) → IsWorldOf world.old s → Leaves (IsWorldOf world.new) out.old.text out.new.text (action_reply s action.now)) }
 {
     let setup = world.primary().setup();
     match action {
@@ -70,7 +70,7 @@ fn answer_proposal<A: Allocator + Copy>(
     words: &ChangeWords<'_>,
     out: &mut TextBuffer<A>,
 ) -> Result<(), AllocError>
-    ensures { OnOk result ((s : Session A) → IsWorldOf world.old s → Leaves (IsWorldOf world.new) out.old.text out.new.text (action_reply s (Action.Propose words.now))) }
+    ensures { OnOk result ((s : ScriptState A) → IsWorldOf world.old s → Leaves (IsWorldOf world.new) out.old.text out.new.text (action_reply s (Action.Propose words.now))) }
 {
     match set_in(alloc, world.primary().setup().objects(), words) {
         Ok(set) => answer_event(world, Event::Propose(set), &[], &[], out),
@@ -87,7 +87,7 @@ fn answer_begin<A: Allocator + Copy>(
     limit: &Number,
     out: &mut TextBuffer<A>,
 ) -> Result<(), AllocError>
-    ensures { OnOk result ((s : Session A) → IsWorldOf world.old s → Leaves (IsWorldOf world.new) out.old.text out.new.text (action_reply s (Action.Begin query.now site.now limit.now))) }
+    ensures { OnOk result ((s : ScriptState A) → IsWorldOf world.old s → Leaves (IsWorldOf world.new) out.old.text out.new.text (action_reply s (Action.Begin query.now site.now limit.now))) }
 {
     match Name::new(query.as_bytes()) {
         Ok(name) => {
@@ -110,7 +110,7 @@ fn answer_read<A: Allocator + Copy>(
     object: &Word<'_>,
     out: &mut TextBuffer<A>,
 ) -> Result<(), AllocError>
-    ensures { OnOk result ((s : Session A) → IsWorldOf world.old s → Leaves (IsWorldOf world.new) out.old.text out.new.text (action_reply s (Action.Read query.now object.now))) }
+    ensures { OnOk result ((s : ScriptState A) → IsWorldOf world.old s → Leaves (IsWorldOf world.new) out.old.text out.new.text (action_reply s (Action.Read query.now object.now))) }
 {
     match read_of(world.primary().setup(), query, object) {
         Ok((name, place)) => {
@@ -131,7 +131,7 @@ fn answer_end<A: Allocator + Copy>(
     query: &Word<'_>,
     out: &mut TextBuffer<A>,
 ) -> Result<(), AllocError>
-    ensures { OnOk result ((s : Session A) → IsWorldOf world.old s → Leaves (IsWorldOf world.new) out.old.text out.new.text (action_reply s (Action.End query.now))) }
+    ensures { OnOk result ((s : ScriptState A) → IsWorldOf world.old s → Leaves (IsWorldOf world.new) out.old.text out.new.text (action_reply s (Action.End query.now))) }
 {
     match query_name(query) {
         Ok(name) => answer_event(world, Event::End(name), query.as_bytes(), &[], out),
@@ -146,7 +146,7 @@ fn answer_abandon<A: Allocator + Copy>(
     query: &Word<'_>,
     out: &mut TextBuffer<A>,
 ) -> Result<(), AllocError>
-    ensures { OnOk result ((s : Session A) → IsWorldOf world.old s → Leaves (IsWorldOf world.new) out.old.text out.new.text (action_reply s (Action.Abandon query.now))) }
+    ensures { OnOk result ((s : ScriptState A) → IsWorldOf world.old s → Leaves (IsWorldOf world.new) out.old.text out.new.text (action_reply s (Action.Abandon query.now))) }
 {
     match query_name(query) {
         Ok(name) => answer_event(world, Event::Abandon(name), query.as_bytes(), &[], out),
@@ -161,7 +161,7 @@ fn answer_show<A: Allocator + Copy>(
     site: &Word<'_>,
     out: &mut TextBuffer<A>,
 ) -> Result<(), AllocError>
-    ensures { OnOk result ((s : Session A) → IsWorldOf world.old s → Leaves (IsWorldOf world.new) out.old.text out.new.text (action_reply s (Action.Show site.now))) }
+    ensures { OnOk result ((s : ScriptState A) → IsWorldOf world.old s → Leaves (IsWorldOf world.new) out.old.text out.new.text (action_reply s (Action.Show site.now))) }
 {
     let event = Event::Show(find_site(world.primary().setup(), site));
     answer_event(world, event, site.as_bytes(), &[], out)
@@ -176,7 +176,7 @@ fn answer_relimit<A: Allocator + Copy>(
     amount: &Number,
     out: &mut TextBuffer<A>,
 ) -> Result<(), AllocError>
-    ensures { OnOk result ((s : Session A) → IsWorldOf world.old s → Leaves (IsWorldOf world.new) out.old.text out.new.text (action_reply s (Action.Relimit site.now scope.now amount.now))) }
+    ensures { OnOk result ((s : ScriptState A) → IsWorldOf world.old s → Leaves (IsWorldOf world.new) out.old.text out.new.text (action_reply s (Action.Relimit site.now scope.now amount.now))) }
 {
     let setup = world.primary().setup();
     let event = Event::Relimit {

@@ -1,7 +1,7 @@
 //! Which objects, groups and sites words name. A word that names nothing stands for the index after the last one, which each call
 //! refuses as unknown in its turn.
 ghost use Rattle.std.specs.Prelude.{◌≡◌, IfOk};
-ghost use Rattle.ordup_answers.specs.Places.{place_among, places_among, scope_in};
+ghost use Rattle.ordup_answers.specs.Places.{index_among, indices_among, scope_in};
 
 use ordup_grammar::{ScopeWord, Word, Words};
 use ordup_limits::{GroupId, Groups, Scope};
@@ -14,7 +14,7 @@ pub(crate) fn find_object<A: Allocator + Copy>(
     objects: &ObjectTable<A>,
     name: &Word<'_>,
 ) -> ObjectId
-    ensures { result ≡ place_among objects.now name.now }
+    ensures { result ≡ index_among objects.now name.now }
 {
     match objects.find(name.as_bytes()) {
         Some(object) => object,
@@ -24,7 +24,7 @@ pub(crate) fn find_object<A: Allocator + Copy>(
 
 /// The group that a word names.
 fn find_group<A: Allocator + Copy>(groups: &Groups<A>, name: &Word<'_>) -> GroupId
-    ensures { result ≡ place_among groups.now name.now }
+    ensures { result ≡ index_among groups.now name.now }
 {
     match groups.find(name.as_bytes()) {
         Some(group) => group,
@@ -34,7 +34,7 @@ fn find_group<A: Allocator + Copy>(groups: &Groups<A>, name: &Word<'_>) -> Group
 
 /// The site that a word names.
 pub(crate) fn find_site<A: Allocator + Copy>(setup: &Setup<A>, name: &Word<'_>) -> SiteId
-    ensures { result ≡ place_among setup.now.sites name.now }
+    ensures { result ≡ index_among setup.now.sites name.now }
 {
     match setup.find_site(name.as_bytes()) {
         Some(site) => site,
@@ -60,7 +60,7 @@ pub(crate) fn find_objects<A: Allocator + Copy>(
     objects: &ObjectTable<A>,
     names: &Words<'_>,
 ) -> Result<Vec<ObjectId, A>, AllocError>
-    ensures { IfOk result (λ found. found.items ≡ places_among objects.now names.now) }
+    ensures { IfOk result (λ found. found.items ≡ indices_among objects.now names.now) }
 {
     let mut found = Vec::new(alloc);
     let mut rest = names.copy();

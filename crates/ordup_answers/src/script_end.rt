@@ -13,11 +13,11 @@ pub enum ScriptEnd<A: Allocator + Copy = Global> {
 }
 
 impl<A: Allocator + Copy> ScriptEnd<A> {
-    ghost use Rattle.ordup_answers.specs.Sessions.{Stands, first_session};
+    ghost use Rattle.ordup_answers.specs.ScriptStates.{Stands, first_state};
 
     /// Where an empty script stands.
     pub fn new(alloc: A) -> Self
-        ensures { Stands result first_session }
+        ensures { Stands result first_state }
     {
         ScriptEnd::Declared(Setup::new(alloc))
     }

@@ -130,7 +130,7 @@ fn push_read<A: Allocator + Copy>(
     out.push(b"ok read ")?;
     out.push(query)?;
     // Room for all that follows, made once.
-    out.make_room(object.len() + 3 * MOST_DIGITS + 25)?;
+    out.reserve(object.len() + 3 * MOST_DIGITS + 25)?;
     out.put(b" ");
     out.put(object);
     out.put(b" value ");

@@ -36,7 +36,7 @@ pub use Rattle.ordup_objects.specs.Serial.{History, IsLegalHistory, serial, with
 pub use Rattle.ordup_objects.specs.Sets.{are_in_range, are_known, are_of_one_object, AreKnown, IsKnown, IsSet, set_refusal}
 pub use Rattle.ordup_objects.specs.Sizes.{greatest_value, most_changes, most_groups, most_members, most_objects, most_updates}
 pub use Rattle.ordup_objects.specs.States.{in_range, is_legal, IsInRange, IsState, result_at, State, value_at}
-pub use Rattle.ordup_objects.specs.Tables.{AreDistinct, AreNames, initial_state, names_of, object_refusal, Objects, place_of}
+pub use Rattle.ordup_objects.specs.Tables.{AreDistinct, AreNames, index_of, initial_state, names_of, object_refusal, Objects}
 pub use Rattle.ordup_objects.specs.declared.change.Change.{Change}
 pub use Rattle.ordup_objects.specs.declared.change.NumberOp.{NumberOp}
 pub use Rattle.ordup_objects.specs.declared.change.Op.{Op}

@@ -1,4 +1,4 @@
--- The rows of a record, counted from 1: one head row, then those of the objects, of the members of all groups, of the limits, of the
+-- The rows of a record, counted from 1: the first, then those of the objects, of the members of all groups, of the limits, of the
 -- changes of all updates, of the reports, of the rounds and of the windows.
 use Rattle.std.specs.Prelude.{ℕ, ◌+◌, length, sum_by, take}
 use Rattle.ordup_log.specs.Groups.{GroupList}

@@ -7,7 +7,7 @@ use Rattle.ordup_limits.specs.Sizes.{most_entries}
 abbrev pub most_windows : ℕ
 most_windows = 1000000
 
--- the rows of a record before those of its changes: the head row, and those of the objects, of the members and of the limits
+-- the rows of a record before those of its changes: the first row, and those of the objects, of the members and of the limits
 abbrev pub most_rows_before_changes : ℕ
 most_rows_before_changes = 1 + most_objects + most_groups * most_members + most_entries
 

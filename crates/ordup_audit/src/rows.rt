@@ -39,7 +39,7 @@ pub(crate) fn last_row<A: Allocator + Copy>(audited: &Record<A>) -> u64
     rows_before_windows(audited) + audited.windows().len() as u64
 }
 
-/// How many rows there are before those of the changes: the head row, and those of the objects, the members and the limits.
+/// How many rows there are before those of the changes: the first row, and those of the objects, the members and the limits.
 fn rows_before_changes<A: Allocator + Copy>(audited: &Record<A>) -> u64
     ensures rows { result ≡ rows_before_changes audited.now }
     ensures few { result ≤ most_rows_before_changes }

@@ -6,7 +6,7 @@ use Rattle.ordup_rows.specs.Texts.{IsMalformedAt}
 use Rattle.ordup_check.specs.Limits.{never}
 use Rattle.ordup_check.specs.Reading.{HasBadRow, IsTaken}
 use Rattle.ordup_check.specs.ShortRows.{ends_at_long_row, from_row, most_row_bytes}
-use Rattle.ordup_check.specs.declared.short_rows.Place.TheVariants as at
+use Rattle.ordup_check.specs.declared.short_rows.RowState.TheVariants as at
 use Rattle.ordup_check.proofs.LimitLemmas.{begun_bad, lost_bad, strip_cut}
 use Rattle.ordup_check.proofs.LongRowLemmas.{Splits, mark_passes, one_byte, short_malformed, short_taken, splits}
 

@@ -11,7 +11,7 @@ use Rattle.ordup_rows.specs.Texts.{TextTells}
 use Rattle.ordup_check.specs.Limits.{IsMalformedWithin, cut_at, never}
 use Rattle.ordup_check.specs.Reading.{HasBadRow, IsTaken}
 use Rattle.ordup_check.specs.ShortRows.{ends_at_long_row, from_row, most_row_bytes}
-use Rattle.ordup_check.specs.declared.short_rows.Place.TheVariants as at
+use Rattle.ordup_check.specs.declared.short_rows.RowState.TheVariants as at
 use Rattle.ordup_check.proofs.CutRows.{bad_passes, cut_malformed, passed_bad, passed_taken}
 use Rattle.ordup_check.proofs.LimitLemmas.{cut_is_not_all}
 use Rattle.ordup_check.proofs.ReadSteps.{closed-tells, open-malformed, text-bad, text-taken}

@@ -19,22 +19,22 @@ use Rattle.ordup_rows.proofs.GoingOn.{what_is_taken_can_go_on}
 use Rattle.ordup_rows.proofs.PlainLemmas.{IsLine, all_lines}
 use Rattle.ordup_rows.proofs.RecordsSoFar.{all_at}
 use Rattle.ordup_check.specs.Reading.{IsTaken}
-use Rattle.ordup_check.specs.ShortRows.{at_edge, ends_at_long_row, from_row, in_column, left_after, is_row, most_row_bytes, place_after}
+use Rattle.ordup_check.specs.ShortRows.{at_edge, ends_at_long_row, from_row, in_column, left_after, is_row, most_row_bytes, state_after}
 use Rattle.ordup_check.proofs.LimitLemmas.{not_a, not_ab}
-use Rattle.ordup_check.specs.declared.short_rows.Place.{Place}
-use Rattle.ordup_check.specs.declared.short_rows.Place.TheVariants as at
+use Rattle.ordup_check.specs.declared.short_rows.RowState.{RowState}
+use Rattle.ordup_check.specs.declared.short_rows.RowState.TheVariants as at
 
 -- ---- the places are the states of csv
 
-abbrev place_of : State → Place
-place_of st.StartRecord = at.Row
-place_of st.AfterCr = at.Row
-place_of st.StartField = at.Edge
-place_of st.AfterQuote = at.Edge
-place_of st.InField = at.Plain
-place_of st.InQuoted = at.Quoted
-place_of st.InEscape = at.Plain
-place_of st.InComment = at.Plain
+abbrev row_state_of : State → RowState
+row_state_of st.StartRecord = at.Row
+row_state_of st.AfterCr = at.Row
+row_state_of st.StartField = at.Edge
+row_state_of st.AfterQuote = at.Edge
+row_state_of st.InField = at.Plain
+row_state_of st.InQuoted = at.Quoted
+row_state_of st.InEscape = at.Plain
+row_state_of st.InComment = at.Plain
 
 -- the states of a reader without escapes and comments
 abbrev is_met : State → Bool
@@ -42,11 +42,11 @@ is_met st.InEscape = false
 is_met st.InComment = false
 is_met _ = true
 
--- a step leads to this place, in a state that is met
-abbrev Leads : State × Action → Place → Type 0
-Leads x place = (place_of x.0 ≡ place) × (is_met x.0 ≡ true)
+-- a step leads to a state of csv that is met, and to this state of the rows
+abbrev Leads : State × Action → RowState → Type 0
+Leads x state = (row_state_of x.0 ≡ state) × (is_met x.0 ≡ true)
 
-leads_if : (b : Bool) (x y : State × Action) (p q : Place) → Leads x p → Leads y q → Leads (if b then x else y) (if b then p else q)
+leads_if : (b : Bool) (x y : State × Action) (p q : RowState) → Leads x p → Leads y q → Leads (if b then x else y) (if b then p else q)
 leads_if true x y p q h k = h
 leads_if false x y p q h k = k
 
@@ -71,7 +71,7 @@ row_at_edge c e = elim (cases_Bool (c == 13)) [
 feed_at_edge : (c : ℕ) → (c == 10) ≡ true → at_edge c ≡ at.Row
 feed_at_edge c feed = rw (eqb-true c 10 feed) refl
 
-leads_cases : (b : Bool) (x y : State × Action) (p : Place) → (b ≡ true → Leads x p) → Leads y p → Leads (if b then x else y) p
+leads_cases : (b : Bool) (x y : State × Action) (p : RowState) → (b ≡ true → Leads x p) → Leads y p → Leads (if b then x else y) p
 leads_cases true x y p h k = h refl
 leads_cases false x y p h k = k
 
@@ -80,7 +80,7 @@ leads_start_record c =
     leads_cases ((c == 13) || (c == 10)) _ _ (at_edge c)
     (λ end. subst (Leads (st.StartRecord, act.Skip)) (sym (row_at_edge c end)) (refl, refl)) (leads_start_field c)
 
-leads : (s : State) (c : ℕ) → is_met s ≡ true → Leads (step default_config s c) (place_after (place_of s) c)
+leads : (s : State) (c : ℕ) → is_met s ≡ true → Leads (step default_config s c) (state_after (row_state_of s) c)
 leads st.StartRecord c met = leads_start_record c
 leads st.StartField c met = leads_start_field c
 leads st.InField c met = leads_in_field c
@@ -138,7 +138,7 @@ extra _ = 2
 -- a step that stays in the row counts for one byte more
 abbrev Gains : Row → List ℕ → ℕ → ℕ → State × Action → Type 0
 Gains fields field c n x =
-    is_end x.1 ≡ false → is_row (place_of x.0) ≡ false
+    is_end x.1 ≡ false → is_row (row_state_of x.0) ≡ false
     → weight fields field + n + 1 ≤ weight (fields_after x.1 fields field) (field_after x.1 c field) + extra x.0
 
 gains_if : (fields : Row) (field : List ℕ) (c n : ℕ) (b : Bool) (x y : State × Action) → Gains fields field c n x → Gains fields field c n y
@@ -208,7 +208,7 @@ holds fields field c act.EndRecord = (λ e. omega (arith, size_push fields field
 
 -- a step within a row stays in it, or ends it
 abbrev Stays : State × Action → Type 0
-Stays x = is_end x.1 ≡ false → is_row (place_of x.0) ≡ false
+Stays x = is_end x.1 ≡ false → is_row (row_state_of x.0) ≡ false
 
 stays_if : (b : Bool) (x y : State × Action) → Stays x → Stays y → Stays (if b then x else y)
 stays_if true x y h k = h
@@ -217,7 +217,7 @@ stays_if false x y h k = k
 stays_in_field : (c : ℕ) → Stays (in_field default_config c)
 stays_in_field c = stays_if (c == 44) _ _ (λ on. refl) (stays_if ((c == 13) || (c == 10)) _ _ (λ on. absurd cc) (λ on. refl))
 
-stays : (s : State) (c : ℕ) → is_met s ≡ true → is_row (place_of s) ≡ false → Stays (step default_config s c)
+stays : (s : State) (c : ℕ) → is_met s ≡ true → is_row (row_state_of s) ≡ false → Stays (step default_config s c)
 stays st.StartRecord c met within = absurd cc
 stays st.StartField c met within = stays_if (c == 34) _ _ (λ on. refl) (stays_in_field c)
 stays st.InField c met within = stays_in_field c
@@ -227,7 +227,7 @@ stays st.AfterQuote c met within = stays_if (c == 34) _ _ (λ on. refl) (stays_i
 stays st.InComment c met within = absurd cc
 stays st.AfterCr c met within = absurd cc
 
-ends_in_row : (s : State) (fields : Row) (field : List ℕ) → is_met s ≡ true → is_row (place_of s) ≡ false
+ends_in_row : (s : State) (fields : Row) (field : List ℕ) → is_met s ≡ true → is_row (row_state_of s) ≡ false
     → next_record default_config s fields field [] ≡ Some (fields ++ field ∷ [], st.StartRecord, [])
 unfolding next_record
 ends_in_row st.StartRecord fields field met within = absurd cc
@@ -239,7 +239,7 @@ ends_in_row st.InField fields field met within = refl
 ends_in_row st.InQuoted fields field met within = refl
 ends_in_row st.AfterQuote fields field met within = refl
 
-grows : (bytes : List ℕ) (s : State) (fields : Row) (field : List ℕ) → is_met s ≡ true → is_row (place_of s) ≡ false
+grows : (bytes : List ℕ) (s : State) (fields : Row) (field : List ℕ) → is_met s ≡ true → is_row (row_state_of s) ≡ false
     → Grows (size fields + length field + 1) (next_record default_config s fields field bytes)
 unfolding next_record
 grows [] s fields field met within =
@@ -258,7 +258,7 @@ grown_to n (Some p) h = (p, refl, h)
 -- ---- one row
 
 abbrev IsStart : State → Type 0
-IsStart s = (is_row (place_of s) ≡ true) × (is_met s ≡ true)
+IsStart s = (is_row (row_state_of s) ≡ true) × (is_met s ≡ true)
 
 -- of the text and of what comes of it the same row is read
 abbrev IsNext : Option Read → Option Read → Type 0
@@ -293,7 +293,7 @@ step_walks false false false row s on c bytes more end skip long go = walks_on _
 
 -- an end leads to the start of a row
 abbrev EndsAtRow : State × Action → Type 0
-EndsAtRow x = is_end x.1 ≡ true → is_row (place_of x.0) ≡ true
+EndsAtRow x = is_end x.1 ≡ true → is_row (row_state_of x.0) ≡ true
 
 at_row_if : (b : Bool) (x y : State × Action) → EndsAtRow x → EndsAtRow y → EndsAtRow (if b then x else y)
 at_row_if true x y h k = h
@@ -323,8 +323,8 @@ at_row st.AfterCr c met = at_row_if (c == 10) _ _ (λ e. absurd cc) (at_row_star
 -- before a row and after a step that ends none, nothing was read of one
 abbrev Skips : State → Row → List ℕ → ℕ → State × Action → Type 0
 Skips s fields field c x =
-    is_end x.1 ≡ false → is_row (place_of x.0) ≡ true
-    → (is_row (place_of s) ≡ true) × (fields_after x.1 fields field ≡ fields) × (field_after x.1 c field ≡ field)
+    is_end x.1 ≡ false → is_row (row_state_of x.0) ≡ true
+    → (is_row (row_state_of s) ≡ true) × (fields_after x.1 fields field ≡ fields) × (field_after x.1 c field ≡ field)
 
 skips_if : (s : State) (fields : Row) (field : List ℕ) (c : ℕ) (b : Bool) (x y : State × Action) → Skips s fields field c x
     → Skips s fields field c y → Skips s fields field c (if b then x else y)
@@ -340,7 +340,7 @@ skips_start_field : (s : State) (fields : Row) (field : List ℕ) (c : ℕ) → 
 skips_start_field s fields field c =
     skips_if s fields field c (c == 34) _ _ (λ on row. absurd cc) (skips_in_field s fields field c)
 
-skips_start_record : (s : State) (fields : Row) (field : List ℕ) (c : ℕ) → is_row (place_of s) ≡ true
+skips_start_record : (s : State) (fields : Row) (field : List ℕ) (c : ℕ) → is_row (row_state_of s) ≡ true
     → Skips s fields field c (start_record default_config c)
 skips_start_record s fields field c start =
     skips_if s fields field c ((c == 13) || (c == 10)) _ _ (λ on row. (start, refl, refl)) (skips_start_field s fields field c)
@@ -369,7 +369,7 @@ few_extra st.InEscape = omega arith
 few_extra st.InComment = omega arith
 
 -- the row at hand when too many of its bytes came
-long_row : (s : State) (fields : Row) (field bytes : List ℕ) → is_met s ≡ true → is_row (place_of s) ≡ false
+long_row : (s : State) (fields : Row) (field bytes : List ℕ) → is_met s ≡ true → is_row (row_state_of s) ≡ false
     → 301 ≤ weight fields field + extra s
     → IsLong (next_record default_config s fields field bytes) (next_record default_config s fields field [])
 long_row s fields field bytes met within long =
@@ -387,13 +387,13 @@ long_row s fields field bytes met within long =
 
 -- nothing is known of a row before its start
 abbrev IsNew : State → Row → List ℕ → ℕ → Type 0
-IsNew s fields field left = is_row (place_of s) ≡ true → (fields ≡ []) × (field ≡ []) × (left ≡ most_row_bytes)
+IsNew s fields field left = is_row (row_state_of s) ≡ true → (fields ≡ []) × (field ≡ []) × (left ≡ most_row_bytes)
 
 not_both : {P : Type 0} (b : Bool) → b ≡ true → b ≡ false → P
 not_both true e f = absurd cc
 not_both false e f = absurd cc
 
-pub row_is : (place : Place) → is_row place ≡ true → place ≡ at.Row
+pub row_is : (state : RowState) → is_row state ≡ true → state ≡ at.Row
 row_is at.Row e = refl
 row_is at.Text e = absurd cc
 row_is at.MarkOfOne e = absurd cc
@@ -405,8 +405,8 @@ row_is at.Quoted e = absurd cc
 walk : (bytes : List ℕ) (s : State) (fields : Row) (field : List ℕ) (left : ℕ) → is_met s ≡ true → IsNew s fields field left
     → 300 ≤ left + weight fields field + extra s
     → Walks (next_record default_config s fields field bytes)
-    (next_record default_config s fields field (ends_at_long_row (place_of s) left bytes))
-    bytes (ends_at_long_row (place_of s) left bytes)
+    (next_record default_config s fields field (ends_at_long_row (row_state_of s) left bytes))
+    bytes (ends_at_long_row (row_state_of s) left bytes)
 unfolding next_record
 walk [] s fields field left met new fits = inl refl
 walk (c ∷ bytes) s fields field left met new fits =
@@ -416,40 +416,40 @@ walk (c ∷ bytes) s fields field left met new fits =
     let to = leads s c met in
     let next : (left2 : ℕ) → IsNew x.0 row column left2 → 300 ≤ left2 + weight row column + extra x.0
     → Walks (next_record default_config x.0 row column bytes)
-    (next_record default_config x.0 row column (ends_at_long_row (place_after (place_of s) c) left2 bytes))
-    bytes (ends_at_long_row (place_after (place_of s) c) left2 bytes) =
+    (next_record default_config x.0 row column (ends_at_long_row (state_after (row_state_of s) c) left2 bytes))
+    bytes (ends_at_long_row (state_after (row_state_of s) c) left2 bytes) =
     λ left2 new2 fits2. subst (λ q. Walks (next_record default_config x.0 row column bytes)
     (next_record default_config x.0 row column (ends_at_long_row q left2 bytes)) bytes (ends_at_long_row q left2 bytes)) to.0
     (walk bytes x.0 row column left2 to.1 new2 fits2) in
-    step_walks (is_end x.1) (is_row (place_after (place_of s) c)) (left == 0) row x.0
+    step_walks (is_end x.1) (is_row (state_after (row_state_of s) c)) (left == 0) row x.0
     (λ more. next_record default_config x.0 row column more) c bytes
-    (ends_at_long_row (place_after (place_of s) c) (left - 1) bytes)
+    (ends_at_long_row (state_after (row_state_of s) c) (left - 1) bytes)
     (λ end. let start = at_row s c met end in (ap is_row (sym to.0) ∙ start, (start, to.1)))
     (λ on start.
-    let here : is_row (place_of x.0) ≡ true = ap is_row to.0 ∙ start in
+    let here : is_row (row_state_of x.0) ≡ true = ap is_row to.0 ∙ start in
     let (was, same, also) = skips_at s fields field c met on here in
     let (none, empty, whole) = new was in
     subst (λ q. Walks (next_record default_config x.0 row column bytes)
     (next_record default_config x.0 row column (ends_at_long_row q most_row_bytes bytes)) bytes (ends_at_long_row q most_row_bytes bytes))
-    (row_is (place_after (place_of s) c) start)
+    (row_is (state_after (row_state_of s) c) start)
     (next most_row_bytes (λ again. (same ∙ none, also ∙ empty, refl)) (omega arith)))
     (λ on within zero.
-    let here : is_row (place_of x.0) ≡ false = ap is_row to.0 ∙ within in
+    let here : is_row (row_state_of x.0) ≡ false = ap is_row to.0 ∙ within in
     let more = gains s fields field c met on here in
     let none : left ≡ 0 = eqb-true left 0 zero in
     long_row x.0 row column bytes to.1 here (omega (arith, more, none, fits)))
     (λ on within some.
-    let here : is_row (place_of x.0) ≡ false = ap is_row to.0 ∙ within in
+    let here : is_row (row_state_of x.0) ≡ false = ap is_row to.0 ∙ within in
     let more = gains s fields field c met on here in
     let least : 0 < left = grind (arith, nat_tests) in
-    next (left - 1) (λ again. not_both (is_row (place_of x.0)) again here) (omega (arith, more, least, fits)))
+    next (left - 1) (λ again. not_both (is_row (row_state_of x.0)) again here) (omega (arith, more, least, fits)))
 
 walk_row : (text : List ℕ) (s : State) → IsStart s
     → Walks (next_record default_config s [] [] text) (next_record default_config s [] [] (from_row text)) text (from_row text)
 walk_row text s start =
     subst (λ q. Walks (next_record default_config s [] [] text)
     (next_record default_config s [] [] (ends_at_long_row q most_row_bytes text)) text (ends_at_long_row q most_row_bytes text))
-    (row_is (place_of s) start.0)
+    (row_is (row_state_of s) start.0)
     (walk text s [] [] most_row_bytes start.1 (λ row. (refl, refl, refl)) (omega arith))
 
 -- ---- the rows of a text
@@ -460,7 +460,7 @@ Through rows s t text rest =
     (rest2 : List ℕ) × Reached default_config s text rows t rest2
     × (next_record default_config t [] [] rest ≡ None → next_record default_config t [] [] rest2 ≡ None)
 
--- the last of the rows is too long, and one that is too long is read in its place of the text
+-- the last of the rows is too long, and one that is too long is read from the text instead of it
 abbrev Stuck : List Row → State → List ℕ → Type 0
 Stuck rows s text =
     (init : List Row) × (last : Row) × (other : Row) × (rows ≡ init ++ last ∷ []) × (100 < size last) × (100 < size other)
@@ -512,7 +512,7 @@ rows_walk (row ∷ rows) s t text rest start (p, e, is, h) = elim (walk_row text
       ))
 ]
 
--- a bad row in the place of another one that is too long
+-- a bad row instead of another one that is too long
 other_bad : (init : List Row) (last other : Row) (n : ℕ) → 100 < size other → IsBadRow (init ++ last ∷ []) n
     → IsBadRow (init ++ other ∷ []) n
 other_bad init last other n far (some, within, before, bad) =
@@ -553,22 +553,22 @@ short_taken text stage n (rows, (t, rest, h, none), came, ran, counted) = elim (
 -- no byte too many is among the first bytes, however the text goes on; or one is, and the text ends with it
 abbrev pub Splits : List ℕ → (List ℕ → List ℕ) → Type 0
 Splits bytes text =
-    ((place : Place) × (left : ℕ) × ((more : List ℕ) → text more ≡ bytes ++ ends_at_long_row place left more))
+    ((state : RowState) × (left : ℕ) × ((more : List ℕ) → text more ≡ bytes ++ ends_at_long_row state left more))
     ⊎ ((front : List ℕ) × ((more : List ℕ) → text more ≡ front))
 
 split_if : (r z : Bool) (b : ℕ) (bytes : List ℕ) (f g : List ℕ → List ℕ) → Splits bytes f → Splits bytes g
     → Splits (b ∷ bytes) (λ more. b ∷ (if r then f more else if z then [] else g more))
-split_if true z b bytes f g (inl (place, left, same)) h = inl (place, left, λ more. ap (λ l. b ∷ l) (same more))
+split_if true z b bytes f g (inl (state, left, same)) h = inl (state, left, λ more. ap (λ l. b ∷ l) (same more))
 split_if true z b bytes f g (inr (front, same)) h = inr (b ∷ front, λ more. ap (λ l. b ∷ l) (same more))
 split_if false true b bytes f g k h = inr (b ∷ [], λ more. refl)
-split_if false false b bytes f g k (inl (place, left, same)) = inl (place, left, λ more. ap (λ l. b ∷ l) (same more))
+split_if false false b bytes f g k (inl (state, left, same)) = inl (state, left, λ more. ap (λ l. b ∷ l) (same more))
 split_if false false b bytes f g k (inr (front, same)) = inr (b ∷ front, λ more. ap (λ l. b ∷ l) (same more))
 
-pub splits : (bytes : List ℕ) (place : Place) (left : ℕ) → Splits bytes (λ more. ends_at_long_row place left (bytes ++ more))
-splits [] place left = inl (place, left, λ more. refl)
-splits (b ∷ bytes) place left =
-    split_if (is_row (place_after place b)) (left == 0) b bytes _ _ (splits bytes at.Row most_row_bytes)
-    (splits bytes (place_after place b) (left - 1))
+pub splits : (bytes : List ℕ) (state : RowState) (left : ℕ) → Splits bytes (λ more. ends_at_long_row state left (bytes ++ more))
+splits [] state left = inl (state, left, λ more. refl)
+splits (b ∷ bytes) state left =
+    split_if (is_row (state_after state b)) (left == 0) b bytes _ _ (splits bytes at.Row most_row_bytes)
+    (splits bytes (state_after state b) (left - 1))
 
 nothing : (r z : Bool) (none : List ℕ) → (if r then none else if z then none else none) ≡ none
 nothing true z none = refl
@@ -576,8 +576,8 @@ nothing false true none = refl
 nothing false false none = refl
 
 -- one byte comes in any case
-pub one_byte : (place : Place) (left b : ℕ) → ends_at_long_row place left (b ∷ []) ≡ b ∷ []
-one_byte place left b = ap (λ l. b ∷ l) (nothing (is_row (place_after place b)) (left == 0) [])
+pub one_byte : (state : RowState) (left b : ℕ) → ends_at_long_row state left (b ∷ []) ≡ b ∷ []
+one_byte state left b = ap (λ l. b ∷ l) (nothing (is_row (state_after state b)) (left == 0) [])
 
 -- ---- a byte order mark
 
@@ -629,39 +629,39 @@ mark_passes (a ∷ rest) = elim (cases_Bool (a == 239)) [
 
 -- ---- bytes that are gone over one by one
 
-module _ (bytes : List ℕ) (i b : ℕ) (text : List ℕ → List ℕ) (place : Place) (left : ℕ) (front : take (i + 1) bytes ≡ take i bytes ++ b ∷ [])
+module _ (bytes : List ℕ) (i b : ℕ) (text : List ℕ → List ℕ) (state : RowState) (left : ℕ) (front : take (i + 1) bytes ≡ take i bytes ++ b ∷ [])
     (rest : drop i bytes ≡ b ∷ drop (i + 1) bytes)
-    (so_far : (more : List ℕ) → text more ≡ take i bytes ++ ends_at_long_row place left (drop i bytes ++ more)) where
-  one_more : (tail : List ℕ → List ℕ) → ((r : List ℕ) → ends_at_long_row place left (b ∷ r) ≡ b ∷ tail r) → (more : List ℕ)
+    (so_far : (more : List ℕ) → text more ≡ take i bytes ++ ends_at_long_row state left (drop i bytes ++ more)) where
+  one_more : (tail : List ℕ → List ℕ) → ((r : List ℕ) → ends_at_long_row state left (b ∷ r) ≡ b ∷ tail r) → (more : List ℕ)
       → text more ≡ take (i + 1) bytes ++ tail (drop (i + 1) bytes ++ more)
   one_more tail is more =
       so_far more
-      ∙ ap (λ l. take i bytes ++ ends_at_long_row place left (l ++ more)) rest
+      ∙ ap (λ l. take i bytes ++ ends_at_long_row state left (l ++ more)) rest
       ∙ ap (λ l. take i bytes ++ l) (is (drop (i + 1) bytes ++ more))
       ∙ sym (append_assoc (take i bytes) (b ∷ []) (tail (drop (i + 1) bytes ++ more)))
       ∙ ap (λ l. l ++ tail (drop (i + 1) bytes ++ more)) (sym front)
 
   -- the byte ends a row
-  pub over_row : is_row (place_after place b) ≡ true → (more : List ℕ)
-      → text more ≡ take (i + 1) bytes ++ ends_at_long_row (place_after place b) most_row_bytes (drop (i + 1) bytes ++ more)
+  pub over_row : is_row (state_after state b) ≡ true → (more : List ℕ)
+      → text more ≡ take (i + 1) bytes ++ ends_at_long_row (state_after state b) most_row_bytes (drop (i + 1) bytes ++ more)
   over_row row =
-      one_more (ends_at_long_row (place_after place b) most_row_bytes)
-      (λ r. rw row (ap (λ p. b ∷ ends_at_long_row p most_row_bytes r) (sym (row_is (place_after place b) row))))
+      one_more (ends_at_long_row (state_after state b) most_row_bytes)
+      (λ r. rw row (ap (λ p. b ∷ ends_at_long_row p most_row_bytes r) (sym (row_is (state_after state b) row))))
 
   -- the byte is too many
-  pub over_end : is_row (place_after place b) ≡ false → left ≡ 0 → (more : List ℕ) → text more ≡ take (i + 1) bytes ++ []
+  pub over_end : is_row (state_after state b) ≡ false → left ≡ 0 → (more : List ℕ) → text more ≡ take (i + 1) bytes ++ []
   over_end row none = one_more (λ r. []) (λ r. rw (row, none) refl)
 
   -- the byte is one of the row
-  pub over_byte : is_row (place_after place b) ≡ false → 0 < left → (more : List ℕ)
-      → text more ≡ take (i + 1) bytes ++ ends_at_long_row (place_after place b) (left - 1) (drop (i + 1) bytes ++ more)
+  pub over_byte : is_row (state_after state b) ≡ false → 0 < left → (more : List ℕ)
+      → text more ≡ take (i + 1) bytes ++ ends_at_long_row (state_after state b) (left - 1) (drop (i + 1) bytes ++ more)
   over_byte row some =
       let many : (left == 0) ≡ false = grind (arith, nat_tests) in
-      one_more (ends_at_long_row (place_after place b) (left - 1)) (λ r. rw (row, many) refl)
+      one_more (ends_at_long_row (state_after state b) (left - 1)) (λ r. rw (row, many) refl)
 
   -- one is too many, or not
-  pub over_none : left_after (place_after place b) left ≡ None → (more : List ℕ) → text more ≡ take (i + 1) bytes ++ []
-  over_none e = elim (cases_Bool (is_row (place_after place b))) [
+  pub over_none : left_after (state_after state b) left ≡ None → (more : List ℕ) → text more ≡ take (i + 1) bytes ++ []
+  over_none e = elim (cases_Bool (is_row (state_after state b))) [
     | inl row ↦ (let other = rw row at e in absurd cc)
     | inr within ↦ elim (cases_Bool (left == 0)) [
       | inl none ↦ over_end within (eqb-true left 0 none)
@@ -669,9 +669,9 @@ module _ (bytes : List ℕ) (i b : ℕ) (text : List ℕ → List ℕ) (place : 
     ]
   ]
 
-  pub over_some : (next : ℕ) → left_after (place_after place b) left ≡ Some next → (more : List ℕ)
-      → text more ≡ take (i + 1) bytes ++ ends_at_long_row (place_after place b) next (drop (i + 1) bytes ++ more)
-  over_some next e = elim (cases_Bool (is_row (place_after place b))) [
+  pub over_some : (next : ℕ) → left_after (state_after state b) left ≡ Some next → (more : List ℕ)
+      → text more ≡ take (i + 1) bytes ++ ends_at_long_row (state_after state b) next (drop (i + 1) bytes ++ more)
+  over_some next e = elim (cases_Bool (is_row (state_after state b))) [
     | inl row ↦ rw (← same_Some _ _ (rw row at e)) (over_row row)
     | inr within ↦ elim (cases_Bool (left == 0)) [
       | inl none ↦ (let other = rw (within, none) at e in absurd cc)

@@ -3,7 +3,7 @@ use Rattle.ordup_audit.proofs.Common.{◌++◌, ◌+◌, ◌==◌, ◌∙◌, �
 use Rattle.ordup_audit.proofs.Common.{Change, Err, false, group_refusal, GroupList, IfOk, if◌then◌else◌, in_range, inl, inr}
 use Rattle.ordup_audit.proofs.Common.{arith, Entries, false≢true, is_name, is_none, is_none_or, is_some, IsRefusal, last_members, length, length_push, List, lt-ltb, suc}
 use Rattle.ordup_audit.proofs.Common.{member_refusal, most_objects, nat_lt, nil_from_length, None, not, NumberOp, object_refusal, Objects}
-use Rattle.ordup_audit.proofs.Common.{Ok, Op, op_with, Option, option_and_then, option_map, place_of, RecordState, refl, Result}
+use Rattle.ordup_audit.proofs.Common.{index_of, Ok, Op, op_with, Option, option_and_then, option_map, RecordState, refl, Result}
 use Rattle.ordup_audit.proofs.Common.{set_refusal, Some, sym, Take, then_some, true, ℕ, ℤ}
 use Rattle.std.proofs.Common.{◌≢◌, ◌&&◌}
 use Rattle.std.proofs.Math.Bool.{and-false}
@@ -58,7 +58,7 @@ third_test true false c x y z rest e = rw e refl
 far_object : (r : RecordState) (c : Columns) (z : ℤ) → in_range z ≡ false → with_value r c z ≡ None
 far_object r c z far =
     lost (is_before_members r && writes c.first (length r.objects + 1)) (is_none (object_refusal r.objects c.second z)) _
-    (third_test (is_name c.second) (is_some (place_of c.second r.objects)) (in_range z) BadName NameTaken OutOfRange
+    (third_test (is_name c.second) (is_some (index_of c.second r.objects)) (in_range z) BadName NameTaken OutOfRange
     (if length r.objects == most_objects then Some TooMany else None) far)
 
 -- what comes of a value, where the value counts only if it passes a test
@@ -105,7 +105,7 @@ op_within : (objects : Objects) (x : ℕ) (o : Operation)
     → option_and_then (λ (o : Op). Some (record { object = x; op = o })) (op_in_range objects o)
     ≡ option_and_then within (option_and_then (λ (o : Op). Some (record { object = x; op = o })) (op_in objects o))
 op_within objects x (word.WithNumber op n) = number_within x op n (in_range n) refl
-op_within objects x (word.Take y) = take_within x (place_of y objects)
+op_within objects x (word.Take y) = take_within x (index_of y objects)
 
 word_within : (objects : Objects) (w : ChangeWord) (place : Option ℕ)
     → option_and_then (λ x. option_and_then (λ (o : Op). Some (record { object = x; op = o })) (op_in_range objects w.operation)) place
@@ -117,7 +117,7 @@ word_within objects w (Some x) = op_within objects x w.operation
 change_within : (objects : Objects) (o : Option ChangeWord) → option_and_then (sound_change objects) o
     ≡ option_and_then within (option_and_then (change_in objects) o)
 change_within objects None = refl
-change_within objects (Some w) = word_within objects w (place_of w.object objects)
+change_within objects (Some w) = word_within objects w (index_of w.object objects)
 
 far_last : (m : List Change) (c : Change) → is_none_or (ops.number_of c.op) in_range ≡ false → are_in_range (m ++ c ∷ []) ≡ false
 far_last [] c e = rw e refl
@@ -167,7 +167,7 @@ ok_by (Ok taken) x a b h same = h ∙ same
 
 -- ---- rows whose columns have a meaning
 
-pub member_by : (r : RecordState) (c : Columns) (x : ℕ) → place_of c.third r.objects ≡ Some x
+pub member_by : (r : RecordState) (c : Columns) (x : ℕ) → index_of c.third r.objects ≡ Some x
     → then_some (is_before_limits r && writes c.first (member_count r.groups + 1) && is_none
     (membership_refusal (length r.objects) r.groups c.second x))
     (record r { groups = with_membership r.groups c.second x })

@@ -9,7 +9,7 @@ use Rattle.ordup_grammar.specs.declared.operation.Operation.{Operation}
 use Rattle.ordup_grammar.specs.declared.operation.Operation.TheVariants as word
 use Rattle.ordup_objects.specs.Ops.{op_with}
 use Rattle.ordup_objects.specs.States.{in_range}
-use Rattle.ordup_objects.specs.Tables.{Objects, place_of}
+use Rattle.ordup_objects.specs.Tables.{index_of, Objects}
 use Rattle.ordup_objects.specs.declared.change.Change.{Change}
 use Rattle.ordup_objects.specs.declared.change.Op.{Op}
 use Rattle.ordup_objects.specs.declared.change.Op.TheVariants.{Take}
@@ -45,12 +45,12 @@ value_of column = option_and_then number_in_range (number_of column)
 -- the operation over these objects, where its number is in range, or the object that it reads is one
 abbrev pub op_in_range : Objects → Operation → Option Op
 op_in_range objects (word.WithNumber op n) = option_map (op_with op) (number_in_range n)
-op_in_range objects (word.Take y) = option_map (λ place. Take place) (place_of y objects)
+op_in_range objects (word.Take y) = option_map (λ place. Take place) (index_of y objects)
 
 -- the change of these objects that a change word means, where its number is in range and its objects are some
 abbrev pub sound_change : Objects → ChangeWord → Option Change
 sound_change objects c = do
-  object ← place_of c.object objects
+  object ← index_of c.object objects
   op ← op_in_range objects c.operation
   Some (record { object = object; op = op })
 

@@ -121,14 +121,14 @@ pub fn amount(version: Version, column: &[u8]) -> Option<(u64, u64)>
 fn amount_and_place(column: &[u8]) -> Option<(u64, u64)>
     ensures { result ≡ amount_and_place (slice_split (λ byte. byte == 64) column.now) }
 {
-    let end = place_of_at(column)?;
+    let end = index_of_at(column)?;
     let amount = natural(&column[..end])?;
     let place = natural(&column[end + 1..])?;
     Some((amount, place))
 }
 
 /// The place of the first `@` of a column, if there is one.
-fn place_of_at(column: &[u8]) -> Option<usize>
+fn index_of_at(column: &[u8]) -> Option<usize>
     ensures { result ≡ position (λ byte. byte == 64) column.now }
 {
     column.iter().position(|byte| *byte == b'@')

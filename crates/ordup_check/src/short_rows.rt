@@ -7,9 +7,9 @@ use std::io::{self, Read};
 /// The most bytes of a row. The longest row of a record has a third of them, and quotes make a row less than three times as long.
 const MOST_ROW_BYTES: u64 = 300;
 
-/// Where the next byte of a text stands: what it follows.
+/// The state of a reading of rows: what the next byte of the text follows.
 #[derive(Clone, Copy)]
-pub enum Place {
+pub enum RowState {
     /// Nothing: a byte order mark may stand here.
     Text,
     /// The first byte of a mark.
@@ -26,77 +26,77 @@ pub enum Place {
     Quoted,
 }
 
-impl Place {
-    ghost use Rattle.ordup_check.specs.ShortRows.{at_edge, in_column, is_row, place_after};
+impl RowState {
+    ghost use Rattle.ordup_check.specs.ShortRows.{at_edge, in_column, is_row, state_after};
 
-    /// The place after a byte, as csv reads it.
-    fn after(self, byte: u8) -> Place
-        ensures { result ≡ place_after self byte }
+    /// The state after a byte, as csv reads it.
+    fn after(self, byte: u8) -> RowState
+        ensures { result ≡ state_after self byte }
     {
         match self {
-            Place::Text => {
+            RowState::Text => {
                 if byte == 0xEF {
-                    Place::MarkOfOne
+                    RowState::MarkOfOne
                 } else {
-                    Place::at_edge(byte)
+                    RowState::at_edge(byte)
                 }
             }
-            Place::MarkOfOne => {
+            RowState::MarkOfOne => {
                 if byte == 0xBB {
-                    Place::MarkOfTwo
+                    RowState::MarkOfTwo
                 } else {
-                    Place::in_column(byte)
+                    RowState::in_column(byte)
                 }
             }
-            Place::MarkOfTwo => {
+            RowState::MarkOfTwo => {
                 if byte == 0xBF {
-                    Place::Row
+                    RowState::Row
                 } else {
-                    Place::in_column(byte)
+                    RowState::in_column(byte)
                 }
             }
-            Place::Row | Place::Edge => Place::at_edge(byte),
-            Place::Plain => Place::in_column(byte),
-            Place::Quoted => {
+            RowState::Row | RowState::Edge => RowState::at_edge(byte),
+            RowState::Plain => RowState::in_column(byte),
+            RowState::Quoted => {
                 if byte == b'"' {
-                    Place::Edge
+                    RowState::Edge
                 } else {
-                    Place::Quoted
+                    RowState::Quoted
                 }
             }
         }
     }
 
-    /// The place after a byte that is not quoted, where a quote begins quoted bytes.
-    fn at_edge(byte: u8) -> Place
+    /// The state after a byte that is not quoted, where a quote begins quoted bytes.
+    fn at_edge(byte: u8) -> RowState
         ensures { result ≡ at_edge byte }
     {
         if byte == b'"' {
-            Place::Quoted
+            RowState::Quoted
         } else {
-            Place::in_column(byte)
+            RowState::in_column(byte)
         }
     }
 
-    /// The place after a byte that is not quoted.
-    fn in_column(byte: u8) -> Place
+    /// The state after a byte that is not quoted.
+    fn in_column(byte: u8) -> RowState
         ensures { result ≡ in_column byte }
     {
         if byte == b',' {
-            Place::Edge
+            RowState::Edge
         } else if byte == b'\r' || byte == b'\n' {
-            Place::Row
+            RowState::Row
         } else {
-            Place::Plain
+            RowState::Plain
         }
     }
 
-    /// Whether no byte of a row stands before this place.
+    /// Whether no byte of a row was read in this state.
     fn is_row(self) -> bool
         ensures { result ≡ is_row self }
     {
         match self {
-            Place::Row => true,
+            RowState::Row => true,
             _ => false,
         }
     }
@@ -106,7 +106,7 @@ impl Place {
 #[derive(Drop)]
 pub struct ShortRows<R> {
     input: R,
-    place: Place,
+    state: RowState,
     /// How many bytes more the row may have.
     left: u64,
     is_ended: bool,
@@ -116,13 +116,13 @@ impl<R: Read> ShortRows<R> {
     /// The rows of a reader at the start of its text.
     pub fn new(input: R) -> Self
         ensures input { result.input ≡ input }
-        ensures place { result.place ≡ Place.Text }
+        ensures state { result.state ≡ RowState.Text }
         ensures left { result.left ≡ most_row_bytes }
         ensures open { result.is_ended ≡ false }
     {
         ShortRows {
             input,
-            place: Place::Text,
+            state: RowState::Text,
             left: MOST_ROW_BYTES,
             is_ended: false,
         }
@@ -134,27 +134,27 @@ impl<R: Read> ShortRows<R> {
 struct Passed {
     /// How many of them are passed on.
     count: usize,
-    place: Place,
+    state: RowState,
     left: u64,
     /// Whether the last of these is too many.
     is_ended: bool,
 }
 
 /// Goes over bytes, up to the first that is too many of a row.
-fn go_over(start: Place, room: u64, bytes: &[u8]) -> Passed
+fn go_over(start: RowState, room: u64, bytes: &[u8]) -> Passed
     ensures few { result.count ≤ length bytes.now }
     ensures whole { result.is_ended ≡ false → result.count ≡ length bytes.now }
     ensures text { (more : List ℕ) → ends_at_long_row start room (bytes.now ++ more)
-        ≡ take result.count bytes.now ++ (if result.is_ended then [] else ends_at_long_row result.place result.left more) }
+        ≡ take result.count bytes.now ++ (if result.is_ended then [] else ends_at_long_row result.state result.left more) }
 {
-    let mut place = start;
+    let mut state = start;
     let mut left = room;
     for i in 0..bytes.len() {
-        place = place.after(bytes[i]);
-        let Some(next) = left_after(place, left) else {
+        state = state.after(bytes[i]);
+        let Some(next) = left_after(state, left) else {
             return Passed {
                 count: i + 1,
-                place,
+                state,
                 left,
                 is_ended: true,
             };
@@ -163,17 +163,17 @@ fn go_over(start: Place, room: u64, bytes: &[u8]) -> Passed
     }
     Passed {
         count: bytes.len(),
-        place,
+        state,
         left,
         is_ended: false,
     }
 }
 
-/// How many bytes more the row may have after one that leads to a place, unless that one is too many.
-fn left_after(place: Place, left: u64) -> Option<u64>
-    ensures { result ≡ left_after place left }
+/// How many bytes more the row may have after one that leads to a state, unless that one is too many.
+fn left_after(state: RowState, left: u64) -> Option<u64>
+    ensures { result ≡ left_after state left }
 {
-    if place.is_row() {
+    if state.is_row() {
         return Some(MOST_ROW_BYTES);
     }
     if left == 0 {
@@ -183,15 +183,15 @@ fn left_after(place: Place, left: u64) -> Option<u64>
 }
 
 impl<R: Read> Read for ShortRows<R> {
-    ghost remaining = { λ r. if r.is_ended then Some [] else option_map (ends_at_long_row r.place r.left) (R.remaining r.input) };
+    ghost remaining = { λ r. if r.is_ended then Some [] else option_map (ends_at_long_row r.state r.left) (R.remaining r.input) };
 
     fn read(&mut self, buffer: &mut [u8]) -> io::Result<usize> {
         if self.is_ended {
             return Ok(0);
         }
         let count = self.input.read(buffer)?;
-        let passed = go_over(self.place, self.left, &buffer[..count]);
-        self.place = passed.place;
+        let passed = go_over(self.state, self.left, &buffer[..count]);
+        self.state = passed.state;
         self.left = passed.left;
         self.is_ended = passed.is_ended;
         Ok(passed.count)

@@ -7,7 +7,7 @@ use std::process::Abort;
 /// More bytes than a test reads.
 pub(crate) const ALL: usize = 1_000_000;
 
-/// Gives at most so many bytes a call.
+/// Gives at most this many bytes a call.
 #[derive(Drop)]
 struct ShortReader<'a> {
     left: &'a [u8],
@@ -24,7 +24,7 @@ impl<'a> Read for ShortReader<'a> {
     }
 }
 
-/// What is said of a text of at most so many bytes, which comes in short reads: the verdict on its record, or why it is none.
+/// What is said of a text of at most this many bytes, which comes in short reads: the verdict on its record, or why it is none.
 pub(crate) fn said_within(
     alloc: Global,
     text: &str,

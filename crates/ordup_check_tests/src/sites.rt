@@ -18,7 +18,7 @@ fn started(rt: &impl Abort, alloc: Global) -> Primary {
     primary
 }
 
-/// Why there is no record of the site at this place, if there is none.
+/// Why there is no record of the site at this index, if there is none.
 fn refusal_of(alloc: Global, primary: &Primary, place: u8) -> Option<Refusal> {
     record_of(alloc, primary, SiteId::new(place)).err()
 }

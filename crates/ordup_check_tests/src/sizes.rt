@@ -13,7 +13,7 @@ change,2,1,add:x:1
 round,1,2,-
 ";
 
-/// The first rows; a row that stands there so many times, with its number from 1 on in the place of `#`; another one; and what
+/// The first rows; a row that stands there this many times, with its number from 1 on in the place of `#`; another one; and what
 /// is said.
 const SIZES: [(&str, &str, usize, &str, usize, &str); 20] = [
     ("ordup,1,a,0\n", "object,#,o#,0\n", 256, "", 0, "yes 0"),
@@ -164,7 +164,7 @@ const SIZES: [(&str, &str, usize, &str, usize, &str); 20] = [
     ),
 ];
 
-/// Adds a row to a text so many times, with its number from 1 on in the place of `#`.
+/// Adds a row to a text this many times, with its number from 1 on in the place of `#`.
 fn push_times(alloc: Global, text: &mut String, row: &str, count: usize) -> Result<(), AllocError> {
     for number in 1..=count {
         let number = number.to_string(alloc)?;
@@ -174,7 +174,7 @@ fn push_times(alloc: Global, text: &mut String, row: &str, count: usize) -> Resu
     Ok(())
 }
 
-/// What is said of the first rows, and of two rows after them that stand there so many times.
+/// What is said of the first rows, and of two rows after them that stand there this many times.
 fn said_of(
     alloc: Global,
     first: &str,

@@ -9,7 +9,7 @@ use ordup_rows::{RecordWriteFault, write_record};
 use std::alloc::Global;
 use std::io::{self, ErrorKind, Write};
 
-/// Takes so many bytes, and then fails or takes nothing. It cannot be flushed.
+/// Takes this many bytes, and then fails or takes nothing. It cannot be flushed.
 #[derive(Drop)]
 struct ShortWriter {
     taken: Vec<u8>,
@@ -35,7 +35,7 @@ impl Write for ShortWriter {
     }
 }
 
-/// Whether a record is written so to a writer with room for so many bytes, and this is what it has got.
+/// Whether a record is written so to a writer that takes this many bytes, and this is what it has got.
 fn is_written(
     alloc: Global,
     shown: &Record,

@@ -5,7 +5,7 @@ use Rattle.std.specs.Fmt.{decimal}
 use Rattle.std.specs.Io.KnownBytes.{Appends}
 use Rattle.std.specs.declared.alloc.Global.{Global}
 use Rattle.csv.specs.Reading.{strip_bom}
-use Rattle.ordup_objects.specs.Tables.{place_of}
+use Rattle.ordup_objects.specs.Tables.{index_of}
 use Rattle.ordup_primary.specs.Primaries.{PrimaryState}
 use Rattle.ordup_audit.specs.Records.{RecordState}
 use Rattle.ordup_record.specs.RecordsOf.{record_of}
@@ -68,7 +68,7 @@ PrintsSite p (Some s) old new outcome = PrintsRecord (record_of p s) old new out
 -- after a run that ended so the record of the site of this name was printed, or nothing where the run failed or no store started
 abbrev pub PrintsAfter : List ℕ → RunEnd → Bytes → Bytes → Outcome → Type 0
 PrintsAfter site (Ok (Running world)) old new outcome =
-    PrintsSite world.primary (place_of site world.primary.setup.sites) old new outcome
+    PrintsSite world.primary (index_of site world.primary.setup.sites) old new outcome
 PrintsAfter site (Ok (Declared setup)) old new outcome = (outcome ≡ Err fault.NotStarted) × (new ≡ old)
 PrintsAfter site (Err fault) old new outcome = (outcome ≡ Err (of_script fault)) × (new ≡ old)
 

@@ -1,6 +1,6 @@
 //! The jobs of the program: it runs a script or a plan, prints the record of a site, or checks a record.
 ghost use Rattle.std.specs.Prelude.{◌≡◌, IfErr, IfOk, string_bytes};
-ghost use Rattle.ordup_objects.specs.Tables.{place_of};
+ghost use Rattle.ordup_objects.specs.Tables.{index_of};
 ghost use Rattle.std.specs.Io.KnownBytes.{Keeps};
 ghost use Rattle.ordup_cli.specs.Jobs.{Answers, Checks, Does, PrintsRecord, PrintsSite, PrintsVerdict, Records};
 ghost use Rattle.ordup_cli.specs.Jobs.{verdict_status, verdict_text};
@@ -104,7 +104,7 @@ fn print_record<R: Read, W: Write>(
 
 /// Prints the record of the site of this name. Where there is none, nothing is written.
 fn print_site<W: Write>(alloc: Global, site: &[u8], primary: &Primary, output: &mut W) -> Outcome
-    ensures { PrintsSite primary.now (place_of site.now primary.now.setup.sites) (W.contents output.old) (W.contents output.new) result }
+    ensures { PrintsSite primary.now (index_of site.now primary.now.setup.sites) (W.contents output.old) (W.contents output.new) result }
 {
     let Some(site) = primary.setup().find_site(site) else {
         return Err(Fault::UnknownSite);

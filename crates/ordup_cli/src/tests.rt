@@ -57,7 +57,7 @@ pub(crate) fn parts(alloc: Global, transcript: &str) -> Result<(Vec<u8>, Vec<u8>
     Ok((script, wanted))
 }
 
-/// Adds a part to a script so many times, with its number from 0 on in the place of `#`.
+/// Adds a part to a script this many times, with its number from 0 on in the place of `#`.
 fn push_times(
     alloc: Global,
     script: &mut String,

@@ -16,7 +16,7 @@ use Rattle.ordup_log.specs.declared.scope.Scope.{Scope}
 use Rattle.ordup_feed.specs.Parcels.{PlainParcel}
 use Rattle.ordup_feed.specs.Ends.{Sending}
 use Rattle.ordup_objects.specs.States.{State}
-use Rattle.ordup_cluster.specs.Books.{BookState, IsTied, KeepsBook, AreRooms}
+use Rattle.ordup_cluster.specs.Books.{BookState, IsTied, KeepsBook, AreSpareValues}
 use Rattle.ordup_cluster.specs.Relimiting.{limit_change_refusal}
 use Rattle.ordup_cluster.specs.Turning.{KeptSite, AtEachSite, Reported, Sent, SentOut, SameFeeds, kept_at, with_progress, send_bound}
 
@@ -290,17 +290,17 @@ upto-part bound n b c upto = record {
   ];
 }
 
--- the rooms stay those of the primary
-pub rooms-kept : (p q : PrimaryState) (rooms : List State) → q.log ≡ p.log → length q.sites ≡ length p.sites → AreRooms p rooms
-    → AreRooms q rooms
-rooms-kept p q rooms log count are =
+-- the spare values stay those of the primary
+pub spare_values-kept : (p q : PrimaryState) (spare_values : List State) → q.log ≡ p.log → length q.sites ≡ length p.sites → AreSpareValues p spare_values
+    → AreSpareValues q spare_values
+spare_values-kept p q spare_values log count are =
     (are.0 ∙ sym count, λ k d lt. are.1 k d lt ∙ sym (ap (λ (h : History). h.start) log))
 
 -- and so after a turn
-pub rooms-turned : {Step : ℕ → KeptSite → KeptSite → Type 0} {b a c : BookState} {m : PrimaryState}
-    (rooms : List State) → AtEachSite Reported b a → SameFeeds a.primary m → AtEachSite Step (record { primary = m; ends = a.ends }) c
-    → AreRooms b.primary rooms → AreRooms c.primary rooms
-rooms-turned {b} {a} {c} {m} rooms reported feeds sent are =
+pub spare_values-turned : {Step : ℕ → KeptSite → KeptSite → Type 0} {b a c : BookState} {m : PrimaryState}
+    (spare_values : List State) → AtEachSite Reported b a → SameFeeds a.primary m → AtEachSite Step (record { primary = m; ends = a.ends }) c
+    → AreSpareValues b.primary spare_values → AreSpareValues c.primary spare_values
+spare_values-turned {b} {a} {c} {m} spare_values reported feeds sent are =
     let log = λ (p : PrimaryState). p.log in
-    rooms-kept b.primary c.primary rooms (ap log sent.primary ∙ feeds.log ∙ ap log reported.primary)
+    spare_values-kept b.primary c.primary spare_values (ap log sent.primary ∙ feeds.log ∙ ap log reported.primary)
     (sent.sites ∙ feeds.count ∙ reported.sites) are

@@ -25,7 +25,7 @@ unmet-met ends = elim ends [
   | inr left ↦ absurd (let below = left.2.0 in omega arith)
 ]
 
--- nothing was sent, though two may be, to a feed that has room for 4
+-- nothing was sent, though two may be, to a feed that has a capacity of 4
 sends-none : (x : KeptSite) → x.progress ≡ first_progress → x.end.feed.capacity ≡ 4 → SentOut (λ s. 2) 0 x x → ⊥
 sends-none x first room is = elim is.out [
   | inl all ↦ absurd (let le : 2 ≤ 0 = rw first at all in omega arith)

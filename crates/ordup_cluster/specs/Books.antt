@@ -25,5 +25,5 @@ pub record KeepsBook (p : PrimaryState) (ends : List Sending) : Type 0 where
   pub tied : (s : ℕ) (e : Sending) → slice_get ends s ≡ Some e → IsTied p s e
 
 -- the initial values of the objects, once for each site
-abbrev pub AreRooms : PrimaryState → List State → Type 0
-AreRooms p rooms = (length rooms ≡ length p.sites) × All (λ v. v ≡ p.log.start) rooms
+abbrev pub AreSpareValues : PrimaryState → List State → Type 0
+AreSpareValues p spare_values = (length spare_values ≡ length p.sites) × All (λ v. v ≡ p.log.start) spare_values

@@ -34,7 +34,7 @@ pub record Sent (bound : ℕ → ℕ) (s : ℕ) (x y : KeptSite) : Type 0 where
   pub risen : x.progress.sent ≤ y.progress.sent
   pub bounded : y.progress.sent ≤ max x.progress.sent (bound s)
 
--- all up to the bound were pushed; or else as many as the feed has room for, at least
+-- all up to the bound were pushed; or else as many as the feed can take, at least
 pub record SentOut (bound : ℕ → ℕ) (s : ℕ) (x y : KeptSite) : Type 0 where
   pub some : Sent bound s x y
   pub out : (bound s ≤ y.progress.sent) ⊎ (y.end.feed.capacity ≤ y.progress.sent)

@@ -2,7 +2,7 @@ ghost use Rattle.std.specs.Prelude.{◌≡◌, ◌≢◌, ◌<◌, ◌≤◌, �
 ghost use Rattle.ordup_objects.specs.Refusals.{IsRefusal};
 ghost use Rattle.ordup_primary.specs.Declarations.{start_refusal};
 ghost use Rattle.ordup_site.specs.Sites.{SiteState};
-ghost use Rattle.ordup_cluster.specs.Books.{AreRooms};
+ghost use Rattle.ordup_cluster.specs.Books.{AreSpareValues};
 ghost use Rattle.ordup_cluster.specs.Agreement.{Agrees};
 ghost use Rattle.ordup_cluster.specs.Numbering.{IsTurn, with_numbered};
 ghost use Rattle.ordup_cluster.specs.Clusters.{IsClosed, IsFirstMixed};
@@ -56,7 +56,7 @@ impl Model for Cluster {
 }
 
 impl Cluster {
-    /// Opens a store in which nothing has happened, and takes the room that `close` needs. It waits for nobody.
+    /// Opens a store in which nothing has happened, and takes the memory that `close` needs. It waits for nobody.
     ///
     /// - The store has the objects that were declared, and as many sites.
     /// - It is opened only where there is an object and a site.
@@ -327,8 +327,8 @@ impl Cluster {
         }
         let book = book.into_inner();
         let _primary = book.primary();
-        let (primary, rooms) = book.into_parts();
-        match first_mixed(&primary, &sites, rooms) {
+        let (primary, spare_values) = book.into_parts();
+        match first_mixed(&primary, &sites, spare_values) {
             Some(site) => Err(Refusal::Mixed { site }),
             None => Ok(Closed { primary, sites }),
         }
@@ -375,8 +375,12 @@ fn locked(alloc: Global, cells: Vec<SiteCell>) -> Result<Vec<Mutex<SiteCell>>, R
 }
 
 /// The first site that does not agree with the primary, given the initial values once for each site.
-fn first_mixed(primary: &Primary, sites: &Vec<Site>, mut rooms: Vec<Values>) -> Option<SiteId>
-    requires { AreRooms primary.now rooms.items }
+fn first_mixed(
+    primary: &Primary,
+    sites: &Vec<Site>,
+    mut spare_values: Vec<Values>,
+) -> Option<SiteId>
+    requires { AreSpareValues primary.now spare_values.items }
     ensures mixed { IfSome result (λ s. ((length sites.now.items ≢ length primary.now.sites) × (s ≡ 0)) ⊎ IsFirstMixed primary.now sites.now.items s) }
     ensures count { IfNone result (length sites.now.items ≡ length primary.now.sites) }
     ensures agree { IfNone result ((s : ℕ) (x : SiteState) → slice_get sites.now.items s ≡ Some x → Agrees primary.now s x) }
@@ -388,7 +392,7 @@ fn first_mixed(primary: &Primary, sites: &Vec<Site>, mut rooms: Vec<Values>) -> 
     }
     for place in 0..primary.setup().sites() {
         let site = SiteId::new(place as u8);
-        let Some(values) = rooms.pop() else {
+        let Some(values) = spare_values.pop() else {
             return Some(site);
         };
         if !agree(primary, site, &sites[place], values) {

@@ -6,7 +6,7 @@ use Rattle.ordup_primary.specs.Primaries.{PrimaryState, progress_at}
 use Rattle.ordup_feed.specs.Parcels.{PlainParcel, IsNext, history_of}
 use Rattle.ordup_feed.specs.Ends.{Sending}
 
--- the parcel is the next one of any others, over so many objects, where it has the next number
+-- the parcel is the next one of any others, over this many objects, where it has the next number
 abbrev pub FollowsAny : ℕ → ℕ → PlainParcel → Type 0
 FollowsAny objects number p =
     (start : State) (before : List PlainParcel) → length start ≡ objects → number ≡ length before + 1 → IsNext start before p

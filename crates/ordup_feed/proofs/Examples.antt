@@ -9,10 +9,10 @@ use Rattle.ordup_objects.specs.Ops.{number_of}
 use Rattle.ordup_objects.specs.States.{State, IsInRange}
 use Rattle.ordup_objects.specs.Sets.{IsSet, IsKnown, AreKnown}
 use Rattle.ordup_feed.specs.declared.queue.View.TheVariants.{Sender, Taker}
-use Rattle.ordup_feed.specs.declared.word.Mark.TheVariants.{Known, Told}
+use Rattle.ordup_feed.specs.declared.counter.CounterView.TheVariants.{Known, Told}
 use Rattle.ordup_feed.specs.Parcels.{PlainParcel, AreInOrder, IsNext, feed_refusal}
 use Rattle.ordup_feed.specs.QueueRule.{QueueHolds, Pushed, Popped}
-use Rattle.ordup_feed.specs.WordRule.{WordHolds, Tells, Looks}
+use Rattle.ordup_feed.specs.CounterRule.{CounterHolds, Tells, Looks}
 use Rattle.ordup_feed.proofs.ParcelLemmas.{in-order-push}
 
 -- one object at 0
@@ -105,18 +105,18 @@ pushed = refl
 popped : Popped (Taker start []) one (Taker start (one ∷ []))
 popped = (refl, one-in-order)
 
--- 2 was told: the sender may know 1 or 2, and not 3; and the word is 2
-knows-less : WordHolds (2 ∷ []) (Known 1 ∷ Told 2 ∷ [])
+-- 2 was told: the sender may know 1 or 2, and not 3; and the counter is 2
+knows-less : CounterHolds (2 ∷ []) (Known 1 ∷ Told 2 ∷ [])
 knows-less = (refl, omega arith)
 
-knows-all : WordHolds (2 ∷ []) (Known 2 ∷ Told 2 ∷ [])
+knows-all : CounterHolds (2 ∷ []) (Known 2 ∷ Told 2 ∷ [])
 knows-all = (refl, omega arith)
 
-knows-no-more : WordHolds (2 ∷ []) (Known 3 ∷ Told 2 ∷ []) → ⊥
+knows-no-more : CounterHolds (2 ∷ []) (Known 3 ∷ Told 2 ∷ []) → ⊥
 knows-no-more h = let knows = h.1 in absurd (omega (arith, knows))
 
-word-is-told : WordHolds (1 ∷ []) (Known 1 ∷ Told 2 ∷ []) → ⊥
-word-is-told h = let word = h.0 in absurd (omega (arith, word))
+counter-is-told : CounterHolds (1 ∷ []) (Known 1 ∷ Told 2 ∷ []) → ⊥
+counter-is-told h = let counter = h.0 in absurd (omega (arith, counter))
 
 -- the steps: 2 is told after 1, and looked at; 1 is not told after 2, nor is less known than before
 told : Tells (Told 1) (1 ∷ []) (2 ∷ []) (Told 2)

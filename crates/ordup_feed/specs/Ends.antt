@@ -4,27 +4,27 @@ use Rattle.atomic_table.specs.Seated.{TableId}
 use Rattle.ordup_objects.specs.States.{State}
 use Rattle.ordup_feed.specs.Parcels.{PlainParcel}
 
--- Which feed it is: its queue and its word, each by what it shares with no other, and how many parcels the queue has room for.
+-- Which feed it is: its queue and its counter, each by what it shares with no other, and its capacity.
 pub record FeedId : Type 0 where
   pub queue : TableId
-  pub word : TableId
+  pub counter : TableId
   pub capacity : ℕ
 
--- the sender's end: the feed, the initial state, what was pushed, and the place that it knows
+-- the sender's end: the feed, the initial state, what was pushed, and the number that it knows
 pub record Sending : Type 0 where
   pub feed : FeedId
   pub start : State
   pub pushed : List PlainParcel
   pub known : ℕ
 
--- the taker's end: the feed, the initial state, what was taken, and the place that it told
+-- the taker's end: the feed, the initial state, what was taken, and the number that it told
 pub record Taking : Type 0 where
   pub feed : FeedId
   pub start : State
   pub taken : List PlainParcel
   pub told : ℕ
 
--- the two ends of a feed with room for so many parcels, through which none went yet
+-- the two ends of a feed of this capacity, through which none went yet
 pub record AreNewEnds (start : State) (capacity : ℕ) (s : Sending) (t : Taking) : Type 0 where
   pub sender : s ≡ record { feed = s.feed; start = start; pushed = []; known = 0 }
   pub taker : t ≡ record { feed = s.feed; start = start; taken = []; told = 0 }

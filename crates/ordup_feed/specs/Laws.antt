@@ -2,10 +2,10 @@
 use Rattle.std.specs.Prelude.{◌≡◌, ℕ, ◌≤◌, List, [], ◌∷◌, length, take}
 use Rattle.ordup_objects.specs.States.{State}
 use Rattle.ordup_feed.specs.declared.queue.View.TheVariants.{Sender, Taker}
-use Rattle.ordup_feed.specs.declared.word.Mark.TheVariants.{Known, Told}
+use Rattle.ordup_feed.specs.declared.counter.CounterView.TheVariants.{Known, Told}
 use Rattle.ordup_feed.specs.Parcels.{PlainParcel, AreInOrder}
 use Rattle.ordup_feed.specs.QueueRule.{QueueHolds}
-use Rattle.ordup_feed.specs.WordRule.{WordHolds}
+use Rattle.ordup_feed.specs.CounterRule.{CounterHolds}
 
 -- what was taken is a prefix of what was pushed, from the same initial state, and in order
 abbrev pub TakenIsAPrefixOfPushed : Type 0
@@ -16,4 +16,4 @@ TakenIsAPrefixOfPushed =
 
 -- the sender knows at most what the taker told
 abbrev pub KnownIsAtMostTold : Type 0
-KnownIsAtMostTold = (word : List ℕ) (known told : ℕ) → WordHolds word (Known known ∷ Told told ∷ []) → known ≤ told
+KnownIsAtMostTold = (counter : List ℕ) (known told : ℕ) → CounterHolds counter (Known known ∷ Told told ∷ []) → known ≤ told

@@ -1,6 +1,6 @@
 pub mod Parcels
 pub mod QueueRule
-pub mod WordRule
+pub mod CounterRule
 pub mod Ends
 pub mod EndsInside
 pub mod Laws

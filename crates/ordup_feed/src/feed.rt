@@ -5,10 +5,10 @@ ghost use Rattle.ordup_objects.specs.Tables.{initial_state};
 ghost use Rattle.ordup_feed.specs.Parcels.{feed_refusal};
 ghost use Rattle.ordup_feed.specs.Ends.{AreNewEnds};
 
+use crate::counter::{Counter, Halves};
 use crate::queue::{Ends, Queue, Start};
 use crate::send_end::SendEnd;
 use crate::take_end::TakeEnd;
-use crate::word::{Halves, Word};
 use ordup_objects::sizes::GREATEST_CAPACITY;
 use ordup_objects::{ObjectTable, Refusal};
 use std::alloc::{AllocError, Global};
@@ -19,9 +19,9 @@ use std::sync::Arc;
 pub struct Feed;
 
 impl Feed {
-    /// The two ends of a feed with room for so many parcels, 1 to 1,024, over the initial values of these objects.
+    /// The two ends of a feed of this capacity, 1 to 1,024, over the initial values of these objects.
     ///
-    /// It makes all the room that the ends ever need. It is refused `OutOfRange` for the capacity, and `NoMemory`.
+    /// It takes all the memory that the ends ever need. It is refused `OutOfRange` for the capacity, and `NoMemory`.
     pub fn new(
         alloc: Global,
         objects: &ObjectTable,
@@ -58,22 +58,22 @@ fn open<J: Start>(
     let taker_pass = queue.another::<Ends<J>>(&mut pass);
     let queue = Arc::new(alloc, queue)?;
     let taker_queue = Arc::try_clone(&queue)?;
-    let (word, mut mark) = Word::ruled(alloc, [0])?;
-    let taker_mark = word.split_pass::<Halves>(&mut mark);
-    let word = Arc::new(alloc, word)?;
-    let taker_word = Arc::try_clone(&word)?;
+    let (counter, mut counter_pass) = Counter::ruled(alloc, [0])?;
+    let taker_counter_pass = counter.split_pass::<Halves>(&mut counter_pass);
+    let counter = Arc::new(alloc, counter)?;
+    let taker_counter = Arc::try_clone(&counter)?;
     let sender = SendEnd {
         queue,
         pass,
-        word,
-        mark,
+        counter,
+        counter_pass,
         count: 0,
     };
     let taker = TakeEnd {
         queue: taker_queue,
         pass: taker_pass,
-        word: taker_word,
-        mark: taker_mark,
+        counter: taker_counter,
+        counter_pass: taker_counter_pass,
         count: 0,
     };
     Ok((sender, taker))

@@ -7,7 +7,7 @@ pub fn taken_is_a_prefix_of_pushed()
     ensures { TakenIsAPrefixOfPushed }
 {}
 
-/// A law: between any two steps the sender knows at most the place that the taker told.
+/// A law: between any two steps the sender knows at most the number that the taker told.
 pub fn known_is_at_most_told()
     ensures { KnownIsAtMostTold }
 {}

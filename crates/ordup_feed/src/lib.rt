@@ -1,16 +1,16 @@
-//! The feed of a site: the bounded queue in which parcels go from the primary to the site, and the word in which the site tells
+//! The feed of a site: the bounded queue in which parcels go from the primary to the site, and the counter in which the site tells
 //! how many it took. Each end may be in a thread of its own.
 //!
 //! The one contract above this layer: what the site took is a prefix of what was pushed, numbered 1, 2, 3 and so on, and legal; the
-//! primary knows at most the place that the site told, and the site tells at most what it took.
+//! primary knows at most the number that the site told, and the site tells at most what it took.
 #![tactic(auto)]
 
+mod counter;
 mod feed;
 mod laws;
 mod queue;
 mod send_end;
 mod take_end;
-mod word;
 
 pub use feed::Feed;
 pub use laws::{known_is_at_most_told, taken_is_a_prefix_of_pushed};

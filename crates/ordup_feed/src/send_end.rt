@@ -2,8 +2,8 @@ ghost use Rattle.std.specs.Prelude.{◌≡◌, ◌≤◌, [], ◌∷◌, ◌++�
 ghost use Rattle.ordup_feed.specs.Parcels.{AreInOrder, IsNext};
 ghost use Rattle.ordup_feed.specs.Ends.{Sending};
 
+use crate::counter::{Counter, CounterPass, Look};
 use crate::queue::{Push, Queue, QueuePass};
-use crate::word::{Look, Word, WordPass};
 use ordup_objects::Refusal;
 use ordup_primary::Parcel;
 use std::alloc::Global;
@@ -15,8 +15,8 @@ use std::sync::{Arc, Wait};
 pub struct SendEnd {
     pub(crate) queue: Arc<Queue, Global>,
     pub(crate) pass: QueuePass,
-    pub(crate) word: Arc<Word, Global>,
-    pub(crate) mark: WordPass,
+    pub(crate) counter: Arc<Counter, Global>,
+    pub(crate) counter_pass: CounterPass,
     /// How many parcels were pushed.
     pub(crate) count: u64,
 }
@@ -78,7 +78,7 @@ impl SendEnd {
         ensures looked { self.new ≡ record self.old { known = self.new.known } }
         ensures order { AreInOrder self.new.start self.new.pushed }
     {
-        let found = self.word.load_as::<Look, R>(rt, &mut self.mark);
+        let found = self.counter.load_as::<Look, R>(rt, &mut self.counter_pass);
         found[0].min(self.count)
     }
 }

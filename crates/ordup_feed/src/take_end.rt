@@ -2,8 +2,8 @@ ghost use Rattle.std.specs.Prelude.{◌≡◌, ◌≤◌, [], ◌∷◌, ◌++�
 ghost use Rattle.ordup_feed.specs.Parcels.{AreInOrder, IsNext};
 ghost use Rattle.ordup_feed.specs.Ends.{Taking};
 
+use crate::counter::{Counter, CounterPass, Tell};
 use crate::queue::{Pop, Queue, QueuePass};
-use crate::word::{Tell, Word, WordPass};
 use ordup_primary::Parcel;
 use std::alloc::Global;
 use std::marker::Model;
@@ -14,8 +14,8 @@ use std::sync::{Arc, Wait};
 pub struct TakeEnd {
     pub(crate) queue: Arc<Queue, Global>,
     pub(crate) pass: QueuePass,
-    pub(crate) word: Arc<Word, Global>,
-    pub(crate) mark: WordPass,
+    pub(crate) counter: Arc<Counter, Global>,
+    pub(crate) counter_pass: CounterPass,
     /// How many parcels were taken.
     pub(crate) count: u64,
 }
@@ -54,7 +54,7 @@ impl TakeEnd {
         ensures told { self.new ≡ record self.old { told = length self.old.taken } }
         ensures risen { self.old.told ≤ self.new.told }
     {
-        self.word
-            .swap_as::<Tell, R>(rt, &mut self.mark, [self.count]);
+        self.counter
+            .swap_as::<Tell, R>(rt, &mut self.counter_pass, [self.count]);
     }
 }

@@ -15,7 +15,7 @@ module _ (wanted : ℕ) where
   abbrev is_wanted : ℕ → Bool
   is_wanted byte = byte == wanted
 
-  -- none of the first so many bytes is wanted
+  -- none of the first `count` bytes is wanted
   abbrev pub AreOthers : List ℕ → ℕ → Type 0
   AreOthers text count = (k : ℕ) → k < count → is_wanted (get_or text k 0) ≡ false
 

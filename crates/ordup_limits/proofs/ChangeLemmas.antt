@@ -30,9 +30,9 @@ use Rattle.ordup_limits.proofs.MaskLemmas.{bit-put}
 use Rattle.ordup_limits.proofs.PassedLemmas.{IsBelow-mask, IsMask-looked, kept-unpassed}
 use Rattle.ordup_limits.proofs.PutLemmas.{place-below, put-here, put-elsewhere, put-length}
 
--- the place of the limit on a scope, or else the one after the last
-abbrev pub place_of : Limits → Limit → ℕ
-place_of limits l = position_or_len (λ m. is_same_scope m.scope l.scope) limits
+-- the index of the limit on a scope, or else the one after the last
+abbrev pub index_of : Limits → Limit → ℕ
+index_of limits l = position_or_len (λ m. is_same_scope m.scope l.scope) limits
 
 -- the updates up to a place weigh little on a scope that is there
 pub weighed-few : (h : History) → IsLegalHistory h → (groups : GroupList) → All (λ g. IsGroup g.1) groups → (s : Scope)
@@ -46,7 +46,7 @@ weighed-few h legal groups are s known place le =
     omega (arith, most, ap (λ n. greatest_weight * n) same)
 
 -- where there is room, the place is among those that there may be
-pub place-small : (old limits : Limits) (l : Limit) (place : ℕ) → limits ≡ old → place ≡ place_of limits l
+pub place-small : (old limits : Limits) (l : Limit) (place : ℕ) → limits ≡ old → place ≡ index_of limits l
     → length (put are_on_one_scope old l) ≤ most_limits → length limits ≤ most_limits
     → place < most_limits
 place-small old limits l place same at room few =
@@ -58,7 +58,7 @@ place-small old limits l place same at room few =
 
 -- totals with what the updates weigh on a scope put down at its place
 pub AreTotals-put : (h : History) (groups : GroupList) (limits : Limits) (l : Limit) (place i w : ℕ) (totals : List ℕ)
-    → AreTotals h groups limits place totals → i ≡ place_of limits l → i < length totals → w ≡ weighed h groups l.scope place
+    → AreTotals h groups limits place totals → i ≡ index_of limits l → i < length totals → w ≡ weighed h groups l.scope place
     → w ≤ greatest_weight * place → AreTotals h groups (put are_on_one_scope limits l) place (set totals i w)
 AreTotals-put h groups limits l place i w totals are at below is few = record {
   few = λ k. elim (cases_eq k i) [
@@ -76,13 +76,13 @@ AreTotals-put h groups limits l place i w totals are at below is few = record {
 }
 
 -- what counted on a scope at its place counts on it still
-same_count : (groups : GroupList) (limits : Limits) (l : Limit) (x i : ℕ) (d : Limit) → i ≡ place_of limits l
+same_count : (groups : GroupList) (limits : Limits) (l : Limit) (x i : ℕ) (d : Limit) → i ≡ index_of limits l
     → (nat_lt i (length limits) && counts_on groups (get_or limits i d).scope x)
     ≡ (nat_lt i (length limits) && counts_on groups l.scope x)
 same_count groups limits l x i d at = elim (cases_lt i (length limits)) [
   | inl lt ↦ (let first = passes_at_first (λ m. is_same_scope m.scope l.scope) limits d (omega arith) in
       let here : (get_or limits i d).scope ≡ l.scope =
-      ap (λ k. (get_or limits k d).scope) at ∙ same_scope (get_or limits (place_of limits l) d).scope l.scope first in
+      ap (λ k. (get_or limits k d).scope) at ∙ same_scope (get_or limits (index_of limits l) d).scope l.scope first in
       ap (λ (s : Scope). nat_lt i (length limits) && counts_on groups s x) here)
   | inr le ↦ rw (le-ltb i (length limits) le) refl
 ]
@@ -95,7 +95,7 @@ or-same false false = refl
 
 -- masks with a scope put down at its place
 pub AreMasks-put : (groups : GroupList) (limits : Limits) (l : Limit) (place : ℕ) (old new : List ℕ) → AreMasks groups limits old
-    → place ≡ place_of limits l
+    → place ≡ index_of limits l
     → ((x i : ℕ) → x < most_objects → i < most_limits
     → has_bit new i x ≡ ((counts_on groups l.scope x && (i == place)) || has_bit old i x))
     → AreMasks groups (put are_on_one_scope limits l) new
@@ -137,7 +137,7 @@ same_keeping limits more updates added more_added taken more_taken i same up dow
 
 -- a mask of limits with the bit of a place put into it
 pub IsBelow-put : (limits : Limits) (l : Limit) (test : ℕ → Bool) (place passed : ℕ) → IsMask (length limits) test passed
-    → place ≡ place_of limits l → place < most_limits
+    → place ≡ index_of limits l → place < most_limits
     → IsBelow (length (put are_on_one_scope limits l)) (bit_or passed (1 * 2 ^ place % 18446744073709551616))
 IsBelow-put limits l test place passed was at few i past small =
     let other : i ≡ place → ⊥ = λ e. absurd (omega (arith, (put-here are_on_one_scope limits l i no_limit (e ∙ at)).1)) in
@@ -148,7 +148,7 @@ IsBelow-put limits l test place passed was at few i past small =
 -- A span passes what it passed before, but for the limit on the scope, which is looked at anew.
 pub IsMask-put : (limits : Limits) (l : Limit) (updates place : ℕ) (added more_added taken more_taken : List ℕ) (passed looked : ℕ)
     → IsMask (length limits) (λ i. not (keeps_at limits updates added taken i)) passed
-    → place ≡ place_of limits l → place < most_limits
+    → place ≡ index_of limits l → place < most_limits
     → ((i : ℕ) → (i ≡ place → ⊥) → get_or more_added i 0 ≡ get_or added i 0)
     → ((i : ℕ) → (i ≡ place → ⊥) → get_or more_taken i 0 ≡ get_or taken i 0)
     → ((i : ℕ) → i < most_limits → (bit_at looked i == 1)

@@ -56,7 +56,7 @@ fn has_scope_room(limits: &LimitList, limit: &Limit) -> bool
     ensures { result ≡ nat_le (length (put are_on_one_scope limits.now limit.now)) most_limits }
 {
     let count = limits.len();
-    match limits.place_of(&limit.scope) {
+    match limits.index_of(&limit.scope) {
         Some(_) => true,
         None => count < MOST_LIMITS,
     }
@@ -67,7 +67,7 @@ fn has_entry_room(entries: &[LimitEntry], entry: &LimitEntry) -> bool
     requires { length entries.now ≤ most_entries }
     ensures { result ≡ nat_le (length (changed entries.now entry.now)) most_entries }
 {
-    match place_of(entries, entry) {
+    match index_of(entries, entry) {
         Some(_) => true,
         None => entries.len() < MOST_ENTRIES,
     }
@@ -82,7 +82,7 @@ pub(crate) fn put_entry<A: Allocator + Copy>(
     ensures refused { IfErr result (λ e. e ≡ Refusal.NoMemory) }
     ensures err { IfErr result (λ _. entries.new.items ≡ entries.old.items) }
 {
-    match place_of(entries.as_slice(), entry) {
+    match index_of(entries.as_slice(), entry) {
         Some(place) => entries[place] = *entry,
         None => {
             if entries.push(*entry).is_err() {
@@ -93,8 +93,8 @@ pub(crate) fn put_entry<A: Allocator + Copy>(
     Ok(())
 }
 
-/// The place of the entry of the same scope and place, if there is one.
-fn place_of(entries: &[LimitEntry], entry: &LimitEntry) -> Option<usize>
+/// The index of the entry of the same scope and place, if there is one.
+fn index_of(entries: &[LimitEntry], entry: &LimitEntry) -> Option<usize>
     ensures { result ≡ position (λ e. are_one_entry e entry.now) entries.now }
 {
     entries.iter().position(|e| e.limit.scope == entry.limit.scope && e.place == entry.place)

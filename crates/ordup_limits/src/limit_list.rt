@@ -58,7 +58,7 @@ impl LimitList {
         requires { length (put are_on_one_scope self.old limit.now) ≤ most_limits }
         ensures { self.new ≡ put are_on_one_scope self.old limit.now }
     {
-        match self.place_of(&limit.scope) {
+        match self.index_of(&limit.scope) {
             Some(place) => self.limits[place] = *limit,
             None => self.push(limit),
         }
@@ -73,8 +73,8 @@ impl LimitList {
         self.count += 1;
     }
 
-    /// The place of the limit on a scope, if there is one.
-    pub(crate) fn place_of(&self, scope: &Scope) -> Option<usize>
+    /// The index of the limit on a scope, if there is one.
+    pub(crate) fn index_of(&self, scope: &Scope) -> Option<usize>
         ensures { result ≡ position (λ l. is_same_scope l.scope scope.now) self.now }
     {
         self.as_slice()
@@ -82,11 +82,11 @@ impl LimitList {
             .position(|limit| limit.scope == *scope)
     }
 
-    /// The place of the limit on a scope, or else the place after the last.
-    pub(crate) fn place_for(&self, scope: &Scope) -> usize
+    /// The index of the limit on a scope, or else the index after the last.
+    pub(crate) fn index_for(&self, scope: &Scope) -> usize
         ensures { result ≡ position_or_len (λ l. is_same_scope l.scope scope.now) self.now }
     {
-        match self.place_of(scope) {
+        match self.index_of(scope) {
             Some(place) => place,
             None => self.len(),
         }

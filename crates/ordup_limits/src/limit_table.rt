@@ -190,7 +190,7 @@ impl<A: Allocator + Copy> LimitTable<A> {
         self.limits.len()
     }
 
-    /// The scope and the last amount of a limit, by the place of the scope in the order of declaration.
+    /// The scope and the last amount of a limit, by the index of the scope in the order of declaration.
     pub fn get(&self, place: usize) -> (Scope, u64)
         requires { place < length (latest self.now) }
         ensures { slice_get (latest self.now) place ≡ Some (record { scope = result.0; amount = result.1 }) }
@@ -213,7 +213,7 @@ impl<A: Allocator + Copy> LimitTable<A> {
         self.entries.as_slice()
     }
 
-    /// The place in the order of declaration of the first limit that the span from a place of the log to another passes, if it
+    /// The index in the order of declaration of the first limit that the span from a place of the log to another passes, if it
     /// passes one. The limits are those in force at the second place.
     ///
     /// Where the first place is not before the second the span is empty, and passes none.

@@ -12,7 +12,7 @@ use Rattle.std.proofs.lemmas.Bool.{lt-ltb, ne_eqb}
 use Rattle.std.proofs.lemmas.Cmp.{nat_eq_equiv}
 use Rattle.std.proofs.lemmas.List.{length_push, length-map, get_or-map, map-append}
 use Rattle.std.proofs.lemmas.List.Elements.{All-map, All-set}
-use Rattle.ordup_objects.specs.Tables.{names_of, place_of, with_entry, AreNames, AreDistinct}
+use Rattle.ordup_objects.specs.Tables.{names_of, index_of, with_entry, AreNames, AreDistinct}
 use Rattle.ordup_objects.proofs.TableLemmas.{take-next}
 use Rattle.ordup_objects.proofs.RepeatLemmas.{repeats-push, list_any-alike}
 use Rattle.ordup_log.specs.Groups.{IsGroup, members_at, last_members, with_member, member_refusal}
@@ -23,20 +23,20 @@ names_of-map f [] = refl
 names_of-map f (e ∷ table) = ap (λ names. e.0 ∷ names) (names_of-map f table)
 
 -- a name stands at the same place whatever is beside the names
-pub place_of-map : {V W : Type 0} (f : V → W) (name : List ℕ) (table : List (List ℕ × V))
-    → place_of name (map (λ e. (e.0, f e.1)) table) ≡ place_of name table
-place_of-map f name table = ap (position (pointwise nat_eq name)) (names_of-map f table)
+pub index_of-map : {V W : Type 0} (f : V → W) (name : List ℕ) (table : List (List ℕ × V))
+    → index_of name (map (λ e. (e.0, f e.1)) table) ≡ index_of name table
+index_of-map f name table = ap (position (pointwise nat_eq name)) (names_of-map f table)
 
 -- the same of what callers see of a table
-pub place_of-view : {V W : Type 0} (f : V → W) (name : List ℕ) (table : List (List ℕ × V)) (view : List (List ℕ × W))
-    → map (λ e. (e.0, f e.1)) table ≡ view → place_of name view ≡ place_of name table
-place_of-view f name table view e = rw (← e) (place_of-map f name table)
+pub index_of-view : {V W : Type 0} (f : V → W) (name : List ℕ) (table : List (List ℕ × V)) (view : List (List ℕ × W))
+    → map (λ e. (e.0, f e.1)) table ≡ view → index_of name view ≡ index_of name table
+index_of-view f name table view e = rw (← e) (index_of-map f name table)
 
 -- what is not found is not there
-pub place_of-none : (found : Option ℕ) (place : Option ℕ) → option_map (λ x. x) found ≡ place → is_some found ≡ false
+pub index_of-none : (found : Option ℕ) (place : Option ℕ) → option_map (λ x. x) found ≡ place → is_some found ≡ false
     → place ≡ None
-place_of-none None place e none = sym e
-place_of-none (Some x) place e none = cc
+index_of-none None place e none = sym e
+index_of-none (Some x) place e none = cc
 
 -- what callers see of groups are groups
 pub are_groups-view : {Z : Type 0} (groups : List (List ℕ × Vec ℕ Z)) (view : List (List ℕ × List ℕ))
@@ -59,12 +59,12 @@ abbrev pub groups_of : {Z : Type 0} → List (List ℕ × Vec ℕ Z) → List (L
 groups_of groups = map (λ g. (g.0, g.1.items)) groups
 
 -- names stand at the same places where callers see the same groups
-pub place_of-same : {Z : Type 0} (name : List ℕ) (groups others : List (List ℕ × Vec ℕ Z)) → groups_of groups ≡ groups_of others
-    → place_of name groups ≡ place_of name others
-place_of-same {Z} name groups others e =
-    sym (place_of-map (λ (v : Vec ℕ Z). v.items) name groups)
-    ∙ ap (place_of name) e
-    ∙ place_of-map (λ (v : Vec ℕ Z). v.items) name others
+pub index_of-same : {Z : Type 0} (name : List ℕ) (groups others : List (List ℕ × Vec ℕ Z)) → groups_of groups ≡ groups_of others
+    → index_of name groups ≡ index_of name others
+index_of-same {Z} name groups others e =
+    sym (index_of-map (λ (v : Vec ℕ Z). v.items) name groups)
+    ∙ ap (index_of name) e
+    ∙ index_of-map (λ (v : Vec ℕ Z). v.items) name others
 
 -- callers see the same groups with one more, if they saw the same before
 pub groups_of-next : {Z : Type 0} (groups others : List (List ℕ × Vec ℕ Z)) (k : ℕ) (name : List ℕ)

@@ -8,7 +8,7 @@ use Rattle.ordup_objects.specs.declared.refusal.Refusal.TheVariants.{BadName, Na
 use Rattle.ordup_objects.specs.Sizes.{most_groups, most_members}
 use Rattle.ordup_objects.specs.Names.{is_name}
 use Rattle.ordup_objects.specs.Repeats.{repeats}
-use Rattle.ordup_objects.specs.Tables.{place_of, with_entry}
+use Rattle.ordup_objects.specs.Tables.{index_of, with_entry}
 
 -- the groups in order of declaration, each with its name and its members
 abbrev pub GroupList : Type 0
@@ -42,7 +42,7 @@ AreGroupsKnown n groups = All (λ g. AreMembersKnown n g.1) groups
 abbrev pub group_refusal : ℕ → GroupList → List ℕ → List ℕ → Option Refusal
 group_refusal n groups name members =
     if not (is_name name) then Some BadName else
-    if is_some (place_of name groups) then Some NameTaken else
+    if is_some (index_of name groups) then Some NameTaken else
     if not (are_members_known n members) then Some UnknownObject else
     if length groups == most_groups || nat_lt most_members (length members) then Some TooMany else
     if length members == 0 then Some Empty else

@@ -17,6 +17,6 @@ last_weight postings = (slice_index_or postings (length postings - 1) (0, 0)).1
 abbrev pub posted : List (ℕ × ℕ) → ℕ → ℕ → List (ℕ × ℕ)
 posted postings place weight = if weight == 0 then postings else postings ++ (place, last_weight postings + weight) ∷ []
 
--- the list at x has room for one entry more
+-- the list at x has spare capacity for one entry more
 abbrev pub HasRoomAt : {X A : Type 0} → List (Vec X A) → ℕ → Type 0
 HasRoomAt {X} {A} lists x = (d : Vec X A) → vec_len (slice_index_or lists x d) < vec_capacity (slice_index_or lists x d)

@@ -1,7 +1,7 @@
 ghost use Rattle.std.specs.Prelude.{◌≡◌, ◌≤◌, ℕ, ◌<◌, None, Some, IfSome, IfOk, IfErr, List, [], ◌∷◌, ◌++◌, length, slice_get, option_map, All, nat_eq, nat_lt};
 ghost use Rattle.std.specs.List.{list_all, list_any};
 ghost use Rattle.ordup_objects.specs.Sizes.{most_groups};
-ghost use Rattle.ordup_objects.specs.Tables.{place_of, AreNames, AreDistinct};
+ghost use Rattle.ordup_objects.specs.Tables.{index_of, AreNames, AreDistinct};
 ghost use Rattle.ordup_objects.specs.Repeats.{repeats};
 ghost use Rattle.ordup_objects.specs.Refusals.{IsRefusal};
 ghost use Rattle.ordup_log.specs.Groups.{group_refusal, member_refusal, members_at, last_members, with_member, are_members_known, AreMembersKnown, IsGroup};
@@ -127,7 +127,7 @@ impl<A: Allocator + Copy> Groups<A> {
 
     /// The group of this name, if there is one.
     pub fn find(&self, name: &[u8]) -> Option<GroupId>
-        ensures place { option_map (λ g. g) result ≡ place_of name.now self.now }
+        ensures place { option_map (λ g. g) result ≡ index_of name.now self.now }
         ensures within { IfSome result (λ g. g < length self.now) }
     {
         let place = self.groups.find(name)?;

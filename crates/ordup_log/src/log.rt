@@ -4,7 +4,7 @@ ghost use Rattle.ordup_objects.specs.Tables.{initial_state};
 ghost use Rattle.ordup_objects.specs.Weights.{distances_of, object_weight, object_span};
 
 use crate::groups::Groups;
-use crate::postings::{no_postings, post, post_all, take_room};
+use crate::postings::{no_postings, post, post_all, reserve_postings};
 use crate::scope::Scope;
 use crate::steps::as_of;
 use ordup_objects::sizes::MOST_UPDATES;
@@ -28,7 +28,7 @@ pub struct Log<A: Allocator + Copy = Global> {
     /// The same for all objects together.
     all: Vec<(u64, u64), A>,
     end: Values<A>,
-    // Kept from one update to the next, since new room is zeroed.
+    // Kept from one update to the next, since new memory is zeroed.
     results: Results,
 }
 
@@ -143,7 +143,7 @@ impl<A: Allocator + Copy> Log<A> {
         self.distances.reserve(count)?;
         self.begins.reserve(1)?;
         self.all.reserve(1)?;
-        take_room(&mut self.postings, set.changes())?;
+        reserve_postings(&mut self.postings, set.changes())?;
         let number = self.sets.len() as u64 + 1;
         let begin = self.distances.len();
         self.end

@@ -24,7 +24,7 @@ pub(crate) fn no_postings<A: Allocator + Copy>(
 }
 
 /// Reserves room for a posting on each changed object.
-pub(crate) fn take_room<A: Allocator + Copy>(
+pub(crate) fn reserve_postings<A: Allocator + Copy>(
     postings: &mut Vec<Vec<(u64, u64), A>, A>,
     changes: &[Change],
 ) -> Result<(), AllocError>
@@ -61,7 +61,7 @@ pub(crate) fn post_all<A: Allocator + Copy>(
     }
 }
 
-/// Adds a posting at a place, if the place weighs something, to postings that have room.
+/// Adds a posting at a place, if the place weighs something, to postings that have spare capacity.
 pub(crate) fn post<A: Allocator + Copy>(postings: &mut Vec<(u64, u64), A>, number: u64, weight: u64)
     requires room { vec_len postings.old < vec_capacity postings.old }
     requires few { last_weight postings.old.items + weight < 2 ^ 64 }

@@ -14,7 +14,7 @@ use Rattle.std.specs.Prelude.{ℤ, slice_get}
 use Rattle.std.specs.Cmp.Lexicographic.{pointwise, bytes_decides}
 use Rattle.indexmap.specs.IndexMap.{insert_entry, set_value_at}
 use Rattle.ordup_objects.specs.Names.{is_name}
-use Rattle.ordup_objects.specs.Tables.{names_of, place_of, with_entry, initial_state, AreNames, AreDistinct}
+use Rattle.ordup_objects.specs.Tables.{names_of, index_of, with_entry, initial_state, AreNames, AreDistinct}
 use Rattle.ordup_objects.specs.States.{value_at}
 
 -- what is at no place is not before the end
@@ -39,7 +39,7 @@ inserted_last name entry (e ∷ table) h = elim (cases_Bool (pointwise nat_eq na
 ]
 
 -- a name that is not there goes last
-pub insert_entry-absent : {V : Type 0} (name : List ℕ) (entry : V) (table : List (List ℕ × V)) → place_of name table ≡ None
+pub insert_entry-absent : {V : Type 0} (name : List ℕ) (entry : V) (table : List (List ℕ × V)) → index_of name table ≡ None
     → insert_entry (pointwise nat_eq) table name entry ≡ table ++ (name, entry) ∷ []
 insert_entry-absent name entry table h = inserted_last name entry table (absent (pointwise nat_eq name) (names_of table) h)
 
@@ -82,19 +82,19 @@ apart-before table i name entry distinct at k below =
     ∙ apart_from_distinct (pointwise nat_eq) names k i [] distinct below named.0)
 
 -- so no entry before one has its name
-pub place_of-before : {V : Type 0} (table : List (List ℕ × V)) (i : ℕ) (name : List ℕ) (entry : V) → AreDistinct table
-    → slice_get table i ≡ Some (name, entry) → place_of name (take i table) ≡ None
-place_of-before {V} table i name entry distinct at =
+pub index_of-before : {V : Type 0} (table : List (List ℕ × V)) (i : ℕ) (name : List ℕ) (entry : V) → AreDistinct table
+    → slice_get table i ≡ Some (name, entry) → index_of name (take i table) ≡ None
+index_of-before {V} table i name entry distinct at =
     let names : List (List ℕ) = names_of table in
     let before : names_of (take i table) ≡ take i names = sym (take-map (λ (e : List ℕ × V). e.0) i table) in
     rw before (position-none (pointwise nat_eq name) (take i names) [] (λ k h.
     let below : k < i = omega (arith, length-take i names) in
     rw (get_or-take i names k [] below) (apart-before table i name entry distinct at k below)))
 
--- and the place of an entry is the place of its name
-pub place_of-at : {V : Type 0} (table : List (List ℕ × V)) (i : ℕ) (name wanted : List ℕ) (entry : V) → AreDistinct table
-    → slice_get table i ≡ Some (name, entry) → pointwise nat_eq wanted name ≡ true → place_of wanted table ≡ Some i
-place_of-at table i name wanted entry distinct at same =
+-- and the index of an entry is the index of its name
+pub index_of-at : {V : Type 0} (table : List (List ℕ × V)) (i : ℕ) (name wanted : List ℕ) (entry : V) → AreDistinct table
+    → slice_get table i ≡ Some (name, entry) → pointwise nat_eq wanted name ≡ true → index_of wanted table ≡ Some i
+index_of-at table i name wanted entry distinct at same =
     let names : List (List ℕ) = names_of table in
     let named = named-at table i name entry at in
     let is : wanted ≡ name = (bytes_decides wanted name).0 same in

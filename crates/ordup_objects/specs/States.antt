@@ -9,7 +9,7 @@ use Rattle.ordup_objects.specs.declared.change.Change.{Change}
 use Rattle.ordup_objects.specs.declared.change.Op.{Op}
 use Rattle.ordup_objects.specs.declared.change.Op.TheVariants.{Add, Set, Mul, Max, Min, Take}
 
--- the value of each object, by its place in the order of declaration
+-- the value of each object, by its index in the order of declaration
 abbrev pub State : Type 0
 State = List ℤ
 

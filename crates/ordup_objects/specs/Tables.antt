@@ -14,9 +14,9 @@ use Rattle.ordup_objects.specs.States.{State, in_range}
 abbrev pub names_of : {V : Type 0} → List (List ℕ × V) → List (List ℕ)
 names_of table = map (λ e. e.0) table
 
--- the place of a name in a table, if it is there
-abbrev pub place_of : {V : Type 0} → List ℕ → List (List ℕ × V) → Option ℕ
-place_of name table = position (pointwise nat_eq name) (names_of table)
+-- the index of a name in a table, if it is there
+abbrev pub index_of : {V : Type 0} → List ℕ → List (List ℕ × V) → Option ℕ
+index_of name table = position (pointwise nat_eq name) (names_of table)
 
 -- each name of a table is a name
 abbrev pub AreNames : {V : Type 0} → List (List ℕ × V) → Type 0
@@ -42,6 +42,6 @@ initial_state objects = map (λ e. e.1) objects
 abbrev pub object_refusal : Objects → List ℕ → ℤ → Option Refusal
 object_refusal objects name initial =
     if not (is_name name) then Some BadName else
-    if is_some (place_of name objects) then Some NameTaken else
+    if is_some (index_of name objects) then Some NameTaken else
     if not (in_range initial) then Some OutOfRange else
     if length objects == most_objects then Some TooMany else None

@@ -71,7 +71,7 @@ impl Hints {
         self.places[slot_of(name) as usize] as usize
     }
 
-    /// Notes where a name stands. Its slot forgets what it held, and a place past the 256th is not guessed.
+    /// Notes where a name stands. Its slot forgets what it held, and an index past the 256th is not guessed.
     pub fn note(&mut self, name: &[u8], place: usize) {
         self.places[slot_of(name) as usize] = (place % SLOTS) as u8;
     }

@@ -1,6 +1,6 @@
 ghost use Rattle.std.specs.Prelude.{◌≡◌, ℕ, ◌<◌, None, Some, IfSome, IfOk, OnErr, List, [], ◌∷◌, ◌++◌, length, true, take, slice_get, option_map};
 ghost use Rattle.ordup_objects.specs.Names.{is_name};
-ghost use Rattle.ordup_objects.specs.Tables.{names_of, place_of, with_entry, AreNames, AreDistinct};
+ghost use Rattle.ordup_objects.specs.Tables.{names_of, index_of, with_entry, AreNames, AreDistinct};
 
 use crate::bytes::Hints;
 use crate::name::{Name, NameBytes};
@@ -67,7 +67,7 @@ impl<V, A: Allocator + Copy> NameTable<V, A> {
     /// The place of the name that these bytes spell, if it is there.
     // The guess is tried before the bytes are hashed: see `bytes`.
     pub fn find(&self, name: &[u8]) -> Option<usize>
-        ensures place { result ≡ place_of name.now self.now }
+        ensures place { result ≡ index_of name.now self.now }
         ensures within { IfSome result (λ i. i < length self.now) }
     {
         let place = self.hints.place(name);
@@ -81,7 +81,7 @@ impl<V, A: Allocator + Copy> NameTable<V, A> {
     // Not inlined, so that `find` stays small.
     #[inline(never)]
     fn find_by_hash(&self, name: &[u8]) -> Option<usize>
-        ensures place { result ≡ place_of name.now self.now }
+        ensures place { result ≡ index_of name.now self.now }
         ensures within { IfSome result (λ i. i < length self.now) }
     {
         self.entries.get_index_of(NameBytes { bytes: name })
@@ -92,7 +92,7 @@ impl<V, A: Allocator + Copy> NameTable<V, A> {
         requires { place < length self.now }
         ensures entry { slice_get self.now place ≡ Some (result.0.now, result.1.now) }
         // No earlier entry has the name.
-        ensures first { place_of result.0.now (take place self.now) ≡ None }
+        ensures first { index_of result.0.now (take place self.now) ≡ None }
     {
         self.keeps();
         self.entries.get_index(place).unwrap()
@@ -111,7 +111,7 @@ impl<V, A: Allocator + Copy> NameTable<V, A> {
     pub fn push(&mut self, name: Name, entry: V) -> Result<(), AllocError>
     where
         V: Drop,
-        requires { place_of name self.old ≡ None }
+        requires { index_of name self.old ≡ None }
         ensures ok { IfOk result (λ _. self.new ≡ self.old ++ (name, entry) ∷ []) }
         ensures err { OnErr result (self.new ≡ self.old) }
     {

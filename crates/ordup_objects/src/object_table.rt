@@ -1,6 +1,6 @@
 ghost use Rattle.std.specs.Prelude.{◌≡◌, ℕ, ◌<◌, ◌≤◌, None, Some, IfSome, IfOk, IfErr, List, [], ◌∷◌, ◌++◌, length, slice_get, option_map};
 ghost use Rattle.ordup_objects.specs.Sizes.{most_objects};
-ghost use Rattle.ordup_objects.specs.Tables.{place_of, object_refusal, initial_state, AreNames, AreDistinct};
+ghost use Rattle.ordup_objects.specs.Tables.{index_of, object_refusal, initial_state, AreNames, AreDistinct};
 ghost use Rattle.ordup_objects.specs.Refusals.{IsRefusal};
 ghost use Rattle.ordup_objects.specs.States.{value_at, IsState};
 
@@ -87,7 +87,7 @@ impl<A: Allocator + Copy> ObjectTable<A> {
 
     /// The object of this name, if there is one.
     pub fn find(&self, name: &[u8]) -> Option<ObjectId>
-        ensures place { option_map (λ o. o) result ≡ place_of name.now self.now }
+        ensures place { option_map (λ o. o) result ≡ index_of name.now self.now }
         ensures within { IfSome result (λ o. o < length self.now) }
     {
         let place = self.objects.find(name)?;

@@ -7,7 +7,7 @@ use Rattle.ordup_objects.specs.declared.refusal.Refusal.{Refusal}
 use Rattle.ordup_objects.specs.declared.refusal.Refusal.TheVariants.{BadName, NameTaken, UnknownSite, OutOfRange, TooMany, Empty}
 use Rattle.ordup_objects.specs.Sizes.{most_sites, greatest_capacity}
 use Rattle.ordup_objects.specs.Names.{is_name}
-use Rattle.ordup_objects.specs.Tables.{place_of}
+use Rattle.ordup_objects.specs.Tables.{index_of}
 use Rattle.ordup_log.specs.Groups.{AreGroupsKnown}
 use Rattle.ordup_log.specs.declared.scope.Scope.{Scope}
 use Rattle.ordup_limits.specs.Limits.{scope_refusal, amount_refusal}
@@ -47,7 +47,7 @@ with_limit d s scope amount = record d {
   limits = slice_set d.limits s (limits_of d s ++ (record { limit = record { scope = scope; amount = amount }; place = 1 }) ∷ []);
 }
 
--- the feeds of the sites have room for 1 to 1,024 updates
+-- the feeds of the sites have capacities of 1 to 1,024 updates
 abbrev pub AreCapacities : List (List ℕ × ℕ) → Type 0
 AreCapacities sites = All (λ e. (1 ≤ e.1) × (e.1 ≤ greatest_capacity)) sites
 
@@ -63,7 +63,7 @@ start_refusal d = if not (is_ready d) then Some Empty else None
 abbrev pub site_refusal : List (List ℕ × ℕ) → List ℕ → ℕ → Option Refusal
 site_refusal sites name capacity =
     if not (is_name name) then Some BadName else
-    if is_some (place_of name sites) then Some NameTaken else
+    if is_some (index_of name sites) then Some NameTaken else
     if capacity == 0 || nat_lt greatest_capacity capacity then Some OutOfRange else
     if length sites == most_sites then Some TooMany else None
 

@@ -63,7 +63,7 @@ module _ {A : Type 0} where
   abbrev pub state_of : Inside A → PrimaryState
   state_of p = record { setup = p.setup; log = p.log; acked = p.acked; decided = p.decided; sites = map progress_of p.sites.items; limits = p.limits.items }
 
-  -- room for one report, one round and one window more
+  -- spare capacity for one report, one round and one window more
   abbrev pub HasRoom : Progress A → Type 0
   HasRoom site =
       (0 < site.reports.room)

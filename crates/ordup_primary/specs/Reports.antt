@@ -2,7 +2,7 @@
 use Rattle.std.specs.Prelude.{ℕ, List, ◌∷◌, length, slice_index_or}
 use Rattle.ordup_log.specs.Steps.{steps_of}
 
--- the report at the decision of each place, in order, and for how many more of them room is taken
+-- the report at the decision of each place, in order, and how many more of them the list can take before it grows
 pub record ReportList : Type 0 where
   pub reports : List ℕ
   pub room : ℕ

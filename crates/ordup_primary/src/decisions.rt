@@ -11,7 +11,7 @@ use ordup_objects::{Refusal, SiteId};
 use ordup_rounds::Window;
 use std::alloc::Allocator;
 
-/// So many sites at the start: nothing was sent to them, and nothing is decided.
+/// Sites at the start: nothing was sent to them, and nothing is decided.
 pub(crate) fn first_sites<A: Allocator + Copy>(
     alloc: A,
     count: usize,
@@ -37,19 +37,21 @@ pub(crate) fn first_sites<A: Allocator + Copy>(
     Ok(sites)
 }
 
-/// Takes the room in which a decision is put down.
-pub(crate) fn take_room<A: Allocator + Copy>(sites: &mut Vec<Progress<A>, A>) -> Result<(), Refusal>
+/// Reserves the memory in which a decision is put down.
+pub(crate) fn reserve_decision<A: Allocator + Copy>(
+    sites: &mut Vec<Progress<A>, A>,
+) -> Result<(), Refusal>
     ensures same { map progress_of sites.new.items ≡ map progress_of sites.old.items }
     ensures room { OnOk result (All HasRoom sites.new.items) }
     ensures refused { IfErr result (λ e. e ≡ Refusal.NoMemory) }
 {
     for place in 0..sites.len() {
-        take_room_at(&mut sites[place])?;
+        reserve_decision_at(&mut sites[place])?;
     }
     Ok(())
 }
 
-fn take_room_at<A: Allocator + Copy>(site: &mut Progress<A>) -> Result<(), Refusal>
+fn reserve_decision_at<A: Allocator + Copy>(site: &mut Progress<A>) -> Result<(), Refusal>
     ensures same { progress_of site.new ≡ progress_of site.old }
     ensures room { OnOk result (HasRoom site.new) }
     ensures refused { IfErr result (λ e. e ≡ Refusal.NoMemory) }

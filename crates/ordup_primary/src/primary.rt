@@ -3,7 +3,7 @@ ghost use Rattle.ordup_objects.specs.Refusals.{IsRefusal};
 ghost use Rattle.ordup_primary.specs.Declarations.{Declared, start_refusal};
 ghost use Rattle.ordup_primary.specs.Primaries.{first_progress};
 
-use crate::decisions::{last_place, put_down, take_room};
+use crate::decisions::{last_place, put_down, reserve_decision};
 use crate::ledgers::{extend_to, first_ledgers, sites_over};
 use crate::marks::marks_of;
 use crate::parcel::Parcel;
@@ -383,7 +383,7 @@ impl<A: Allocator + Copy> Primary<A> {
         ensures sound { IsPrimary self.new }
     {
         let forced = self.forced_now(head);
-        take_room(&mut self.sites)?;
+        reserve_decision(&mut self.sites)?;
         put_down(&mut self.sites, forced.as_slice(), head);
         self.decided = head;
         if forced.as_slice().is_empty() {

@@ -37,7 +37,7 @@ impl<A: Allocator + Copy> Reports<A> {
         }
     }
 
-    /// Takes the room for the report at one decision more.
+    /// Reserves memory for the report at one decision more.
     pub(crate) fn reserve(&mut self) -> Result<(), AllocError>
         ensures same { self.new.reports ≡ self.old.reports }
         ensures room { OnOk result (0 < self.new.room) }

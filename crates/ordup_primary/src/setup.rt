@@ -1,6 +1,6 @@
 ghost use Rattle.std.specs.Prelude.{◌≡◌, ◌≤◌, ℕ, ◌<◌, None, Some, IfSome, IfOk, IfErr, [], length, slice_get, option_map, OnOk};
 ghost use Rattle.ordup_objects.specs.Sizes.{most_sites, greatest_capacity};
-ghost use Rattle.ordup_objects.specs.Tables.{place_of, object_refusal};
+ghost use Rattle.ordup_objects.specs.Tables.{index_of, object_refusal};
 ghost use Rattle.ordup_objects.specs.Refusals.{IsRefusal};
 ghost use Rattle.ordup_log.specs.Groups.{group_refusal};
 ghost use Rattle.ordup_limits.specs.Entries.{AreEntriesKnown, HoldFrom};
@@ -154,7 +154,7 @@ impl<A: Allocator + Copy> Setup<A> {
 
     /// The site of this name, if there is one.
     pub fn find_site(&self, name: &[u8]) -> Option<SiteId>
-        ensures place { option_map (λ s. s) result ≡ place_of name.now self.now.sites }
+        ensures place { option_map (λ s. s) result ≡ index_of name.now self.now.sites }
         ensures within { IfSome result (λ s. s < length self.now.sites) }
     {
         match self.capacities.find(name) {

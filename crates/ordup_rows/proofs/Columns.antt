@@ -1,7 +1,7 @@
 -- What columns spell, and that each value has one spelling.
 use Rattle.ordup_audit.proofs.Common.{◌&&◌, ◌++◌, ◌<◌, ◌^◌, ◌∙◌, ◌∷◌, ◌≡◌, [], and_parts, ap, Bool, bytes_eq, bytes_eq-Decides, codes}
 use Rattle.ordup_audit.proofs.Common.{decimal, drop, eq-eqb, eqb-true, false, if◌then◌else◌, length, length-map, List, names_of, negsuc}
-use Rattle.ordup_audit.proofs.Common.{None, Option, option_and_then, place_of, pointwise, pos, refl, same_Some, Some, sym}
+use Rattle.ordup_audit.proofs.Common.{index_of, None, Option, option_and_then, pointwise, pos, refl, same_Some, Some, sym}
 use Rattle.ordup_audit.proofs.Common.{take-append-drop, then_some, true, ℕ, ℤ}
 use Rattle.std.proofs.Common.{option_map}
 use Rattle.std.specs.Prelude.{nat_eq}
@@ -111,7 +111,7 @@ written column n h = (natural_spelled column n (is_number-Some n (natural_of col
 -- ---- names
 
 -- a name that is found stands at its place
-pub name_found : {V : Type 0} (name : List ℕ) (table : List (List ℕ × V)) (place : ℕ) → place_of name table ≡ Some place
+pub name_found : {V : Type 0} (name : List ℕ) (table : List (List ℕ × V)) (place : ℕ) → index_of name table ≡ Some place
     → (place < length table) × (name_at table place ≡ name)
 name_found name table place h =
     let found = position-Some (pointwise nat_eq name) (names_of table) place [] h in

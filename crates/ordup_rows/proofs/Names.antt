@@ -1,6 +1,6 @@
 -- Names in tables: which stand where, and which may be added.
 use Rattle.ordup_audit.proofs.Common.{◌++◌, ◌+◌, ◌<◌, ◌∙◌, ◌∷◌, ◌≡◌, ◌≤◌, [], AreDistinct, arith, cases_Bool, false, get_or, inl, inr}
-use Rattle.ordup_audit.proofs.Common.{length, length-map, List, lt-ltb, map-append, names_of, None, place_of, pointwise, refl, Some, suc}
+use Rattle.ordup_audit.proofs.Common.{index_of, length, length-map, List, lt-ltb, map-append, names_of, None, pointwise, refl, Some, suc}
 use Rattle.ordup_audit.proofs.Common.{zero, ℕ}
 use Rattle.std.specs.Prelude.{nat_eq}
 use Rattle.std.specs.List.{AllByRecursion, IsDistinct, position_or_len}
@@ -35,11 +35,11 @@ past_new name (x ∷ names) new =
     omega (arith, one, past_new name names new.1)
 
 -- a name has no place just where it is new
-pub new_from_place : {V : Type 0} (name : List ℕ) (table : List (List ℕ × V)) → place_of name table ≡ None → IsNew name (names_of table)
+pub new_from_place : {V : Type 0} (name : List ℕ) (table : List (List ℕ × V)) → index_of name table ≡ None → IsNew name (names_of table)
 new_from_place name table h = new_past name (names_of table) (absent (pointwise nat_eq name) (names_of table) h)
 
-pub place_of-new : {V : Type 0} (name : List ℕ) (table : List (List ℕ × V)) → IsNew name (names_of table) → place_of name table ≡ None
-place_of-new name table new =
+pub index_of-new : {V : Type 0} (name : List ℕ) (table : List (List ℕ × V)) → IsNew name (names_of table) → index_of name table ≡ None
+index_of-new name table new =
     let end = past_new name (names_of table) new in
     rw (le-ltb (position_or_len (pointwise nat_eq name) (names_of table)) (length (names_of table)) (omega (arith, end))) refl
 
@@ -71,19 +71,19 @@ distinct_new (x ∷ names) name more distinct = (new_inside x name names more di
 
 module _ {V : Type 0} where
   -- a table with a name more
-  pub AreDistinct-push : (table : List (List ℕ × V)) (e : List ℕ × V) → AreDistinct table → place_of e.0 table ≡ None
+  pub AreDistinct-push : (table : List (List ℕ × V)) (e : List ℕ × V) → AreDistinct table → index_of e.0 table ≡ None
       → AreDistinct (table ++ e ∷ [])
   AreDistinct-push table e distinct none = rw map-append (distinct_push (names_of table) e.0 distinct (new_from_place e.0 table none))
 
   -- a name is not among those before it
   pub absent_before : (table : List (List ℕ × V)) (e : List ℕ × V) (more : List (List ℕ × V)) → AreDistinct (table ++ e ∷ more)
-      → place_of e.0 table ≡ None
+      → index_of e.0 table ≡ None
   absent_before table e more distinct =
-      place_of-new e.0 table (distinct_new (names_of table) e.0 (names_of more) (rw map-append at distinct))
+      index_of-new e.0 table (distinct_new (names_of table) e.0 (names_of more) (rw map-append at distinct))
 
 -- a name that is new is no name of the table
 pub other_name : {V : Type 0} (name : List ℕ) (table : List (List ℕ × V)) (e : List ℕ × V) (more : List (List ℕ × V))
-    → place_of name (table ++ e ∷ more) ≡ None
+    → index_of name (table ++ e ∷ more) ≡ None
     → pointwise nat_eq name e.0 ≡ false
 other_name name table e more none =
     other_way e.0 name (new_inside name e.0 (names_of table) (names_of more)
@@ -102,9 +102,9 @@ distinct_place (x ∷ names) (suc i) distinct lt =
     omega (arith, one, distinct_place names i distinct.1 (omega arith))
 
 -- a name is found at its place
-pub place_of-name : {V : Type 0} (table : List (List ℕ × V)) (place : ℕ) → AreDistinct table → place < length table
-    → place_of (name_at table place) table ≡ Some place
-place_of-name table place distinct lt =
+pub index_of-name : {V : Type 0} (table : List (List ℕ × V)) (place : ℕ) → AreDistinct table → place < length table
+    → index_of (name_at table place) table ≡ Some place
+index_of-name table place distinct lt =
     let few : place < length (names_of table) = rw length-map lt in
     let is = distinct_place (names_of table) place distinct few in
     rw (is, lt-ltb place (length (names_of table)) few) refl

@@ -17,7 +17,7 @@ use Rattle.ordup_limits.specs.declared.limit_entry.LimitEntry.{LimitEntry}
 use Rattle.ordup_audit.specs.declared.report_change.ReportChange.{ReportChange}
 use Rattle.ordup_objects.specs.Sizes.{most_name_bytes}
 use Rattle.ordup_rows.specs.Forming.{csv_text}
-use Rattle.ordup_rows.specs.Rows.{Row, amount_text, change_row, change_rows, change_word, counted, head_row, limit_row, member_row}
+use Rattle.ordup_rows.specs.Rows.{Row, amount_text, change_row, change_rows, change_word, counted, first_row, limit_row, member_row}
 use Rattle.ordup_rows.specs.Rows.{member_rows, name_at, object_row, operation_text, report_row, round_row, row_line, rows_in, rows_text}
 use Rattle.ordup_rows.specs.Rows.{scope_text, window_row}
 use Rattle.ordup_audit.specs.Rows.{member_count}
@@ -322,7 +322,7 @@ module _ (r : RecordState) (is : IsRecord r) where
   pub all_lines : (version : Version) → All IsLine (rows_in version r)
   all_lines version =
       let few = is.few in
-      All-cons IsLine (head_row version r.site (length r.sets)) _
+      All-cons IsLine (first_row version r.site (length r.sets)) _
       (IsLine-columns (code (codes "ordup") refl) (version_plain version) (name_plain r.site is.site)
       (decimal_plain (length r.sets) (omega arith)) (lit≤ tt))
       (seven_lines (counted object_row 1 r.objects) (member_rows r.objects 1 r.groups) (counted (limit_row version r.objects r.groups) 1 r.limits)

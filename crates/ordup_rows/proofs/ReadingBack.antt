@@ -7,7 +7,7 @@ use Rattle.ordup_audit.proofs.Common.{is_name, IsGroup, IsInRange, IsKnown, IsRe
 use Rattle.ordup_audit.proofs.Common.{HoldFrom, length, length-append, length_push, List, list_any, list_any-append, most_limits, take}
 use Rattle.ordup_audit.proofs.Common.{lt-ltb, map, map-append, member_refusal, most_changes, most_members}
 use Rattle.ordup_audit.proofs.Common.{most_updates, most_windows, nat_eq, nat_lt, nat_tests, None, Objects, op_number}
-use Rattle.ordup_audit.proofs.Common.{option_and_then, or_from, or_parts, place_of, RecordState, refl, repeats, same_Some, set_refusal}
+use Rattle.ordup_audit.proofs.Common.{index_of, option_and_then, or_from, or_parts, RecordState, refl, repeats, same_Some, set_refusal}
 use Rattle.ordup_audit.proofs.Common.{Some, subst, suc, sym, true, Window, ℕ, ℤ}
 use Rattle.std.proofs.lemmas.Bool.{and_right}
 use Rattle.ordup_grammar.proofs.Decimals.{number_of-signed_decimal}
@@ -23,7 +23,7 @@ use Rattle.ordup_audit.specs.Records.{AreObjects}
 use Rattle.ordup_audit.specs.Rows.{member_count}
 use Rattle.ordup_rows.specs.Columns.{change_by, writes}
 use Rattle.ordup_rows.specs.Laws.{RowsOfEachVersionAreRead, RowsTellOneRecord, WhatIsToldIsRead}
-use Rattle.ordup_rows.specs.Rows.{Row, change_row, change_rows, change_text, counted, head_row, limit_row, member_row, member_rows, name_at}
+use Rattle.ordup_rows.specs.Rows.{Row, change_row, change_rows, change_text, counted, first_row, limit_row, member_row, member_rows, name_at}
 use Rattle.ordup_rows.specs.Rows.{object_row, report_row, round_row, rows_in, window_row}
 use Rattle.ordup_rows.specs.Stages.{Stage, closed, is_last_group, last_name, last_number, record_at, run, step, reading, record_read}
 use Rattle.ordup_rows.specs.Stages.{unread}
@@ -33,7 +33,7 @@ use Rattle.ordup_audit.proofs.AscendingLemmas.{above}
 use Rattle.ordup_rows.proofs.Columns.{bound, bytes_same, natural_of-decimal, writes-decimal}
 use Rattle.ordup_rows.proofs.Growth.{ends, last_members-of, last_name-of, last_set-of, member_count-append, with_change-last}
 use Rattle.ordup_rows.proofs.Growth.{with_member-last}
-use Rattle.ordup_rows.proofs.Names.{absent_before, other_name, place_of-name}
+use Rattle.ordup_rows.proofs.Names.{absent_before, index_of-name, other_name}
 use Rattle.ordup_rows.proofs.Refusals.{IsNewEntry, IsNewGroup, IsNewMember, IsNewObject, entry_allowed, group_allowed, member_allowed}
 use Rattle.ordup_rows.proofs.Refusals.{object_allowed, set_allowed}
 use Rattle.ordup_rows.proofs.RecordsSoFar.{HasGroup, HasKnown, HasName, above_last, all_at, all_front, changed-last, last_before}
@@ -125,13 +125,13 @@ repeats_front same (y ∷ xs) more distinct =
     let parts = or_parts (list_any (same y) xs) (list_any (same y) more) (rw (list_any-append (same y) xs more) at none) in
     or_from _ _ parts.0 (repeats_front same xs more rest)
 
-not_last : (groups : GroupList) (name : List ℕ) → place_of name groups ≡ None → is_last_group groups name ≡ false
+not_last : (groups : GroupList) (name : List ℕ) → index_of name groups ≡ None → is_last_group groups name ≡ false
 not_last [] name none = refl
 not_last (h ∷ groups) name none =
     let (front, g, e) = ends (h ∷ groups) (omega arith) in
     let last : last_name (h ∷ groups) ≡ g.0 = ap last_name e ∙ last_name-of front g in
     let other : bytes_eq name (last_name (h ∷ groups)) ≡ false =
-    rw last (other_name name front g [] (ap (place_of name) (sym e) ∙ none)) in
+    rw last (other_name name front g [] (ap (index_of name) (sym e) ∙ none)) in
     and_right _ _ other
 
 is_last : (front : GroupList) (g : List ℕ × List ℕ) → is_last_group (front ++ g ∷ []) g.0 ≡ true
@@ -139,7 +139,7 @@ is_last front g =
     and_from _ _ (lt-ltb 0 (length (front ++ g ∷ [])) (omega (arith, length_push front g)))
     (ap (bytes_eq g.0) (last_name-of front g) ∙ bytes_same g.0)
 
-step_first_member : (v : Version) (d : ℕ) (r : RecordState) (groups : GroupList) (name : List ℕ) (x n : ℕ) → place_of (name_at r.objects x) r.objects
+step_first_member : (v : Version) (d : ℕ) (r : RecordState) (groups : GroupList) (name : List ℕ) (x n : ℕ) → index_of (name_at r.objects x) r.objects
     ≡ Some x
     → n ≡ member_count groups + 1 → n < 10 ^ 19 → is_last_group groups name ≡ false
     → group_refusal (length r.objects) groups name (x ∷ []) ≡ None
@@ -149,7 +149,7 @@ step_first_member v d r groups name x n found count small other free =
     rw (found, reads, other, free) refl
 
 step_more_member : (v : Version) (d : ℕ) (r : RecordState) (front : GroupList) (g : List ℕ × List ℕ) (x n : ℕ)
-    → place_of (name_at r.objects x) r.objects ≡ Some x
+    → index_of (name_at r.objects x) r.objects ≡ Some x
     → n ≡ member_count (front ++ g ∷ []) + 1 → n < 10 ^ 19 → member_refusal (length r.objects) g.1 x ≡ None
     → step (at_groups v d r (front ++ g ∷ [])) (member_row r.objects g.0 n x) ≡ Some (at_groups v d r (front ++ (g.0, g.1 ++ x ∷ []) ∷ []))
 step_more_member v d r front g x n found count small free =
@@ -192,8 +192,8 @@ module _ (v : Version) (d : ℕ) (r : RecordState) (is : IsRecord r) where
       let known = all_at (HasKnown (length r.objects)) done (name, x ∷ members) more are.known in
       let at : List ℕ → Stage = λ ms. at_groups v d r (done ++ (name, x ∷ ms) ∷ []) in
       let new = new_group done name x members more are in
-      let found : (y : ℕ) → y < length r.objects → place_of (name_at r.objects y) r.objects ≡ Some y =
-      λ y lt. place_of-name r.objects y is.objects.distinct lt in
+      let found : (y : ℕ) → y < length r.objects → index_of (name_at r.objects y) r.objects ≡ Some y =
+      λ y lt. index_of-name r.objects y is.objects.distinct lt in
       run_one (at_groups v d r done) (at []) (at members) (member_row r.objects name n x)
       (counted (member_row r.objects name) (n + 1) members)
       (step_first_member v d r done name x n (found x (known 0 x (omega arith))) count (omega arith) (not_last done name new.new)
@@ -443,7 +443,7 @@ module _ (v : Version) (d : ℕ) (r : RecordState) (is : IsRecord r) (all : leng
 -- ---- all rows
 
 step_first_row : (v : Version) (site : List ℕ) (d : ℕ) → is_name site ≡ true → d ≤ most_updates
-    → step unread (head_row v site d) ≡ Some (reading v d (record_at site))
+    → step unread (first_row v site d) ≡ Some (reading v d (record_at site))
 step_first_row v site d name few =
     rw (version_of-text v, natural_of-decimal d (omega (arith, few)), name, le-leb d most_updates few) refl
 
@@ -460,7 +460,7 @@ lists_run s t1 t2 t3 t4 t5 t6 t7 a b c d e f g h1 h2 h3 h4 h5 h6 h7 =
 run-rows : (v : Version) (r : RecordState) → IsRecord r → CanTell v r.limits → run unread (rows_in v r) ≡ Some (reading v (length r.sets) r)
 run-rows v r is tells =
     let d = length r.sets in
-    run_one unread (reading v d (record_at r.site)) (reading v d r) (head_row v r.site d) _ (step_first_row v r.site d is.site is.few)
+    run_one unread (reading v d (record_at r.site)) (reading v d r) (first_row v r.site d) _ (step_first_row v r.site d is.site is.few)
     (lists_run (at_objects v d r []) (at_objects v d r r.objects) (at_groups v d r r.groups) (at_limits v d r r.limits) (at_sets v d r r.sets)
     (at_reports v d r r.reports) (at_rounds v d r r.rounds) (at_windows v d r r.windows)
     (counted object_row 1 r.objects) (member_rows r.objects 1 r.groups) (counted (limit_row v r.objects r.groups) 1 r.limits)

@@ -5,7 +5,7 @@ use Rattle.ordup_audit.proofs.Common.{false, greatest_amount, Group, group_refus
 use Rattle.ordup_audit.proofs.Common.{is_none, is_none_or, is_some, IsGroup, IsInRange, IsKnown, IsScopeKnown, IsSet, le-leb, leb-true}
 use Rattle.ordup_audit.proofs.Common.{◌+◌, Entries, length, List, list_all, list_any, lt-ltb, ltb-true, member_refusal, nat_le}
 use Rattle.ordup_audit.proofs.Common.{most_changes, most_groups, most_members, most_objects, nat_eq, nat_lt, nat_tests, None}
-use Rattle.ordup_audit.proofs.Common.{not, Object, object_refusal, Objects, Option, or_parts, place_of, refl, repeats, Scope, set_refusal}
+use Rattle.ordup_audit.proofs.Common.{index_of, not, Object, object_refusal, Objects, Option, or_parts, refl, repeats, Scope, set_refusal}
 use Rattle.ordup_audit.proofs.Common.{Some, source_of, suc, sym, true, ℕ, ℤ}
 use Rattle.std.specs.List.{All}
 use Rattle.std.specs.Option.{option_or}
@@ -51,7 +51,7 @@ all_back p P f (x ∷ xs) h =
 
 pub record IsNewObject (objects : Objects) (name : List ℕ) (value : ℤ) : Type 0 where
   pub is_a_name : is_name name ≡ true
-  pub new : place_of name objects ≡ None
+  pub new : index_of name objects ≡ None
   pub range : IsInRange value
   pub room : length objects < most_objects
 
@@ -60,12 +60,12 @@ pub object_taken : (objects : Objects) (name : List ℕ) (value : ℤ) → lengt
     → IsNewObject objects name value
 object_taken objects name value few h =
     let (name_is, h1) = passes (is_name name) _ _ h in
-    let (free, h2) = avoids (is_some (place_of name objects)) _ _ h1 in
+    let (free, h2) = avoids (is_some (index_of name objects)) _ _ h1 in
     let (range, h3) = passes (in_range value) _ _ h2 in
     let (room, _) = avoids (length objects == most_objects) _ _ h3 in
     record {
       is_a_name = name_is;
-      new = not_some (place_of name objects) free;
+      new = not_some (index_of name objects) free;
       range = leb-true _ _ range;
       room = grind (arith, nat_tests);
     }
@@ -80,7 +80,7 @@ object_allowed objects name value is =
 
 pub record IsNewGroup (n : ℕ) (groups : GroupList) (name : List ℕ) (members : List ℕ) : Type 0 where
   pub is_a_name : is_name name ≡ true
-  pub new : place_of name groups ≡ None
+  pub new : index_of name groups ≡ None
   pub known : AreMembersKnown n members
   pub room : length groups < most_groups
   pub group : IsGroup members
@@ -90,7 +90,7 @@ pub group_taken : (n : ℕ) (groups : GroupList) (name members : List ℕ) → l
     → IsNewGroup n groups name members
 group_taken n groups name members few h =
     let (name_is, h1) = passes (is_name name) _ _ h in
-    let (free, h2) = avoids (is_some (place_of name groups)) _ _ h1 in
+    let (free, h2) = avoids (is_some (index_of name groups)) _ _ h1 in
     let (known, h3) = passes (are_members_known n members) _ _ h2 in
     let (room, h4) = avoids (length groups == most_groups || nat_lt most_members (length members)) _ _ h3 in
     let (some, h5) = avoids (length members == 0) _ _ h4 in
@@ -98,7 +98,7 @@ group_taken n groups name members few h =
     let (place, size) = or_parts (length groups == most_groups) _ room in
     record {
       is_a_name = name_is;
-      new = not_some (place_of name groups) free;
+      new = not_some (index_of name groups) free;
       known = all_from (λ x. nat_lt x n) (λ x. x < n) (λ x. ltb-true x n) members known;
       room = grind (arith, nat_tests);
       group = record {

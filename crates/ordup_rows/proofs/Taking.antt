@@ -4,7 +4,7 @@ use Rattle.ordup_audit.proofs.Common.{AreKnown, AreReportChanges, AreRoundPlaces
 use Rattle.ordup_audit.proofs.Common.{decimal, eqb-true, false, group_refusal, GroupList, if◌then◌else◌, inl, inr, IsKnown}
 use Rattle.ordup_audit.proofs.Common.{IsSet, last_members, leb-true, length, length_push, List}
 use Rattle.ordup_audit.proofs.Common.{ltb-true, map, map-append, member_refusal, most_updates, most_windows, nat_lt, None}
-use Rattle.ordup_audit.proofs.Common.{Objects, Option, place_of, RecordState, refl, set_refusal, Some, subst, sym, true}
+use Rattle.ordup_audit.proofs.Common.{index_of, Objects, Option, RecordState, refl, set_refusal, Some, subst, sym, true}
 use Rattle.ordup_audit.proofs.Common.{Window, with_member, ℕ}
 use Rattle.ordup_grammar.specs.Numbers.{number_of}
 use Rattle.ordup_grammar.proofs.Decimals.{signed_decimal-number_of}
@@ -13,7 +13,7 @@ use Rattle.ordup_audit.specs.Rows.{member_count}
 use Rattle.ordup_audit.specs.declared.report_change.ReportChange.{ReportChange}
 use Rattle.ordup_rows.specs.Columns.{Columns, amount_by, change_by, natural_of, scope_of, writes}
 use Rattle.ordup_rows.specs.RowKinds.{kind_text}
-use Rattle.ordup_rows.specs.Rows.{Row, change_row, change_rows, change_text, head_row, member_row, member_rows, rows_so_far}
+use Rattle.ordup_rows.specs.Rows.{Row, change_row, change_rows, change_text, first_row, member_row, member_rows, rows_so_far}
 use Rattle.ordup_rows.specs.Stages.{has_updates, is_before_reports}
 use Rattle.ordup_rows.specs.Stages.{is_last_group, last_name, last_number, last_set}
 use Rattle.ordup_rows.specs.Stages.{membership_refusal, with_change, with_change_row, with_first_change}
@@ -149,7 +149,7 @@ module _ (version : Version) (decided : ℕ) (r : RecordState) (is : IsRecordSoF
       → Takes version decided r (row_by c) next
   taken q next k x y z site same e1 e2 e3 e4 rows so_far = subst (Takes version decided r (row_by c)) same (record {
     is = so_far;
-    rows = rw (site, e1, e2, e3, e4) (ap (λ rows. head_row version r.site decided ∷ rows) rows);
+    rows = rw (site, e1, e2, e3, e4) (ap (λ rows. first_row version r.site decided ∷ rows) rows);
   })
 
   -- ---- objects
@@ -171,7 +171,7 @@ module _ (version : Version) (decided : ℕ) (r : RecordState) (is : IsRecordSoF
   -- ---- members
   take_member : (next : RecordState) → c.kind ≡ codes "member" → with_member_row r c ≡ Some next → Takes version decided r (row_by c) next
   take_member next kind h =
-      let (x, found, rest) = bound _ (place_of c.third r.objects) next h in
+      let (x, found, rest) = bound _ (index_of c.third r.objects) next h in
       let (tests, same) = kept _ _ next rest in
       let (before, count, free) = parts_3 tests in
       let none = before_limits r before in

@@ -3,7 +3,7 @@ use Rattle.ordup_audit.proofs.Common.{◌++◌, ◌<◌, ◌==◌, ◌^◌, ◌�
 use Rattle.ordup_audit.proofs.Common.{AreDistinct, AreNames, arith, bytes_eq, Change, codes, Count, decimal, digits_decimal, Everything}
 use Rattle.ordup_audit.proofs.Common.{false, get_or-map, Group, GroupList, IfSome, if◌then◌else◌, is_ascii_digit, is_name, is_name_byte}
 use Rattle.ordup_audit.proofs.Common.{IsInRange, IsKnown, IsScopeKnown, length, List, list_all, Max, Min, Mul, nat_tests, negsuc, None}
-use Rattle.ordup_audit.proofs.Common.{NumberOp, Object, Objects, Op, op_number, op_with, option_and_then, place_of, pos, refl, same_Some}
+use Rattle.ordup_audit.proofs.Common.{index_of, NumberOp, Object, Objects, Op, op_number, op_with, option_and_then, pos, refl, same_Some}
 use Rattle.ordup_audit.proofs.Common.{Scope, Set, signed_decimal, slice_split, Some, source_of, suc, sym, Take, true, unsigned_abs, ℕ, ℤ}
 use Rattle.std.proofs.Common.{option_map}
 use Rattle.std.specs.Prelude.{Bool}
@@ -20,7 +20,7 @@ use Rattle.ordup_grammar.proofs.Decimals.{numerals, number_of-signed_decimal, si
 use Rattle.ordup_rows.specs.Columns.{after_prefix, change_by, change_in, has_prefix, op_in, scope_of}
 use Rattle.ordup_rows.specs.Rows.{change_text, change_word, name_at, operation_text, scope_text}
 use Rattle.ordup_rows.proofs.Columns.{bound, branch, mapped, name_found, prefixed, same_bytes}
-use Rattle.ordup_rows.proofs.Names.{place_of-name}
+use Rattle.ordup_rows.proofs.Names.{index_of-name}
 use Rattle.ordup_rows.proofs.Refusals.{all_from}
 
 -- ---- scopes
@@ -29,11 +29,11 @@ pub scope_spelled : (objects : Objects) (groups : GroupList) (column : List ℕ)
     → column ≡ scope_text objects groups s
 scope_spelled objects groups column s =
     branch (has_prefix (codes "object:") column) _ _ s (λ front h.
-    let (x, found, is) = mapped (λ x. Object x) (place_of (after_prefix (codes "object:") column) objects) s h in
+    let (x, found, is) = mapped (λ x. Object x) (index_of (after_prefix (codes "object:") column) objects) s h in
     prefixed (codes "object:") column front ∙ ap (λ name. codes "object:" ++ name) (sym (name_found _ objects x found).1)
     ∙ ap (scope_text objects groups) is) (
     branch (has_prefix (codes "group:") column) _ _ s (λ front h.
-    let (g, found, is) = mapped (λ g. Group g) (place_of (after_prefix (codes "group:") column) groups) s h in
+    let (g, found, is) = mapped (λ g. Group g) (index_of (after_prefix (codes "group:") column) groups) s h in
     prefixed (codes "group:") column front ∙ ap (λ name. codes "group:" ++ name) (sym (name_found _ groups g found).1)
     ∙ ap (scope_text objects groups) is) (
     branch (bytes_eq column (codes "all")) _ _ s
@@ -44,8 +44,8 @@ scope_spelled objects groups column s =
 
 pub scope_of-text : (objects : Objects) (groups : GroupList) (s : Scope) → AreDistinct objects → AreDistinct groups
     → IsScopeKnown (length objects) groups s → scope_of objects groups (scope_text objects groups s) ≡ Some s
-scope_of-text objects groups (Object x) distinct apart known = rw (place_of-name objects x distinct known) refl
-scope_of-text objects groups (Group g) distinct apart known = rw (place_of-name groups g apart known) refl
+scope_of-text objects groups (Object x) distinct apart known = rw (index_of-name objects x distinct known) refl
+scope_of-text objects groups (Group g) distinct apart known = rw (index_of-name groups g apart known) refl
 scope_of-text objects groups Everything distinct apart known = refl
 scope_of-text objects groups Count distinct apart known = refl
 
@@ -128,13 +128,13 @@ op_in-spelled objects x (word.WithNumber kind.Mul n) op h = ap (operation_text o
 op_in-spelled objects x (word.WithNumber kind.Max n) op h = ap (operation_text objects x) (same_Some (Max n) op h)
 op_in-spelled objects x (word.WithNumber kind.Min n) op h = ap (operation_text objects x) (same_Some (Min n) op h)
 op_in-spelled objects x (word.Take y) op h =
-    let (place, found, is) = mapped (λ place. Take place) (place_of y objects) op h in
+    let (place, found, is) = mapped (λ place. Take place) (index_of y objects) op h in
     ap (λ name. change_word (codes "take") x name) (sym (name_found y objects place found).1) ∙ ap (operation_text objects x) is
 
 pub change_spelled : (objects : Objects) (column : List ℕ) (c : Change) → change_by objects column ≡ Some c → column ≡ change_text objects c
 change_spelled objects column c h =
     let (w, read, resolved) = bound (change_in objects) (change_of column) c h in
-    let (object, found, rest) = bound _ (place_of w.object objects) c resolved in
+    let (object, found, rest) = bound _ (index_of w.object objects) c resolved in
     let (op, known, is) = bound _ (op_in objects w.operation) c rest in
     let e : (let d : Change = record { object = object; op = op } in d ≡ c) = same_Some _ c is in
     change_of-spelled column w read
@@ -211,7 +211,7 @@ module _ (objects : Objects) (distinct : AreDistinct objects) (names : AreNames 
       ≡ Some (record { object = x; op = op_with op n })
   number_change op x n lt small =
       ap (option_and_then (change_in objects)) (number_read op (name_at objects x) n (name_of objects x names lt) small)
-      ∙ rw (place_of-name objects x distinct lt) refl
+      ∙ rw (index_of-name objects x distinct lt) refl
 
   op_read : (x : ℕ) (op : Op) → x < length objects → IfSome (source_of op) (λ y. y < length objects) → IfSome (op_number op) IsInRange
       → change_by objects (operation_text objects (name_at objects x) op) ≡ Some (record { object = x; op = op })
@@ -223,7 +223,7 @@ module _ (objects : Objects) (distinct : AreDistinct objects) (names : AreNames 
   op_read x (Take y) lt known small =
       ap (option_and_then (change_in objects))
       (take_read (name_at objects x) (name_at objects y) (name_of objects x names lt) (name_of objects y names known))
-      ∙ rw (place_of-name objects x distinct lt, place_of-name objects y distinct known) refl
+      ∙ rw (index_of-name objects x distinct lt, index_of-name objects y distinct known) refl
 
   pub change_by-text : (c : Change) → IsKnown (length objects) c → IfSome (op_number c.op) IsInRange
       → change_by objects (change_text objects c) ≡ Some c

@@ -9,7 +9,7 @@ use Rattle.ordup_grammar.specs.declared.change_words.ChangeWord.{ChangeWord}
 use Rattle.ordup_grammar.specs.declared.operation.Operation.{Operation}
 use Rattle.ordup_grammar.specs.declared.operation.Operation.TheVariants as word
 use Rattle.ordup_objects.specs.Ops.{op_with}
-use Rattle.ordup_objects.specs.Tables.{Objects, place_of}
+use Rattle.ordup_objects.specs.Tables.{index_of, Objects}
 use Rattle.ordup_objects.specs.declared.change.Change.{Change}
 use Rattle.ordup_objects.specs.declared.change.Op.{Op}
 use Rattle.ordup_objects.specs.declared.change.Op.TheVariants.{Take}
@@ -66,8 +66,8 @@ after_prefix prefix column = drop (length prefix) column
 -- the scope that a column spells
 abbrev pub scope_of : Objects → GroupList → List ℕ → Option Scope
 scope_of objects groups column =
-    if has_prefix (codes "object:") column then option_map (λ x. Object x) (place_of (after_prefix (codes "object:") column) objects)
-    else if has_prefix (codes "group:") column then option_map (λ g. Group g) (place_of (after_prefix (codes "group:") column) groups)
+    if has_prefix (codes "object:") column then option_map (λ x. Object x) (index_of (after_prefix (codes "object:") column) objects)
+    else if has_prefix (codes "group:") column then option_map (λ g. Group g) (index_of (after_prefix (codes "group:") column) groups)
     else if bytes_eq column (codes "all") then Some Everything
     else if bytes_eq column (codes "count") then Some Count
     else None
@@ -89,12 +89,12 @@ amount_by Second column = amount_and_place (slice_split (λ byte. byte == 64) co
 -- the operation over these objects, where the object that it reads is one
 abbrev pub op_in : Objects → Operation → Option Op
 op_in objects (word.WithNumber op n) = Some (op_with op n)
-op_in objects (word.Take y) = option_map (λ place. Take place) (place_of y objects)
+op_in objects (word.Take y) = option_map (λ place. Take place) (index_of y objects)
 
 -- the change of these objects that a change word means, where its objects are some
 abbrev pub change_in : Objects → ChangeWord → Option Change
 change_in objects c = do
-  object ← place_of c.object objects
+  object ← index_of c.object objects
   op ← op_in objects c.operation
   Some (record { object = object; op = op })
 

@@ -31,8 +31,8 @@ counted row i [] = []
 counted row i (x ∷ xs) = row i x ∷ counted row (i + 1) xs
 
 -- `ordup,1,SITE,DECIDED` or `ordup,2,SITE,DECIDED`
-abbrev pub head_row : Version → List ℕ → ℕ → Row
-head_row version site decided = codes "ordup" ∷ version_text version ∷ site ∷ decimal decided ∷ []
+abbrev pub first_row : Version → List ℕ → ℕ → Row
+first_row version site decided = codes "ordup" ∷ version_text version ∷ site ∷ decimal decided ∷ []
 
 -- `object,I,NAME,VALUE`
 abbrev pub object_row : ℕ → List ℕ × ℤ → Row
@@ -105,7 +105,7 @@ window_row i w = codes "window" ∷ decimal i ∷ decimal w.from ∷ decimal w.t
 -- the rows, in a version, of a record as far as it is there, where this many updates are decided
 abbrev pub rows_so_far : Version → ℕ → RecordState → List Row
 rows_so_far version decided r =
-    head_row version r.site decided
+    first_row version r.site decided
     ∷ (counted object_row 1 r.objects
     ++ member_rows r.objects 1 r.groups
     ++ counted (limit_row version r.objects r.groups) 1 r.limits

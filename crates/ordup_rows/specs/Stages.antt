@@ -9,7 +9,7 @@ use Rattle.ordup_grammar.specs.Numbers.{number_of}
 use Rattle.ordup_objects.specs.Names.{is_name}
 use Rattle.ordup_objects.specs.Sets.{set_refusal}
 use Rattle.ordup_objects.specs.Sizes.{most_updates}
-use Rattle.ordup_objects.specs.Tables.{object_refusal, place_of}
+use Rattle.ordup_objects.specs.Tables.{index_of, object_refusal}
 use Rattle.ordup_objects.specs.declared.change.Change.{Change}
 use Rattle.ordup_objects.specs.declared.refusal.Refusal.{Refusal}
 use Rattle.ordup_log.specs.Groups.{GroupList, group_refusal, last_members, member_refusal, with_member}
@@ -90,7 +90,7 @@ with_membership groups name x = if is_last_group groups name then with_member gr
 -- the record with the member of a row
 abbrev pub with_member_row : RecordState → Columns → Option RecordState
 with_member_row r c = do
-  x ← place_of c.third r.objects
+  x ← index_of c.third r.objects
   then_some
       (is_before_limits r && writes c.first (member_count r.groups + 1) && is_none
       (membership_refusal (length r.objects) r.groups c.second x))

@@ -7,7 +7,7 @@ ghost use Rattle.ordup_log.specs.Spans.{IsScopeKnown};
 ghost use Rattle.ordup_limits.specs.Entries.{AreEntriesKnown};
 ghost use Rattle.ordup_rows.specs.Forming.{AddsRow, AddsRows, IsClean};
 ghost use Rattle.ordup_log.specs.Groups.{AreGroupsKnown};
-ghost use Rattle.ordup_rows.specs.Rows.{change_row, change_rows, counted, head_row, limit_row, member_row, member_rows};
+ghost use Rattle.ordup_rows.specs.Rows.{change_row, change_rows, counted, first_row, limit_row, member_row, member_rows};
 ghost use Rattle.ordup_rows.specs.Rows.{object_row, report_row, round_row, rows_of, rows_text, window_row};
 
 use crate::spelling::{add_amount, put_change, put_scope};
@@ -47,7 +47,7 @@ fn push_head<A: Allocator + Copy>(
 ) -> Result<(), AllocError>
     requires { IsClean rows.old }
     ensures clean { OnOk result (IsClean rows.new) }
-    ensures text { OnOk result (AddsRow rows.old rows.new (head_row version site.now decided)) }
+    ensures text { OnOk result (AddsRow rows.old rows.new (first_row version site.now decided)) }
 {
     let mut decided_digits = Buffer::new();
     let decided = decided_digits.format(decided);

@@ -5,7 +5,7 @@ use Rattle.std.specs.Io.KnownBytes.{Appends}
 use Rattle.std.proofs.lemmas.List.{append-nil}
 use Rattle.ordup_answers.specs.Answers.{Leaves}
 use Rattle.ordup_answers.specs.Replies.{request_reply, reply}
-use Rattle.ordup_answers.specs.Sessions.{Session, Stands}
+use Rattle.ordup_answers.specs.ScriptStates.{ScriptState, Stands}
 use Rattle.ordup_grammar.specs.Requests.{request_of}
 use Rattle.ordup_grammar.specs.declared.request.Request.{Request}
 use Rattle.ordup_grammar.specs.Lines.{Line}
@@ -25,7 +25,7 @@ module _ {W A : Type 0} (contents : W → Option (List ℕ)) where
   -- one line more is answered
   pub answers_line : (first before after : Answerer W A) (earlier : List Line) (request : Request) (line : Line)
       → HasAnswered contents first before earlier → request ≡ request_of line
-      → ((s : Session A) → Stands before.store.now s
+      → ((s : ScriptState A) → Stands before.store.now s
       → Leaves (Stands after.store.now) before.answers.now.text after.answers.now.text (request_reply s request))
       → IsLater before after → after.output.now ≡ before.output.now
       → HasAnswered contents first after (earlier ++ line ∷ [])

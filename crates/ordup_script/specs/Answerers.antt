@@ -1,7 +1,7 @@
 -- How far an answerer of lines has come.
 use Rattle.std.specs.Prelude.{◌≡◌, ◌⊎◌, ℕ, List, ◌++◌, Option}
 use Rattle.std.specs.Io.KnownBytes.{Appends}
-use Rattle.ordup_answers.specs.Sessions.{Stands}
+use Rattle.ordup_answers.specs.ScriptStates.{Stands}
 use Rattle.ordup_grammar.specs.Lines.{Line}
 use Rattle.ordup_script.specs.declared.stream.Answerer.{Answerer}
 use Rattle.ordup_script.specs.declared.stream.ScriptFault.{ScriptFault}

@@ -2,16 +2,16 @@
 use Rattle.std.specs.Prelude.{ℕ, List, ◌<◌, ◌≤◌, length, take, IfSome, Result, Ok, Err}
 use Rattle.std.specs.Io.KnownBytes.{Appends, Consumes, IsAtEnd}
 use Rattle.ordup_answers.specs.declared.script_end.ScriptEnd.{ScriptEnd}
-use Rattle.ordup_answers.specs.Sessions.{Stands}
+use Rattle.ordup_answers.specs.ScriptStates.{Stands}
 use Rattle.ordup_script.specs.declared.stream.ScriptFault.{ScriptFault}
 use Rattle.ordup_script.specs.declared.stream.ScriptFault.TheVariants as fault
 use Rattle.ordup_text.specs.Fronts.{AppendsFront}
-use Rattle.ordup_script.specs.Output.{out, out_of_ended, session_after}
+use Rattle.ordup_script.specs.Output.{out, out_of_ended, state_after}
 use Rattle.ordup_script.specs.Streams.{Streams}
 
 -- the end is that of a run of this script
 abbrev pub EndsAfter : {A : Type 0} → ScriptEnd A → List ℕ → Type 0
-EndsAfter {A} end script = Stands end (session_after A script)
+EndsAfter {A} end script = Stands end (state_after A script)
 
 -- what was read, and what was written for it: all of it where the run ended well; after an error of the reader, and
 -- where the script was too long, the answers to the lines that a line feed ended, within the limit; and else a front of

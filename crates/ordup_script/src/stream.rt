@@ -1,6 +1,6 @@
 //! Runs a script: its lines come from a reader, and their answers go to a writer.
 ghost use Rattle.std.specs.Prelude.{◌≡◌, ◌+◌, []};
-ghost use Rattle.ordup_answers.specs.Sessions.{Stands, first_session};
+ghost use Rattle.ordup_answers.specs.ScriptStates.{Stands, first_state};
 ghost use Rattle.ordup_script.specs.Answerers.{HasAnswered, HasStopped};
 ghost use Rattle.ordup_script.specs.Readings.{Takes};
 ghost use Rattle.ordup_script.specs.Runs.{Runs, RunsIn};
@@ -90,7 +90,7 @@ fn run_in<A: Allocator + Copy, R: Read, W: Write>(
     output: &mut W,
     limit: u64,
 ) -> Result<(), ScriptFault>
-    requires store { Stands store.old first_session }
+    requires store { Stands store.old first_state }
     requires answers { answers.old.text ≡ [] }
     ensures { RunsIn (record {
       had = R.remaining input.old;

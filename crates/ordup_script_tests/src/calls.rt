@@ -447,7 +447,7 @@ fn digest_of_tables(rt: &impl Abort, heap: Heap<'_>, tables: &Tables<'_>) -> Dig
     digest
 }
 
-/// Makes a call with so many growths allowed, and where one is refused once more with memory: whether one was refused.
+/// Makes a call with this many growths allowed, and makes it again with memory where one is refused: whether one was refused.
 fn is_refused(
     rt: &impl Abort,
     heap: Heap<'_>,
@@ -524,7 +524,7 @@ fn declared<'a>(rt: &impl Abort, heap: Heap<'a>) -> Setup<Heap<'a>> {
     setup
 }
 
-/// Makes a primary with so many growths allowed, where its declarations are given up: why there is none, if there is none.
+/// Makes a primary with this many growths allowed, where its declarations are given up: why there is none, if there is none.
 fn primary_refusal(rt: &impl Abort, heap: Heap<'_>, allowed: u64) -> Option<Refusal> {
     let setup = declared(rt, heap);
     assert!(rt; setup.is_ready());
@@ -600,7 +600,7 @@ ok acked 2
 ok show a sent 2 applied 2 reported 2 rounds 1 x=6 y=10
 ";
 
-/// Runs the events with so many growths allowed.
+/// Runs the events with this many growths allowed.
 fn run_with<'a>(rt: &impl Abort, heap: Heap<'a>, allowed: u64) -> Result<Run<Heap<'a>>, Refusal> {
     let setup = declared(rt, heap);
     let events = events(rt, heap, setup.objects());

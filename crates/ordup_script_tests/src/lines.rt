@@ -1,6 +1,6 @@
 //! The lines of a script, each with each of its growths refused in turn.
 //!
-//! The store takes its memory from one allocator, of which so many allocations are allowed, and the text of the answers and the
+//! The store takes its memory from one allocator, of which a number of allocations is allowed, and the text of the answers and the
 //! records from another, which gives all.
 use crate::digests::{Digest, add_primary, add_setup};
 use crate::scarce::{Heap, Scarce};
@@ -319,7 +319,7 @@ fn are_same<'a>(rt: &impl Abort, ample: Heap<'a>, before: &Shown<'a>, after: &Sh
     same
 }
 
-/// Answers a line with so many growths allowed. Where one is refused, there is no answer, and the store shows what it did before.
+/// Answers a line with this many growths allowed. Where one is refused, there is no answer, and the store shows what it did before.
 fn is_refused(rt: &impl Abort, session: &mut Session<'_>, step: Step<'_>, allowed: u64) -> bool {
     let before = show(rt, session);
     session.scarce.allow(allowed);
@@ -344,7 +344,7 @@ fn is_refused(rt: &impl Abort, session: &mut Session<'_>, step: Step<'_>, allowe
     refused
 }
 
-/// Answers a script whose line at this place has so many growths allowed, and where one is refused is answered again: whether one
+/// Answers a script whose line at this place has this many growths allowed, and where one is refused is answered again: whether one
 /// was refused.
 fn is_refused_at(
     rt: &impl Abort,

@@ -97,7 +97,7 @@ ok show shop sent 2 applied 2 reported 2 rounds 1 tea=37 rice=16 salt=10
 ok show depot sent 3 applied 3 reported 3 rounds 1 tea=37 rice=10 salt=16
 ";
 
-/// Runs a script, which is read by so many bytes, with so many allocations: why it did not end, if it did not.
+/// Runs a script, which is read by this many bytes, with this many allocations: why it did not end, if it did not.
 fn run_with(
     alloc: Global,
     script: &[u8],
@@ -110,8 +110,8 @@ fn run_with(
     run_script(&scarce, &mut input, output).err()
 }
 
-/// How many growths a script meets, which is read by so many bytes: each of them is refused in turn, and a front of its answers is
-/// written then. How much of them was written at most.
+/// How many growths a script meets that is read by this many bytes, and how much of its answers was written at most. Each growth is
+/// refused in turn, and a front of the answers is written then.
 fn growths_of(
     rt: &(impl Abort + AllocGlobal),
     script: &[u8],
@@ -152,7 +152,7 @@ propose set:rice:7 take:tea:rice
 propose mul:tea:2
 ";
 
-/// Reads the plan with so many allocations: how many sets it has.
+/// Reads the plan with this many allocations: how many sets it has.
 fn read_with(alloc: Global, allocations: u64) -> Result<usize, PlanFault> {
     let scarce = Scarce::new(alloc, allocations);
     let plan = read_plan(&scarce, &mut PieceReader::new(PLAN, 7, usize::MAX))?;

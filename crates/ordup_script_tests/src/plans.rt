@@ -220,7 +220,7 @@ fn a_comment_that_is_too_long_does_not_belong(rt: HostRuntime) -> Result<(), Fai
     Ok(())
 }
 
-/// Why a plan of at most so many bytes is not read, if it is for another reason than a line.
+/// Why a plan of at most this many bytes is not read, if it is for another reason than a line.
 fn fault<R: Read>(alloc: Global, input: &mut R, limit: u64) -> Option<PlanFault>
     requires { limit ≤ 1073741824 }
 {

@@ -24,7 +24,7 @@ ok applied a 1
 ok show a sent 1 applied 1 reported 0 rounds 0 x=5
 ";
 
-/// How a writer has no more room.
+/// How a writer is full.
 #[derive(Clone, Copy, Debug)]
 enum Full {
     /// Each write fails so.
@@ -33,7 +33,7 @@ enum Full {
     TakesNothing,
 }
 
-/// Takes so many bytes, a few a call, and then is full. Its flush may fail.
+/// Takes this many bytes, a few a call, and then is full. Its flush may fail.
 #[derive(Drop)]
 struct FullWriter {
     taken: Vec<u8>,
@@ -78,7 +78,7 @@ fn script(alloc: Global) -> Result<Vec<u8>, AllocError> {
 
 const ANSWERS: &[u8] = b"refused 1 Syntax\nrefused 1 Syntax\n";
 
-/// What a writer took of the answers to a script, which is read by so many bytes, and why the script did not end, if it did not.
+/// What a writer took of the answers to a script, which is read by this many bytes, and why the script did not end, if it did not.
 fn run_into(
     script: &[u8],
     at_once: usize,
@@ -145,7 +145,7 @@ fn a_flush_that_fails_is_told_after_all_answers(rt: HostRuntime) {
     }
 }
 
-/// What is written of the answers to the first run, whose reader fails so once so many bytes were given.
+/// What is written of the answers to the first run, whose reader fails so after this many bytes.
 fn run_failing(alloc: Global, given: usize, kind: ErrorKind) -> (Vec<u8>, Option<ScriptFault>) {
     let mut input = PieceReader::failing(FIRST_RUN, given, kind);
     let mut output: Vec<u8> = Vec::new(alloc);
@@ -169,7 +169,7 @@ fn a_read_that_fails_is_not_tried_again(rt: HostRuntime) {
     }
 }
 
-/// What is written of the answers to a script of at most so many bytes, and why it did not end, if it did not.
+/// What is written of the answers to a script of at most this many bytes, and why it did not end, if it did not.
 fn run_limited(alloc: Global, script: &[u8], limit: u64) -> (Vec<u8>, Option<ScriptFault>) {
     let mut input = script;
     let mut output: Vec<u8> = Vec::new(alloc);

@@ -21,7 +21,7 @@ pub struct Site<A: Allocator + Copy = Global> {
     applied: u64,
     values: Values<A>,
     travelled: Vec<u64, A>,
-    // Kept from one application to the next, since new room is zeroed, which took as long as to apply a set of one change.
+    // Kept from one application to the next, since new memory is zeroed, which took as long as to apply a set of one change.
     results: Results,
 }
 

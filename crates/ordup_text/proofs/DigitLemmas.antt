@@ -34,7 +34,7 @@ length-decimal n k small reached below =
       decimal_by_steps HasMoreDigits one_digit next_digit n small k reached,
     )
 
--- digits that are written behind the first so many bytes
+-- digits that are written behind the first `len` bytes
 pub take-placed : (old new digits rest : List ℕ) (len : ℕ) → len ≤ length new → take len new ≡ take len old
     → drop len new ≡ digits ++ rest
     → take (len + length digits) new ≡ take len old ++ digits

@@ -4,7 +4,7 @@ use Rattle.ordup_text.specs.TextBuffers.{BufferedText}
 use Rattle.ordup_text.specs.declared.text_buffer.TextBuffer.TheInside.{Inside}
 
 module _ {A : Type 0} where
-  -- the text, and the room behind it
+  -- the text, and the spare capacity behind it
   abbrev pub buffered : Inside A → BufferedText
   buffered b = record { text = take b.len b.bytes.items; room = length b.bytes.items - b.len }
 

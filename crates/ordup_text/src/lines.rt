@@ -56,7 +56,7 @@ pub fn push_done<A: Allocator + Copy, const N: usize>(
 ) -> Result<(), AllocError>
     ensures { OnOk result (out.new.text ≡ out.old.text ++ done_text done.now number) }
 {
-    out.make_room(done.len() + MOST_DIGITS + 1)?;
+    out.reserve(done.len() + MOST_DIGITS + 1)?;
     out.put(done);
     out.put_number(number);
     out.put(b"\n");
@@ -73,7 +73,7 @@ pub fn push_numbered<A: Allocator + Copy, const N: usize>(
     ensures { OnOk result (out.new.text ≡ out.old.text ++ numbered_text done.now name.now number) }
 {
     out.push(done)?;
-    out.make_room(name.len() + MOST_DIGITS + 2)?;
+    out.reserve(name.len() + MOST_DIGITS + 2)?;
     out.put(name);
     out.put(b" ");
     out.put_number(number);

@@ -13,10 +13,10 @@ use std::marker::Model;
 /// The most digits of a number.
 pub const MOST_DIGITS: usize = 20;
 
-/// A text, and the room behind it.
+/// A text, and the spare capacity behind it.
 #[derive(Drop)]
 pub struct TextBuffer<A: Allocator + Copy = Global> {
-    /// The text, and then the room.
+    /// The text, and then the spare capacity.
     bytes: Vec<u8, A>,
     len: usize,
 }
@@ -62,16 +62,16 @@ impl<A: Allocator + Copy> TextBuffer<A> {
         &self.bytes[..self.len]
     }
 
-    /// Takes the text away. The bytes that it had are room.
+    /// Takes the text away. Its bytes become spare capacity.
     pub fn clear(&mut self)
         ensures { self.new.text ≡ [] }
     {
         self.len = 0;
     }
 
-    /// Makes room for at least `room` bytes behind the text.
+    /// Reserves at least `room` bytes behind the text.
     #[inline(always)]
-    pub fn make_room(&mut self, room: usize) -> Result<(), AllocError>
+    pub fn reserve(&mut self, room: usize) -> Result<(), AllocError>
         ensures text { self.new.text ≡ self.old.text }
         ensures room { OnOk result (room ≤ self.new.room) }
     {
@@ -81,7 +81,7 @@ impl<A: Allocator + Copy> TextBuffer<A> {
         self.grow(room)
     }
 
-    /// Makes room for `room` bytes, or for as many as the text has where that is more.
+    /// Reserves `room` bytes, or as many as the text has where that is more.
     #[inline(never)]
     fn grow(&mut self, room: usize) -> Result<(), AllocError>
         ensures text { self.new.text ≡ self.old.text }
@@ -91,7 +91,7 @@ impl<A: Allocator + Copy> TextBuffer<A> {
         self.bytes.resize(self.len.saturating_add(more), 0)
     }
 
-    /// Adds a text. There must be room for it.
+    /// Adds a text. It must fit into the spare capacity.
     #[inline(always)]
     pub fn put(&mut self, text: &[u8])
         requires { length text.now ≤ self.old.room }
@@ -103,7 +103,7 @@ impl<A: Allocator + Copy> TextBuffer<A> {
         self.len = end;
     }
 
-    /// Adds a number in digits. There must be room for the most digits of a number.
+    /// Adds a number in digits. The most digits of a number must fit into the spare capacity.
     #[inline(always)]
     pub fn put_number(&mut self, number: u64)
         requires { MOST_DIGITS ≤ self.old.room }
@@ -115,7 +115,7 @@ impl<A: Allocator + Copy> TextBuffer<A> {
         self.len = end;
     }
 
-    /// Adds a value in digits, with a minus before one below 0. There must be room for a minus and the most digits of a number.
+    /// Adds a value in digits, with a minus before one below 0. A minus and the most digits of a number must fit into the spare capacity.
     #[inline(always)]
     pub fn put_value(&mut self, value: i64)
         requires { MOST_DIGITS + 1 ≤ self.old.room }
@@ -133,7 +133,7 @@ impl<A: Allocator + Copy> TextBuffer<A> {
     pub fn push(&mut self, text: &[u8]) -> Result<(), AllocError>
         ensures { OnOk result (self.new.text ≡ self.old.text ++ text.now) }
     {
-        self.make_room(text.len())?;
+        self.reserve(text.len())?;
         self.put(text);
         Ok(())
     }
@@ -143,7 +143,7 @@ impl<A: Allocator + Copy> TextBuffer<A> {
     pub fn push_number(&mut self, number: u64) -> Result<(), AllocError>
         ensures { OnOk result (self.new.text ≡ self.old.text ++ decimal number) }
     {
-        self.make_room(MOST_DIGITS)?;
+        self.reserve(MOST_DIGITS)?;
         self.put_number(number);
         Ok(())
     }
@@ -153,7 +153,7 @@ impl<A: Allocator + Copy> TextBuffer<A> {
     pub fn push_value(&mut self, value: i64) -> Result<(), AllocError>
         ensures { OnOk result (self.new.text ≡ self.old.text ++ signed_decimal value) }
     {
-        self.make_room(MOST_DIGITS + 1)?;
+        self.reserve(MOST_DIGITS + 1)?;
         self.put_value(value);
         Ok(())
     }

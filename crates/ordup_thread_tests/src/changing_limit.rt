@@ -2,7 +2,7 @@
 //! x is k.
 //!
 //! An update is acknowledged only where the site lags by no more than its limit in force then. So once a proposal is answered, the site
-//! has applied all updates up to it but so many; a read there tells how many it has applied.
+//! lacks no more of the updates up to it than the limit allows; a read there tells how many it has applied.
 use crate::fixtures::{TRIES, a, adding, apply_at, propose, set_of, x, x_and_y};
 use ordup_audit::{Verdict, check};
 use ordup_cluster::{Cluster, OpenGate, SeenValue, Session};
@@ -48,7 +48,7 @@ struct Told {
     ended: AtomicU64,
 }
 
-/// Declares x at 0, the site a with the high limit and room for more updates than that, and the site b without a limit.
+/// Declares x at 0, the site a with the high limit and a capacity of more updates than that, and the site b without a limit.
 fn declare(setup: &mut Setup) -> Result<(), Refusal> {
     setup.object(b"x", 0)?;
     let a = setup.site(b"a", 128)?;
@@ -85,7 +85,7 @@ fn read_applied<R: Wait + Abort>(
     }
 }
 
-/// The greatest limit that may be in force after so many changes.
+/// The greatest limit that may be in force after this many changes.
 fn limit_after(changes: u64) -> u64 {
     if changes % 2 == 1 { LOW } else { HIGH }
 }
@@ -159,7 +159,7 @@ fn change_to<R: Wait + Abort>(rt: &R, cluster: &Cluster, amount: u64) -> u64 {
     panic!(rt; "the limit does not change")
 }
 
-/// Waits until so many acknowledgements were compared with the limit as it is now.
+/// Waits until this many acknowledgements were compared with the limit as it is now.
 fn await_comparisons(rt: &impl Abort, told: &Told) {
     let before = told.compared.load(Ordering::SeqCst);
     for _ in 0..TRIES {

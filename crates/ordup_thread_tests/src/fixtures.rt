@@ -88,7 +88,7 @@ pub fn apply_at<G: Gate, R: Wait + Abort>(rt: &R, cluster: &Cluster, site: u8, g
     cluster.applier(rt, site, gate)
 }
 
-/// Waits until a flag is raised, and answers whether it was within so many tries.
+/// Waits until a flag is raised, and answers whether it was within this many tries.
 pub fn is_raised_within(flag: &AtomicBool, tries: u64) -> bool {
     for _ in 0..tries {
         if flag.load(Ordering::SeqCst) {

@@ -11,7 +11,7 @@ use std::test::Fail;
 use std::thread;
 use std::thread::Threads;
 
-/// Declares x and y, and the sites a and b without limits, each with room for 4 updates.
+/// Declares x and y, and the sites a and b without limits, each with a capacity of 4 updates.
 fn declare(setup: &mut Setup) -> Result<(), Refusal> {
     setup.object(b"x", 0)?;
     setup.object(b"y", 10)?;

@@ -14,7 +14,7 @@ pub enum Held {
     AtApply,
 }
 
-/// Holds the site a up before its first update until it is opened, or so many tries were in vain.
+/// Holds the site a up before its first update until it is opened, or this many tries were in vain.
 #[derive(Drop)]
 pub struct HoldingGate {
     by: Held,

@@ -12,7 +12,7 @@ use std::test::Fail;
 use std::thread;
 use std::thread::Threads;
 
-/// Declares x at 0 and the site a, which has room for one update.
+/// Declares x at 0 and the site a, which has a capacity of one update.
 fn declare(setup: &mut Setup) -> Result<(), Refusal> {
     setup.object(b"x", 0)?;
     let a = setup.site(b"a", 1)?;

@@ -36,7 +36,7 @@ fn opened(rt: &impl Abort, alloc: Global) -> Result<Cluster, Refusal> {
     Cluster::new(alloc, setup)
 }
 
-/// The value of an object after so many updates.
+/// The value of an object after this many updates.
 fn value_after(object: ObjectId, updates: u64) -> i64 {
     let updates = updates.min(1_000_000) as i64;
     if object == x() {

@@ -53,7 +53,7 @@ fn propose<R: Wait + Abort>(
     assert_eq!(rt; answer, Err(Refusal::NotYet { number }));
 }
 
-/// Waits for an update by so many turns, and sees this answer.
+/// Waits for an update by this many turns, and sees this answer.
 fn expect_settled<R: Wait + Abort>(
     rt: &R,
     cluster: &Cluster,
@@ -69,7 +69,7 @@ fn expect_settled<R: Wait + Abort>(
     );
 }
 
-/// Reads at a until it has applied so many updates.
+/// Reads at a until it has applied this many updates.
 fn wait_for_a<R: Wait + Abort>(rt: &R, cluster: &Cluster, applied: u64) {
     for _ in 0..TRIES {
         let Ok(seen) = cluster.read(rt, &mut Session::new(), a(), x()) else {

@@ -15,7 +15,7 @@ use std::test::Fail;
 use std::thread;
 use std::thread::Threads;
 
-/// Declares x and y, and a site with room for one update, which may lag by three.
+/// Declares x and y, and a site with a capacity of one update, which may lag by three.
 fn declare(setup: &mut Setup) -> Result<(), Refusal> {
     setup.object(b"x", 0)?;
     setup.object(b"y", 10)?;

@@ -33,7 +33,7 @@ KeepsLimits-sound w is s d lt =
 abbrev pub no_site : SiteState
 no_site = record { applied = 0; values = []; travelled = [] }
 
--- a store with one update more, or with so many acknowledged
+-- a store with one update more, or with this many acknowledged
 abbrev pub with_proposed : StoreState → List Change → StoreState
 with_proposed w m = record w { primary = record w.primary { log = with_update w.primary.log m } }
 
@@ -44,7 +44,7 @@ with_acked w acked = record w { primary = record w.primary { acked = acked } }
 abbrev pub with_relimited : StoreState → ℕ → Scope → ℕ → StoreState
 with_relimited w s scope amount = record w { primary = relimited w.primary s scope amount }
 
--- a store whose primary knows something else of a site: one update more was sent to it, or it reported so many
+-- a store whose primary knows something else of a site: one update more was sent to it, or it reported this many
 abbrev pub with_progress : StoreState → ℕ → SiteProgress → StoreState
 with_progress w s x = record w { primary = record w.primary { sites = set w.primary.sites s x } }
 

@@ -17,7 +17,7 @@ use std::alloc::{Allocator, Global};
 /// Starts a store and takes the events in their order. An event that is refused leaves all as it was.
 ///
 /// It is refused `Empty` where the setup lacks an object or a site, and `NoMemory` where there is none for the start or for
-/// the list of answers, whose room it takes before the first event.
+/// the list of answers, whose memory it takes before the first event.
 pub fn run<A: Allocator + Copy>(
     alloc: A,
     setup: Setup<A>,
@@ -42,7 +42,7 @@ pub fn run<A: Allocator + Copy>(
     Ok(Run { world, answers })
 }
 
-/// A started store, and no answers yet, with room for so many.
+/// A started store, and no answers yet, with memory for `count` of them.
 fn start<A: Allocator + Copy>(
     alloc: A,
     setup: Setup<A>,

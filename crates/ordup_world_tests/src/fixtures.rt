@@ -23,7 +23,7 @@ fn declare_site(setup: &mut Setup) -> Result<(), Refusal> {
     Ok(())
 }
 
-/// The message set of one change, of the object at this place.
+/// The message set of one change, of the object at this index.
 pub(crate) fn set_of(objects: &ObjectTable, object: u16, op: Op) -> Result<MessageSet, Refusal> {
     let change = Change {
         object: ObjectId::new(object),

@@ -1,6 +1,6 @@
 ghost use Rattle.std.specs.Prelude.{◌≡◌, ◌≤◌, ◌<◌, ℕ, true, All, length};
 ghost use Rattle.ordup_primary.specs.Primaries.{IsPrimary, HasFewestRounds, is_lag_within, progress_at};
-ghost use Rattle.ordup_cluster.specs.Books.{KeepsBook, AreRooms};
+ghost use Rattle.ordup_cluster.specs.Books.{KeepsBook, AreSpareValues};
 
 use ordup_feed::SendEnd;
 use ordup_limits::later_spans_keep_limits;
@@ -13,8 +13,8 @@ use std::marker::Model;
 pub struct Book {
     pub(crate) primary: Primary,
     pub(crate) ends: Vec<SendEnd>,
-    /// The initial values of the objects once for each site: the room in which the log is applied again at the end.
-    rooms: Vec<Values>,
+    /// The initial values of the objects once for each site, to which the log is applied again at the end.
+    spare_values: Vec<Values>,
 }
 
 impl Model for Book {
@@ -31,15 +31,15 @@ impl Model for Book {
 
 impl Book {
     /// A book of a primary, with the end of each site's feed and the initial values once for each site.
-    pub fn new(primary: Primary, ends: Vec<SendEnd>, rooms: Vec<Values>) -> Book
+    pub fn new(primary: Primary, ends: Vec<SendEnd>, spare_values: Vec<Values>) -> Book
         requires ends { KeepsBook primary ends.items }
-        requires rooms { AreRooms primary rooms.items }
+        requires rooms { AreSpareValues primary spare_values.items }
         ensures { result ≡ record { primary = primary; ends = ends.items } }
     {
         Book {
             primary,
             ends,
-            rooms,
+            spare_values,
         }
     }
 
@@ -63,13 +63,13 @@ impl Book {
     /// The primary, and the initial values of its objects once for each site.
     pub fn into_parts(self) -> (Primary, Vec<Values>)
         ensures primary { result.0 ≡ self.primary }
-        ensures rooms { AreRooms result.0 result.1.items }
+        ensures rooms { AreSpareValues result.0 result.1.items }
     {
         let Book {
             primary,
             ends: _,
-            rooms,
+            spare_values,
         } = self;
-        (primary, rooms)
+        (primary, spare_values)
     }
 }

@@ -24,9 +24,9 @@ pub fn open(alloc: Global, setup: Setup) -> Result<(Book, Vec<SiteCell>), Refusa
         return Err(Refusal::Empty);
     }
     let (ends, cells) = first_feeds(alloc, &setup)?;
-    let rooms = first_rooms(alloc, &setup)?;
+    let spare_values = first_spare_values(alloc, &setup)?;
     let primary = Primary::new(alloc, setup)?;
-    Ok((Book::new(primary, ends, rooms), cells))
+    Ok((Book::new(primary, ends, spare_values), cells))
 }
 
 /// For each site a feed, whose ends are those of the book and of the site's cell.
@@ -65,17 +65,17 @@ fn add_feed(
 }
 
 /// The initial values of the objects, once for each site.
-fn first_rooms(alloc: Global, setup: &Setup) -> Result<Vec<Values>, Refusal>
-    ensures count { IfOk result (λ rooms. length rooms.items ≡ length setup.now.sites) }
-    ensures values { IfOk result (λ rooms. All (λ v. v ≡ initial_state setup.now.objects) rooms.items) }
+fn first_spare_values(alloc: Global, setup: &Setup) -> Result<Vec<Values>, Refusal>
+    ensures count { IfOk result (λ spare_values. length spare_values.items ≡ length setup.now.sites) }
+    ensures values { IfOk result (λ spare_values. All (λ v. v ≡ initial_state setup.now.objects) spare_values.items) }
     ensures refused { IfErr result (λ e. e ≡ Refusal.NoMemory) }
 {
-    let mut rooms = Vec::new(alloc);
+    let mut spare_values = Vec::new(alloc);
     for _ in 0..setup.sites() {
         let values = Values::initial(alloc, setup.objects())?;
-        if rooms.push(values).is_err() {
+        if spare_values.push(values).is_err() {
             return Err(Refusal::NoMemory);
         }
     }
-    Ok(rooms)
+    Ok(spare_values)
 }

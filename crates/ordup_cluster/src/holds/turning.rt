@@ -11,7 +11,7 @@ use ordup_primary::{Primary, Settled, next_updates_may_follow};
 use std::sync::Wait;
 
 /// One turn of a book: for each site a look at its feed, whose number the site then reports; settlements while they acknowledge the
-/// head; and for each site the updates that it may be sent, while its feed has room. It answers how many updates are acknowledged.
+/// head; and for each site the updates that it may be sent, while its feed is not full. It answers how many updates are acknowledged.
 ///
 /// It is refused `NoMemory` as soon as a growth is refused. What was made before it stands.
 pub fn turn<R: Wait>(rt: &R, book: &mut Book) -> Result<u64, Refusal>
@@ -72,7 +72,7 @@ fn settle_all(primary: &mut Primary) -> Result<(), Refusal>
     Ok(())
 }
 
-/// For each site the updates that it may be sent, while its feed has room.
+/// For each site the updates that it may be sent, while its feed is not full.
 fn send_all<R: Wait>(rt: &R, primary: &mut Primary, ends: &mut Vec<SendEnd>) -> Result<(), Refusal>
     requires kept { KeepsBook primary.old ends.old.items }
     ensures kept { KeepsBook primary.new ends.new.items }
@@ -89,7 +89,7 @@ fn send_all<R: Wait>(rt: &R, primary: &mut Primary, ends: &mut Vec<SendEnd>) -> 
     Ok(())
 }
 
-/// The updates that a site may be sent, while its feed has room.
+/// The updates that a site may be sent, while its feed is not full.
 fn send<R: Wait>(
     rt: &R,
     primary: &mut Primary,

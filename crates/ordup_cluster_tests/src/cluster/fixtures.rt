@@ -10,7 +10,7 @@ use std::alloc::Global;
 use std::process::Abort;
 use std::sync::Wait;
 
-/// A cluster of the site a, whose feed has room for 4 updates, with this limit on that scope.
+/// A cluster of the site a, whose feed has a capacity of 4 updates, with this limit on that scope.
 pub fn opened(
     rt: &impl Abort,
     alloc: Global,
@@ -38,7 +38,7 @@ pub fn add(rt: &impl Abort, alloc: Global, object: ObjectId, n: i64) -> MessageS
     set
 }
 
-/// Reads x at a site in a session, and sees this value, and that the site has applied so many updates.
+/// Reads x at a site in a session, and sees this value, and that the site has applied this many updates.
 pub fn expect_seen<R: Wait + Abort>(
     rt: &R,
     cluster: &Cluster,
@@ -53,7 +53,7 @@ pub fn expect_seen<R: Wait + Abort>(
     );
 }
 
-/// Sees that a site, which has applied so many updates, is behind a session that reads x there.
+/// Sees that a site, which has applied this many updates, is behind a session that reads x there.
 pub fn expect_behind<R: Wait + Abort>(
     rt: &R,
     cluster: &Cluster,
@@ -67,7 +67,7 @@ pub fn expect_behind<R: Wait + Abort>(
     );
 }
 
-/// Proposes a set with so many turns in a session, and sees this answer.
+/// Proposes a set with this many turns in a session, and sees this answer.
 pub fn expect_proposed<R: Wait + Abort>(
     rt: &R,
     cluster: &Cluster,
@@ -81,7 +81,7 @@ pub fn expect_proposed<R: Wait + Abort>(
     assert_eq!(rt; cluster.propose(rt, session, set, turns), answer);
 }
 
-/// Waits for an update for so many turns in a session, and sees this answer.
+/// Waits for an update for this many turns in a session, and sees this answer.
 pub fn expect_settled<R: Wait + Abort>(
     rt: &R,
     cluster: &Cluster,
@@ -95,7 +95,7 @@ pub fn expect_settled<R: Wait + Abort>(
     assert_eq!(rt; cluster.settle(rt, session, number, turns), answer);
 }
 
-/// A site applies what it was sent, which are so many updates; the cluster is stopped.
+/// A site applies what it was sent, which are this many updates; the cluster is stopped.
 pub fn expect_applied<R: Wait + Abort>(rt: &R, cluster: &Cluster, site: SiteId, updates: u64) {
     assert!(rt; site.index() < cluster.sites());
     assert_eq!(rt; cluster.applier(rt, site, &OpenGate), updates);
@@ -106,7 +106,7 @@ pub fn apply_at<R: Wait + Abort>(rt: &R, cluster: &Cluster, site: SiteId) {
     expect_applied(rt, cluster, site, 1);
 }
 
-/// Sees that a site of a closed cluster has applied so many updates.
+/// Sees that a site of a closed cluster has applied this many updates.
 pub fn expect_held(rt: &impl Abort, closed: &Closed, site: SiteId, updates: u64) {
     let primary = closed.primary();
     // For the proof: there are as many sites as were declared.
@@ -115,7 +115,7 @@ pub fn expect_held(rt: &impl Abort, closed: &Closed, site: SiteId, updates: u64)
     assert_eq!(rt; closed.site(site).applied(), updates);
 }
 
-/// Closes a cluster. Its log has so many updates; this is what the site a holds of x, and its windows are these.
+/// Closes a cluster. Its log has this many updates; this is what the site a holds of x, and its windows are these.
 pub fn expect_closed(
     rt: &impl Abort,
     cluster: Cluster,

@@ -9,7 +9,7 @@ use std::sync::Wait;
 use std::sync::atomic::{AtomicU64, Ordering};
 use std::test::Fail;
 
-/// A gate that notes each call by three digits: 1 for `before_apply` and 2 for `at_apply`, the place of the site, and the number.
+/// A gate that notes each call by three digits: 1 for `before_apply` and 2 for `at_apply`, the index of the site, and the number.
 ///
 /// It stops the cluster in each `at_apply`. Where it overtakes, all that was sent to the site is applied in each `before_apply`.
 #[derive(Drop)]

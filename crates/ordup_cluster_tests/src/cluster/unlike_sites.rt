@@ -1,4 +1,4 @@
-//! Two sites that differ: a has room for two updates and may lag by four, b has room for three and no limit.
+//! Two sites that differ: a has a capacity of two updates and may lag by four, b has a capacity of three and no limit.
 use super::fixtures::{self, add, expect_applied, expect_closed, expect_proposed};
 use crate::fixtures::{a, b, declared, seen, x};
 use ordup_cluster::{Cluster, Session};
@@ -30,7 +30,7 @@ fn propose_five<R: Wait + Abort>(rt: &R, alloc: Global, cluster: &Cluster) {
     cluster.stop();
 }
 
-/// The fifth update is acknowledged by what a applies alone, two at a time. Then b applies what it has room for.
+/// The fifth update is acknowledged by what a applies alone, two at a time. Then b applies what its feed could take.
 fn apply_at_a_and_then_b<R: Wait + Abort>(rt: &R, cluster: &Cluster) {
     for updates in [2, 2, 1] {
         expect_settled(rt, cluster, Err(Refusal::NotYet { number: 5 }));

@@ -22,7 +22,7 @@ const TRIES: u64 = 10_000_000;
 /// How many parcels go through a feed.
 const PARCELS: u64 = 1_000;
 
-/// Pushes a parcel as soon as there is room.
+/// Pushes a parcel as soon as the feed is not full.
 fn push<R: Wait + Abort>(rt: &R, end: &mut SendEnd, mut parcel: Parcel)
     requires { IsNext end.old.start end.old.pushed parcel }
     ensures start { end.new.start ≡ end.old.start }

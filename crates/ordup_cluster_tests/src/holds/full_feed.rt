@@ -23,7 +23,7 @@ fn take_all<R: Wait + Abort>(rt: &R, cell: &mut SiteCell, first: u64, last: u64)
     expect_taken(rt, cell, None);
 }
 
-/// Sees that so many updates were sent to the first site, and that it reported so many.
+/// Sees that this many updates were sent to the first site, and that it reported this many.
 fn expect_known(rt: &impl Abort, book: &Book, sent: u64, reported: u64) {
     let primary = book.primary();
     assert!(rt; primary.setup().sites() > 0);
@@ -33,13 +33,13 @@ fn expect_known(rt: &impl Abort, book: &Book, sent: u64, reported: u64) {
     );
 }
 
-/// Five updates through a feed with room for two.
+/// Five updates through a feed with a capacity of two.
 fn fill_and_empty<R: Wait + Abort>(rt: &R, book: &mut Book, cell: &mut SiteCell) {
     number_all(rt, book, 1, 5);
     // No limit holds an update back.
     expect_turn(rt, book, 5);
     expect_known(rt, book, 2, 0);
-    // Nothing was taken, so there is no room.
+    // Nothing was taken, so the feed is full.
     expect_turn(rt, book, 5);
     expect_known(rt, book, 2, 0);
     take_all(rt, cell, 1, 2);
@@ -65,7 +65,7 @@ fn sends_stop_at_a_full_feed_and_go_on_once_there_is_room(rt: HostRuntime) -> Re
     Ok(())
 }
 
-/// Takes one update at a time from a feed with room for three.
+/// Takes one update at a time from a feed with a capacity of three.
 fn take_one_by_one<R: Wait + Abort>(rt: &R, book: &mut Book, cell: &mut SiteCell) {
     number_all(rt, book, 1, 5);
     expect_turn(rt, book, 5);
@@ -91,7 +91,7 @@ fn each_update_that_is_taken_makes_room_for_one(rt: HostRuntime) -> Result<(), F
     Ok(())
 }
 
-/// Three updates more than the largest feed has room for.
+/// Three updates more than the largest feed can take.
 fn overfill<R: Wait + Abort>(rt: &R, book: &mut Book, cell: &mut SiteCell) {
     number_all(rt, book, 1, 1_027);
     expect_turn(rt, book, 1_027);
@@ -117,7 +117,7 @@ fn the_largest_feed_loses_nothing(rt: HostRuntime) -> Result<(), Fail> {
     Ok(())
 }
 
-/// Three updates for two sites, of which the first has room for one.
+/// Three updates for two sites, of which the first has a capacity of one.
 fn fill_the_first<R: Wait + Abort>(rt: &R, book: &mut Book) {
     number_all(rt, book, 1, 3);
     expect_turn(rt, book, 3);

@@ -1,9 +1,9 @@
 use Rattle.std.proofs.Common.{◌≡◌, ◌++◌, length}
-use Rattle.ordup_answers.specs.Places.{places_among}
+use Rattle.ordup_answers.specs.Places.{indices_among}
 use Rattle.ordup_answers.proofs.places.find_objects.Given as goal
 
 abbrev pub invariant-loop-name : goal.invariant-loop-name
-invariant-loop-name g l = l.found.items ++ places_among l.objects l.rest ≡ places_among l.objects l.names
+invariant-loop-name g l = l.found.items ++ indices_among l.objects l.rest ≡ indices_among l.objects l.names
 
 abbrev pub decreases-loop-name : goal.decreases-loop-name
 decreases-loop-name g l = length l.rest

@@ -15,7 +15,7 @@ returns g c =
       c.put-3.ensures.text,
       c.put-2.ensures.text,
       c.put.ensures.text,
-      c.make_room.ensures.text,
+      c.reserve.ensures.text,
       c.in_ok-push-2.ensures,
       c.in_ok-push.ensures,
       to_z-of_z w64 c.args.answer.value (search rules),

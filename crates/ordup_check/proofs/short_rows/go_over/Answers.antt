@@ -12,25 +12,25 @@ returns-in_default-clause-text c =
     let bytes = c.args.bytes.now in
     let within : c.loop-i.i < length bytes = omega arith in
     over_none bytes c.loop-i.i (get_or bytes c.loop-i.i 0) (λ more. ends_at_long_row c.args.start c.args.room (bytes ++ more))
-    c.loop-i.place c.loop-i.left (take_more bytes c.loop-i.i 0 within) (drop_more bytes c.loop-i.i 0 within) c.loop-i.invariant
-    (rw c.after-place.ensures at (sym c.left_after.ensures ∙ c.in_default.is))
+    c.loop-i.state c.loop-i.left (take_more bytes c.loop-i.i 0 within) (drop_more bytes c.loop-i.i 0 within) c.loop-i.invariant
+    (rw c.after-state.ensures at (sym c.left_after.ensures ∙ c.in_default.is))
 
 pub loop-i-preserved : goal.loop-i-preserved
 loop-i-preserved c =
     let bytes = c.args.bytes.now in
     let within : c.loop-i.i < length bytes = omega arith in
-    rw c.after-place.ensures
+    rw c.after-state.ensures
     (over_some bytes c.loop-i.i (get_or bytes c.loop-i.i 0) (λ more. ends_at_long_row c.args.start c.args.room (bytes ++ more))
-    c.loop-i.place c.loop-i.left (take_more bytes c.loop-i.i 0 within) (drop_more bytes c.loop-i.i 0 within) c.loop-i.invariant
-    c.in-Some.next (rw c.after-place.ensures at (sym c.left_after.ensures ∙ c.in-Some.is)))
+    c.loop-i.state c.loop-i.left (take_more bytes c.loop-i.i 0 within) (drop_more bytes c.loop-i.i 0 within) c.loop-i.invariant
+    c.in-Some.next (rw c.after-state.ensures at (sym c.left_after.ensures ∙ c.in-Some.is)))
 
 pub returns-clause-text : goal.returns-clause-text
 returns-clause-text c more =
     let bytes = c.args.bytes.now in
-    let place = c.loop-i.place in
+    let state = c.loop-i.state in
     let left = c.loop-i.left in
     let all : length bytes ≤ c.loop-i.i = c.loop-i-test.false in
-    let whole : take c.loop-i.i bytes ++ ends_at_long_row place left (drop c.loop-i.i bytes ++ more)
-    ≡ take (length bytes) bytes ++ ends_at_long_row place left more =
+    let whole : take c.loop-i.i bytes ++ ends_at_long_row state left (drop c.loop-i.i bytes ++ more)
+    ≡ take (length bytes) bytes ++ ends_at_long_row state left more =
     rw (drop_all c.loop-i.i bytes all, take_all c.loop-i.i bytes all, take_all (length bytes) bytes (omega arith)) refl in
     c.loop-i.invariant more ∙ whole

@@ -6,4 +6,4 @@ use Rattle.ordup_check.proofs.short_rows.go_over.Given as goal
 abbrev pub invariant-loop-i : goal.invariant-loop-i
 invariant-loop-i l =
     (more : List ℕ) → ends_at_long_row l.fn.start l.fn.room (l.bytes ++ more)
-    ≡ take l.i l.bytes ++ ends_at_long_row l.place l.left (drop l.i l.bytes ++ more)
+    ≡ take l.i l.bytes ++ ends_at_long_row l.state l.left (drop l.i l.bytes ++ more)

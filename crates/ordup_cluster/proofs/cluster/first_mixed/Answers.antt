@@ -11,7 +11,7 @@ loop-place-preserved c =
     let here : c.loop-place.place < length c.args.sites.now.items = search rules in
     let agrees = rw c.new-site.ensures at (c.if-not-agree.ensures.0 (search rules)) in
     record {
-      rooms = rw c.in-Some.ensures.rest (All-take (λ v. v ≡ c.args.primary.now.log.start) _ _ before.rooms);
+      spare_values = rw c.in-Some.ensures.rest (All-take (λ v. v ≡ c.args.primary.now.log.start) _ _ before.spare_values);
       count = search rules;
       agree =
           agree-more c.loop-place.place c.args.primary.now sites c.index.result.now before.agree

@@ -6,7 +6,7 @@ use Rattle.ordup_cluster.proofs.cluster.first_mixed.Given as goal
 -- the sites so far agree, and each of the others has its initial values
 abbrev pub invariant-loop-place : goal.invariant-loop-place
 invariant-loop-place l = record {
-  rooms : All (λ v. v ≡ l.primary.log.start) l.rooms.items;
-  count : l.place + length l.rooms.items ≡ length l.primary.sites;
+  spare_values : All (λ v. v ≡ l.primary.log.start) l.spare_values.items;
+  count : l.place + length l.spare_values.items ≡ length l.primary.sites;
   agree : AgreeBelow l.place l.primary l.sites.items;
 }

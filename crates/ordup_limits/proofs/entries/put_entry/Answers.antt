@@ -9,9 +9,9 @@ pub returns-clause-changed : goal.returns-clause-changed
 returns-clause-changed g c =
     let entries = c.args.entries.now.items in
     let entry = c.args.entry.now in
-    elim c.match-place_of.branch [
-      | in-Some w ↦ (let here : c.match-place_of.entries.items ≡ set entries w.in-Some.place entry = rw w.entries-is (search rules) in
+    elim c.match-index_of.branch [
+      | in-Some w ↦ (let here : c.match-index_of.entries.items ≡ set entries w.in-Some.place entry = rw w.entries-is (search rules) in
           here ∙ sym (put-at are_one_entry entries entry w.in-Some.place (rw c.as_slice.ensures.value at w.in-Some.ensures)))
-      | in-None+else-is_err w ↦ (let here : c.match-place_of.entries.items ≡ entries ++ entry ∷ [] = rw w.entries-is (search rules) in
+      | in-None+else-is_err w ↦ (let here : c.match-index_of.entries.items ≡ entries ++ entry ∷ [] = rw w.entries-is (search rules) in
           here ∙ sym (put-last are_one_entry entries entry (rw c.as_slice.ensures.value at w.in-None.ensures)))
     ]

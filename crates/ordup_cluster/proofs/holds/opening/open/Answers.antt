@@ -13,9 +13,9 @@ new-requires-2-clause-ends c =
 pub new-requires-2-clause-rooms : goal.new-requires-2-clause-rooms
 new-requires-2-clause-rooms c =
     let made = c.in_ok-primary.ensures in
-    let rooms = c.in_ok-rooms.ensures in (
-      rw made.sites (rooms.count ∙ sym (length-replicate (length c.args.setup.sites) first_progress)),
-      rw made.log rooms.values,
+    let spare_values = c.in_ok-spare_values.ensures in (
+      rw made.sites (spare_values.count ∙ sym (length-replicate (length c.args.setup.sites) first_progress)),
+      rw made.log spare_values.values,
     )
 
 pub returns-clause-opened : goal.returns-clause-opened

@@ -15,7 +15,7 @@ returns-in_err-place-clause-refused c =
 pub invariant_of-book-2 : goal.invariant_of-book-2
 invariant_of-book-2 c =
     rw c.in_ok-place.ensures.changed
-    (record { kept = keeps-relimited _ _ _ _ _ c.book.invariant.kept; rooms = c.book.invariant.rooms })
+    (record { kept = keeps-relimited _ _ _ _ _ c.book.invariant.kept; spare_values = c.book.invariant.spare_values })
 
 pub returns-clause-allowed : goal.returns-clause-allowed
 returns-clause-allowed c =

@@ -1,6 +1,6 @@
 use Rattle.std.proofs.Common.{ap, ◌∙◌}
 use Rattle.ordup_primary.specs.Primaries.{PrimaryState}
-use Rattle.ordup_cluster.proofs.BookLemmas.{keeps-settled, rooms-kept, rooms-turned}
+use Rattle.ordup_cluster.proofs.BookLemmas.{keeps-settled, spare_values-kept, spare_values-turned}
 use Rattle.ordup_cluster.proofs.holds.turning.turn.Goals as goal
 
 pub invariant_of-book : goal.invariant_of-book
@@ -9,9 +9,9 @@ invariant_of-book g c =
     let feeds = c.settle_all.ensures.feeds in
     record {
       kept = keeps-settled _ _ _ feeds c.report_all.ensures.kept;
-      rooms =
-          rooms-kept c.book.inside.primary c.settle_all.new.primary _ (feeds.log ∙ ap (λ (p : PrimaryState). p.log) reported.primary)
-          (feeds.count ∙ reported.sites) c.book.invariant.rooms;
+      spare_values =
+          spare_values-kept c.book.inside.primary c.settle_all.new.primary _ (feeds.log ∙ ap (λ (p : PrimaryState). p.log) reported.primary)
+          (feeds.count ∙ reported.sites) c.book.invariant.spare_values;
     }
 
 pub send_all-requires : goal.send_all-requires
@@ -21,12 +21,12 @@ pub invariant_of-book-2 : goal.invariant_of-book-2
 invariant_of-book-2 g c =
     record {
       kept = c.send_all.ensures.kept;
-      rooms = rooms-turned _ c.report_all.ensures.reported c.settle_all.ensures.feeds c.send_all.ensures.sent c.book.invariant.rooms;
+      spare_values = spare_values-turned _ c.report_all.ensures.reported c.settle_all.ensures.feeds c.send_all.ensures.sent c.book.invariant.spare_values;
     }
 
 pub invariant_of-book-in_err-send_all : goal.invariant_of-book-in_err-send_all
 invariant_of-book-in_err-send_all g c =
     record {
       kept = c.send_all.ensures.kept;
-      rooms = rooms-turned _ c.report_all.ensures.reported c.settle_all.ensures.feeds c.send_all.ensures.sent c.book.invariant.rooms;
+      spare_values = spare_values-turned _ c.report_all.ensures.reported c.settle_all.ensures.feeds c.send_all.ensures.sent c.book.invariant.spare_values;
     }

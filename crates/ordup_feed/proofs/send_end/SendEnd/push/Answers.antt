@@ -21,7 +21,7 @@ invariant_of-self g c =
     record {
       queue = (pass.0 ∙ old.queue.0, pass.2 ∙ old.queue.1);
       sender = rw c.in-Ok.ensures.rule refl;
-      word = old.word;
+      counter = old.counter;
       knows = old.knows;
       counted =
           rw c.in-Ok.ensures.rule

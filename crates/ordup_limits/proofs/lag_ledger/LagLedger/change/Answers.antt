@@ -16,7 +16,7 @@ pub put_scope-requires-clause-limit : goal.put_scope-requires-clause-limit
 put_scope-requires-clause-limit g c =
     let l : Limit = record { scope = c.args.scope; amount = c.args.amount } in
     let same = ap (λ (k : LedgerState). k.limits) (rw (← c.self.view_is) at c.prepare.ensures.rest) in
-    place-small c.args.self.now.limits c.self.inside.limits l c.place_for-place.result same c.place_for-place.ensures c.requires.room
+    place-small c.args.self.now.limits c.self.inside.limits l c.index_for-place.result same c.index_for-place.ensures c.requires.room
     c.self.invariant.ledger.few
 
 pub index_mut-requires : goal.index_mut-requires
@@ -25,7 +25,7 @@ index_mut-requires g c =
     let same = ap (λ (k : LedgerState). k.limits) (rw (← c.self.view_is) at c.prepare.ensures.rest) in
     omega (
       arith,
-      place-small c.args.self.now.limits c.self.inside.limits l c.place_for-place.result same c.place_for-place.ensures c.requires.room
+      place-small c.args.self.now.limits c.self.inside.limits l c.index_for-place.result same c.index_for-place.ensures c.requires.room
           c.self.invariant.ledger.few,
       c.self.invariant.ledger.taken,
       c.self.inside.taken.ok.0,
@@ -37,7 +37,7 @@ index_mut-requires-2 g c =
     let same = ap (λ (k : LedgerState). k.limits) (rw (← c.self.view_is) at c.prepare.ensures.rest) in
     omega (
       arith,
-      place-small c.args.self.now.limits c.self.inside.limits l c.place_for-place.result same c.place_for-place.ensures c.requires.room
+      place-small c.args.self.now.limits c.self.inside.limits l c.index_for-place.result same c.index_for-place.ensures c.requires.room
           c.self.invariant.ledger.few,
       c.self.invariant.ledger.added,
       c.self.inside.added.ok.0,
@@ -47,16 +47,16 @@ pub overflow_shl-mask : goal.overflow_shl-mask
 overflow_shl-mask g c =
     let l : Limit = record { scope = c.args.scope; amount = c.args.amount } in
     let same = ap (λ (k : LedgerState). k.limits) (rw (← c.self.view_is) at c.prepare.ensures.rest) in
-    place-small c.args.self.now.limits c.self.inside.limits l c.place_for-place.result same c.place_for-place.ensures c.requires.room
+    place-small c.args.self.now.limits c.self.inside.limits l c.index_for-place.result same c.index_for-place.ensures c.requires.room
     c.self.invariant.ledger.few
 
 pub passed_among-self-inside-requires-clause-mask : goal.passed_among-self-inside-requires-clause-mask
 passed_among-self-inside-requires-clause-mask g c =
     let l : Limit = record { scope = c.args.scope; amount = c.args.amount } in
     let same = ap (λ (k : LedgerState). k.limits) (rw (← c.self.view_is) at c.prepare.ensures.rest) in
-    rw (c.as_slice-2.ensures.limits, c.put.ensures) (IsBelow-put c.self.inside.limits l _ c.place_for-place.result c.self.inside.passed
-    c.self.invariant.passed c.place_for-place.ensures
-    (place-small c.args.self.now.limits c.self.inside.limits l c.place_for-place.result same c.place_for-place.ensures c.requires.room
+    rw (c.as_slice-2.ensures.limits, c.put.ensures) (IsBelow-put c.self.inside.limits l _ c.index_for-place.result c.self.inside.passed
+    c.self.invariant.passed c.index_for-place.ensures
+    (place-small c.args.self.now.limits c.self.inside.limits l c.index_for-place.result same c.index_for-place.ensures c.requires.room
     c.self.invariant.ledger.few))
 
 pub returns-clause-stands : goal.returns-clause-stands
@@ -65,11 +65,11 @@ returns-clause-stands g c =
     let groups = c.args.groups.now in
     let l : Limit = record { scope = c.args.scope; amount = c.args.amount } in
     let limits = c.self.inside.limits in
-    let place = c.place_for-place.result in
+    let place = c.index_for-place.result in
     let masks = rw (← c.self.view_is) at c.prepare.ensures.masks in
     let rest = rw (← c.self.view_is) at c.prepare.ensures.rest in
     let now = StandsFor-prepared (ledger_of c.self.inside) c.requires.stands rest masks in
-    let small = place-small c.args.self.now.limits limits l place (ap (λ (k : LedgerState). k.limits) rest) c.place_for-place.ensures
+    let small = place-small c.args.self.now.limits limits l place (ap (λ (k : LedgerState). k.limits) rest) c.index_for-place.ensures
     c.requires.room c.self.invariant.ledger.few in
     let legal = c.len-updates.ensures.legal in
     let are = c.len-groups.ensures.groups in
@@ -80,23 +80,23 @@ returns-clause-stands g c =
       reported = now.reported;
       extended = now.extended;
       taken = rw c.put.ensures (AreTotals-put h groups limits l c.self.inside.reported place c.weighed.result c.self.inside.taken.items
-          now.taken c.place_for-place.ensures (omega (arith, small, c.self.invariant.ledger.taken)) c.weighed.ensures
+          now.taken c.index_for-place.ensures (omega (arith, small, c.self.invariant.ledger.taken)) c.weighed.ensures
           (omega (arith, c.weighed.ensures, weighed-few h legal groups are l.scope c.requires.known c.self.inside.reported now.reported)));
       added = rw c.put.ensures (AreTotals-put h groups limits l c.self.inside.extended place c.weighed-2.result c.self.inside.added.items
-          now.added c.place_for-place.ensures (omega (arith, small, c.self.invariant.ledger.added)) c.weighed-2.ensures
+          now.added c.index_for-place.ensures (omega (arith, small, c.self.invariant.ledger.added)) c.weighed-2.ensures
           (omega (arith, c.weighed-2.ensures, weighed-few h legal groups are l.scope c.requires.known c.self.inside.extended now.extended)));
       masks = λ e. rw c.put.ensures (AreMasks-put groups limits l place c.self.inside.masks.items c.put_scope.new.masks.items masks
-          c.place_for-place.ensures c.put_scope.ensures.bits);
+          c.index_for-place.ensures c.put_scope.ensures.bits);
     }
 
 pub invariant_of-self : goal.invariant_of-self
 invariant_of-self g c =
     let l : Limit = record { scope = c.args.scope; amount = c.args.amount } in
     let k = c.self.inside in
-    let place = c.place_for-place.result in
+    let place = c.index_for-place.result in
     let before = c.self.invariant in
     let rest = rw (← c.self.view_is) at c.prepare.ensures.rest in
-    let small = place-small c.args.self.now.limits k.limits l place (ap (λ (s : LedgerState). s.limits) rest) c.place_for-place.ensures
+    let small = place-small c.args.self.now.limits k.limits l place (ap (λ (s : LedgerState). s.limits) rest) c.index_for-place.ensures
     c.requires.room before.ledger.few in
     record {
       ledger = record {
@@ -108,7 +108,7 @@ invariant_of-self g c =
       };
       counts = rw c.as_slice.ensures.limits at c.counts_of-self-inside.ensures;
       passed = rw c.put.ensures (IsMask-put k.limits l (k.extended - k.reported) place k.added.items _ k.taken.items _ k.passed
-          c.passed_among-self-inside.result before.passed c.place_for-place.ensures small
+          c.passed_among-self-inside.result before.passed c.index_for-place.ensures small
           (λ i other. get_or-set_other k.added.items place i c.weighed-2.result 0 other)
           (λ i other. get_or-set_other k.taken.items place i c.weighed.result 0 other)
           (rw (

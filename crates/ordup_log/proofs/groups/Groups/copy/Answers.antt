@@ -1,11 +1,11 @@
 use Rattle.std.proofs.Common.{arith, rules, ◌∙◌, take, ap}
 use Rattle.std.proofs.lemmas.List.{take_all}
-use Rattle.ordup_log.proofs.GroupLemmas.{groups_of, place_of-same, groups_of-next, are_groups-same}
+use Rattle.ordup_log.proofs.GroupLemmas.{groups_of, index_of-same, groups_of-next, are_groups-same}
 use Rattle.ordup_log.proofs.groups.Groups.copy.Goals as goal
 
 pub push-requires : goal.push-requires
 push-requires g c =
-    place_of-same c.at.result.0.now c.loop-place.groups (take c.loop-place.place c.self.inside.groups) c.loop-place.invariant
+    index_of-same c.at.result.0.now c.loop-place.groups (take c.loop-place.place c.self.inside.groups) c.loop-place.invariant
     ∙ c.at.ensures.first
 
 pub loop-place-preserved : goal.loop-place-preserved

@@ -47,11 +47,11 @@ invariant_of-self-in_err-reserve-4 g c =
     c.self.inside.postings c.reserve-4.new.self c.reserve.ensures.items c.reserve-2.ensures.items
     c.reserve-3.ensures.items refl (λ x d. refl) c.reserve-4.ensures.items
 
-pub invariant_of-self-in_err-take_room : goal.invariant_of-self-in_err-take_room
-invariant_of-self-in_err-take_room g c =
+pub invariant_of-self-in_err-reserve_postings : goal.invariant_of-self-in_err-reserve_postings
+invariant_of-self-in_err-reserve_postings g c =
     IsLog-same c.self.inside c.self.invariant c.reserve.new.self c.reserve-2.new.self c.reserve-3.new.self
-    c.take_room.new.postings c.reserve-4.new.self c.reserve.ensures.items c.reserve-2.ensures.items
-    c.reserve-3.ensures.items c.take_room.ensures.count c.take_room.ensures.same c.reserve-4.ensures.items
+    c.reserve_postings.new.postings c.reserve-4.new.self c.reserve.ensures.items c.reserve-2.ensures.items
+    c.reserve-3.ensures.items c.reserve_postings.ensures.count c.reserve_postings.ensures.same c.reserve-4.ensures.items
 
 pub returns-in_err-reserve-clause-refused : goal.returns-in_err-reserve-clause-refused
 returns-in_err-reserve-clause-refused g c =
@@ -73,9 +73,9 @@ returns-in_err-reserve-4-clause-refused g c =
     refused-memory c.from_residual-in_err-reserve-4.result _ c.from_residual-in_err-reserve-4.ensures.1
     (allowed c.self.inside c.self.invariant c.args.self.now c.args.set c.self.view_is (omega arith) (search rules))
 
-pub returns-in_err-take_room-clause-refused : goal.returns-in_err-take_room-clause-refused
-returns-in_err-take_room-clause-refused g c =
-    refused-memory c.from_residual-in_err-take_room.result _ c.from_residual-in_err-take_room.ensures.1
+pub returns-in_err-reserve_postings-clause-refused : goal.returns-in_err-reserve_postings-clause-refused
+returns-in_err-reserve_postings-clause-refused g c =
+    refused-memory c.from_residual-in_err-reserve_postings.result _ c.from_residual-in_err-reserve_postings.ensures.1
     (allowed c.self.inside c.self.invariant c.args.self.now c.args.set c.self.view_is (omega arith) (search rules))
 
 pub push_distances-requires-clause-known : goal.push_distances-requires-clause-known
@@ -95,7 +95,7 @@ part-distances-requires g c =
     )
 
 pub post_all-requires-clause-room : goal.post_all-requires-clause-room
-post_all-requires-clause-room g c = rw c.changes-2.ensures.changes (rw c.changes.ensures.changes at c.in_ok-take_room.ensures.room)
+post_all-requires-clause-room g c = rw c.changes-2.ensures.changes (rw c.changes.ensures.changes at c.in_ok-reserve_postings.ensures.room)
 
 pub post_all-requires-clause-few : goal.post_all-requires-clause-few
 post_all-requires-clause-few g c =
@@ -109,8 +109,8 @@ post_all-requires-clause-few g c =
     (omega (arith, ap length c.changes-count.ensures.changes, length-map c.args.set (distance_by c.self.inside.end))) in
     λ x d lt.
     rw c.changes-2.ensures.changes (posted-fits c.self.inside c.self.invariant c.args.set ds set legal are x d
-    (slice_index_or c.take_room.new.postings.items x d)
-    (omega (arith, lt, c.take_room.ensures.count, c.self.invariant.count)) (c.take_room.ensures.same x d))
+    (slice_index_or c.reserve_postings.new.postings.items x d)
+    (omega (arith, lt, c.reserve_postings.ensures.count, c.self.invariant.count)) (c.reserve_postings.ensures.same x d))
 
 pub total-requires : goal.total-requires
 total-requires g c =
@@ -175,10 +175,10 @@ invariant_of-self-2 g c =
     ∙ ap (λ xs. xs ++ c.len-begin.result ∷ []) c.reserve-3.ensures.items
     ∙ ap (λ n. c.self.inside.begins.items ++ n ∷ [])
     (omega (arith, c.reserve-2.new.self.ok.0, ap length c.reserve-2.ensures.items)))
-    (posts.count ∙ c.take_room.ensures.count)
+    (posts.count ∙ c.reserve_postings.ensures.count)
     (λ x d lt.
-    posts.each x d (omega (arith, lt, c.take_room.ensures.count))
-    ∙ ap (λ p. posted p (c.len-2.result + 1) (distance_beside c.args.set ds x)) (c.take_room.ensures.same x d))
+    posts.each x d (omega (arith, lt, c.reserve_postings.ensures.count))
+    ∙ ap (λ p. posted p (c.len-2.result + 1) (distance_beside c.args.set ds x)) (c.reserve_postings.ensures.same x d))
     (c.post.ensures
     ∙ ap (λ p. posted p (c.len-2.result + 1) c.total.result) c.reserve-4.ensures.items
     ∙ ap (posted c.self.inside.all.items (c.len-2.result + 1)) c.total.ensures)

@@ -1,7 +1,7 @@
 use Rattle.std.proofs.Common.{rules}
-use Rattle.ordup_objects.proofs.TableLemmas.{place_of-before}
+use Rattle.ordup_objects.proofs.TableLemmas.{index_of-before}
 use Rattle.ordup_objects.proofs.name_table.NameTable.at.Goals as goal
 
 pub returns-clause-first : goal.returns-clause-first
 returns-clause-first g c =
-    place_of-before c.args.self.now c.args.place c.unwrap.result.0.now c.unwrap.result.1.now (search rules) (search rules)
+    index_of-before c.args.self.now c.args.place c.unwrap.result.0.now c.unwrap.result.1.now (search rules) (search rules)

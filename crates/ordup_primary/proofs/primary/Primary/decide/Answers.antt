@@ -8,7 +8,7 @@ use Rattle.ordup_primary.proofs.primary.Primary.decide.Goals as goal
 pub invariant_of-self : goal.invariant_of-self
 invariant_of-self g c =
     let before = c.self.invariant in
-    let same = c.in_err-take_room.ensures.same in
+    let same = c.in_err-reserve_decision.ensures.same in
     record {
       primary = rw same before.primary;
       ledgers = rw same before.ledgers;
@@ -20,8 +20,8 @@ invariant_of-self-then-is_empty g c =
     let forced = c.as_slice.ensures ∙ rw (← is) at c.forced_now-forced.ensures.sites in
     let here = rw (← is) at c.requires.head in
     let decides =
-    Decides-at c.self.inside c.take_room.new.sites.items c.put_down.new.sites.items c.as_slice.result.now c.args.head
-    c.args.head c.in_ok-take_room.ensures.same forced c.put_down.ensures.count c.put_down.ensures.sites here
+    Decides-at c.self.inside c.reserve_decision.new.sites.items c.put_down.new.sites.items c.as_slice.result.now c.args.head
+    c.args.head c.in_ok-reserve_decision.ensures.same forced c.put_down.ensures.count c.put_down.ensures.sites here
     (acked-none c.self.inside.acked c.args.head c.as_slice.result.now
     (c.if-is_empty.ensures ∙ ap (λ xs. length xs == 0) (c.as_slice-2.ensures ∙ sym c.as_slice.ensures)) here) in
     record {
@@ -38,8 +38,8 @@ returns-then-is_empty-clause-decides g c =
     let is = c.self.view_is ∙ c.forced_now-forced.ensures.same in
     let forced = c.as_slice.ensures ∙ rw (← is) at c.forced_now-forced.ensures.sites in
     let here = rw (← is) at c.requires.head in
-    rw (← is) (Decides-at c.self.inside c.take_room.new.sites.items
-    c.put_down.new.sites.items c.as_slice.result.now c.args.head c.args.head c.in_ok-take_room.ensures.same forced
+    rw (← is) (Decides-at c.self.inside c.reserve_decision.new.sites.items
+    c.put_down.new.sites.items c.as_slice.result.now c.args.head c.args.head c.in_ok-reserve_decision.ensures.same forced
     c.put_down.ensures.count c.put_down.ensures.sites here (acked-none c.self.inside.acked c.args.head c.as_slice.result.now
     (c.if-is_empty.ensures ∙ ap (λ xs. length xs == 0) (c.as_slice-2.ensures ∙ sym c.as_slice.ensures)) here))
 
@@ -49,8 +49,8 @@ invariant_of-self-else-is_empty g c =
     let forced = c.as_slice.ensures ∙ rw (← is) at c.forced_now-forced.ensures.sites in
     let here = rw (← is) at c.requires.head in
     let decides =
-    Decides-at c.self.inside c.take_room.new.sites.items c.put_down.new.sites.items c.as_slice.result.now
-    c.self.inside.acked c.args.head c.in_ok-take_room.ensures.same forced c.put_down.ensures.count c.put_down.ensures.sites here
+    Decides-at c.self.inside c.reserve_decision.new.sites.items c.put_down.new.sites.items c.as_slice.result.now
+    c.self.inside.acked c.args.head c.in_ok-reserve_decision.ensures.same forced c.put_down.ensures.count c.put_down.ensures.sites here
     (acked-some c.self.inside.acked c.as_slice.result.now
     (c.if-is_empty.ensures ∙ ap (λ xs. length xs == 0) (c.as_slice-2.ensures ∙ sym c.as_slice.ensures))) in
     record {
@@ -67,8 +67,8 @@ returns-clause-decides g c =
     let is = c.self.view_is ∙ c.forced_now-forced.ensures.same in
     let forced = c.as_slice.ensures ∙ rw (← is) at c.forced_now-forced.ensures.sites in
     let here = rw (← is) at c.requires.head in
-    rw (← is) (Decides-at c.self.inside c.take_room.new.sites.items c.put_down.new.sites.items c.as_slice.result.now
-    c.self.inside.acked c.args.head c.in_ok-take_room.ensures.same forced c.put_down.ensures.count c.put_down.ensures.sites here
+    rw (← is) (Decides-at c.self.inside c.reserve_decision.new.sites.items c.put_down.new.sites.items c.as_slice.result.now
+    c.self.inside.acked c.args.head c.in_ok-reserve_decision.ensures.same forced c.put_down.ensures.count c.put_down.ensures.sites here
     (acked-some c.self.inside.acked c.as_slice.result.now
     (c.if-is_empty.ensures ∙ ap (λ xs. length xs == 0) (c.as_slice-2.ensures ∙ sym c.as_slice.ensures))))
 
@@ -79,8 +79,8 @@ returns-then-is_empty-clause-sound g c =
     let here = rw (← is) at c.requires.head in
     IsPrimary-decided (state_of c.self.inside) _ c.self.invariant.primary (rw (← is) at c.requires.first)
     (omega (arith, here, rw (← is) at c.requires.some))
-    (Decides-at c.self.inside c.take_room.new.sites.items c.put_down.new.sites.items c.as_slice.result.now c.args.head
-    c.args.head c.in_ok-take_room.ensures.same forced c.put_down.ensures.count c.put_down.ensures.sites here
+    (Decides-at c.self.inside c.reserve_decision.new.sites.items c.put_down.new.sites.items c.as_slice.result.now c.args.head
+    c.args.head c.in_ok-reserve_decision.ensures.same forced c.put_down.ensures.count c.put_down.ensures.sites here
     (acked-none c.self.inside.acked c.args.head c.as_slice.result.now
     (c.if-is_empty.ensures ∙ ap (λ xs. length xs == 0) (c.as_slice-2.ensures ∙ sym c.as_slice.ensures)) here))
 
@@ -91,15 +91,15 @@ returns-clause-sound g c =
     let here = rw (← is) at c.requires.head in
     IsPrimary-decided (state_of c.self.inside) _ c.self.invariant.primary (rw (← is) at c.requires.first)
     (omega (arith, here, rw (← is) at c.requires.some))
-    (Decides-at c.self.inside c.take_room.new.sites.items c.put_down.new.sites.items c.as_slice.result.now c.self.inside.acked c.args.head
-    c.in_ok-take_room.ensures.same forced c.put_down.ensures.count c.put_down.ensures.sites here
+    (Decides-at c.self.inside c.reserve_decision.new.sites.items c.put_down.new.sites.items c.as_slice.result.now c.self.inside.acked c.args.head
+    c.in_ok-reserve_decision.ensures.same forced c.put_down.ensures.count c.put_down.ensures.sites here
     (acked-some c.self.inside.acked c.as_slice.result.now
     (c.if-is_empty.ensures ∙ ap (λ xs. length xs == 0) (c.as_slice-2.ensures ∙ sym c.as_slice.ensures))))
 
 pub put_down-requires-clause-next : goal.put_down-requires-clause-next
 put_down-requires-clause-next g c =
     let is = c.self.view_is ∙ c.forced_now-forced.ensures.same in
-    reports-next c.self.inside c.take_room.new.sites.items c.args.head c.self.invariant.primary c.in_ok-take_room.ensures.same
+    reports-next c.self.inside c.reserve_decision.new.sites.items c.args.head c.self.invariant.primary c.in_ok-reserve_decision.ensures.same
     (rw (← is) at c.requires.first) (rw (← is) at c.requires.head)
 
 pub returns-then-is_empty-clause-answer : goal.returns-then-is_empty-clause-answer

@@ -2,7 +2,7 @@ use Rattle.std.proofs.Common.{◌≡◌, ◌<◌, ℕ, length, map}
 use Rattle.std.specs.Prelude.{slice_index_or}
 use Rattle.ordup_primary.specs.PrimaryInside.{progress_of, HasRoom}
 use Rattle.ordup_primary.specs.declared.progress.Progress.{Progress}
-use Rattle.ordup_primary.proofs.decisions.take_room.Given as goal
+use Rattle.ordup_primary.proofs.decisions.reserve_decision.Given as goal
 
 -- nothing changed, and the sites so far have room
 abbrev pub invariant-loop-place : goal.invariant-loop-place

@@ -2,7 +2,7 @@ use Rattle.std.proofs.Common.{◌≡◌, ◌<◌, ℕ, length, Vec}
 use Rattle.std.specs.Prelude.{slice_index_or}
 use Rattle.ordup_objects.specs.declared.change.Change.{Change}
 use Rattle.ordup_log.specs.Postings.{HasRoomAt}
-use Rattle.ordup_log.proofs.postings.take_room.Given as goal
+use Rattle.ordup_log.proofs.postings.reserve_postings.Given as goal
 
 -- the postings are as they were, and those of the objects so far have room
 abbrev pub invariant-loop-change : goal.invariant-loop-change

@@ -57,8 +57,8 @@ module _ {A : Type 0} where
   command_reply (running d past) (Certify site) = certificate_reply d past site (index_among d.sites site)
   command_reply (running d past) (Act a) = made_of (event_reply d past (names_of a)) (event_of d a)
 
-  -- what is refused leaves the state as it is, and is told
-  abbrev pub reply_or_refusal : ScriptState A → Result (Reply A) Refusal → Reply A
+  -- a refusal leaves the session as it is, and its text is the answer
+  abbrev pub reply_or_refusal : Session A → Result (Reply A) Refusal → Reply A
   reply_or_refusal s (Ok given) = given
   reply_or_refusal s (Err r) = (s, refused_text r)
 

@@ -22,8 +22,8 @@ use std::mem;
 ///
 /// Where it succeeds: for each session in which the script stands before, it stands after in the session that the reply to the line
 /// leaves, and the text of the reply was added to `out`. It fails only where an allocation was refused, and then the run ends.
-// Inlined into the loop over lines, with the reading of a line before it. So what a line asks for is not moved from one to the other,
-// which takes 4 percent off the instructions of the mixed load.
+// Inlined into the loop over lines, with the reading of a line before it. So what a line asks for is not moved from one to the
+// other, which takes 4 percent off the instructions of the mixed load.
 #[inline(always)]
 pub fn answer<A: Allocator + Copy>(
     alloc: A,
@@ -119,8 +119,8 @@ fn answer_start<A: Allocator + Copy>(
 
 /// The store that starts with what is declared.
 ///
-/// Where it starts, nothing refuses the start, and its world is that of the declarations and of no event. Where it is refused, it is
-/// for the reason that the start has, and the declarations stay; where that is want of memory, they are given up.
+/// Where it starts, nothing refuses the start, and its world is that of the declarations and of no event. Where it is refused, it
+/// is for the reason that the start has, and the declarations stay; where that is want of memory, they are given up.
 fn start<A: Allocator + Copy>(alloc: A, setup: &mut Setup<A>) -> Result<World<A>, Refusal>
     ensures started { IfOk result (λ w. (start_refusal setup.old ≡ None) × IsWorldOf {A = A} w (running setup.old [])) }
     ensures refused { IfErr result (λ e. (e ≡ Refusal.NoMemory → ⊥) → (start_refusal setup.old ≡ Some e) × (setup.new ≡ setup.old)) }

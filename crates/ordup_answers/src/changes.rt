@@ -1,5 +1,5 @@
-//! The message sets that words of changes spell. A number that 64 bits do not hold is taken as the nearest one that they hold, which is
-//! out of range too.
+//! The message sets that words of changes spell. A number that 64 bits do not hold is taken as the nearest one that they hold,
+//! which is out of range too.
 ghost use Rattle.std.specs.Prelude.{◌≡◌, IfOk};
 ghost use Rattle.ordup_answers.specs.Changes.{op_in, change_in, changes_in, set_in};
 ghost use Rattle.ordup_answers.specs.NearestNumbers.{nearest_operation, nearest_change, nearest_changes};

@@ -21,8 +21,8 @@ use std::alloc::{AllocError, Allocator};
 
 /// Lets an action happen, and answers it.
 ///
-/// Where it succeeds: for each session in which the world stands before, it stands after in the one that the reply to the action leaves,
-/// and the text of the reply was added.
+/// Where it succeeds: for each session in which the world stands before, it stands after in the one that the reply to the action
+/// leaves, and the text of the reply was added.
 pub(crate) fn answer_action<A: Allocator + Copy>(
     alloc: A,
     world: &mut World<A>,

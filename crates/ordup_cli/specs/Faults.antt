@@ -1,4 +1,4 @@
--- Why a job was not done, what is told of it, and its exit status.
+-- Why a job was not done, the line that tells it, and its exit status.
 use Rattle.std.specs.Prelude.{ℕ, List, ◌++◌, codes, Result, Ok, Err}
 use Rattle.std.specs.Fmt.{decimal}
 use Rattle.ordup_check.specs.declared.reading.RecordReadFault.{RecordReadFault}

@@ -52,8 +52,8 @@ pub(crate) fn do_job<T: Threads + Wait + Sync, R: Read, W: Write>(
 /// Runs a script and prints its answers.
 ///
 /// The script was run over these streams (`Runs`), and the outcome is that of its end: done, or its fault.
-// The end of the script is dropped by a call, and so is what the jobs below make: where such a value goes out of scope, the proof takes
-// it apart.
+// The end of the script is dropped by a call, and so is what the jobs below make: where such a value goes out of scope, the proof
+// takes it apart.
 fn run<R: Read, W: Write>(alloc: Global, input: &mut R, output: &mut W) -> Outcome
     ensures { Answers (record {
       had = R.remaining input.old;
@@ -73,8 +73,8 @@ fn run<R: Read, W: Write>(alloc: Global, input: &mut R, output: &mut W) -> Outco
 
 /// Runs a script and prints the record of a site in place of the answers.
 ///
-/// The script was run from this reader, and no answer was written. Then the record of what the primary has of the site was printed. Where the
-/// run failed, no store started, or there is no such site, nothing was written, and the outcome says so.
+/// The script was run from this reader, and no answer was written. Then the record of what the primary has of the site was
+/// printed. Where the run failed, no store started, or there is no such site, nothing was written, and the outcome says so.
 fn print_record<R: Read, W: Write>(
     alloc: Global,
     site: &[u8],
@@ -132,8 +132,8 @@ fn print_rows<W: Write>(alloc: Global, shown: &Record, output: &mut W) -> Outcom
 
 /// Checks a record and prints the verdict.
 ///
-/// - Where it ends with a status or a write fault, the text is not too long, and it tells a record. The verdict on it was printed, or a
-///   front of that line.
+/// - Where it ends with a status or a write fault, the text is not too long, and it tells a record. The verdict on it was
+///   printed, or a front of that line.
 /// - `Malformed`: the row is the first that breaks a rule. Nothing was written.
 /// - `Read`, `NoMemory`: nothing was written.
 fn check_record<R: Read, W: Write>(alloc: Global, input: &mut R, output: &mut W) -> Outcome

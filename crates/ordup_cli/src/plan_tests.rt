@@ -45,7 +45,7 @@ site a applied 50 rounds 50 x=50 y=10
 certified a 50
 ";
 
-/// A plan of these declarations, and a proposal this many times.
+/// A plan of these declarations, and of a proposal that stands in it this many times.
 fn plan(alloc: Global, declarations: &str, proposal: &str, times: usize) -> Result<Vec<u8>, Fail> {
     let mut plan = Vec::from_slice(alloc, declarations.as_bytes())?;
     for _ in 0..times {

@@ -2,8 +2,8 @@
 use crate::streams::{Ended, SOUND, Streams, run_on, run_over};
 use std::test::Fail;
 
-/// What the check says of a record, as the program ends with it.
-pub(crate) fn says(ended: &Ended, said: &[u8]) -> bool {
+/// Whether a run of the check ended with this: a verdict on the output, or the line of a fault.
+fn says(ended: &Ended, said: &[u8]) -> bool {
     match said {
         [b'y', ..] => ended.is(0, said, b""),
         [b'n', ..] => ended.is(1, said, b""),

@@ -57,7 +57,21 @@ pub(crate) fn parts(alloc: Global, transcript: &str) -> Result<(Vec<u8>, Vec<u8>
     Ok((script, wanted))
 }
 
-/// Adds a part to a script this many times, with its number from 0 on in the place of `#`.
+#[test]
+fn scripts_are_answered_as_their_transcripts_say(rt: HostRuntime) -> Result<(), Fail> {
+    assert_eq!(rt; ROWS.split("\n\n").count(), 53);
+    for row in ROWS.split("\n\n") {
+        let (script, wanted) = parts(rt.alloc(), row)?;
+        for at_once in [SOUND.at_once, 1, 2, 3] {
+            let streams = Streams { at_once, ..SOUND };
+            let ended = run_over(&rt, &["ordup", "run"], &script, streams);
+            assert!(rt; ended.is(0, &wanted, b""), "by {at_once}: {row}");
+        }
+    }
+    Ok(())
+}
+
+/// Adds a part to a script `count` times. Each has its number, from 0 on, in place of `#`.
 fn push_times(
     alloc: Global,
     script: &mut String,
@@ -72,8 +86,8 @@ fn push_times(
     Ok(())
 }
 
-/// The last line of a script is one too many for a size, and is refused so. The part of the script in brackets stands there so
-/// many times, with its number from 0 on in the place of `#`.
+/// The last line of a script is one too many for a size, and has this refusal. The part of the script in brackets stands there `count`
+/// times, each with its number, from 0 on, in place of `#`.
 fn assert_refused<T: Threads + Wait + Sync + AllocGlobal + Abort>(
     rt: &T,
     script: &str,
@@ -364,7 +378,7 @@ fn each_fault_has_its_text_and_its_status(rt: HostRuntime) {
     }
 }
 
-/// Sees that a run ends with a fault before it prints anything, and with its status however much of its text can be written.
+/// A run ends with this fault and prints nothing. Its status is the same however much of the fault's text can be written.
 fn assert_fault<T: Threads + Wait + Sync + AllocGlobal + Abort>(
     rt: &T,
     words: &[&str],

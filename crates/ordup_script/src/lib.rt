@@ -1,5 +1,5 @@
-//! Scripts and plans, from bytes to bytes. A script is lines of commands that a reader gives, and their answers go to a writer. A plan
-//! is a script of declarations, `start` and then proposals alone; it is read, and answers nothing.
+//! Scripts and plans, from bytes to bytes. A script is lines of commands that a reader gives, and their answers go to a writer. A
+//! plan is a script of declarations, `start` and then proposals alone; it is read, and answers nothing.
 //!
 //! The one contract above this layer: what is written is a function of what is read, by lines.
 #![tactic(auto)]

@@ -2,11 +2,11 @@
 //!
 //! It is fast by these means:
 //!
-//! - **A piece on the stack.** The input is read into one array of 65,536 bytes. So reading takes no memory, however long the script
-//!   is, and one read gives some thousands of lines.
-//! - **A line is taken where it lies.** `split_line` cuts it off the front of the piece, and copies nothing. One pass over the line,
-//!   sixteen bytes at a time, finds its end and tells whether all of its bytes are printed. `memchr` looks for the end only where
-//!   one of them is not. That takes 6 percent off the instructions of a line.
+//! - **A piece on the stack.** The input is read into one array of 65,536 bytes. So reading takes no memory, however long the
+//!   script is, and one read gives some thousands of lines.
+//! - **A line is taken where it lies.** `split_line` cuts it off the front of the piece, and copies nothing. One pass over the
+//!   line, sixteen bytes at a time, finds its end and tells whether all of its bytes are printed. `memchr` looks for the end only
+//!   where one of them is not. That takes 6 percent off the instructions of a line.
 //! - **Only what a piece leaves unended is held.** It is copied into a `LineBuffer`, which has room for the 4,096 bytes that a line
 //!   may have. So a line that is too long takes no memory either.
 //! - **A taker is given a `Request`**: what the line asks for, and not its bytes. The taking is inlined into the loop, so that a
@@ -127,8 +127,8 @@ fn read_piece<T: LineTaker>(
 
 /// Gives the taker the line that no line feed ended, if there is one, and has the taker hand out.
 ///
-/// After whatever was read before, the script ended here, or the taker stopped. All that the lines gave was handed out. The taker can
-/// take at most one line fewer.
+/// After whatever was read before, the script ended here, or the taker stopped. All that the lines gave was handed out. The taker
+/// can take at most one line fewer.
 fn read_last_line<T: LineTaker>(held: &mut LineBuffer, taker: &mut T) -> Result<(), T::Fault>
     requires clear { T.is_clear taker.old }
     requires room { 0 < T.room taker.old }

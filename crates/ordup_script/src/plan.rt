@@ -28,8 +28,8 @@ pub enum PlanFault {
     Read,
     /// The plan has more bytes than it may. Each line that a line feed ended within them belongs.
     TooLong,
-    /// This is the first line that does not belong. All lines are counted, from 1. Where there is no `start` it is the line after the
-    /// last.
+    /// This is the first line that does not belong. All lines are counted, from 1. Where there is no `start` it is the line after
+    /// the last.
     Malformed { line: u64 },
     /// An allocation was refused.
     NoMemory,

@@ -116,8 +116,8 @@ fn run_in<A: Allocator + Copy, R: Read, W: Write>(
 
 /// Runs a script of at most `limit` bytes: reads it to its end, answers each line, and writes the answers.
 ///
-/// - `Ok`: the reader was read to its end and had at most `limit` bytes. The answers to all lines were written, and nothing else. The
-///   script stands where its last line leaves it.
+/// - `Ok`: the reader was read to its end and had at most `limit` bytes. The answers to all lines were written, and nothing else.
+///   The script stands where its last line leaves it.
 /// - `Read`: a read failed. The answers to the lines that a line feed ended before were written.
 /// - `TooLong`: there are more bytes. The answers to the lines that a line feed ended within the limit were written.
 /// - `Write`: a write or a flush failed, or a write took nothing. A front of the answers to all that the reader had was written.

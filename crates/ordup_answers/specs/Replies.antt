@@ -58,7 +58,7 @@ module _ {A : Type 0} where
   command_reply (running d past) (Act a) = made_of (event_reply d past (names_of a)) (event_of d a)
 
   -- a refusal leaves the session as it is, and its text is the answer
-  abbrev pub reply_or_refusal : Session A → Result (Reply A) Refusal → Reply A
+  abbrev pub reply_or_refusal : ScriptState A → Result (Reply A) Refusal → Reply A
   reply_or_refusal s (Ok given) = given
   reply_or_refusal s (Err r) = (s, refused_text r)
 

@@ -20,8 +20,8 @@ use std::mem;
 
 /// Answers what a line asks for.
 ///
-/// Where it succeeds: for each session in which the script stands before, it stands after in the session that the reply to the line
-/// leaves, and the text of the reply was added to `out`. It fails only where an allocation was refused, and then the run ends.
+/// Where it succeeds: if the script was in a state, it is afterwards in the state that the reply to the line leaves, and the text of
+/// the reply was added to `out`. It fails only where an allocation was refused, and then the run ends.
 // Inlined into the loop over lines, with the reading of a line before it. So what a line asks for is not moved from one to the
 // other, which takes 4 percent off the instructions of the mixed load.
 #[inline(always)]

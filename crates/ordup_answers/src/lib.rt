@@ -1,6 +1,6 @@
 //! Answers: what a command of a script does to the setup or to the world, and the text of its answer.
 //!
-//! The one contract above this layer: a line leaves the session that the reply to it leaves, and adds the text of the reply.
+//! The one contract above this layer: a line leaves the state that the reply to it leaves, and adds the text of the reply.
 #![tactic(auto)]
 
 mod answers;

@@ -84,11 +84,7 @@ pub(crate) fn put_entry<A: Allocator + Copy>(
 {
     match index_of(entries.as_slice(), entry) {
         Some(place) => entries[place] = *entry,
-        None => {
-            if entries.push(*entry).is_err() {
-                return Err(Refusal::NoMemory);
-            }
-        }
+        None => entries.push(*entry)?,
     }
     Ok(())
 }

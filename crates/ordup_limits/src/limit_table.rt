@@ -54,13 +54,11 @@ impl<A: Allocator + Copy> LimitTable<A> {
         ensures copied { IfOk result (λ limits. limits ≡ self.now) }
         ensures refused { IfErr result (λ e. e ≡ Refusal.NoMemory) }
     {
-        match Vec::from_slice(alloc, self.entries.as_slice()) {
-            Ok(entries) => Ok(LimitTable {
-                entries,
-                limits: self.limits.copy(),
-            }),
-            Err(_) => Err(Refusal::NoMemory),
-        }
+        let entries = Vec::from_slice(alloc, self.entries.as_slice())?;
+        Ok(LimitTable {
+            entries,
+            limits: self.limits.copy(),
+        })
     }
 
     /// Adds a limit that holds from the start, whose amount lies from 0 to 10^18. No entry holds from later.
@@ -175,6 +173,7 @@ impl<A: Allocator + Copy> LimitTable<A> {
     }
 
     /// What each table keeps, for the proofs of its users. It does nothing.
+    #[inline(always)]
     pub fn keeps(&self)
         ensures { AreEntries self.now }
     {

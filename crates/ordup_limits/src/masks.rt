@@ -17,10 +17,7 @@ pub(crate) fn no_masks<A: Allocator + Copy>(alloc: A) -> Result<Vec<u64, A>, Ref
     ensures masks { IfOk result (λ masks. masks.items ≡ replicate most_objects 0) }
     ensures refused { IfErr result (λ e. e ≡ Refusal.NoMemory) }
 {
-    match Vec::from_elem(alloc, 0, MOST_OBJECTS) {
-        Ok(masks) => Ok(masks),
-        Err(_) => Err(Refusal::NoMemory),
-    }
+    Ok(Vec::from_elem(alloc, 0, MOST_OBJECTS)?)
 }
 
 /// Puts down for each object the limits on which its changes count.

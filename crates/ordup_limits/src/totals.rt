@@ -19,10 +19,7 @@ pub(crate) fn no_totals<A: Allocator + Copy>(alloc: A) -> Result<Vec<u64, A>, Re
     ensures totals { IfOk result (λ totals. totals.items ≡ replicate most_limits 0) }
     ensures refused { IfErr result (λ e. e ≡ Refusal.NoMemory) }
 {
-    match Vec::from_elem(alloc, 0, MOST_LIMITS) {
-        Ok(totals) => Ok(totals),
-        Err(_) => Err(Refusal::NoMemory),
-    }
+    Ok(Vec::from_elem(alloc, 0, MOST_LIMITS)?)
 }
 
 /// What the updates up to a place weigh on a scope, by their changes: nothing on the count of updates.

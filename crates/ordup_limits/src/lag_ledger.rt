@@ -97,9 +97,8 @@ impl<A: Allocator + Copy> LagLedger<A> {
         ensures places { (self.new.reported ≡ self.old.reported) × (self.new.extended ≡ to) }
         ensures stands { StandsFor self.new log.now groups.now }
     {
-        // For the proof: each update is legal, and the members of a group are distinct.
-        let _updates = log.len();
-        let _groups = groups.len();
+        log.keeps();
+        groups.keeps();
         self.prepare(groups);
         let masks = self.masks.as_slice();
         let touched = raise_to(&mut self.added, log, masks, self.extended, to);
@@ -119,9 +118,8 @@ impl<A: Allocator + Copy> LagLedger<A> {
         ensures places { (self.new.reported ≡ to) × (self.new.extended ≡ self.old.extended) }
         ensures stands { StandsFor self.new log.now groups.now }
     {
-        // For the proof: each update is legal, and the members of a group are distinct.
-        let _updates = log.len();
-        let _groups = groups.len();
+        log.keeps();
+        groups.keeps();
         self.prepare(groups);
         let masks = self.masks.as_slice();
         raise_to(&mut self.taken, log, masks, self.reported, to);
@@ -140,9 +138,8 @@ impl<A: Allocator + Copy> LagLedger<A> {
         ensures places { (self.new.reported ≡ self.old.reported) × (self.new.extended ≡ self.old.extended) }
         ensures stands { StandsFor self.new log.now groups.now }
     {
-        // For the proof: each update is legal, and the members of a group are distinct.
-        let _updates = log.len();
-        let _groups = groups.len();
+        log.keeps();
+        groups.keeps();
         self.prepare(groups);
         // The prover joins branches over a borrowed scope, not over a copied one.
         let scope = &scope;

@@ -275,8 +275,7 @@ fn keeps<A: Allocator + Copy>(
     ensures kept { result ≡ keeps log.now groups.now from to limit }
     ensures all { IfSome all.new (λ weight. weight ≡ span log.now groups.now Scope.All from to) }
 {
-    // For the proof: the members of a group are distinct.
-    let _groups = groups.len();
+    groups.keeps();
     match limit.scope {
         Scope::All => weight_of_all(log, groups, from, to, all) <= limit.amount,
         Scope::Count => to - from <= limit.amount,

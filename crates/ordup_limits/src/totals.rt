@@ -76,9 +76,8 @@ fn put_down<A: Allocator + Copy>(
     ensures count { length totals.new.items ≡ most_limits }
     ensures totals { AreTotals log.now groups.now limits.now place totals.new.items }
 {
-    // For the proof: each update is legal, and the members of a group are distinct.
-    let _updates = log.len();
-    let _groups = groups.len();
+    log.keeps();
+    groups.keeps();
     for i in 0..MOST_LIMITS {
         totals[i] = total_of(limits, log, groups, i, place);
     }
@@ -158,8 +157,7 @@ fn raise<A: Allocator + Copy>(
     ensures below { (n : ℕ) → HasBitsBelow n masks.now → IsBelow n result }
     ensures untouched { AreUntouched result totals.old.items totals.new.items }
 {
-    // For the proof: there are few enough updates for the totals to fit.
-    let _updates = log.len();
+    log.keeps();
     let changes = log.set(place).changes();
     let distances = log.distances(place);
     let mut touched = 0;

@@ -23,7 +23,7 @@ loop-i-preserved g c =
       | inl lt ↦ omega (
         arith,
         c.total_of.ensures.total no_limit lt,
-        weighed-few h c.len-updates.ensures.legal groups c.len-groups.ensures.groups (get_or limits i no_limit).scope
+        weighed-few h c.keeps.ensures.legal groups c.keeps-2.ensures.groups (get_or limits i no_limit).scope
             (c.requires.known i no_limit lt) c.args.place c.requires.last,
       )
       | inr past ↦ omega (arith, c.total_of.ensures.none past)

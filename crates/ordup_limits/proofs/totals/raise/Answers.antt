@@ -23,7 +23,7 @@ add-requires-clause-few g c = λ k. elim (cases_lt k (length c.loop-i.totals.ite
     c.loop-i.invariant.totals k (omega (arith, c.loop-i.invariant.count)),
     weight_where-few c.args.log.now c.set.ensures.legal (has_bit c.args.masks.now k) (c.args.place - 1) (omega arith),
     c.requires.few k,
-    c.len-updates.ensures.few,
+    c.keeps.ensures.few,
   )
   | inr past ↦ omega (arith, get_or_past c.loop-i.totals.items k 0 past)
 ]

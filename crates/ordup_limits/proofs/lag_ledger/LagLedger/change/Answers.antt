@@ -71,8 +71,8 @@ returns-clause-stands g c =
     let now = StandsFor-prepared (ledger_of c.self.inside) c.requires.stands rest masks in
     let small = place-small c.args.self.now.limits limits l place (ap (λ (k : LedgerState). k.limits) rest) c.index_for-place.ensures
     c.requires.room c.self.invariant.ledger.few in
-    let legal = c.len-updates.ensures.legal in
-    let are = c.len-groups.ensures.groups in
+    let legal = c.keeps.ensures.legal in
+    let are = c.keeps-2.ensures.groups in
     record {
       objects = now.objects;
       known = rw c.put.ensures

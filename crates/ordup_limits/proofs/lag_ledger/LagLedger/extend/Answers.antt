@@ -19,7 +19,7 @@ returns-clause-stands g c =
       known = now.known;
       extended = c.requires.last;
       reported = now.reported;
-      added = AreTotals-raised c.self.inside.masks.items c.len-updates.ensures.legal c.len-groups.ensures.groups now.known now.objects
+      added = AreTotals-raised c.self.inside.masks.items c.keeps.ensures.legal c.keeps-2.ensures.groups now.known now.objects
           c.self.invariant.ledger.few masks (omega (arith, c.requires.forward, ap (λ (k : LedgerState). k.extended) rest)) c.requires.last
           (omega (arith, c.self.invariant.ledger.few, c.self.invariant.ledger.added)) now.added c.raise_to-touched.ensures.few
           (rw c.as_slice-masks.ensures.value at c.raise_to-touched.ensures.totals);

@@ -73,7 +73,7 @@ fn has_entry_room(entries: &[LimitEntry], entry: &LimitEntry) -> bool
     }
 }
 
-/// Puts an entry in the place of the one of its scope and place, or else as the last. It is refused `NoMemory` alone.
+/// Puts an entry in the place of the one of its scope and place, or else as the last. The only refusal is `NoMemory`.
 pub(crate) fn put_entry<A: Allocator + Copy>(
     entries: &mut Vec<LimitEntry, A>,
     entry: &LimitEntry,

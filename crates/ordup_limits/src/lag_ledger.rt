@@ -18,14 +18,14 @@ use ordup_objects::Refusal;
 use std::alloc::{Allocator, Global};
 use std::marker::Model;
 
-/// What the updates weigh by which a site lags, kept while the log grows and the site reports.
+/// The weight of the updates by which a site lags, kept while the log grows and the site reports.
 ///
 /// It stands at two places of a log: the reported one, up to which the site has reported, and the extended one, up to which
-/// updates were added. Of each limit it keeps what the updates up to each place weigh, so that the span between the places
+/// updates were added. For each limit it keeps what the updates up to each place weigh, so the span between the places
 /// weighs the difference. The reported place may pass the extended one: then the span is empty and weighs nothing.
 ///
-/// All calls of a ledger are given one log, as it grows, and the same groups. Each of them costs by the changes of the updates
-/// that it goes over, however long the span is.
+/// All calls of a ledger take one log, as it grows, and the same groups. The cost of a call grows with the changes of the
+/// updates that it goes over, and not with the length of the span.
 #[derive(Debug, Drop)]
 pub struct LagLedger<A: Allocator + Copy = Global> {
     /// The last limit on each scope.
@@ -62,7 +62,7 @@ impl<A: Allocator + Copy> LagLedger<A> {
 
     /// A ledger of these limits that stands at the places 0 and 0 of each log over at most 256 objects.
     ///
-    /// It takes all the memory that it ever needs. It is refused `NoMemory` alone.
+    /// It takes all the room that it ever needs. The only refusal is `NoMemory`.
     pub fn new(alloc: A, limits: &LimitTable<A>) -> Result<Self, Refusal>
         ensures limits { IfOk result (λ ledger. ledger.limits ≡ latest limits.now) }
         ensures places { IfOk result (λ ledger. (ledger.reported ≡ 0) × (ledger.extended ≡ 0)) }
@@ -143,8 +143,8 @@ impl<A: Allocator + Copy> LagLedger<A> {
         self.prepare(groups);
         // The prover joins branches over a borrowed scope, not over a copied one.
         let scope = &scope;
-        // What is kept of the scope is put down anew, also where nothing of it changes.
-        let place = self.limits.index_for(scope);
+        // What is kept for the scope is put down again, also where it stays the same.
+        let place = self.limits.place_for(scope);
         put_scope(&mut self.masks, groups, *scope, place);
         self.taken[place] = weighed(log, groups, *scope, self.reported);
         self.added[place] = weighed(log, groups, *scope, self.extended);
@@ -162,7 +162,7 @@ impl<A: Allocator + Copy> LagLedger<A> {
 
     /// Puts the ledger at two places of the log, wherever it stood. It takes no memory.
     ///
-    /// It costs by the limits, and not by the updates between the places: a search for each object on which they count.
+    /// The cost grows with the limits, and not with the updates between the places: a search for each object on which they count.
     pub fn stand_at(&mut self, log: &Log<A>, groups: &Groups<A>, reported: u64, extended: u64)
         requires reported { reported ≤ length log.now.sets }
         requires extended { extended ≤ length log.now.sets }

@@ -1,7 +1,7 @@
 //! Limits on the weight of the updates by which a site may lag, and ledgers of that weight.
 //!
-//! The one contract above this layer: which limit a span passes first, in order of declaration; and a ledger, which is kept while
-//! the log grows and the site reports, says whether the span that the site lags passes one.
+//! What the layers above rely on: a table says which limit a span passes first, in order of declaration. A ledger, which is kept
+//! while the log grows and the site reports, says whether the span by which the site lags passes one.
 #![tactic(auto)]
 
 mod entries;

@@ -18,8 +18,8 @@ use std::marker::Model;
 /// The limits of a site, each with the first place for which it holds: on at most 64 scopes, in at most 1,088 entries.
 ///
 /// A limit is a scope and an amount, in the unit of the values, or in updates where the scope is `Count`. A span passes the
-/// limit where it weighs more than the amount; equal is not over. At a place that limit of each scope is in force which is the
-/// last to hold from there or before.
+/// limit where it weighs more than the amount; equal is not over. The limit in force on a scope at a place is the last one that
+/// holds from that place or before.
 #[derive(Debug, Drop)]
 pub struct LimitTable<A: Allocator + Copy = Global> {
     entries: Vec<LimitEntry, A>,
@@ -49,7 +49,7 @@ impl<A: Allocator + Copy> LimitTable<A> {
         }
     }
 
-    /// A copy of the table. It is refused `NoMemory` alone.
+    /// A copy of the table. The only refusal is `NoMemory`.
     pub fn copy(&self, alloc: A) -> Result<Self, Refusal>
         ensures copied { IfOk result (λ limits. limits ≡ self.now) }
         ensures refused { IfErr result (λ e. e ≡ Refusal.NoMemory) }

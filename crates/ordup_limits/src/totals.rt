@@ -39,7 +39,7 @@ pub(crate) fn weighed<A: Allocator + Copy>(
     }
 }
 
-/// Puts down anew the totals of the updates up to a place, where they were those of the updates up to another one.
+/// Moves the totals of the updates up to a place to those of the updates up to another one.
 pub(crate) fn move_to<A: Allocator + Copy>(
     totals: &mut Vec<u64, A>,
     limits: &[Limit],
@@ -61,7 +61,7 @@ pub(crate) fn move_to<A: Allocator + Copy>(
     }
 }
 
-/// Puts down the totals of the updates up to a place, whatever they were: of each limit what these updates weigh, and else 0.
+/// Puts down the totals of the updates up to a place, whatever was there: what these updates weigh for each limit, and 0 elsewhere.
 fn put_down<A: Allocator + Copy>(
     totals: &mut Vec<u64, A>,
     limits: &[Limit],

@@ -1,6 +1,6 @@
 //! A replica site: the values of the objects after the updates that it applied, and how far each value travelled.
 //!
-//! The one contract above this layer: a site holds the serial result of the updates that it applied, and their weights.
+//! What the layers above rely on: a site holds the serial result of the updates that it applied, and their weights.
 #![tactic(auto)]
 
 mod laws;

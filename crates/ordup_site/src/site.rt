@@ -56,7 +56,7 @@ impl<A: Allocator + Copy> Site<A> {
 
     /// Applies a message set. It takes no memory, and its work grows with the changes of the set alone.
     ///
-    /// The caller sees to it that the set changes and reads objects of the site (`MessageSet::are_known`), that it is legal on the
+    /// The caller makes sure that the set changes and reads objects of the site (`MessageSet::are_known`), that it is legal on the
     /// values (`Values::allows`), and that the site applied fewer than 1,000,000 updates.
     pub fn apply(&mut self, set: &MessageSet<A>)
         requires known { AreKnown (length self.old.values) set.now }

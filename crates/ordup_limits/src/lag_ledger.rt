@@ -62,7 +62,7 @@ impl<A: Allocator + Copy> LagLedger<A> {
 
     /// A ledger of these limits that stands at the places 0 and 0 of each log over at most 256 objects.
     ///
-    /// It takes all the room that it ever needs. The only refusal is `NoMemory`.
+    /// It takes all the memory that it ever needs. The only refusal is `NoMemory`.
     pub fn new(alloc: A, limits: &LimitTable<A>) -> Result<Self, Refusal>
         ensures limits { IfOk result (λ ledger. ledger.limits ≡ latest limits.now) }
         ensures places { IfOk result (λ ledger. (ledger.reported ≡ 0) × (ledger.extended ≡ 0)) }
@@ -144,7 +144,7 @@ impl<A: Allocator + Copy> LagLedger<A> {
         // The prover joins branches over a borrowed scope, not over a copied one.
         let scope = &scope;
         // What is kept for the scope is put down again, also where it stays the same.
-        let place = self.limits.place_for(scope);
+        let place = self.limits.index_for(scope);
         put_scope(&mut self.masks, groups, *scope, place);
         self.taken[place] = weighed(log, groups, *scope, self.reported);
         self.added[place] = weighed(log, groups, *scope, self.extended);

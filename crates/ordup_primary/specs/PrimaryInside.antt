@@ -71,6 +71,6 @@ module _ {A : Type 0} where
       × (vec_len site.windows < vec_capacity site.windows)
 
   -- what the fields keep: they stand for a primary, and there is a ledger for each site
-  pub record KeepsSums (p : Inside A) : Type 0 where
+  pub record KeepsLedgers (p : Inside A) : Type 0 where
     pub primary : IsPrimary (state_of p)
     pub ledgers : AreLedgers (state_of p) p.ledgers.items

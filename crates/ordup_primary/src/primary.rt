@@ -38,13 +38,13 @@ pub struct Primary<A: Allocator + Copy = Global> {
 impl<A: Allocator + Copy> Model for Primary<A> {
     ghost use Rattle.std.specs.Prelude.{map};
     ghost use Rattle.ordup_primary.specs.Primaries.{PrimaryState};
-    ghost use Rattle.ordup_primary.specs.PrimaryInside.{state_of, KeepsSums};
+    ghost use Rattle.ordup_primary.specs.PrimaryInside.{state_of, KeepsLedgers};
 
     ghost Value = { PrimaryState };
 
     ghost view = { state_of };
 
-    ghost invariant = { KeepsSums };
+    ghost invariant = { KeepsLedgers };
 }
 
 impl<A: Allocator + Copy> Primary<A> {

@@ -17,9 +17,13 @@ report_at reports k = slice_index_or reports (k - 1) 0
 abbrev pub forced_sites : (ℕ → ℕ → ℕ → Bool) → (ℕ → ℕ) → ℕ → ℕ → List ℕ
 forced_sites within now n k = where_below (λ s. not (within s (now s) k)) n
 
--- the sites that were forced at place k, by what each had reported then, and have not reported k by now
+-- site s was forced at place k, by what it had reported then, and has not reported k by now
+abbrev pub is_awaited : (ℕ → ℕ → ℕ → Bool) → (ℕ → ℕ) → (ℕ → ℕ) → ℕ → ℕ → Bool
+is_awaited within before now k s = not (within s (before s) k) && nat_lt (now s) k
+
+-- the sites that place k waits for
 abbrev pub waiting_sites : (ℕ → ℕ → ℕ → Bool) → (ℕ → ℕ) → (ℕ → ℕ) → ℕ → ℕ → List ℕ
-waiting_sites within before now n k = where_below (λ s. not (within s (before s) k) && nat_lt (now s) k) n
+waiting_sites within before now n k = where_below (is_awaited within before now k) n
 
 -- the last of these places, 0 where there is none
 abbrev pub last_place : List ℕ → ℕ

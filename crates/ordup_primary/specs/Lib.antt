@@ -2,6 +2,7 @@ pub mod Declarations
 pub mod Settling
 pub mod Reports
 pub mod ReportsInside
+pub mod LimitChanges
 pub mod Primaries
 pub mod PrimaryInside
 pub mod Parcels

@@ -1,21 +1,21 @@
 -- What a primary holds, and what a settlement makes of it.
 use Rattle.std.specs.Prelude.{◌≡◌, ℕ, ◌+◌, ◌<◌, ◌≤◌, ◌==◌, Bool, true, false}
-use Rattle.std.specs.Prelude.{if◌then◌else◌, Option, Some, None, List, [], ◌∷◌, ◌++◌}
-use Rattle.std.specs.Prelude.{length, slice_index_or, slice_set, nat_lt, not, All}
+use Rattle.std.specs.Prelude.{if◌then◌else◌, Option, Some, None, List, [], ◌∷◌, ◌++◌, ◌&&◌}
+use Rattle.std.specs.Prelude.{length, slice_index_or, slice_set, nat_lt, All}
 use Rattle.ordup_objects.specs.declared.refusal.Refusal.{Refusal}
-use Rattle.ordup_objects.specs.declared.refusal.Refusal.TheVariants.{NothingToSend, NothingToSettle, HeadPending, LagOver}
+use Rattle.ordup_objects.specs.declared.refusal.Refusal.TheVariants.{NothingToSend, NothingToSettle}
+use Rattle.ordup_objects.specs.Sizes.{most_updates}
 use Rattle.ordup_objects.specs.Tables.{initial_state}
 use Rattle.ordup_objects.specs.Serial.{History, IsLegalHistory}
 use Rattle.ordup_rounds.specs.declared.window.Window.{Window}
 use Rattle.ordup_rounds.specs.Rounds.{rounds_upto, windows_upto, AreRoundsReported}
 use Rattle.ordup_rounds.specs.Fewest.{AreFewest}
 use Rattle.ordup_limits.specs.Limits.{within}
-use Rattle.ordup_limits.specs.Entries.{Entries, entry_of, in_force, latest, changed, change_refusal, HoldFrom, AreEntriesKnown}
-use Rattle.ordup_log.specs.Spans.{span}
+use Rattle.ordup_limits.specs.Entries.{Entries, entry_of, in_force, latest, changed, HoldFrom, AreEntriesKnown}
 use Rattle.ordup_log.specs.declared.scope.Scope.{Scope}
-use Rattle.std.specs.Option.{option_or}
 use Rattle.ordup_primary.specs.Declarations.{Declared, is_ready}
-use Rattle.ordup_primary.specs.Settling.{forced_sites, waiting_sites, report_at}
+use Rattle.ordup_primary.specs.Settling.{forced_sites, is_awaited, waiting_sites, report_at}
+use Rattle.ordup_primary.specs.LimitChanges.{SiteView, site_change_refusal}
 use Rattle.ordup_primary.specs.declared.settled.Settled.{Settled}
 use Rattle.ordup_primary.specs.declared.settled.Settled.TheVariants.{Acked, Round, Waiting}
 
@@ -96,13 +96,21 @@ send_refusal p s = if (progress_at p s).sent == length p.log.sets then Some Noth
 abbrev pub settle_refusal : PrimaryState → Option Refusal
 settle_refusal p = if p.acked == length p.log.sets then Some NothingToSettle else None
 
--- why a change of a limit of site s is refused, if it is: while the head is decided and not acknowledged there is none; and the amount is no
--- less than what the acknowledged updates weigh that the site has not reported
+-- what a change of a limit of site s is judged by
+abbrev pub site_view : PrimaryState → ℕ → SiteView
+site_view p s = record {
+  site = s;
+  setup = p.setup;
+  log = p.log;
+  acked = p.acked;
+  decided = p.decided;
+  limits = limits_at p s;
+  reported = (progress_at p s).reported;
+}
+
+-- why a change of a limit of site s, which is declared, is refused, if it is
 abbrev pub relimit_refusal : PrimaryState → ℕ → Scope → ℕ → Option Refusal
-relimit_refusal p s scope amount =
-    option_or (change_refusal (length p.setup.objects) p.setup.groups (limits_at p s) (entry_of scope amount (p.acked + 1))) (
-    if not (p.acked == p.decided) then Some HeadPending else
-    if nat_lt amount (span p.log p.setup.groups scope (progress_at p s).reported p.acked) then Some LagOver else None)
+relimit_refusal p s scope amount = site_change_refusal (site_view p s) scope amount
 
 -- the limit of site s on a scope is changed from the head on
 abbrev pub relimited : PrimaryState → ℕ → Scope → ℕ → PrimaryState

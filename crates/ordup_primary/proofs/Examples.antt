@@ -8,11 +8,12 @@ use Rattle.ordup_objects.specs.declared.refusal.Refusal.TheVariants.{TooMany, Em
 use Rattle.ordup_log.specs.declared.scope.Scope.TheVariants.{Object, Count}
 use Rattle.ordup_limits.specs.Entries.{entry_of}
 use Rattle.ordup_primary.specs.Declarations.{Declared, start_refusal, site_refusal, site_limit_refusal}
+use Rattle.ordup_primary.specs.LimitChanges.{limit_change_refusal}
 use Rattle.ordup_primary.specs.Settling.{forced_sites, waiting_sites, last_place}
 use Rattle.ordup_rounds.specs.declared.window.Window.{Window}
 use Rattle.ordup_rounds.specs.Rounds.{rounds_upto, windows_upto}
-use Rattle.ordup_primary.specs.Primaries.{SiteProgress, PrimaryState, first_progress, reported_at, settled_as, is_within}
-use Rattle.ordup_primary.specs.Primaries.{decided_at, acked_after, send_refusal, settle_refusal, relimit_refusal, relimited}
+use Rattle.ordup_primary.specs.Primaries.{SiteProgress, PrimaryState, first_progress, reported_at, settled_as, waits_for, is_within}
+use Rattle.ordup_primary.specs.Primaries.{decided_at, acked_after, send_refusal, settle_refusal, site_view, relimit_refusal, relimited}
 use Rattle.ordup_primary.specs.declared.settled.Settled.TheVariants.{Acked, Round, Waiting}
 
 -- a site may lag by one update more than its place says
@@ -96,6 +97,14 @@ settled : (settled_as (primary 0 0 (site 0 [] [])) ≡ Acked 1)
     × (settled_as (primary 1 2 (site 2 (0 ∷ 0 ∷ []) (2 ∷ []))) ≡ Acked 2)
 settled = (refl, refl, refl, refl, refl)
 
+-- a decided head waits for a site that it forced until the site has reported it, and not for one that had reported enough; a head that
+-- is not decided waits for none
+waits : (waits_for (primary 1 2 (site 1 (0 ∷ 0 ∷ []) (2 ∷ []))) 0 ≡ true)
+    × (waits_for (primary 1 2 (site 2 (0 ∷ 0 ∷ []) (2 ∷ []))) 0 ≡ false)
+    × (waits_for (primary 1 2 (site 1 (0 ∷ 1 ∷ []) [])) 0 ≡ false)
+    × (waits_for (primary 1 1 (site 0 (0 ∷ []) [])) 0 ≡ false)
+waits = (refl, refl, refl, refl)
+
 -- of two updates both, or one, are acknowledged; and both, or one, were sent
 nothing_left : (settle_refusal (primary 2 2 first_progress) ≡ Some NothingToSettle)
     × (settle_refusal (primary 1 2 first_progress) ≡ None)
@@ -127,6 +136,13 @@ relimit_refusals : (relimit_refusal (primary 1 2 (site 0 (0 ∷ 0 ∷ []) (2 ∷
     × (relimit_refusal (primary 1 1 (site 0 (0 ∷ []) [])) 0 (Object 0) 5 ≡ None)
     × (relimit_refusal (primary 1 1 (site 1 (0 ∷ []) [])) 0 (Object 0) 0 ≡ None)
 relimit_refusals = (refl, refl, refl, refl, refl, refl, refl)
+
+-- the scope is looked at before the site, and the site before the amount
+change_refusals : (limit_change_refusal (site_view (primary 1 2 first_progress) 1) (Object 1) 1000000000000000001 ≡ Some UnknownObject)
+    × (limit_change_refusal (site_view (primary 1 2 first_progress) 1) Count 1000000000000000001 ≡ Some UnknownSite)
+    × (limit_change_refusal (site_view (primary 1 2 first_progress) 0) Count 1000000000000000001 ≡ Some OutOfRange)
+    × (limit_change_refusal (site_view (primary 1 1 first_progress) 0) (Object 0) 5 ≡ None)
+change_refusals = (refl, refl, refl, refl)
 
 -- a change holds from the head on: with 1 reported the second update is within 5, and not within 0; at place 1 the limit stays 5
 relimits : ((relimited (primary 1 1 (site 1 (0 ∷ []) [])) 0 (Object 0) 0).limits

@@ -61,14 +61,21 @@ is_within p s a b = within p.log p.setup.groups (in_force (limits_at p s) b) a b
 abbrev pub is_lag_within : PrimaryState → ℕ → ℕ → Bool
 is_lag_within p s a = within p.log p.setup.groups (latest (limits_at p s)) a p.acked
 
--- the sites that hold the head up: at its first settlement those that it forces, later those that it waits for
+-- the sites that a first settlement of the head forces
 abbrev pub forced_now : PrimaryState → List ℕ
 forced_now p = forced_sites (is_within p) (λ s. (progress_at p s).reported) (length p.sites) (p.acked + 1)
 
+-- the sites that a later settlement of the head waits for
 abbrev pub waiting_now : PrimaryState → List ℕ
 waiting_now p =
     waiting_sites (is_within p) (λ s. reported_at (progress_at p s) (p.acked + 1)) (λ s. (progress_at p s).reported) (length p.sites)
     (p.acked + 1)
+
+-- the head waits for site s: it is decided and not acknowledged, it forced the site, and the site has not reported it
+abbrev pub waits_for : PrimaryState → ℕ → Bool
+waits_for p s =
+    nat_lt p.acked p.decided
+    && is_awaited (is_within p) (λ t. reported_at (progress_at p t) (p.acked + 1)) (λ t. (progress_at p t).reported) (p.acked + 1) s
 
 -- an acknowledgement where no site holds the head up
 abbrev pub acked_or_round : ℕ → List ℕ → Settled

@@ -55,7 +55,7 @@ impl<A: Allocator + Copy> Primary<A> {
     ghost use Rattle.ordup_log.specs.Appending.{append_refusal};
     ghost use Rattle.ordup_log.specs.Spans.{span, IsScopeKnown};
     ghost use Rattle.ordup_limits.specs.Entries.{AreEntriesKnown};
-    ghost use Rattle.ordup_primary.specs.Primaries.{PrimaryState, IsPrimary, progress_at, limits_at, reported_at, is_within, send_refusal, settle_refusal, forced_now, waiting_now, settled_as, acked_or_round, acked_or_waiting, acked_after, Decides, relimit_refusal, relimited};
+    ghost use Rattle.ordup_primary.specs.Primaries.{PrimaryState, IsPrimary, progress_at, limits_at, reported_at, send_refusal, settle_refusal, forced_now, waiting_now, waits_for, settled_as, acked_or_round, acked_or_waiting, acked_after, Decides, relimit_refusal, relimited};
     ghost use Rattle.ordup_primary.specs.Primaries.{HasFewestRounds};
     ghost use Rattle.ordup_primary.specs.Reports.{changes_of};
 
@@ -290,6 +290,18 @@ impl<A: Allocator + Copy> Primary<A> {
         ensures fewest { HasFewestRounds self.now }
     {
         self.sites[site.index()].windows.as_slice()
+    /// Whether the head waits for a site: it is decided and not acknowledged, it forced the site, and the site has not reported it.
+    ///
+    /// The rounds of a site end with the head exactly where the head forced it, so nothing is weighed again.
+    pub fn waits_for(&self, site: SiteId) -> bool
+        requires { site < length self.now.sites }
+        ensures { result ≡ waits_for self.now site }
+    {
+        let head = self.acked + 1;
+        if self.acked == self.decided || self.reported(site) >= head {
+            return false;
+        }
+        last_place(self.rounds(site)) == head
     }
 
     /// For each object, in order of declaration, how much the acknowledged updates weigh on it.
@@ -405,7 +417,7 @@ impl<A: Allocator + Copy> Primary<A> {
         ensures later { self.new ≡ record self.old { acked = acked_after self.old.acked (waiting_now self.old) } }
         ensures sound { IsPrimary self.new }
     {
-        let waiting = self.waiting_now(head);
+        let waiting = self.waiting_now();
         if waiting.as_slice().is_empty() {
             self.acked = head;
             return Settled::Acked(head);
@@ -438,33 +450,18 @@ impl<A: Allocator + Copy> Primary<A> {
         sites_over(self.ledgers.as_slice())
     }
 
-    /// The sites that were forced at the decision of the head and have not reported it.
-    fn waiting_now(&self, head: u64) -> SiteList
-        requires later { self.now.acked < self.now.decided }
-        requires head { head ≡ self.now.acked + 1 }
-        requires some { head ≤ length self.now.log.sets }
+    /// The sites that the head, which is decided, waits for.
+    fn waiting_now(&self) -> SiteList
+        requires { self.now.acked < self.now.decided }
         ensures { result ≡ waiting_now self.now }
     {
         let mut waiting = SiteList::new();
         for place in 0..self.count() {
             let site = SiteId::new(place as u8);
-            if self.is_waiting(site, head) {
+            if self.waits_for(site) {
                 waiting.push(site);
             }
         }
         waiting
-    }
-
-    /// Whether a site was forced at the head, which is decided, and has not reported it.
-    ///
-    /// Its rounds end with the head exactly where it was forced, so nothing is weighed again.
-    fn is_waiting(&self, site: SiteId, head: u64) -> bool
-        requires site { site < length self.now.sites }
-        requires later { self.now.acked < self.now.decided }
-        requires head { head ≡ self.now.acked + 1 }
-        ensures { result ≡ (not (is_within self.now site (reported_at (progress_at self.now site) head) head) && nat_lt (progress_at self.now site).reported head) }
-    {
-        let _decided = self.decided;
-        self.reported(site) < head && last_place(self.rounds(site)) == head
     }
 }

@@ -21,8 +21,7 @@ pub(crate) fn first_ledgers<A: Allocator + Copy>(
     ensures ledgers { IfOk result (λ ledgers. AreLedgers (first_state setup.now) ledgers.items) }
     ensures refused { IfErr result (λ e. e ≡ Refusal.NoMemory) }
 {
-    // For the proof: there are few enough objects for a ledger.
-    let _objects = setup.objects().len();
+    setup.objects().keeps();
     let mut ledgers = Vec::new(alloc);
     for site in 0..setup.sites() {
         let ledger = LagLedger::new(alloc, setup.limits(SiteId::new(site as u8)))?;

@@ -1,8 +1,8 @@
 //! The primary: what is declared, the log, and when an update is acknowledged.
 //!
-//! The one contract above this layer: a settlement decides the head once, by what the sites had reported at that moment, and
-//! acknowledges it exactly when each site that it forced has reported it; so the acknowledged updates that a site has not
-//! reported weigh at most each of its limits. And no schedule that keeps the limits of a site has fewer rounds than the site.
+//! What the layers above rely on: a settlement decides the head once, by what the sites had reported at that moment, and
+//! acknowledges it exactly when each site that it forced has reported it. So the acknowledged updates that a site has not
+//! reported weigh at most each of its limits. No schedule that keeps the limits of a site has fewer rounds than the site.
 #![tactic(auto)]
 
 mod decisions;

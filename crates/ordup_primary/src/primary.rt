@@ -191,8 +191,7 @@ impl<A: Allocator + Copy> Primary<A> {
     {
         // The prover joins branches over a borrowed scope, not over a copied one.
         let scope = &scope;
-        // For the proof: what each primary keeps.
-        let _acked = self.acked();
+        self.keeps();
         self.check_relimit(site, *scope, amount)?;
         self.put_limit(site, *scope, amount)?;
         Ok(self.acked + 1)
@@ -305,6 +304,15 @@ impl<A: Allocator + Copy> Primary<A> {
     }
 
     /// For each object, in order of declaration, how much the acknowledged updates weigh on it.
+    /// What each primary keeps, for the proofs of its users. It does nothing.
+    #[inline(always)]
+    pub fn keeps(&self)
+        ensures sound { IsPrimary self.now }
+        ensures fewest { HasFewestRounds self.now }
+    {
+        let _ = &self.acked;
+    }
+
     ///
     /// A query that begins now keeps them as its reference: a read imports the weight of the updates between those that are
     /// acknowledged now and those that the site has applied then. It is refused `NoMemory` alone.
@@ -313,8 +321,7 @@ impl<A: Allocator + Copy> Primary<A> {
         ensures marks { IfOk result (λ marks. AreMarks self.now.log self.now.acked marks.items) }
         ensures refused { IfErr result (λ e. e ≡ Refusal.NoMemory) }
     {
-        // For the proof: there are few enough objects.
-        let _objects = self.setup.objects().len();
+        self.setup.objects().keeps();
         marks_of(*self.sites.allocator(), &self.log, self.acked)
     }
 
@@ -373,8 +380,7 @@ impl<A: Allocator + Copy> Primary<A> {
         let scope = &scope;
         let head = self.acked + 1;
         let place = site.index();
-        // For the proof: what each table keeps.
-        let _scopes = self.limits[place].len();
+        self.limits[place].keeps();
         let (objects, groups) = (self.setup.objects(), self.setup.groups());
         let Ok(()) = self.limits[place].change(objects, groups, *scope, amount, head) else {
             return Err(Refusal::NoMemory);
@@ -444,8 +450,7 @@ impl<A: Allocator + Copy> Primary<A> {
         ensures same { self.new ≡ self.old }
         ensures sound { IsPrimary self.new }
     {
-        // For the proof: there are few enough sites.
-        let _sites = self.setup.sites();
+        self.setup.keeps();
         extend_to(&mut self.ledgers, &self.log, self.setup.groups(), head);
         sites_over(self.ledgers.as_slice())
     }

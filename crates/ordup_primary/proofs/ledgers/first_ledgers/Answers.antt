@@ -20,7 +20,7 @@ loop-site-preserved g c =
           (rw (← here) (IsLedgerOf-first d c.new.result ledger (omega (arith, c.new.ensures, c.sites-site-end.ensures.sites))
           (made.limits ∙ ap latest c.limits.ensures.limits) made.places
           (λ h groups few known. made.stands h groups few (rw c.limits.ensures.limits known))
-          (rw c.objects.ensures at c.len-objects.ensures.few) (rw c.limits.ensures.limits at c.limits.ensures.known)));
+          (rw c.objects.ensures at c.keeps.ensures.few) (rw c.limits.ensures.limits at c.limits.ensures.known)));
     })
 
 pub returns-clause-ledgers : goal.returns-clause-ledgers

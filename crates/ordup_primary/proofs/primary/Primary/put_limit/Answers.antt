@@ -38,7 +38,7 @@ change-requires-2-clause-room g c =
     let read : c.index.result.now ≡ limits_at p c.args.site =
     get_or_read tables c.index-place.result c.index.result.now inside c.index.ensures []
     ∙ ap (λ k. get_or tables k []) c.index-place.ensures in
-    let keep : AreEntries (limits_at p c.args.site) = rw read at c.len-scopes.ensures.entries in
+    let keep : AreEntries (limits_at p c.args.site) = rw read at c.keeps.ensures in
     let ledgers = c.self.inside.ledgers.items in
     let x = c.index_mut-2.result.now in
     let among : c.index-place.result < length ledgers = omega (arith, there, c.index-place.ensures, c.self.invariant.ledgers.count) in
@@ -73,7 +73,7 @@ invariant_of-self-2 g c =
     let read : c.index.result.now ≡ limits_at p c.args.site =
     get_or_read tables c.index-place.result c.index.result.now inside c.index.ensures []
     ∙ ap (λ k. get_or tables k []) c.index-place.ensures in
-    let keep : AreEntries (limits_at p c.args.site) = rw read at c.len-scopes.ensures.entries in
+    let keep : AreEntries (limits_at p c.args.site) = rw read at c.keeps.ensures in
     let e = entry_of c.args.scope c.args.amount (c.self.inside.acked + 1) in
     let old : c.index_mut.result.now ≡ limits_at p c.args.site =
     get_or_read tables c.index-place.result c.index_mut.result.now inside c.index_mut.ensures.value []
@@ -110,7 +110,7 @@ returns-clause-changed g c =
     let read : c.index.result.now ≡ limits_at p c.args.site =
     get_or_read tables c.index-place.result c.index.result.now inside c.index.ensures []
     ∙ ap (λ k. get_or tables k []) c.index-place.ensures in
-    let keep : AreEntries (limits_at p c.args.site) = rw read at c.len-scopes.ensures.entries in
+    let keep : AreEntries (limits_at p c.args.site) = rw read at c.keeps.ensures in
     let e = entry_of c.args.scope c.args.amount (c.self.inside.acked + 1) in
     let old : c.index_mut.result.now ≡ limits_at p c.args.site =
     get_or_read tables c.index-place.result c.index_mut.result.now inside c.index_mut.ensures.value []
@@ -130,7 +130,7 @@ returns-clause-sound g c =
     let read : c.index.result.now ≡ limits_at p c.args.site =
     get_or_read tables c.index-place.result c.index.result.now inside c.index.ensures []
     ∙ ap (λ k. get_or tables k []) c.index-place.ensures in
-    let keep : AreEntries (limits_at p c.args.site) = rw read at c.len-scopes.ensures.entries in
+    let keep : AreEntries (limits_at p c.args.site) = rw read at c.keeps.ensures in
     let e = entry_of c.args.scope c.args.amount (c.self.inside.acked + 1) in
     let old : c.index_mut.result.now ≡ limits_at p c.args.site =
     get_or_read tables c.index-place.result c.index_mut.result.now inside c.index_mut.ensures.value []

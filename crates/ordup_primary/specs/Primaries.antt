@@ -165,7 +165,7 @@ pub record IsPrimary (p : PrimaryState) : Type 0 where
   pub ready : is_ready p.setup ≡ true
   pub start : p.log.start ≡ initial_state p.setup.objects
   pub legal : IsLegalHistory p.log
-  pub few : length p.log.sets ≤ 1000000
+  pub few : length p.log.sets ≤ most_updates
   pub count : length p.sites ≡ length p.setup.sites
   pub tables : length p.limits ≡ length p.sites
   pub acked : p.acked ≤ p.decided

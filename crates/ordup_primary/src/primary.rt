@@ -1,5 +1,6 @@
 ghost use Rattle.std.specs.Prelude.{◌≡◌, ◌≤◌, ◌+◌, ◌-◌, ℕ, ◌<◌, None, Some, List, [], ◌∷◌, ◌++◌, length, map, replicate, slice_set, slice_index, slice_index_or, IfOk, OnOk, IfErr, not, nat_lt, ◌&&◌, ◌⊎◌};
 ghost use Rattle.ordup_objects.specs.Refusals.{IsRefusal};
+ghost use Rattle.ordup_objects.specs.Sizes.{most_sites};
 ghost use Rattle.ordup_primary.specs.Declarations.{Declared, start_refusal};
 ghost use Rattle.ordup_primary.specs.Primaries.{first_progress};
 
@@ -437,7 +438,7 @@ impl<A: Allocator + Copy> Primary<A> {
     /// How many sites there are, at most 16.
     fn count(&self) -> usize
         ensures count { result ≡ length self.now.sites }
-        ensures few { length self.now.sites ≤ 16 }
+        ensures few { length self.now.sites ≤ most_sites }
     {
         self.setup.sites()
     }

@@ -19,9 +19,7 @@ pub(crate) fn first_sites<A: Allocator + Copy>(
     ensures sites { IfOk result (λ sites. map progress_of sites.items ≡ replicate count first_progress) }
     ensures refused { IfErr result (λ e. e ≡ Refusal.NoMemory) }
 {
-    let Ok(mut sites) = Vec::with_capacity(alloc, count) else {
-        return Err(Refusal::NoMemory);
-    };
+    let mut sites = Vec::with_capacity(alloc, count)?;
     for _site in 0..count {
         let site = Progress {
             sent: 0,
@@ -30,9 +28,7 @@ pub(crate) fn first_sites<A: Allocator + Copy>(
             rounds: Vec::new(alloc),
             windows: Vec::new(alloc),
         };
-        if sites.push(site).is_err() {
-            return Err(Refusal::NoMemory);
-        }
+        sites.push(site)?;
     }
     Ok(sites)
 }
@@ -56,12 +52,9 @@ fn reserve_decision_at<A: Allocator + Copy>(site: &mut Progress<A>) -> Result<()
     ensures room { OnOk result (HasRoom site.new) }
     ensures refused { IfErr result (λ e. e ≡ Refusal.NoMemory) }
 {
-    if site.reports.reserve().is_err()
-        || site.rounds.reserve(1).is_err()
-        || site.windows.reserve(1).is_err()
-    {
-        return Err(Refusal::NoMemory);
-    }
+    site.reports.reserve()?;
+    site.rounds.reserve(1)?;
+    site.windows.reserve(1)?;
     Ok(())
 }
 

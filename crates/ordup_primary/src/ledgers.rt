@@ -25,9 +25,7 @@ pub(crate) fn first_ledgers<A: Allocator + Copy>(
     let mut ledgers = Vec::new(alloc);
     for site in 0..setup.sites() {
         let ledger = LagLedger::new(alloc, setup.limits(SiteId::new(site as u8)))?;
-        if ledgers.push(ledger).is_err() {
-            return Err(Refusal::NoMemory);
-        }
+        ledgers.push(ledger)?;
     }
     Ok(ledgers)
 }

@@ -21,14 +21,10 @@ pub(crate) fn marks_of<A: Allocator + Copy>(
     ensures refused { IfErr result (λ e. e ≡ Refusal.NoMemory) }
 {
     let count = log.objects();
-    let Ok(mut marks) = Vec::with_capacity(alloc, count) else {
-        return Err(Refusal::NoMemory);
-    };
+    let mut marks = Vec::with_capacity(alloc, count)?;
     for index in 0..count {
         let object = ObjectId::new(index as u16);
-        if marks.push(log.running_weight(object, place)).is_err() {
-            return Err(Refusal::NoMemory);
-        }
+        marks.push(log.running_weight(object, place))?;
     }
     Ok(marks)
 }

@@ -118,10 +118,8 @@ impl<A: Allocator + Copy> Primary<A> {
             return Err(Refusal::NothingToSend);
         }
         let number = sent + 1;
-        match self.log.copy_set(number) {
-            Ok(set) => Ok(Parcel { number, set }),
-            Err(refusal) => Err(refusal),
-        }
+        let set = self.log.copy_set(number)?;
+        Ok(Parcel { number, set })
     }
 
     /// Notes that the first update that was not sent to a site was sent.

@@ -42,10 +42,8 @@ impl<A: Allocator + Copy> Reports<A> {
         ensures same { self.new.reports ≡ self.old.reports }
         ensures room { OnOk result (0 < self.new.room) }
     {
-        match self.changes.reserve(1) {
-            Ok(()) => Ok(()),
-            Err(_) => Err(AllocError),
-        }
+        self.changes.reserve(1)?;
+        Ok(())
     }
 
     /// Puts down the report at the decision of the next place.

@@ -95,9 +95,8 @@ impl<A: Allocator + Copy> Setup<A> {
             return Err(Refusal::TooMany);
         }
         let alloc = *self.limits.allocator();
-        if self.limits.reserve(1).is_err() || self.capacities.push(name, capacity).is_err() {
-            return Err(Refusal::NoMemory);
-        }
+        self.limits.reserve(1)?;
+        self.capacities.push(name, capacity)?;
         self.limits.push_reserved(LimitTable::new(alloc));
         Ok(SiteId::new(place as u8))
     }

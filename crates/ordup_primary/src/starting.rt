@@ -38,9 +38,7 @@ pub(crate) fn first_limits<A: Allocator + Copy>(
     let mut limits = Vec::new(alloc);
     for site in 0..setup.sites() {
         let table = setup.limits(SiteId::new(site as u8)).copy(alloc)?;
-        if limits.push(table).is_err() {
-            return Err(Refusal::NoMemory);
-        }
+        limits.push(table)?;
     }
     Ok(limits)
 }

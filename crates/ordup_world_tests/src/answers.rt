@@ -66,7 +66,7 @@ fn shown(alloc: Global, outcome: &Run) -> Result<TextBuffer, AllocError> {
     Ok(text)
 }
 
-/// Whether the answers are shown so.
+/// Whether the answers are shown as this text.
 fn are_shown(alloc: Global, outcome: &Run, wanted: &str) -> bool {
     match shown(alloc, outcome) {
         Ok(text) => text.as_slice() == wanted.as_bytes(),
@@ -74,6 +74,7 @@ fn are_shown(alloc: Global, outcome: &Run, wanted: &str) -> bool {
     }
 }
 
+/// Runs an update that waits for a report.
 #[test]
 fn a_forced_update_is_acknowledged_once_it_is_reported(rt: HostRuntime) -> Result<(), Fail> {
     let outcome = run_forced_and_awaited(&rt, rt.alloc())?;
@@ -82,6 +83,7 @@ fn a_forced_update_is_acknowledged_once_it_is_reported(rt: HostRuntime) -> Resul
     Ok(())
 }
 
+/// Runs a swap of x and y.
 #[test]
 fn a_swap_reads_the_values_before_the_set(rt: HostRuntime) -> Result<(), Fail> {
     let outcome = run_swapped(&rt, rt.alloc())?;
@@ -90,6 +92,7 @@ fn a_swap_reads_the_values_before_the_set(rt: HostRuntime) -> Result<(), Fail> {
     Ok(())
 }
 
+/// Runs changes of a limit.
 #[test]
 fn a_list_of_events_changes_limits(rt: HostRuntime) -> Result<(), Fail> {
     let outcome = run_limited_anew(&rt, rt.alloc())?;

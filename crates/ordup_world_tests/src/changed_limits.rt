@@ -2,24 +2,13 @@
 ghost use Rattle.std.specs.Prelude.{◌≡◌, ◌≤◌, ◌<◌, ℕ, length};
 ghost use Rattle.ordup_limits.specs.Entries.{HoldFrom};
 
+use crate::fixtures::{a, declared, first_passed, on_x, set_of_one, x};
 use ordup_limits::{Groups, LimitTable, Scope};
-use ordup_objects::{Change, MessageSet, ObjectId, ObjectTable, Op, Refusal, SiteId};
+use ordup_objects::{ObjectId, ObjectTable, Op, Refusal};
 use ordup_primary::{Primary, Settled, Setup, Window};
 use std::alloc::Global;
 use std::process::Abort;
 use std::test::Fail;
-
-/// The first site.
-fn a() -> SiteId
-    ensures { result ≡ 0 }
-{
-    SiteId::new(0)
-}
-
-/// The first object.
-fn x() -> Scope {
-    Scope::Object(ObjectId::new(0))
-}
 
 /// Why a change of a limit to 5 from a place on is refused, if it is.
 fn refusal_of_change(
@@ -51,7 +40,7 @@ fn change_at_each_place(
 {
     for place in 2..1_026 {
         assert_eq!(rt;
-            refusal_of_change(table, objects, groups, x(), place),
+            refusal_of_change(table, objects, groups, on_x(), place),
             None,
             "at {place}"
         );
@@ -73,6 +62,7 @@ fn declare_64_limits(rt: &impl Abort, setup: &mut Setup) {
     assert!(rt; setup.limit(a(), Scope::Count, 5).is_ok());
 }
 
+/// Fills a table of limits, and adds one more.
 #[test]
 fn a_table_has_64_scopes_and_1088_entries(rt: HostRuntime) -> Result<(), Fail> {
     let mut setup = Setup::new(rt.alloc());
@@ -87,9 +77,9 @@ fn a_table_has_64_scopes_and_1088_entries(rt: HostRuntime) -> Result<(), Fail> {
     assert_eq!(rt; (table.len(), table.entries().len()), (64, 1_088));
     let of_another = refusal_of_change(&mut table, objects, groups, Scope::All, 1_025);
     assert_eq!(rt; of_another, Some(Refusal::TooMany));
-    let of_a_replaced_one = refusal_of_change(&mut table, objects, groups, x(), 1_025);
+    let of_a_replaced_one = refusal_of_change(&mut table, objects, groups, on_x(), 1_025);
     assert_eq!(rt; of_a_replaced_one, None);
-    let of_one_more = refusal_of_change(&mut table, objects, groups, x(), 1_026);
+    let of_one_more = refusal_of_change(&mut table, objects, groups, on_x(), 1_026);
     assert_eq!(rt; of_one_more, Some(Refusal::TooMany));
     assert_eq!(rt; (table.len(), table.entries().len()), (64, 1_088));
     drop(table);
@@ -97,31 +87,16 @@ fn a_table_has_64_scopes_and_1088_entries(rt: HostRuntime) -> Result<(), Fail> {
     Ok(())
 }
 
-/// Declares x at 0 and y at 10, and the site a with 5 allowed on x.
-fn declare_opening(rt: &impl Abort, setup: &mut Setup) {
-    assert!(rt; setup.object(b"x", 0).is_ok());
-    assert!(rt; setup.object(b"y", 10).is_ok());
-    assert!(rt; setup.site(b"a", 4).is_ok());
-    assert!(rt; setup.limit(a(), x(), 5).is_ok());
-}
-
-/// The primary of the opening.
-fn open(rt: &impl Abort, alloc: Global) -> Result<Primary, Refusal> {
-    let mut setup = Setup::new(alloc);
-    declare_opening(rt, &mut setup);
+/// A primary of x and y, and of a with 5 allowed on x.
+fn started(rt: &impl Abort, alloc: Global) -> Result<Primary, Refusal> {
+    let setup = declared(rt, alloc, &[(on_x(), 5)]);
     assert!(rt; setup.is_ready());
     Primary::new(alloc, setup)
 }
 
 /// Adds to x, and sees that the update has this number.
 fn propose(rt: &impl Abort, primary: &mut Primary, added: i64, number: u64) {
-    let change = Change {
-        object: ObjectId::new(0),
-        op: Op::Add(added),
-    };
-    let Ok(set) = MessageSet::single(primary.setup().objects(), change) else {
-        panic!(rt; "the set is refused")
-    };
+    let set = set_of_one(rt, primary.setup().objects(), x(), Op::Add(added));
     assert!(rt; set.are_known(primary.log().objects()));
     assert_eq!(rt; primary.propose(set), Ok(number));
 }
@@ -149,7 +124,7 @@ fn relimit(rt: &impl Abort, primary: &mut Primary, amount: u64) -> Result<u64, R
     // For the proof: what each primary keeps.
     let _acked = primary.acked();
     assert!(rt; primary.setup().sites() > 0);
-    primary.relimit(a(), x(), amount)
+    primary.relimit(a(), on_x(), amount)
 }
 
 /// Marks the next update as sent to a.
@@ -180,15 +155,6 @@ fn expect_rounds(rt: &impl Abort, primary: &Primary, rounds: &[u64], windows: &[
     assert!(rt; primary.windows(a()) == windows);
 }
 
-/// The first limit of a that a span passes.
-fn first_passed(rt: &impl Abort, primary: &Primary, from: u64, to: u64) -> Option<usize> {
-    // For the proof: what each primary keeps.
-    let _acked = primary.acked();
-    let (setup, log) = (primary.setup(), primary.log());
-    assert!(rt; setup.sites() > 0 && log.objects() == setup.objects().len() && to <= log.len());
-    primary.limits(a()).over(log, setup.groups(), from, to)
-}
-
 /// Sees that a has a limit on x alone, whose entries have these amounts and places.
 fn expect_entries(rt: &impl Abort, primary: &Primary, wanted: &[(u64, u64)]) {
     // For the proof: what each primary keeps.
@@ -197,18 +163,19 @@ fn expect_entries(rt: &impl Abort, primary: &Primary, wanted: &[(u64, u64)]) {
     let limits = primary.limits(a());
     assert!(rt; limits.len() == 1);
     let (scope, last) = limits.get(0);
-    assert!(rt; scope == x());
+    assert!(rt; scope == on_x());
     assert_eq!(rt; limits.entries().len(), wanted.len());
     for (place, entry) in limits.entries().iter().enumerate() {
-        assert!(rt; entry.limit.scope == x());
+        assert!(rt; entry.limit.scope == on_x());
         assert_eq!(rt; (entry.limit.amount, entry.place), wanted[place]);
         assert!(rt; place + 1 < wanted.len() || last == entry.limit.amount);
     }
 }
 
+/// Changes a limit between three updates.
 #[test]
 fn what_is_decided_goes_by_the_limits_of_its_place(rt: HostRuntime) -> Result<(), Fail> {
-    let mut primary = open(&rt, rt.alloc())?;
+    let mut primary = started(&rt, rt.alloc())?;
     propose(&rt, &mut primary, 3, 1);
     expect_acked(&rt, &mut primary, 1);
     // Update 1 weighs 3, and a has not reported it.

@@ -1,5 +1,5 @@
 //! Lists of events, and events that no script makes.
-use crate::fixtures::{run_two_updates, set_of};
+use crate::fixtures::{a, run_two_updates, set_of_one};
 use ordup_limits::{GroupId, Scope};
 use ordup_objects::{Name, ObjectId, ObjectTable, Op, Refusal, SiteId};
 use ordup_world::{Answer, Event, Settled, Setup, World, run};
@@ -7,7 +7,7 @@ use std::alloc::Global;
 use std::process::Abort;
 use std::test::Fail;
 
-/// Whether an answer numbers an update so.
+/// Whether an answer gives an update this number.
 fn is_proposed(answer: &Answer, wanted: u64) -> bool {
     match answer {
         Answer::Proposed(number) => *number == wanted,
@@ -31,6 +31,7 @@ fn is_round(answer: &Answer, wanted: u64) -> bool {
     }
 }
 
+/// Runs two updates with their settlements.
 #[test]
 fn a_list_of_events_has_a_list_of_answers(rt: HostRuntime) -> Result<(), Fail> {
     let outcome = run_two_updates(&rt, rt.alloc())?;
@@ -58,13 +59,14 @@ fn run_refusal(alloc: Global) -> Option<Refusal> {
     run(alloc, Setup::new(alloc), Vec::new(alloc)).err()
 }
 
+/// Starts a store in which nothing is declared.
 #[test]
 fn nothing_starts_without_an_object_and_a_site(rt: HostRuntime) {
     assert_eq!(rt; start_refusal(rt.alloc()), Some(Refusal::Empty));
     assert_eq!(rt; run_refusal(rt.alloc()), Some(Refusal::Empty));
 }
 
-/// Whether an event is refused so.
+/// Whether an event is refused for this reason.
 fn is_refused(world: &mut World, event: Event, wanted: Refusal) -> bool {
     match &world.step(event) {
         Answer::Refused(refusal) => *refusal == wanted,
@@ -72,7 +74,7 @@ fn is_refused(world: &mut World, event: Event, wanted: Refusal) -> bool {
     }
 }
 
-/// Whether a change of a limit to an amount that is out of range is refused so.
+/// Whether a change of a limit to an amount that is out of range is refused for this reason.
 fn is_limit_refused(world: &mut World, site: SiteId, scope: Scope, wanted: Refusal) -> bool {
     let amount = u64::MAX;
     let event = Event::Relimit {
@@ -98,6 +100,7 @@ fn is_site_unknown(world: &mut World, query: Name, site: SiteId) -> bool {
         )
 }
 
+/// Steps by events of unknown sites.
 #[test]
 fn events_of_sites_that_are_not_there(rt: HostRuntime) -> Result<(), Fail> {
     let query = Name::new(b"q")?;
@@ -110,14 +113,14 @@ fn events_of_sites_that_are_not_there(rt: HostRuntime) -> Result<(), Fail> {
 }
 
 /// An update of the object z, over the objects x, y and z.
-fn of_z(rt: &impl Abort, alloc: Global) -> Result<Event, Refusal> {
+fn of_z(rt: &impl Abort, alloc: Global) -> Event {
     let mut objects = ObjectTable::new(alloc);
     for name in ["x", "y", "z"] {
         assert!(rt; objects.declare(name.as_bytes(), 0).is_ok());
     }
-    let set = set_of(&objects, 2, Op::Add(1));
+    let set = set_of_one(rt, &objects, ObjectId::new(2), Op::Add(1));
     drop(objects);
-    Ok(Event::Propose(set?))
+    Event::Propose(set)
 }
 
 /// Whether a read of this object is refused, since it is not there.
@@ -126,10 +129,11 @@ fn is_object_unknown(world: &mut World, query: Name, place: u16) -> bool {
     is_refused(world, Event::Read { query, object }, Refusal::UnknownObject)
 }
 
+/// Steps by events of unknown objects.
 #[test]
 fn events_of_objects_that_are_not_there(rt: HostRuntime) -> Result<(), Fail> {
     let query = Name::new(b"q")?;
-    let event = of_z(&rt, rt.alloc())?;
+    let event = of_z(&rt, rt.alloc());
     let mut outcome = run_two_updates(&rt, rt.alloc())?;
     let world = &mut outcome.world;
     for place in [2, 255, 256, 65_535] {
@@ -140,11 +144,12 @@ fn events_of_objects_that_are_not_there(rt: HostRuntime) -> Result<(), Fail> {
     Ok(())
 }
 
+/// Changes limits on unknown objects and groups.
 #[test]
 fn limits_on_what_is_not_there(rt: HostRuntime) -> Result<(), Fail> {
     let mut outcome = run_two_updates(&rt, rt.alloc())?;
     let world = &mut outcome.world;
-    let (a, nowhere) = (SiteId::new(0), SiteId::new(255));
+    let nowhere = SiteId::new(255);
     for place in [2, 255, 256, 65_535] {
         let scope = Scope::Object(ObjectId::new(place));
         assert!(rt; is_limit_refused(world, nowhere, scope, Refusal::UnknownObject));
@@ -153,7 +158,7 @@ fn limits_on_what_is_not_there(rt: HostRuntime) -> Result<(), Fail> {
         let scope = Scope::Group(GroupId::new(place));
         assert!(rt; is_limit_refused(world, nowhere, scope, Refusal::UnknownGroup));
     }
-    assert!(rt; is_limit_refused(world, a, Scope::Count, Refusal::OutOfRange));
+    assert!(rt; is_limit_refused(world, a(), Scope::Count, Refusal::OutOfRange));
     drop(outcome);
     Ok(())
 }

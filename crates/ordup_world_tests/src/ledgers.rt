@@ -2,9 +2,9 @@
 ghost use Rattle.std.specs.Prelude.{◌≡◌, IfOk};
 ghost use Rattle.ordup_limits.specs.Ledgers.{StandsFor};
 
-use crate::fixtures::{run_there_and_back, run_two_updates};
+use crate::fixtures::{a, run_there_and_back, run_two_updates};
 use ordup_limits::LagLedger;
-use ordup_objects::{Refusal, SiteId};
+use ordup_objects::Refusal;
 use ordup_world::Primary;
 use std::alloc::Global;
 use std::process::Abort;
@@ -17,7 +17,7 @@ fn ledger_of_a(rt: &impl Abort, alloc: Global, primary: &Primary) -> Result<LagL
 {
     let setup = primary.setup();
     assert!(rt; setup.sites() > 0 && primary.log().objects() == setup.objects().len());
-    LagLedger::new(alloc, setup.limits(SiteId::new(0)))
+    LagLedger::new(alloc, setup.limits(a()))
 }
 
 /// Whether a is over with both updates added, and then with the first and with both reported.
@@ -84,6 +84,7 @@ fn over_on_the_way(
     ])
 }
 
+/// Reports to a ledger, up to its end and past it.
 #[test]
 fn what_is_reported_is_taken_off(rt: HostRuntime) -> Result<(), Fail> {
     let outcome = run_two_updates(&rt, rt.alloc())?;
@@ -98,6 +99,7 @@ fn what_is_reported_is_taken_off(rt: HostRuntime) -> Result<(), Fail> {
     Ok(())
 }
 
+/// Extends a ledger by updates that go up and down.
 #[test]
 fn a_ledger_weighs_the_way_that_is_not_reported(rt: HostRuntime) -> Result<(), Fail> {
     let outcome = run_there_and_back(&rt, rt.alloc())?;

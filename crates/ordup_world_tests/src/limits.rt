@@ -1,19 +1,8 @@
 //! Limits over a log.
-use crate::fixtures::run_two_updates;
-use ordup_objects::SiteId;
-use ordup_world::Primary;
-use std::process::Abort;
+use crate::fixtures::{first_passed, run_two_updates};
 use std::test::Fail;
 
-/// The place of the first limit of a that a span passes.
-fn first_passed(rt: &impl Abort, primary: &Primary, from: u64, to: u64) -> Option<usize> {
-    let (setup, log) = (primary.setup(), primary.log());
-    assert!(rt; setup.sites() > 0 && log.objects() == setup.objects().len() && to <= log.len());
-    setup
-        .limits(SiteId::new(0))
-        .over(log, setup.groups(), from, to)
-}
-
+/// Looks for the first limit that each span passes.
 #[test]
 fn the_first_limit_that_is_passed(rt: HostRuntime) -> Result<(), Fail> {
     let outcome = run_two_updates(&rt, rt.alloc())?;

@@ -1,6 +1,7 @@
 //! What the updates of a log weigh.
+use crate::fixtures::{set_of, set_of_one, swap, x, y};
 use ordup_log::{GroupId, Groups, Log, Scope};
-use ordup_objects::{Change, MessageSet, ObjectId, ObjectTable, Op, Refusal};
+use ordup_objects::{Change, MessageSet, ObjectTable, Op, Refusal};
 use std::alloc::Global;
 use std::process::Abort;
 
@@ -21,14 +22,6 @@ fn x_at_and_y(rt: &impl Abort, alloc: Global, value: i64) -> (ObjectTable, Log) 
     (objects, log)
 }
 
-/// The message set of these changes.
-fn set_of(alloc: Global, objects: &ObjectTable, changes: &[Change]) -> Result<MessageSet, Refusal> {
-    match Vec::from_slice(alloc, changes) {
-        Ok(changes) => MessageSet::new(objects, changes),
-        Err(_) => Err(Refusal::NoMemory),
-    }
-}
-
 /// Appends a message set.
 fn append(log: &mut Log, set: MessageSet) -> Result<u64, Refusal> {
     if !set.are_known(log.objects()) {
@@ -37,28 +30,30 @@ fn append(log: &mut Log, set: MessageSet) -> Result<u64, Refusal> {
     log.append(set)
 }
 
-/// Appends the update that changes x so.
-fn append_to_x(objects: &ObjectTable, log: &mut Log, op: Op) -> Result<u64, Refusal> {
-    let change = Change {
-        object: ObjectId::new(0),
-        op,
-    };
-    append(log, MessageSet::single(objects, change)?)
+/// Appends the update that does this to x.
+fn append_to_x(
+    rt: &impl Abort,
+    objects: &ObjectTable,
+    log: &mut Log,
+    op: Op,
+) -> Result<u64, Refusal> {
+    append(log, set_of_one(rt, objects, x(), op))
 }
 
 /// Appends the update that adds a number to x.
-fn add(objects: &ObjectTable, log: &mut Log, n: i64) -> Result<u64, Refusal> {
-    append_to_x(objects, log, Op::Add(n))
+fn add(rt: &impl Abort, objects: &ObjectTable, log: &mut Log, n: i64) -> Result<u64, Refusal> {
+    append_to_x(rt, objects, log, Op::Add(n))
 }
 
 /// Appends the updates that add these numbers to x.
 pub(crate) fn add_each(
+    rt: &impl Abort,
     objects: &ObjectTable,
     log: &mut Log,
     numbers: &[i64],
 ) -> Result<(), Refusal> {
     for n in numbers {
-        add(objects, log, *n)?;
+        add(rt, objects, log, *n)?;
     }
     Ok(())
 }
@@ -66,19 +61,19 @@ pub(crate) fn add_each(
 /// What the span between two places weighs on x, on y, on all and on the count.
 pub(crate) fn span(rt: &impl Abort, log: &Log, groups: &Groups, from: u64, to: u64) -> [u64; 4] {
     assert!(rt; log.objects() == 2 && from <= to && to <= log.len());
-    let (x, y) = (ObjectId::new(0), ObjectId::new(1));
     [
-        log.span(Scope::Object(x), groups, from, to),
-        log.span(Scope::Object(y), groups, from, to),
+        log.span(Scope::Object(x()), groups, from, to),
+        log.span(Scope::Object(y()), groups, from, to),
         log.span(Scope::All, groups, from, to),
         log.span(Scope::Count, groups, from, to),
     ]
 }
 
+/// Weighs the spans of three updates of x.
 #[test]
 fn spans_add_up_the_way_and_not_the_net_change(rt: HostRuntime) {
     let (objects, mut log) = x_and_y(&rt, rt.alloc());
-    assert_eq!(rt; add_each(&objects, &mut log, &[3, -3, 0]), Ok(()));
+    assert_eq!(rt; add_each(&rt, &objects, &mut log, &[3, -3, 0]), Ok(()));
     let groups = Groups::new(rt.alloc());
     // 3 + 3 + 0, then 3 + 0, and 0.
     assert_eq!(rt; span(&rt, &log, &groups, 0, 3), [6, 0, 6, 3]);
@@ -88,29 +83,12 @@ fn spans_add_up_the_way_and_not_the_net_change(rt: HostRuntime) {
     drop((objects, log));
 }
 
-/// Appends the update in which x and y swap their values.
-fn append_swap(alloc: Global, objects: &ObjectTable, log: &mut Log) -> Result<u64, Refusal> {
-    let (x, y) = (ObjectId::new(0), ObjectId::new(1));
-    let changes = [
-        Change {
-            object: x,
-            op: Op::Take(y),
-        },
-        Change {
-            object: y,
-            op: Op::Take(x),
-        },
-    ];
-    append(log, set_of(alloc, objects, &changes)?)
-}
-
 /// What the first update weighs on x, on y, on the first group, on all and on the count.
 fn first_weights(rt: &impl Abort, log: &Log, groups: &Groups) -> [u64; 5] {
     assert!(rt; log.objects() == 2 && log.len() > 0 && groups.len() > 0);
-    let (x, y) = (ObjectId::new(0), ObjectId::new(1));
     [
-        log.weight(1, Scope::Object(x), groups),
-        log.weight(1, Scope::Object(y), groups),
+        log.weight(1, Scope::Object(x()), groups),
+        log.weight(1, Scope::Object(y()), groups),
         log.weight(1, Scope::Group(GroupId::new(0)), groups),
         log.weight(1, Scope::All, groups),
         log.weight(1, Scope::Count, groups),
@@ -120,62 +98,64 @@ fn first_weights(rt: &impl Abort, log: &Log, groups: &Groups) -> [u64; 5] {
 /// The values of x and y after all updates.
 fn end(rt: &impl Abort, log: &Log) -> [i64; 2] {
     assert!(rt; log.objects() == 2);
-    [
-        log.end_value(ObjectId::new(0)),
-        log.end_value(ObjectId::new(1)),
-    ]
+    [log.end_value(x()), log.end_value(y())]
 }
 
 /// Appends the update in which x becomes 7 and y 1,000,000,010.
 fn append_out_of_range(
+    rt: &impl Abort,
     alloc: Global,
     objects: &ObjectTable,
     log: &mut Log,
 ) -> Result<u64, Refusal> {
     let changes = [
         Change {
-            object: ObjectId::new(0),
+            object: x(),
             op: Op::Set(7),
         },
         Change {
-            object: ObjectId::new(1),
+            object: y(),
             op: Op::Add(1_000_000_000),
         },
     ];
-    append(log, set_of(alloc, objects, &changes)?)
+    append(log, set_of(rt, alloc, objects, &changes))
 }
 
+/// Appends an update that is out of range.
 #[test]
 fn a_refused_update_leaves_the_log(rt: HostRuntime) {
     let (objects, mut log) = x_and_y(&rt, rt.alloc());
-    let refused = append_out_of_range(rt.alloc(), &objects, &mut log);
+    let refused = append_out_of_range(&rt, rt.alloc(), &objects, &mut log);
     assert_eq!(rt; refused, Err(Refusal::OutOfRange));
     assert_eq!(rt; log.len(), 0);
     assert_eq!(rt; end(&rt, &log), [0, 10]);
     drop((objects, log));
 }
 
+/// Appends one update more than a log has.
 #[test]
 fn a_log_has_at_most_1000000_updates(rt: HostRuntime) {
     let (objects, mut log) = x_and_y(&rt, rt.alloc());
     for place in 0..1_000_000u64 {
-        let number = add(&objects, &mut log, 0);
+        let number = add(&rt, &objects, &mut log, 0);
         assert_eq!(rt; number, Ok(place + 1));
     }
-    let refused = add(&objects, &mut log, 0);
+    let refused = add(&rt, &objects, &mut log, 0);
     assert_eq!(rt; refused, Err(Refusal::LogFull));
     // It would be out of range too, but a log that is full comes first.
-    let refused = append_out_of_range(rt.alloc(), &objects, &mut log);
+    let refused = append_out_of_range(&rt, rt.alloc(), &objects, &mut log);
     assert_eq!(rt; refused, Err(Refusal::LogFull));
     drop((objects, log));
 }
 
+/// Weighs a swap of x and y.
 #[test]
 fn a_swap_weighs_the_way_of_each_value(rt: HostRuntime) {
     let (objects, mut log) = x_and_y(&rt, rt.alloc());
-    assert_eq!(rt; append_swap(rt.alloc(), &objects, &mut log), Ok(1));
+    let swap = swap(&rt, rt.alloc(), &objects);
+    assert_eq!(rt; append(&mut log, swap), Ok(1));
     let mut groups = Groups::new(rt.alloc());
-    let both = [ObjectId::new(0), ObjectId::new(1)];
+    let both = [x(), y()];
     assert!(rt; groups.declare(&objects, b"both", &both).is_ok());
     // x from 0 to 10, and y from 10 to 0.
     assert_eq!(rt; first_weights(&rt, &log, &groups), [10, 10, 20, 20, 1]);
@@ -183,17 +163,14 @@ fn a_swap_weighs_the_way_of_each_value(rt: HostRuntime) {
     drop((objects, log));
 }
 
+/// Weighs the greatest change of one object.
 #[test]
 fn an_update_of_one_object_weighs_2000000000_at_most(rt: HostRuntime) {
     let (objects, mut log) = x_at_and_y(&rt, rt.alloc(), 1_000_000_000);
-    assert_eq!(rt; add(&objects, &mut log, 1), Err(Refusal::OutOfRange));
-    assert_eq!(rt; append_to_x(&objects, &mut log, Op::Mul(-1)), Ok(1));
+    assert_eq!(rt; add(&rt, &objects, &mut log, 1), Err(Refusal::OutOfRange));
+    assert_eq!(rt; append_to_x(&rt, &objects, &mut log, Op::Mul(-1)), Ok(1));
     let mut groups = Groups::new(rt.alloc());
-    assert!(rt;
-        groups
-            .declare(&objects, b"alone", &[ObjectId::new(0)])
-            .is_ok()
-    );
+    assert!(rt; groups.declare(&objects, b"alone", &[x()]).is_ok());
     // x from 1,000,000,000 to -1,000,000,000.
     assert_eq!(rt;
         first_weights(&rt, &log, &groups),

@@ -2,6 +2,7 @@
 use ordup_objects::{Name, Refusal, SiteId};
 use std::test::Fail;
 
+/// Makes names at the edges of their bytes and lengths.
 #[test]
 fn which_bytes_are_a_name(rt: HostRuntime) {
     for name in ["a", "a_9", "z0_", "abcdefghijklmnop"] {

@@ -1,13 +1,14 @@
 //! The postings of a log, and spans by them.
+use crate::fixtures::{x, y};
 use crate::log::{add_each, span, x_and_y};
 use ordup_log::{Groups, Log, as_of};
 use ordup_objects::{ObjectId, ObjectTable, Refusal};
 use std::process::Abort;
 
 /// Appends 10,000 updates, of which those at odd places add 1 to x, and those at even ones take it away.
-fn go_to_and_fro(objects: &ObjectTable, log: &mut Log) -> Result<(), Refusal> {
+fn go_to_and_fro(rt: &impl Abort, objects: &ObjectTable, log: &mut Log) -> Result<(), Refusal> {
     for _pair in 0..5_000 {
-        add_each(objects, log, &[1, -1])?;
+        add_each(rt, objects, log, &[1, -1])?;
     }
     Ok(())
 }
@@ -19,10 +20,11 @@ fn postings_of(rt: &impl Abort, log: &Log, object: ObjectId) -> (usize, Option<(
     (postings.len(), postings.last().copied())
 }
 
+/// Counts the postings of 10,000 updates of x.
 #[test]
 fn each_update_that_moves_an_object_has_a_posting(rt: HostRuntime) {
     let (objects, mut log) = x_and_y(&rt, rt.alloc());
-    assert_eq!(rt; go_to_and_fro(&objects, &mut log), Ok(()));
+    assert_eq!(rt; go_to_and_fro(&rt, &objects, &mut log), Ok(()));
     let groups = Groups::new(rt.alloc());
     assert_eq!(rt;
         span(&rt, &log, &groups, 0, 10_000),
@@ -32,24 +34,27 @@ fn each_update_that_moves_an_object_has_a_posting(rt: HostRuntime) {
         span(&rt, &log, &groups, 2_500, 7_500),
         [5_000, 0, 5_000, 5_000]
     );
-    let (x, y) = (ObjectId::new(0), ObjectId::new(1));
-    assert_eq!(rt; postings_of(&rt, &log, x), (10_000, Some((10_000, 10_000))));
-    assert_eq!(rt; postings_of(&rt, &log, y), (0, None));
+    assert_eq!(rt;
+        postings_of(&rt, &log, x()),
+        (10_000, Some((10_000, 10_000)))
+    );
+    assert_eq!(rt; postings_of(&rt, &log, y()), (0, None));
     assert!(rt; log.objects() == 2);
-    assert_eq!(rt; log.end_value(x), 0);
+    assert_eq!(rt; log.end_value(x()), 0);
     drop((objects, log));
 }
 
+/// Reads the running weights of three updates.
 #[test]
 fn running_weights_are_those_as_of_a_place(rt: HostRuntime) {
     let (objects, mut log) = x_and_y(&rt, rt.alloc());
     // 3 up, no way, and 2 down.
-    assert_eq!(rt; add_each(&objects, &mut log, &[3, 0, -2]), Ok(()));
+    assert_eq!(rt; add_each(&rt, &objects, &mut log, &[3, 0, -2]), Ok(()));
     assert!(rt; log.len() == 3);
-    let (x, z) = (ObjectId::new(0), ObjectId::new(2));
-    assert_eq!(rt; log.running_weight(x, 0), 0);
-    assert_eq!(rt; log.running_weight(x, 2), 3);
-    assert_eq!(rt; log.running_weight(x, 3), 5);
+    let z = ObjectId::new(2);
+    assert_eq!(rt; log.running_weight(x(), 0), 0);
+    assert_eq!(rt; log.running_weight(x(), 2), 3);
+    assert_eq!(rt; log.running_weight(x(), 3), 5);
     assert_eq!(rt; log.running_weight(z, 3), 0);
     // The postings of x.
     let steps = [(1, 3), (3, 5)];

@@ -1,6 +1,6 @@
 //! What a primary shows and hands out.
-use crate::fixtures::run_two_updates;
-use ordup_objects::{Change, ObjectId, Op, Refusal, SiteId};
+use crate::fixtures::{a, run_two_updates, y};
+use ordup_objects::{Change, Op, Refusal};
 use ordup_primary::Parcel;
 use ordup_world::{Event, Primary, World};
 use std::process::Abort;
@@ -9,36 +9,36 @@ use std::test::Fail;
 /// How many updates there are, are acknowledged and are decided, how many were sent to a and reported by it, and what it had
 /// reported at the decision of each of two.
 fn numbers(rt: &impl Abort, primary: &Primary) -> [u64; 7] {
-    let a = SiteId::new(0);
     assert!(rt; primary.setup().sites() > 0 && primary.decided() >= 2);
     [
         primary.log().len(),
         primary.acked(),
         primary.decided(),
-        primary.sent(a),
-        primary.reported(a),
-        primary.reported_at(a, 1),
-        primary.reported_at(a, 2),
+        primary.sent(a()),
+        primary.reported(a()),
+        primary.reported_at(a(), 1),
+        primary.reported_at(a(), 2),
     ]
 }
 
 /// Whether a was forced at this place alone.
 fn is_forced_at(rt: &impl Abort, primary: &Primary, place: u64) -> bool {
     assert!(rt; primary.setup().sites() > 0 && primary.acked() > 0);
-    primary.rounds(SiteId::new(0)) == [place].as_slice()
+    primary.rounds(a()) == [place].as_slice()
 }
 
 /// What a is to be sent next.
 fn next(rt: &impl Abort, primary: &Primary) -> Result<Parcel, Refusal> {
     assert!(rt; primary.setup().sites() > 0 && primary.acked() > 0);
-    primary.next_for(SiteId::new(0))
+    primary.next_for(a())
 }
 
 /// Sends an update to a.
 fn send(world: &mut World) {
-    let _answer = world.step(Event::Send(SiteId::new(0)));
+    let _answer = world.step(Event::Send(a()));
 }
 
+/// Reads the numbers of a primary.
 #[test]
 fn a_primary_shows_what_it_knows(rt: HostRuntime) -> Result<(), Fail> {
     let outcome = run_two_updates(&rt, rt.alloc())?;
@@ -57,13 +57,14 @@ fn expect_second(rt: &impl Abort, primary: &Primary) {
         panic!(rt; "there is nothing to send")
     };
     let set = Change {
-        object: ObjectId::new(1),
+        object: y(),
         op: Op::Set(14),
     };
     assert_eq!(rt; parcel.number, 2);
     assert_eq!(rt; parcel.set.changes(), [set].as_slice());
 }
 
+/// Takes the next update for a site.
 #[test]
 fn a_primary_hands_out_the_first_update_that_was_not_sent(rt: HostRuntime) -> Result<(), Fail> {
     let mut outcome = run_two_updates(&rt, rt.alloc())?;

@@ -4,7 +4,7 @@ use ordup_objects::{Change, MessageSet, ObjectId, ObjectTable, Op, Refusal};
 use std::alloc::Global;
 use std::process::Abort;
 
-/// Objects at 0: o0, o1 and on.
+/// A table of this count of objects at 0: o0, o1 and on.
 fn many_objects(rt: &impl Abort, alloc: Global, count: u16) -> ObjectTable {
     let mut objects = ObjectTable::new(alloc);
     for place in 0..count {
@@ -16,7 +16,7 @@ fn many_objects(rt: &impl Abort, alloc: Global, count: u16) -> ObjectTable {
     objects
 }
 
-/// The changes that add 1 to each of this many objects.
+/// The changes that add 1 to each of this count of objects.
 fn many_changes(alloc: Global, count: u16) -> Result<Vec<Change>, Refusal> {
     let mut changes = Vec::new(alloc);
     for place in 0..count {
@@ -29,7 +29,7 @@ fn many_changes(alloc: Global, count: u16) -> Result<Vec<Change>, Refusal> {
     Ok(changes)
 }
 
-/// How many changes the set has that changes this many objects.
+/// How many changes the set has that changes this count of objects.
 fn size_of_set(rt: &impl Abort, alloc: Global, count: u16) -> Result<usize, Refusal> {
     let changes = many_changes(alloc, count)?;
     let objects = many_objects(rt, alloc, count);
@@ -38,13 +38,14 @@ fn size_of_set(rt: &impl Abort, alloc: Global, count: u16) -> Result<usize, Refu
     Ok(set?.changes().len())
 }
 
+/// Makes sets of 64 and 65 changes.
 #[test]
 fn a_message_set_has_at_most_64_changes(rt: HostRuntime) {
     assert_eq!(rt; size_of_set(&rt, rt.alloc(), 64), Ok(64));
     assert_eq!(rt; size_of_set(&rt, rt.alloc(), 65), Err(Refusal::TooMany));
 }
 
-/// The first `count` objects, by their indices.
+/// This count of objects.
 fn many_members(alloc: Global, count: u16) -> Result<Vec<ObjectId>, Refusal> {
     let mut members = Vec::new(alloc);
     for place in 0..count {
@@ -55,7 +56,7 @@ fn many_members(alloc: Global, count: u16) -> Result<Vec<ObjectId>, Refusal> {
     Ok(members)
 }
 
-/// How many members the group of this many objects has.
+/// How many members the group of this count of objects has.
 fn size_of_group(rt: &impl Abort, alloc: Global, count: u16) -> Result<usize, Refusal> {
     let members = many_members(alloc, count)?;
     let objects = many_objects(rt, alloc, count);
@@ -65,6 +66,7 @@ fn size_of_group(rt: &impl Abort, alloc: Global, count: u16) -> Result<usize, Re
     Ok(groups.members(group?).len())
 }
 
+/// Makes groups of 64 and 65 members.
 #[test]
 fn a_group_has_at_most_64_members(rt: HostRuntime) {
     assert_eq!(rt; size_of_group(&rt, rt.alloc(), 64), Ok(64));

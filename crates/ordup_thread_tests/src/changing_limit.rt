@@ -2,14 +2,14 @@
 //! x is k.
 //!
 //! An update is acknowledged only where the site lags by no more than its limit in force then. So once a proposal is answered, the site
-//! lacks no more of the updates up to it than the limit allows; a read there tells how many it has applied.
-use crate::fixtures::{TRIES, a, adding, apply_at, propose, set_of, x, x_and_y};
-use ordup_audit::{Verdict, check};
+//! has applied all updates up to it but those of its limit; a read there tells how many it has applied.
+use crate::fixtures::{
+    Site, TRIES, a, adding, apply_at, closed, expect_fewest, opened, propose, set_of, x, x_and_y,
+};
 use ordup_cluster::{Cluster, OpenGate, SeenValue, Session};
 use ordup_limits::Scope;
 use ordup_objects::{MessageSet, ObjectTable, Refusal, SiteId};
-use ordup_primary::{Primary, Setup};
-use ordup_record::record_of;
+use ordup_primary::Primary;
 use std::alloc::Global;
 use std::process::Abort;
 use std::sync::Wait;
@@ -32,10 +32,13 @@ const SETS: u64 = 200_000;
 /// How many acknowledgements are compared with each limit, at least. Each of the four callers may have compared one just before.
 const COMPARED: u64 = 5;
 
+/// The site a with the high limit and room for more updates than that, and the site b without a limit.
+const SITES: [Site; 2] = [("a", 128, Some((Scope::Count, HIGH))), ("b", 64, None)];
+
 /// What the threads tell each other.
 #[derive(Drop)]
-struct Told {
-    /// How many changes there were: after an odd number the limit is low. It is told when it has gone down, and before it goes up.
+struct Shared {
+    /// How many changes there were: after an odd number the limit is low. It is counted when it has gone down, and before it goes up.
     changes: AtomicU64,
     /// How many acknowledgements were compared with the limit, which did not change from the proposal on.
     compared: AtomicU64,
@@ -46,22 +49,6 @@ struct Told {
     changed: AtomicBool,
     /// How many callers have ended.
     ended: AtomicU64,
-}
-
-/// Declares x at 0, the site a with the high limit and a capacity of more updates than that, and the site b without a limit.
-fn declare(setup: &mut Setup) -> Result<(), Refusal> {
-    setup.object(b"x", 0)?;
-    let a = setup.site(b"a", 128)?;
-    setup.site(b"b", 64)?;
-    setup.limit(a, Scope::Count, HIGH)
-}
-
-fn opened(rt: &impl Abort, alloc: Global) -> Result<Cluster, Refusal> {
-    let mut setup = Setup::new(alloc);
-    let Ok(()) = declare(&mut setup) else {
-        panic!(rt; "the declarations are refused")
-    };
-    Cluster::new(alloc, setup)
 }
 
 /// Reads x at a site, and answers how many updates the site has applied.
@@ -85,7 +72,7 @@ fn read_applied<R: Wait + Abort>(
     }
 }
 
-/// The greatest limit that may be in force after this many changes.
+/// The greatest limit that may be in force after this count of changes.
 fn limit_after(changes: u64) -> u64 {
     if changes % 2 == 1 { LOW } else { HIGH }
 }
@@ -96,16 +83,16 @@ fn propose_within<R: Wait + Abort>(
     cluster: &Cluster,
     session: &mut Session,
     set: MessageSet,
-    told: &Told,
+    shared: &Shared,
 ) {
-    let before = told.changes.load(Ordering::SeqCst);
+    let before = shared.changes.load(Ordering::SeqCst);
     let number = propose(rt, cluster, session, set);
-    let same = told.changes.load(Ordering::SeqCst) == before;
+    let same = shared.changes.load(Ordering::SeqCst) == before;
     let limit = if same { limit_after(before) } else { HIGH };
     let applied = read_applied(rt, cluster, session, a());
     assert!(rt; applied.saturating_add(limit) >= number);
     if same {
-        told.compared.fetch_add(1, Ordering::SeqCst);
+        shared.compared.fetch_add(1, Ordering::SeqCst);
     }
 }
 
@@ -126,20 +113,20 @@ fn call<R: Wait + Abort>(
     alloc: Global,
     objects: &ObjectTable,
     cluster: &Cluster,
-    told: &Told,
+    shared: &Shared,
 ) {
     let mut session = Session::new();
     for _ in 0..SETS {
-        if told.changed.load(Ordering::SeqCst) {
+        if shared.changed.load(Ordering::SeqCst) {
             break;
         }
         let set = set_of(rt, alloc, objects, &[adding(x(), 1)]);
-        propose_within(rt, cluster, &mut session, set, told);
-        if told.wanted.load(Ordering::SeqCst) {
+        propose_within(rt, cluster, &mut session, set, shared);
+        if shared.wanted.load(Ordering::SeqCst) {
             await_applied(rt, cluster, &mut session);
         }
     }
-    if told.ended.fetch_add(1, Ordering::SeqCst) == 3 {
+    if shared.ended.fetch_add(1, Ordering::SeqCst) == 3 {
         cluster.stop();
     }
 }
@@ -159,11 +146,11 @@ fn change_to<R: Wait + Abort>(rt: &R, cluster: &Cluster, amount: u64) -> u64 {
     panic!(rt; "the limit does not change")
 }
 
-/// Waits until this many acknowledgements were compared with the limit as it is now.
-fn await_comparisons(rt: &impl Abort, told: &Told) {
-    let before = told.compared.load(Ordering::SeqCst);
+/// Waits until enough acknowledgements were compared with the limit as it is now.
+fn await_comparisons(rt: &impl Abort, shared: &Shared) {
+    let before = shared.compared.load(Ordering::SeqCst);
     for _ in 0..TRIES {
-        if told.compared.load(Ordering::SeqCst) >= before.saturating_add(COMPARED) {
+        if shared.compared.load(Ordering::SeqCst) >= before.saturating_add(COMPARED) {
             return;
         }
         thread::yield_now();
@@ -172,32 +159,32 @@ fn await_comparisons(rt: &impl Abort, told: &Told) {
 }
 
 /// Changes the limit down and up again. It holds from no place before that of the change before.
-fn change<R: Wait + Abort>(rt: &R, cluster: &Cluster, told: &Told) {
+fn change<R: Wait + Abort>(rt: &R, cluster: &Cluster, shared: &Shared) {
     let mut last = 1;
     for number in 1..=CHANGES {
         let limit = limit_after(number);
-        told.wanted.store(true, Ordering::SeqCst);
+        shared.wanted.store(true, Ordering::SeqCst);
         if limit == HIGH {
-            told.changes.store(number, Ordering::SeqCst);
+            shared.changes.store(number, Ordering::SeqCst);
         }
         let place = change_to(rt, cluster, limit);
-        told.changes.store(number, Ordering::SeqCst);
-        told.wanted.store(false, Ordering::SeqCst);
+        shared.changes.store(number, Ordering::SeqCst);
+        shared.wanted.store(false, Ordering::SeqCst);
         assert!(rt; last <= place);
         last = place;
-        await_comparisons(rt, told);
+        await_comparisons(rt, shared);
     }
-    told.changed.store(true, Ordering::SeqCst);
+    shared.changed.store(true, Ordering::SeqCst);
 }
 
 /// Reads at both sites in turn until all callers have ended. The session sees no site go back.
-fn watch<R: Wait + Abort>(rt: &R, cluster: &Cluster, told: &Told) {
+fn watch<R: Wait + Abort>(rt: &R, cluster: &Cluster, shared: &Shared) {
     let mut session = Session::new();
     for i in 0..TRIES {
         let seen = session.seen();
         read_applied(rt, cluster, &mut session, SiteId::new((i % 2) as u8));
         assert!(rt; seen <= session.seen());
-        if told.ended.load(Ordering::SeqCst) == 4 {
+        if shared.ended.load(Ordering::SeqCst) == 4 {
             return;
         }
         thread::yield_now();
@@ -220,12 +207,12 @@ fn call_two<R: Threads + Wait + Abort + Sync>(
     alloc: Global,
     objects: &ObjectTable,
     cluster: &Cluster,
-    told: &Told,
+    shared: &Shared,
 ) {
     thread::join(
         rt,
-        move || call(rt, alloc, objects, cluster, told),
-        move || call(rt, alloc, objects, cluster, told),
+        move || call(rt, alloc, objects, cluster, shared),
+        move || call(rt, alloc, objects, cluster, shared),
     );
 }
 
@@ -234,37 +221,42 @@ fn call_four<R: Threads + Wait + Abort + Sync>(
     rt: &R,
     alloc: Global,
     cluster: &Cluster,
-    told: &Told,
+    shared: &Shared,
 ) {
     let table = x_and_y(rt, alloc);
     let objects = &table;
     thread::join(
         rt,
-        move || call_two(rt, alloc, objects, cluster, told),
-        move || call_two(rt, alloc, objects, cluster, told),
+        move || call_two(rt, alloc, objects, cluster, shared),
+        move || call_two(rt, alloc, objects, cluster, shared),
     );
     drop(table);
 }
 
 /// The thread that changes the limit, and the reader.
-fn change_and_watch<R: Threads + Wait + Abort + Sync>(rt: &R, cluster: &Cluster, told: &Told) {
+fn change_and_watch<R: Threads + Wait + Abort + Sync>(rt: &R, cluster: &Cluster, shared: &Shared) {
     thread::join(
         rt,
-        move || change(rt, cluster, told),
-        move || watch(rt, cluster, told),
+        move || change(rt, cluster, shared),
+        move || watch(rt, cluster, shared),
     );
 }
 
 /// All eight threads.
-fn run<R: Threads + Wait + Abort + Sync>(rt: &R, alloc: Global, cluster: &Cluster, told: &Told) {
+fn run<R: Threads + Wait + Abort + Sync>(
+    rt: &R,
+    alloc: Global,
+    cluster: &Cluster,
+    shared: &Shared,
+) {
     thread::join(
         rt,
         move || apply(rt, cluster),
         move || {
             thread::join(
                 rt,
-                move || change_and_watch(rt, cluster, told),
-                move || call_four(rt, alloc, cluster, told),
+                move || change_and_watch(rt, cluster, shared),
+                move || call_four(rt, alloc, cluster, shared),
             )
         },
     );
@@ -277,32 +269,27 @@ fn expect_certified(rt: &impl Abort, alloc: Global, primary: &Primary) {
     let limits = primary.limits(a());
     assert!(rt; limits.len() == 1);
     assert!(rt; limits.get(0) == (Scope::Count, HIGH));
-    let Ok(record) = record_of(alloc, primary, a()) else {
-        panic!(rt; "there is no memory for a record")
-    };
-    assert!(rt; matches!(check(&record), Verdict::Fewest(_)));
-    drop(record);
+    expect_fewest(rt, alloc, primary);
 }
 
 fn close(rt: &impl Abort, alloc: Global, cluster: Cluster) {
-    let Ok(closed) = cluster.close() else {
-        panic!(rt; "a site does not agree with the log")
-    };
+    let closed = closed(rt, cluster);
     expect_certified(rt, alloc, closed.primary());
     drop(closed);
 }
 
+/// Compares each acknowledgement with the limit in force.
 #[test]
 fn a_changing_limit_is_kept(rt: HostRuntime) -> Result<(), Fail> {
-    let cluster = opened(&rt, rt.alloc())?;
-    let told = Told {
+    let cluster = opened(&rt, rt.alloc(), &SITES)?;
+    let shared = Shared {
         changes: AtomicU64::new(0),
         compared: AtomicU64::new(0),
         wanted: AtomicBool::new(false),
         changed: AtomicBool::new(false),
         ended: AtomicU64::new(0),
     };
-    run(&rt, rt.alloc(), &cluster, &told);
+    run(&rt, rt.alloc(), &cluster, &shared);
     close(&rt, rt.alloc(), cluster);
     Ok(())
 }

@@ -1,8 +1,12 @@
-//! Message sets over the objects x at 0 and y at 10, and what the threads of a cluster do.
+//! Clusters of the objects x at 0 and y at 10, message sets over them, and what the threads of a cluster do.
 ghost use Rattle.std.specs.Prelude.{◌≡◌};
 
-use ordup_cluster::{Cluster, Gate, Session};
-use ordup_objects::{Change, MessageSet, ObjectId, ObjectTable, Op, SiteId};
+use ordup_cluster::{Closed, Cluster, Gate, Session};
+use ordup_limits::Scope;
+use ordup_objects::{Change, MessageSet, ObjectId, ObjectTable, Op, Refusal, SiteId};
+use ordup_primary::{Primary, Setup};
+use ordup_record::record_of;
+use ordup_verdict::{Verdict, check};
 use std::alloc::Global;
 use std::process::Abort;
 use std::sync::Wait;
@@ -29,6 +33,9 @@ pub fn y() -> ObjectId
     ObjectId::new(1)
 }
 
+/// A site: its name, the capacity of its feed, and its limit, if it has one.
+pub type Site = (&'static str, u64, Option<(Scope, u64)>);
+
 /// The first site.
 pub fn a() -> SiteId
     ensures { result ≡ 0 }
@@ -36,7 +43,52 @@ pub fn a() -> SiteId
     SiteId::new(0)
 }
 
-/// The objects of which the clusters of these tests have the first one, or both.
+/// The second site.
+pub fn b() -> SiteId
+    ensures { result ≡ 1 }
+{
+    SiteId::new(1)
+}
+
+/// Declares a site.
+fn declare(setup: &mut Setup, site: &Site) -> Result<(), Refusal> {
+    let (name, capacity, limit) = *site;
+    let site = setup.site(name.as_bytes(), capacity)?;
+    match limit {
+        Some((scope, amount)) => setup.limit(site, scope, amount),
+        None => Ok(()),
+    }
+}
+
+/// A cluster of x, y and these sites.
+pub fn opened(rt: &impl Abort, alloc: Global, sites: &[Site]) -> Result<Cluster, Refusal> {
+    let mut setup = Setup::new(alloc);
+    assert_eq!(rt; setup.object(b"x", 0), Ok(x()));
+    assert_eq!(rt; setup.object(b"y", 10), Ok(y()));
+    for site in sites {
+        assert_eq!(rt; declare(&mut setup, site), Ok(()));
+    }
+    Cluster::new(alloc, setup)
+}
+
+/// Closes a cluster whose sites agree with its log.
+pub fn closed(rt: &impl Abort, cluster: Cluster) -> Closed {
+    let Ok(closed) = cluster.close() else {
+        panic!(rt; "a site does not agree with the log")
+    };
+    closed
+}
+
+/// Sees that the check accepts the record of a.
+pub fn expect_fewest(rt: &impl Abort, alloc: Global, primary: &Primary) {
+    let Ok(record) = record_of(alloc, primary, a()) else {
+        panic!(rt; "there is no memory for a record")
+    };
+    assert!(rt; matches!(check(&record), Verdict::Fewest(_)));
+    drop(record);
+}
+
+/// The objects of the clusters.
 pub fn x_and_y(rt: &impl Abort, alloc: Global) -> ObjectTable {
     let mut objects = ObjectTable::new(alloc);
     assert_eq!(rt; objects.declare(b"x", 0), Ok(x()));
@@ -88,7 +140,7 @@ pub fn apply_at<G: Gate, R: Wait + Abort>(rt: &R, cluster: &Cluster, site: u8, g
     cluster.applier(rt, site, gate)
 }
 
-/// Waits until a flag is raised, and answers whether it was within this many tries.
+/// Waits until a flag is raised, and answers whether it was within this count of tries.
 pub fn is_raised_within(flag: &AtomicBool, tries: u64) -> bool {
     for _ in 0..tries {
         if flag.load(Ordering::SeqCst) {

@@ -1,9 +1,11 @@
 //! A site that its gate holds up, while another site gets on.
-use crate::fixtures::{TRIES, a, adding, apply_at, is_raised_within, propose, set_of, x, x_and_y};
+use crate::fixtures::{
+    Site, TRIES, a, adding, apply_at, b, closed, is_raised_within, opened, propose, set_of, x,
+    x_and_y,
+};
 use crate::holding_gate::{Held, HoldingGate};
 use ordup_cluster::{Cluster, OpenGate, SeenValue, Session};
-use ordup_objects::{ObjectTable, Refusal, SiteId};
-use ordup_primary::Setup;
+use ordup_objects::{ObjectTable, Refusal};
 use std::alloc::Global;
 use std::process::Abort;
 use std::sync::Wait;
@@ -11,28 +13,13 @@ use std::test::Fail;
 use std::thread;
 use std::thread::Threads;
 
-/// Declares x and y, and the sites a and b without limits, each with a capacity of 4 updates.
-fn declare(setup: &mut Setup) -> Result<(), Refusal> {
-    setup.object(b"x", 0)?;
-    setup.object(b"y", 10)?;
-    setup.site(b"a", 4)?;
-    setup.site(b"b", 4)?;
-    Ok(())
-}
-
-fn opened(rt: &impl Abort, alloc: Global) -> Result<Cluster, Refusal> {
-    let mut setup = Setup::new(alloc);
-    let Ok(()) = declare(&mut setup) else {
-        panic!(rt; "the declarations are refused")
-    };
-    Cluster::new(alloc, setup)
-}
+/// Two sites without limits.
+const SITES: [Site; 2] = [("a", 4, None), ("b", 4, None)];
 
 /// Reads x at b until it has the update.
 fn wait_for_b<R: Wait + Abort>(rt: &R, cluster: &Cluster, session: &mut Session) {
-    let b = SiteId::new(1);
     for _ in 0..TRIES {
-        match cluster.read(rt, session, b, x()) {
+        match cluster.read(rt, session, b(), x()) {
             Ok(seen) => {
                 assert_eq!(rt;
                     seen,
@@ -143,43 +130,44 @@ fn apply_and_read<R: Threads + Wait + Abort + Sync>(rt: &R, cluster: &Cluster, g
 
 /// Both sites agree with the log, and have applied its one update.
 fn close(rt: &impl Abort, cluster: Cluster) {
-    let Ok(closed) = cluster.close() else {
-        panic!(rt; "a site does not agree with the log")
-    };
+    let closed = closed(rt, cluster);
     let primary = closed.primary();
     // For the proof: there are as many sites as were declared.
     let _acked = primary.acked();
     assert_eq!(rt; primary.log().len(), 1);
     assert_eq!(rt; primary.setup().sites(), 2);
     assert_eq!(rt; closed.site(a()).applied(), 1);
-    assert_eq!(rt; closed.site(SiteId::new(1)).applied(), 1);
+    assert_eq!(rt; closed.site(b()).applied(), 1);
     drop(closed);
 }
 
+/// Holds a site before its lock, while another one applies.
 #[test]
 fn a_site_that_is_held_before_it_applies_holds_up_nobody(rt: HostRuntime) -> Result<(), Fail> {
     let gate = HoldingGate::new(Held::BeforeApply, TRIES);
-    let cluster = opened(&rt, rt.alloc())?;
+    let cluster = opened(&rt, rt.alloc(), &SITES)?;
     run(&rt, rt.alloc(), &cluster, &gate);
     assert!(rt; !gate.gave_up());
     close(&rt, cluster);
     Ok(())
 }
 
+/// Holds a site under its lock, while another one applies.
 #[test]
 fn a_site_that_is_held_under_its_lock_holds_up_nobody(rt: HostRuntime) -> Result<(), Fail> {
     let gate = HoldingGate::new(Held::AtApply, TRIES);
-    let cluster = opened(&rt, rt.alloc())?;
+    let cluster = opened(&rt, rt.alloc(), &SITES)?;
     run(&rt, rt.alloc(), &cluster, &gate);
     assert!(rt; !gate.gave_up());
     close(&rt, cluster);
     Ok(())
 }
 
+/// Reads at a site that is held under its lock.
 #[test]
 fn a_read_waits_for_a_site_that_is_held_under_its_lock(rt: HostRuntime) -> Result<(), Fail> {
     let gate = HoldingGate::new(Held::AtApply, 100_000);
-    let cluster = opened(&rt, rt.alloc())?;
+    let cluster = opened(&rt, rt.alloc(), &SITES)?;
     propose_and_stop(&rt, rt.alloc(), &cluster);
     apply_and_read(&rt, &cluster, &gate);
     // The read did not end while the gate held the site.

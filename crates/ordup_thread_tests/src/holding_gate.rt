@@ -14,7 +14,7 @@ pub enum Held {
     AtApply,
 }
 
-/// Holds the site a up before its first update until it is opened, or this many tries were in vain.
+/// Holds the site a up before its first update until it is opened, or its tries are spent.
 #[derive(Drop)]
 pub struct HoldingGate {
     by: Held,
@@ -52,7 +52,7 @@ impl HoldingGate {
         &self.holding
     }
 
-    /// Whether its tries were in vain.
+    /// Whether its tries were spent.
     pub fn gave_up(&self) -> bool {
         self.gave_up.load(Ordering::SeqCst)
     }

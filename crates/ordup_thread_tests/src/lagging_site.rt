@@ -1,31 +1,16 @@
-//! A site that is held before its first update and may lag by three updates: the fourth proposal waits for it.
-use crate::fixtures::{TRIES, a, adding, apply_at, set_of, x, x_and_y};
+//! A site with room for one update that is held before its first update and may lag by three: the fourth proposal waits for it.
+use crate::fixtures::{TRIES, a, adding, apply_at, closed, opened, set_of, x, x_and_y};
 use crate::holding_gate::{Held, HoldingGate};
 use ordup_cluster::{Cluster, SeenValue, Session};
 use ordup_limits::Scope;
 use ordup_objects::{ObjectTable, Refusal};
-use ordup_primary::{Setup, Window};
+use ordup_primary::Window;
 use std::alloc::Global;
 use std::process::Abort;
 use std::sync::Wait;
 use std::test::Fail;
 use std::thread;
 use std::thread::Threads;
-
-/// Declares x at 0 and the site a, which has a capacity of one update.
-fn declare(setup: &mut Setup) -> Result<(), Refusal> {
-    setup.object(b"x", 0)?;
-    let a = setup.site(b"a", 1)?;
-    setup.limit(a, Scope::Count, 3)
-}
-
-fn opened(rt: &impl Abort, alloc: Global) -> Result<Cluster, Refusal> {
-    let mut setup = Setup::new(alloc);
-    let Ok(()) = declare(&mut setup) else {
-        panic!(rt; "the declarations are refused")
-    };
-    Cluster::new(alloc, setup)
-}
 
 /// Adds 1 to x four times, with 100 turns each. The fourth update waits for a.
 fn propose_four<R: Wait + Abort>(
@@ -92,9 +77,7 @@ fn run<R: Threads + Wait + Abort + Sync>(
 
 /// The site has applied all four updates, in one round.
 fn close(rt: &impl Abort, cluster: Cluster) {
-    let Ok(closed) = cluster.close() else {
-        panic!(rt; "the site does not agree with the log")
-    };
+    let closed = closed(rt, cluster);
     let primary = closed.primary();
     // For the proof: there are as many sites as were declared.
     let _acked = primary.acked();
@@ -109,10 +92,12 @@ fn close(rt: &impl Abort, cluster: Cluster) {
     drop(closed);
 }
 
+/// Proposes four updates to a site that is held.
 #[test]
 fn the_fourth_proposal_waits_for_a_site_that_may_lag_by_three(rt: HostRuntime) -> Result<(), Fail> {
     let gate = HoldingGate::new(Held::BeforeApply, TRIES);
-    let cluster = opened(&rt, rt.alloc())?;
+    let sites = [("a", 1, Some((Scope::Count, 3)))];
+    let cluster = opened(&rt, rt.alloc(), &sites)?;
     run(&rt, rt.alloc(), &cluster, &gate);
     assert!(rt; !gate.gave_up());
     close(&rt, cluster);

@@ -1,10 +1,11 @@
 //! Four callers, four sites and two readers. Each update adds 1 to x and takes 2 from y, so after k updates x is k and y is 10 - 2k.
-use crate::fixtures::{TRIES, adding, apply_at, propose, set_of, x, x_and_y, y};
+use crate::fixtures::{
+    Site, TRIES, a, adding, apply_at, b, closed, opened, propose, set_of, x, x_and_y, y,
+};
 use ordup_cluster::{Cluster, OpenGate, SeenValue, Session};
 use ordup_limits::Scope;
 use ordup_log::Log;
 use ordup_objects::{ObjectId, ObjectTable, Refusal, SiteId};
-use ordup_primary::Setup;
 use std::alloc::Global;
 use std::process::Abort;
 use std::sync::Wait;
@@ -16,27 +17,17 @@ use std::thread::Threads;
 /// How many sets each of the four callers proposes.
 const SETS: u64 = 5_000;
 
-/// Declares x and y, and four sites: the first may lag by 64 updates, the second by a way of 50 on x, the others have no limit.
-fn declare(setup: &mut Setup) -> Result<(), Refusal> {
-    let x = setup.object(b"x", 0)?;
-    setup.object(b"y", 10)?;
-    let a = setup.site(b"a", 64)?;
-    let b = setup.site(b"b", 8)?;
-    setup.site(b"c", 1)?;
-    setup.site(b"d", 1_024)?;
-    setup.limit(a, Scope::Count, 64)?;
-    setup.limit(b, Scope::Object(x), 50)
+/// Four sites: a may lag by 64 updates, b by a way of 50 on x, the others have no limit.
+fn sites() -> [Site; 4] {
+    [
+        ("a", 64, Some((Scope::Count, 64))),
+        ("b", 8, Some((Scope::Object(x()), 50))),
+        ("c", 1, None),
+        ("d", 1_024, None),
+    ]
 }
 
-fn opened(rt: &impl Abort, alloc: Global) -> Result<Cluster, Refusal> {
-    let mut setup = Setup::new(alloc);
-    let Ok(()) = declare(&mut setup) else {
-        panic!(rt; "the declarations are refused")
-    };
-    Cluster::new(alloc, setup)
-}
-
-/// The value of an object after this many updates.
+/// The value of an object after this count of updates.
 fn value_after(object: ObjectId, updates: u64) -> i64 {
     let updates = updates.min(1_000_000) as i64;
     if object == x() {
@@ -192,23 +183,22 @@ fn expect_all(rt: &impl Abort, log: &Log) {
 
 /// The sites with limits have applied all updates but those by which they may lag.
 fn close(rt: &impl Abort, cluster: Cluster) {
-    let Ok(closed) = cluster.close() else {
-        panic!(rt; "a site does not agree with the log")
-    };
+    let closed = closed(rt, cluster);
     let primary = closed.primary();
     // For the proof: there are as many sites as were declared.
     let acked = primary.acked();
     assert_eq!(rt; acked, 4 * SETS);
     expect_all(rt, primary.log());
     assert_eq!(rt; primary.setup().sites(), 4);
-    assert!(rt; closed.site(SiteId::new(0)).applied() >= 4 * SETS - 64);
-    assert!(rt; closed.site(SiteId::new(1)).applied() >= 4 * SETS - 50);
+    assert!(rt; closed.site(a()).applied() >= 4 * SETS - 64);
+    assert!(rt; closed.site(b()).applied() >= 4 * SETS - 50);
     drop(closed);
 }
 
+/// Reads beside four callers and four sites.
 #[test]
 fn each_read_is_the_value_of_a_prefix(rt: HostRuntime) -> Result<(), Fail> {
-    let cluster = opened(&rt, rt.alloc())?;
+    let cluster = opened(&rt, rt.alloc(), &sites())?;
     run(&rt, rt.alloc(), &cluster);
     close(&rt, cluster);
     Ok(())

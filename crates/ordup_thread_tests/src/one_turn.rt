@@ -4,12 +4,13 @@
 //! one turn is refused then, whatever the site does meanwhile. One that made a turn more would succeed where the site is quick.
 ghost use Rattle.std.specs.Prelude.{◌≤◌};
 
-use crate::fixtures::{TRIES, TURNS, a, adding, apply_at, set_of, x, x_and_y};
+use crate::fixtures::{
+    Site, TRIES, TURNS, a, adding, apply_at, closed, opened, set_of, x, x_and_y,
+};
 use crate::holding_gate::{Held, HoldingGate};
 use ordup_cluster::{Cluster, Session};
 use ordup_limits::Scope;
 use ordup_objects::{ObjectTable, Refusal};
-use ordup_primary::Setup;
 use std::alloc::Global;
 use std::process::Abort;
 use std::sync::Wait;
@@ -20,25 +21,26 @@ use std::thread::Threads;
 /// How many updates are proposed while the site is held, and how many after that.
 const UPDATES: u64 = 1_500;
 
-/// Declares x at 0, the site a, which may not lag, and 15 sites more. Nothing applies at these: they make each turn longer, between
-/// what it sends to a and its end.
-fn declare(setup: &mut Setup) -> Result<(), Refusal> {
-    setup.object(b"x", 0)?;
-    let a = setup.site(b"a", 1)?;
-    setup.limit(a, Scope::All, 0)?;
-    for place in 1..16 {
-        setup.site(&[b'a' + place], 4)?;
-    }
-    Ok(())
-}
-
-fn opened(rt: &impl Abort, alloc: Global) -> Result<Cluster, Refusal> {
-    let mut setup = Setup::new(alloc);
-    let Ok(()) = declare(&mut setup) else {
-        panic!(rt; "the declarations are refused")
-    };
-    Cluster::new(alloc, setup)
-}
+/// The site a, which may not lag, and 15 sites more. Nothing applies at these: they make each turn longer, between what it sends
+/// to a and its end.
+const SITES: [Site; 16] = [
+    ("a", 1, Some((Scope::All, 0))),
+    ("b", 4, None),
+    ("c", 4, None),
+    ("d", 4, None),
+    ("e", 4, None),
+    ("f", 4, None),
+    ("g", 4, None),
+    ("h", 4, None),
+    ("i", 4, None),
+    ("j", 4, None),
+    ("k", 4, None),
+    ("l", 4, None),
+    ("m", 4, None),
+    ("n", 4, None),
+    ("o", 4, None),
+    ("p", 4, None),
+];
 
 /// Proposes the update with this number by one turn, after which it waits.
 fn propose<R: Wait + Abort>(
@@ -53,7 +55,7 @@ fn propose<R: Wait + Abort>(
     assert_eq!(rt; answer, Err(Refusal::NotYet { number }));
 }
 
-/// Waits for an update by this many turns, and sees this answer.
+/// Waits for an update by this count of turns, and sees this answer.
 fn expect_settled<R: Wait + Abort>(
     rt: &R,
     cluster: &Cluster,
@@ -69,7 +71,7 @@ fn expect_settled<R: Wait + Abort>(
     );
 }
 
-/// Reads at a until it has applied this many updates.
+/// Reads at a until it has applied this count of updates.
 fn wait_for_a<R: Wait + Abort>(rt: &R, cluster: &Cluster, applied: u64) {
     for _ in 0..TRIES {
         let Ok(seen) = cluster.read(rt, &mut Session::new(), a(), x()) else {
@@ -142,9 +144,7 @@ fn run<R: Threads + Wait + Abort + Sync>(
 
 /// The site a has applied all updates, each in a round of its own.
 fn close(rt: &impl Abort, cluster: Cluster) {
-    let Ok(closed) = cluster.close() else {
-        panic!(rt; "a site does not agree with the log")
-    };
+    let closed = closed(rt, cluster);
     let primary = closed.primary();
     // For the proof: there are as many sites as were declared.
     let _acked = primary.acked();
@@ -154,10 +154,11 @@ fn close(rt: &impl Abort, cluster: Cluster) {
     drop(closed);
 }
 
+/// Calls with one turn while the site applies.
 #[test]
 fn a_call_with_one_turn_makes_no_turn_more(rt: HostRuntime) -> Result<(), Fail> {
     let gate = HoldingGate::new(Held::BeforeApply, TRIES);
-    let cluster = opened(&rt, rt.alloc())?;
+    let cluster = opened(&rt, rt.alloc(), &SITES)?;
     run(&rt, rt.alloc(), &cluster, &gate);
     assert!(rt; !gate.gave_up());
     close(&rt, cluster);

@@ -1,12 +1,11 @@
-//! Two callers and a site that they wait for.
-use crate::fixtures::{adding, apply_at, propose, set_of, x, x_and_y, y};
-use ordup_audit::{Verdict, check};
+//! Two callers and a site that they wait for, with room for one update, which may lag by three.
+use crate::fixtures::{
+    a, adding, apply_at, closed, expect_fewest, opened, propose, set_of, x, x_and_y, y,
+};
 use ordup_cluster::{Cluster, OpenGate, Session};
 use ordup_limits::Scope;
 use ordup_log::Log;
-use ordup_objects::{ObjectId, ObjectTable, Refusal, SiteId};
-use ordup_primary::{Primary, Setup};
-use ordup_record::record_of;
+use ordup_objects::{ObjectId, ObjectTable};
 use std::alloc::Global;
 use std::process::Abort;
 use std::sync::Wait;
@@ -14,22 +13,6 @@ use std::sync::atomic::{AtomicU64, Ordering};
 use std::test::Fail;
 use std::thread;
 use std::thread::Threads;
-
-/// Declares x and y, and a site with a capacity of one update, which may lag by three.
-fn declare(setup: &mut Setup) -> Result<(), Refusal> {
-    setup.object(b"x", 0)?;
-    setup.object(b"y", 10)?;
-    let a = setup.site(b"a", 1)?;
-    setup.limit(a, Scope::Count, 3)
-}
-
-fn opened(rt: &impl Abort, alloc: Global) -> Result<Cluster, Refusal> {
-    let mut setup = Setup::new(alloc);
-    let Ok(()) = declare(&mut setup) else {
-        panic!(rt; "the declarations are refused")
-    };
-    Cluster::new(alloc, setup)
-}
 
 /// Adds 1 to an object twenty times. The caller that ends last stops the cluster.
 fn call<R: Wait + Abort>(
@@ -96,34 +79,25 @@ fn expect_both(rt: &impl Abort, log: &Log) {
     assert_eq!(rt; (log.end_value(x()), log.end_value(y())), (20, 30));
 }
 
-/// The check accepts the record of the site.
-fn expect_certified(rt: &impl Abort, alloc: Global, primary: &Primary) {
-    let Ok(record) = record_of(alloc, primary, SiteId::new(0)) else {
-        panic!(rt; "there is no memory for a record")
-    };
-    assert!(rt; matches!(check(&record), Verdict::Fewest(_)));
-    drop(record);
-}
-
 /// The log has all sets, and the site at most three fewer.
 fn close(rt: &impl Abort, alloc: Global, cluster: Cluster) {
-    let Ok(closed) = cluster.close() else {
-        panic!(rt; "the site does not agree with the log")
-    };
+    let closed = closed(rt, cluster);
     let primary = closed.primary();
     // For the proof: there are as many sites as were declared.
     let _acked = primary.acked();
     expect_both(rt, primary.log());
     assert_eq!(rt; primary.setup().sites(), 1);
-    let applied = closed.site(SiteId::new(0)).applied();
+    let applied = closed.site(a()).applied();
     assert!(rt; 37 <= applied && applied <= 40);
-    expect_certified(rt, alloc, primary);
+    expect_fewest(rt, alloc, primary);
     drop(closed);
 }
 
+/// Proposes from two threads, with one site.
 #[test]
 fn two_callers_wait_for_one_site(rt: HostRuntime) -> Result<(), Fail> {
-    let cluster = opened(&rt, rt.alloc())?;
+    let sites = [("a", 1, Some((Scope::Count, 3)))];
+    let cluster = opened(&rt, rt.alloc(), &sites)?;
     run(&rt, rt.alloc(), &cluster);
     close(&rt, rt.alloc(), cluster);
     Ok(())

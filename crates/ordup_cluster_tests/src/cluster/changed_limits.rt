@@ -103,7 +103,7 @@ fn change_after_the_stop<R: Wait + Abort>(rt: &R, cluster: &Cluster, set: Messag
     expect_changed(rt, cluster, a(), Scope::All, 3, Ok(2));
 }
 
-/// b may not lag any more, so the update waits for b, and not for a. No limit changes meanwhile, be it of a.
+/// b may not lag any more, so the update waits for b, and not for a. No limit changes meanwhile, not even that of a.
 fn forbid_lag_at_b<R: Wait + Abort>(rt: &R, cluster: &Cluster, set: MessageSet) {
     let mut session = Session::new();
     expect_changed(rt, cluster, b(), Scope::Count, 0, Ok(1));
@@ -116,6 +116,7 @@ fn forbid_lag_at_b<R: Wait + Abort>(rt: &R, cluster: &Cluster, set: MessageSet) 
     expect_changed(rt, cluster, a(), Scope::Count, 1, Ok(2));
 }
 
+/// Lowers a limit below the lag, and down to it.
 #[test]
 fn a_limit_is_lowered_to_what_a_site_lags(rt: HostRuntime) -> Result<(), Fail> {
     let alloc = rt.alloc();
@@ -126,6 +127,7 @@ fn a_limit_is_lowered_to_what_a_site_lags(rt: HostRuntime) -> Result<(), Fail> {
     Ok(())
 }
 
+/// Changes a limit of a stopped cluster.
 #[test]
 fn a_limit_changes_after_the_stop_and_without_a_look(rt: HostRuntime) -> Result<(), Fail> {
     let alloc = rt.alloc();
@@ -136,6 +138,7 @@ fn a_limit_changes_after_the_stop_and_without_a_look(rt: HostRuntime) -> Result<
     Ok(())
 }
 
+/// Changes the limit of one site of two.
 #[test]
 fn a_changed_limit_is_that_of_one_site(rt: HostRuntime) -> Result<(), Fail> {
     let alloc = rt.alloc();

@@ -38,7 +38,7 @@ pub fn add(rt: &impl Abort, alloc: Global, object: ObjectId, n: i64) -> MessageS
     set
 }
 
-/// Reads x at a site in a session, and sees this value, and that the site has applied this many updates.
+/// Reads x at a site in a session, and sees its value and how many updates the site has applied.
 pub fn expect_seen<R: Wait + Abort>(
     rt: &R,
     cluster: &Cluster,
@@ -53,7 +53,7 @@ pub fn expect_seen<R: Wait + Abort>(
     );
 }
 
-/// Sees that a site, which has applied this many updates, is behind a session that reads x there.
+/// Reads x at a site that is behind the session, and sees how many updates the site has applied.
 pub fn expect_behind<R: Wait + Abort>(
     rt: &R,
     cluster: &Cluster,
@@ -67,7 +67,7 @@ pub fn expect_behind<R: Wait + Abort>(
     );
 }
 
-/// Proposes a set with this many turns in a session, and sees this answer.
+/// Proposes a set in a session with this count of turns, and sees this answer.
 pub fn expect_proposed<R: Wait + Abort>(
     rt: &R,
     cluster: &Cluster,
@@ -81,7 +81,7 @@ pub fn expect_proposed<R: Wait + Abort>(
     assert_eq!(rt; cluster.propose(rt, session, set, turns), answer);
 }
 
-/// Waits for an update for this many turns in a session, and sees this answer.
+/// Waits for an update in a session for this count of turns, and sees this answer.
 pub fn expect_settled<R: Wait + Abort>(
     rt: &R,
     cluster: &Cluster,
@@ -95,18 +95,18 @@ pub fn expect_settled<R: Wait + Abort>(
     assert_eq!(rt; cluster.settle(rt, session, number, turns), answer);
 }
 
-/// A site applies what it was sent, which are this many updates; the cluster is stopped.
+/// Applies at a site of a stopped cluster, and sees how many updates were applied.
 pub fn expect_applied<R: Wait + Abort>(rt: &R, cluster: &Cluster, site: SiteId, updates: u64) {
     assert!(rt; site.index() < cluster.sites());
     assert_eq!(rt; cluster.applier(rt, site, &OpenGate), updates);
 }
 
-/// A site applies what it was sent, which is one update; the cluster is stopped.
+/// Applies one update at a site of a stopped cluster.
 pub fn apply_at<R: Wait + Abort>(rt: &R, cluster: &Cluster, site: SiteId) {
     expect_applied(rt, cluster, site, 1);
 }
 
-/// Sees that a site of a closed cluster has applied this many updates.
+/// Sees how many updates a site of a closed cluster has applied.
 pub fn expect_held(rt: &impl Abort, closed: &Closed, site: SiteId, updates: u64) {
     let primary = closed.primary();
     // For the proof: there are as many sites as were declared.
@@ -115,7 +115,7 @@ pub fn expect_held(rt: &impl Abort, closed: &Closed, site: SiteId, updates: u64)
     assert_eq!(rt; closed.site(site).applied(), updates);
 }
 
-/// Closes a cluster. Its log has this many updates; this is what the site a holds of x, and its windows are these.
+/// Closes a cluster, and sees how many updates its log has, what the site a holds of x, and its windows.
 pub fn expect_closed(
     rt: &impl Abort,
     cluster: Cluster,

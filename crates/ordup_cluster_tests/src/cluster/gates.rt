@@ -69,8 +69,9 @@ fn propose_both<R: Wait + Abort>(rt: &R, cluster: &Cluster, set: MessageSet, oth
     expect_proposed(rt, cluster, &mut session, other, 1, Ok(2));
 }
 
+/// Notes the calls of a gate at two sites.
 #[test]
-fn a_gate_is_told_the_site_and_what_it_applies_next(rt: HostRuntime) -> Result<(), Fail> {
+fn a_gate_gets_the_site_and_what_it_applies_next(rt: HostRuntime) -> Result<(), Fail> {
     let alloc = rt.alloc();
     let cluster = opened_pair(&rt, alloc)?;
     let set = add(&rt, alloc, x(), 1);
@@ -84,6 +85,7 @@ fn a_gate_is_told_the_site_and_what_it_applies_next(rt: HostRuntime) -> Result<(
     Ok(())
 }
 
+/// Stops a cluster in the first turn of an applier.
 #[test]
 fn an_applier_ends_in_a_turn_that_began_after_the_stop(rt: HostRuntime) -> Result<(), Fail> {
     let cluster = opened(&rt, rt.alloc(), Scope::All, 0)?;

@@ -97,6 +97,7 @@ fn wait_for_the_report<R: Wait + Abort>(rt: &R, cluster: &Cluster, set: MessageS
     assert_eq!(rt; session.seen(), 1);
 }
 
+/// Proposes, applies and reads an update.
 #[test]
 fn an_update_is_acknowledged_and_read(rt: HostRuntime) -> Result<(), Fail> {
     let alloc = rt.alloc();
@@ -108,6 +109,7 @@ fn an_update_is_acknowledged_and_read(rt: HostRuntime) -> Result<(), Fail> {
     Ok(())
 }
 
+/// Waits for a site that applies nothing.
 #[test]
 fn a_round_waits_for_its_report(rt: HostRuntime) -> Result<(), Fail> {
     let alloc = rt.alloc();
@@ -118,6 +120,7 @@ fn a_round_waits_for_its_report(rt: HostRuntime) -> Result<(), Fail> {
     Ok(())
 }
 
+/// Waits for a site that applies the update.
 #[test]
 fn a_round_ends_with_its_report(rt: HostRuntime) -> Result<(), Fail> {
     let alloc = rt.alloc();

@@ -24,6 +24,7 @@ fn wait_for_both<R: Wait + Abort>(rt: &R, cluster: &Cluster, set: MessageSet, ot
     expect_settled(rt, cluster, &mut session, 2, 1, Ok(()));
 }
 
+/// Waits for two updates, each with a round.
 #[test]
 fn each_round_waits_for_its_own_report(rt: HostRuntime) -> Result<(), Fail> {
     let alloc = rt.alloc();

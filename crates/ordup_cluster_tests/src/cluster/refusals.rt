@@ -78,6 +78,7 @@ fn read_within_2<R: Wait + Abort>(rt: &R, cluster: &Cluster) {
     );
 }
 
+/// Makes a cluster without a site.
 #[test]
 fn a_cluster_has_a_site(rt: HostRuntime) -> Result<(), Fail> {
     let alloc = rt.alloc();
@@ -88,6 +89,7 @@ fn a_cluster_has_a_site(rt: HostRuntime) -> Result<(), Fail> {
     Ok(())
 }
 
+/// Reads an object or a site that is not there.
 #[test]
 fn an_unknown_object_comes_before_an_unknown_site(rt: HostRuntime) -> Result<(), Fail> {
     let cluster = opened(&rt, rt.alloc(), Scope::All, 0)?;
@@ -99,6 +101,7 @@ fn an_unknown_object_comes_before_an_unknown_site(rt: HostRuntime) -> Result<(),
     Ok(())
 }
 
+/// Begins queries with the greatest import limit, and one more.
 #[test]
 fn an_unknown_site_comes_before_an_import_limit(rt: HostRuntime) -> Result<(), Fail> {
     let greatest = 1_000_000_000_000_000_000;
@@ -111,6 +114,7 @@ fn an_unknown_site_comes_before_an_import_limit(rt: HostRuntime) -> Result<(), F
     Ok(())
 }
 
+/// Proposes sets that are refused, and one that is not.
 #[test]
 fn what_is_refused_has_no_number(rt: HostRuntime) -> Result<(), Fail> {
     let alloc = rt.alloc();
@@ -128,6 +132,7 @@ fn what_is_refused_has_no_number(rt: HostRuntime) -> Result<(), Fail> {
     Ok(())
 }
 
+/// Proposes sets to a stopped cluster.
 #[test]
 fn a_stopped_cluster_says_so_of_each_proposal(rt: HostRuntime) -> Result<(), Fail> {
     let alloc = rt.alloc();
@@ -145,6 +150,7 @@ fn a_stopped_cluster_says_so_of_each_proposal(rt: HostRuntime) -> Result<(), Fai
     Ok(())
 }
 
+/// Reads in a query that may import 2.
 #[test]
 fn a_query_reads_within_its_limit(rt: HostRuntime) -> Result<(), Fail> {
     let alloc = rt.alloc();

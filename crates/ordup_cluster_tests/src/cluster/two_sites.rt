@@ -65,6 +65,7 @@ fn close(rt: &impl Abort, cluster: Cluster) {
     drop(closed);
 }
 
+/// Reads at two sites, one of which lags.
 #[test]
 fn a_session_never_goes_back(rt: HostRuntime) -> Result<(), Fail> {
     let alloc = rt.alloc();

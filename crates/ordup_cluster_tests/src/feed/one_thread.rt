@@ -5,6 +5,7 @@ use ordup_feed::Feed;
 use ordup_objects::Refusal;
 use std::test::Fail;
 
+/// Makes feeds at the edges of their capacity.
 #[test]
 fn a_feed_has_room_for_1_to_1024_parcels(rt: HostRuntime) -> Result<(), Fail> {
     let alloc = rt.alloc();
@@ -22,6 +23,7 @@ fn a_feed_has_room_for_1_to_1024_parcels(rt: HostRuntime) -> Result<(), Fail> {
     Ok(())
 }
 
+/// Pushes a second parcel into a feed with room for one.
 #[test]
 fn a_full_feed_hands_the_parcel_back(rt: HostRuntime) -> Result<(), Fail> {
     let alloc = rt.alloc();

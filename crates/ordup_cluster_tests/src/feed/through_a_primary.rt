@@ -71,6 +71,7 @@ fn expect_taken<R: Wait + Abort>(rt: &R, end: &mut TakeEnd, number: u64) {
     assert_eq!(rt; end.pop(rt).map(|p| p.number), Some(number));
 }
 
+/// Sends two updates of a primary through its feed.
 #[test]
 fn the_updates_of_a_primary_go_through_a_feed(rt: HostRuntime) -> Result<(), Fail> {
     let mut primary = two_updates(&rt, rt.alloc())?;

@@ -53,6 +53,7 @@ fn agrees(rt: &impl Abort, alloc: Global, primary: &Primary, replica: &Site) -> 
     agree(primary, a(), replica, values)
 }
 
+/// Compares a site with the log, before and after a wrong update.
 #[test]
 fn a_site_agrees_where_it_holds_what_it_applied(rt: HostRuntime) -> Result<(), Fail> {
     let alloc = rt.alloc();
@@ -68,6 +69,7 @@ fn a_site_agrees_where_it_holds_what_it_applied(rt: HostRuntime) -> Result<(), F
     Ok(())
 }
 
+/// Compares a site that applied more than it was sent.
 #[test]
 fn a_site_agrees_only_up_to_what_it_was_sent(rt: HostRuntime) -> Result<(), Fail> {
     let alloc = rt.alloc();

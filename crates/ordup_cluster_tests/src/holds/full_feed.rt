@@ -23,7 +23,7 @@ fn take_all<R: Wait + Abort>(rt: &R, cell: &mut SiteCell, first: u64, last: u64)
     expect_taken(rt, cell, None);
 }
 
-/// Sees that this many updates were sent to the first site, and that it reported this many.
+/// Sees how many updates were sent to a, and how many it reported.
 fn expect_known(rt: &impl Abort, book: &Book, sent: u64, reported: u64) {
     let primary = book.primary();
     assert!(rt; primary.setup().sites() > 0);
@@ -53,6 +53,7 @@ fn fill_and_empty<R: Wait + Abort>(rt: &R, book: &mut Book, cell: &mut SiteCell)
     expect_seen(rt, cell, 15, 5);
 }
 
+/// Sends five updates through a feed with room for two.
 #[test]
 fn sends_stop_at_a_full_feed_and_go_on_once_there_is_room(rt: HostRuntime) -> Result<(), Fail> {
     let alloc = rt.alloc();
@@ -79,6 +80,7 @@ fn take_one_by_one<R: Wait + Abort>(rt: &R, book: &mut Book, cell: &mut SiteCell
     expect_seen(rt, cell, 15, 5);
 }
 
+/// Takes updates one by one from a full feed.
 #[test]
 fn each_update_that_is_taken_makes_room_for_one(rt: HostRuntime) -> Result<(), Fail> {
     let alloc = rt.alloc();
@@ -105,6 +107,7 @@ fn overfill<R: Wait + Abort>(rt: &R, book: &mut Book, cell: &mut SiteCell) {
     expect_seen(rt, cell, 527_878, 1_027);
 }
 
+/// Sends more updates than the largest feed holds.
 #[test]
 fn the_largest_feed_loses_nothing(rt: HostRuntime) -> Result<(), Fail> {
     let alloc = rt.alloc();
@@ -124,6 +127,7 @@ fn fill_the_first<R: Wait + Abort>(rt: &R, book: &mut Book) {
     expect_known(rt, book, 1, 0);
 }
 
+/// Sends to two sites, one of which has a full feed.
 #[test]
 fn a_full_feed_keeps_nothing_from_the_other_sites(rt: HostRuntime) -> Result<(), Fail> {
     let alloc = rt.alloc();
@@ -154,6 +158,7 @@ fn wait_for_each<R: Wait + Abort>(rt: &R, book: &mut Book, cell: &mut SiteCell) 
     expect_seen(rt, cell, 3, 2);
 }
 
+/// Makes turns while each update waits for the site.
 #[test]
 fn a_turn_learns_what_was_taken_and_acknowledges_it(rt: HostRuntime) -> Result<(), Fail> {
     let alloc = rt.alloc();
@@ -196,6 +201,7 @@ fn expect_round(rt: &impl Abort, book: &Book, place: u64) {
     assert_eq!(rt; (windows[0].from, windows[0].to), (0, place));
 }
 
+/// Waits for four updates through a feed with room for one.
 #[test]
 fn a_round_ends_though_the_feed_has_room_for_one(rt: HostRuntime) -> Result<(), Fail> {
     let alloc = rt.alloc();

@@ -21,6 +21,7 @@ fn follow<R: Wait + Abort>(rt: &R, book: &mut Book, cell: &mut SiteCell) {
     expect_turn(rt, book, 1);
 }
 
+/// Follows one update from the book to the cell and back.
 #[test]
 fn an_update_is_numbered_sent_taken_seen_and_acknowledged(rt: HostRuntime) -> Result<(), Fail> {
     let alloc = rt.alloc();

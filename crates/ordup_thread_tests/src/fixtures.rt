@@ -1,12 +1,12 @@
 //! Clusters of the objects x at 0 and y at 10, message sets over them, and what the threads of a cluster do.
 ghost use Rattle.std.specs.Prelude.{◌≡◌};
 
+use ordup_audit::{Verdict, check};
 use ordup_cluster::{Closed, Cluster, Gate, Session};
 use ordup_limits::Scope;
 use ordup_objects::{Change, MessageSet, ObjectId, ObjectTable, Op, Refusal, SiteId};
 use ordup_primary::{Primary, Setup};
 use ordup_record::record_of;
-use ordup_verdict::{Verdict, check};
 use std::alloc::Global;
 use std::process::Abort;
 use std::sync::Wait;

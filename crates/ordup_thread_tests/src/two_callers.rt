@@ -1,4 +1,4 @@
-//! Two callers and a site that they wait for, with room for one update, which may lag by three.
+//! Two callers and a site that they wait for, with a capacity of one update, which may lag by three.
 use crate::fixtures::{
     a, adding, apply_at, closed, expect_fewest, opened, propose, set_of, x, x_and_y, y,
 };

@@ -35,7 +35,7 @@ pub(crate) fn a() -> SiteId
     SiteId::new(0)
 }
 
-/// The declarations of x, y, and the site a with these limits, whose feed has room for 4 updates.
+/// The declarations of x, y, and the site a with these limits, whose feed has a capacity of 4 updates.
 pub(crate) fn declared(rt: &impl Abort, alloc: Global, limits: &[(Scope, u64)]) -> Setup {
     let mut setup = Setup::new(alloc);
     assert_eq!(rt; setup.object(b"x", 0), Ok(x()));

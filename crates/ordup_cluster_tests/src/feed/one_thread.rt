@@ -23,7 +23,7 @@ fn a_feed_has_room_for_1_to_1024_parcels(rt: HostRuntime) -> Result<(), Fail> {
     Ok(())
 }
 
-/// Pushes a second parcel into a feed with room for one.
+/// Pushes a second parcel into a feed with a capacity of one.
 #[test]
 fn a_full_feed_hands_the_parcel_back(rt: HostRuntime) -> Result<(), Fail> {
     let alloc = rt.alloc();

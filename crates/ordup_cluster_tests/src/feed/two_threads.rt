@@ -95,14 +95,14 @@ fn send_through<R: Threads + Wait + Abort + Sync>(
     Ok(())
 }
 
-/// Sends 1,000 parcels through a feed with room for four.
+/// Sends 1,000 parcels through a feed with a capacity of four.
 #[test]
 fn a_thousand_parcels_come_in_order(rt: HostRuntime) -> Result<(), Fail> {
     send_through(&rt, rt.alloc(), 4)?;
     Ok(())
 }
 
-/// Sends 1,000 parcels through a feed with room for one.
+/// Sends 1,000 parcels through a feed with a capacity of one.
 #[test]
 fn a_thousand_parcels_come_in_order_one_by_one(rt: HostRuntime) -> Result<(), Fail> {
     send_through(&rt, rt.alloc(), 1)?;

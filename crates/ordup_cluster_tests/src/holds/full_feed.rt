@@ -53,7 +53,7 @@ fn fill_and_empty<R: Wait + Abort>(rt: &R, book: &mut Book, cell: &mut SiteCell)
     expect_seen(rt, cell, 15, 5);
 }
 
-/// Sends five updates through a feed with room for two.
+/// Sends five updates through a feed with a capacity of two.
 #[test]
 fn sends_stop_at_a_full_feed_and_go_on_once_there_is_room(rt: HostRuntime) -> Result<(), Fail> {
     let alloc = rt.alloc();
@@ -201,7 +201,7 @@ fn expect_round(rt: &impl Abort, book: &Book, place: u64) {
     assert_eq!(rt; (windows[0].from, windows[0].to), (0, place));
 }
 
-/// Waits for four updates through a feed with room for one.
+/// Waits for four updates through a feed with a capacity of one.
 #[test]
 fn a_round_ends_though_the_feed_has_room_for_one(rt: HostRuntime) -> Result<(), Fail> {
     let alloc = rt.alloc();

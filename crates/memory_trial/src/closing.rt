@@ -24,8 +24,7 @@ pub(crate) fn close(rt: &impl Print, cluster: Cluster) -> io::Result<()> {
 
 fn print_closed(rt: &impl Print, closed: &Closed) -> io::Result<()> {
     print_log(rt, closed)?;
-    // For the proof: there are as many sites as were declared.
-    let _acked = closed.primary().acked();
+    closed.primary().keeps();
     for place in 0..closed.primary().setup().sites() {
         print_site(rt, closed, SiteId::new(place as u8))?;
     }
@@ -49,8 +48,7 @@ fn print_log(rt: &impl Print, closed: &Closed) -> io::Result<()> {
 fn print_site(rt: &impl Print, closed: &Closed, site: SiteId) -> io::Result<()>
     requires { site < length closed.now.sites }
 {
-    // For the proof: there are as many sites as were declared.
-    let _acked = closed.primary().acked();
+    closed.primary().keeps();
     let rounds = closed.primary().rounds(site).len();
     let held = closed.site(site);
     print!(rt; "site applied {} rounds {rounds} values", held.applied())?;

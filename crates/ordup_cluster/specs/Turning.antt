@@ -1,8 +1,8 @@
 -- What a turn makes of a book.
-use Rattle.std.specs.Prelude.{◌≡◌, ℕ, zero, suc, ◌+◌, ◌<◌, ◌≤◌, ◌&&◌, ◌⊎◌, Bool, Some, None, length, min, max}
-use Rattle.std.specs.Prelude.{not, nat_lt, if◌then◌else◌, slice_get, slice_set}
-use Rattle.ordup_primary.specs.Primaries.{PrimaryState, SiteProgress, progress_at, reported_at, is_within, settle_refusal}
-use Rattle.ordup_primary.specs.Primaries.{Decides, acked_after, waiting_now}
+use Rattle.std.specs.Prelude.{◌≡◌, ℕ, zero, suc, ◌+◌, ◌<◌, ◌≤◌, ◌⊎◌, Some, None, length, min, max}
+use Rattle.std.specs.Prelude.{if◌then◌else◌, slice_get, slice_set}
+use Rattle.ordup_primary.specs.Primaries.{PrimaryState, SiteProgress, progress_at, settle_refusal}
+use Rattle.ordup_primary.specs.Primaries.{Decides, acked_after, waiting_now, waits_for}
 use Rattle.ordup_feed.specs.Ends.{Sending}
 use Rattle.ordup_cluster.specs.Books.{BookState}
 
@@ -76,15 +76,9 @@ SettlesLast p q = ((q ≡ p) × (p.acked ≡ length p.log.sets)) ⊎ (Settles p 
 abbrev pub SettlesOut : PrimaryState → PrimaryState → Type 0
 SettlesOut p q = (n : ℕ) × (m : PrimaryState) × Acknowledges n p m × SettlesLast m q
 
--- the head waits for site s: it is decided with a round of the site, and the site has not reported it
-abbrev pub is_held : PrimaryState → ℕ → Bool
-is_held p s =
-    nat_lt p.acked p.decided
-    && (not (is_within p s (reported_at (progress_at p s) (p.acked + 1)) (p.acked + 1)) && nat_lt (progress_at p s).reported (p.acked + 1))
-
 -- the last update that site s may be sent
 abbrev pub send_bound : PrimaryState → ℕ → ℕ
-send_bound p s = if is_held p s then p.acked + 1 else length p.log.sets
+send_bound p s = if waits_for p s then p.acked + 1 else length p.log.sets
 
 -- the reports of all sites, then the settlements, then what all sites are sent
 abbrev pub Turned : BookState → BookState → Type 0

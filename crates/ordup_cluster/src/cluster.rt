@@ -385,8 +385,7 @@ fn first_mixed(
     ensures count { IfNone result (length sites.now.items ≡ length primary.now.sites) }
     ensures agree { IfNone result ((s : ℕ) (x : SiteState) → slice_get sites.now.items s ≡ Some x → Agrees primary.now s x) }
 {
-    // For the proof: there are as many sites as were declared.
-    let _acked = primary.acked();
+    primary.keeps();
     if sites.len() != primary.setup().sites() {
         return Some(SiteId::new(0));
     }

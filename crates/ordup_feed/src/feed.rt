@@ -19,7 +19,7 @@ use std::sync::Arc;
 pub struct Feed;
 
 impl Feed {
-    /// The two ends of a feed of this capacity, 1 to 1,024, over the initial values of these objects.
+    /// The two ends of a feed with room for `capacity` parcels, 1 to 1,024, over the initial values of the objects.
     ///
     /// It takes all the memory that the ends ever need. It is refused `OutOfRange` for the capacity, and `NoMemory`.
     pub fn new(
@@ -34,12 +34,8 @@ impl Feed {
         if capacity == 0 || capacity > GREATEST_CAPACITY {
             return Err(Refusal::OutOfRange);
         }
-        // For the proof: the initial values are a state.
-        let _objects = objects.len();
-        match open::<Brand>(alloc, objects, capacity as usize) {
-            Ok(ends) => Ok(ends),
-            Err(_) => Err(Refusal::NoMemory),
-        }
+        objects.keeps();
+        Ok(open::<Brand>(alloc, objects, capacity as usize)?)
     }
 }
 

@@ -10,7 +10,7 @@ use std::alloc::Global;
 use std::marker::Model;
 use std::sync::{Arc, Wait};
 
-/// The primary's end of a feed: it pushes parcels, and looks how many of them the site told that it took.
+/// The primary's end of a feed: it pushes parcels, and looks up how many of them the site took.
 #[derive(Drop)]
 pub struct SendEnd {
     pub(crate) queue: Arc<Queue, Global>,
@@ -45,7 +45,7 @@ pub struct Returned {
 impl SendEnd {
     /// Pushes a parcel behind all that were pushed. It takes no memory.
     ///
-    /// The caller sees to it that the parcel is the next one: its number follows the last one pushed and is at most 1,000,000, and
+    /// The caller makes sure that the parcel is the next one: its number follows the last one pushed and is at most 1,000,000, and
     /// its set is legal after those pushed. What `Primary::next_for` gives is, where the updates before it were pushed.
     ///
     /// It is refused `FeedFull` where the queue was full at one moment of the call, and the parcel is handed back.
@@ -55,8 +55,7 @@ impl SendEnd {
         ensures full { IfErr result (λ back. self.old.feed.capacity ≤ length self.old.pushed) }
         ensures refused { IfErr result (λ back. (back.refusal ≡ Refusal.FeedFull) × (back.parcel ≡ parcel) × (self.new ≡ self.old)) }
     {
-        // For the proof: the set of a parcel is a message set.
-        let _changes = parcel.set.changes();
+        parcel.set.keeps();
         match self.queue.push_as::<Push, R>(rt, &mut self.pass, parcel) {
             Ok(()) => {
                 self.count += 1;
@@ -69,9 +68,7 @@ impl SendEnd {
         }
     }
 
-    /// How many parcels the site told that it took, as far as the primary knows now; or the number pushed where that is less.
-    ///
-    /// It takes no memory.
+    /// How many parcels the site took, as the counter says now; or the number pushed where that is less. It takes no memory.
     pub fn look<R: Wait>(&mut self, rt: &R) -> u64
         ensures answer { result ≡ min self.new.known (length self.new.pushed) }
         ensures risen { self.old.known ≤ self.new.known }

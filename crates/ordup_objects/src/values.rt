@@ -128,8 +128,8 @@ impl<A: Allocator + Copy> Values<A> {
         results_of(self.values.as_slice(), set.changes(), &mut results.results)
     }
 
-    /// Adds how far each change of a set would move its object's value to a list that has spare capacity. The results are
-    /// those of the set on these values.
+    /// Adds how far each change of a set would move its object's value to a list that has spare capacity. The results are those of the set on
+    /// these values.
     pub fn push_distances(
         &self,
         set: &MessageSet<A>,

@@ -22,8 +22,7 @@ pub(crate) fn outcome_of(
     ensures { IfOk result (λ out. out.text ≡ outcome_text closed.now tally.refused tally.pending) }
 {
     let primary = closed.primary();
-    // For the proof: there are as many sites as were declared.
-    let _acked = primary.acked();
+    primary.keeps();
     let mut out = TextBuffer::new(alloc);
     push_done(&mut out, b"log ", primary.log().len())?;
     push_done(&mut out, b"refused ", tally.refused)?;
@@ -48,8 +47,7 @@ fn push_site(
     requires { site < length primary.now.sites }
     ensures { OnOk result (out.new.text ≡ out.old.text ++ site_text primary.now site held.now) }
 {
-    // For the proof: there are as many sites as were declared.
-    let _acked = primary.acked();
+    primary.keeps();
     out.push(b"site ")?;
     out.push(primary.setup().site_name(site).as_bytes())?;
     push_with_number(out, b" applied ", held.applied())?;

@@ -48,8 +48,7 @@ pub fn run_threads<R: Threads + Wait + Sync>(
     ensures outcome { IfOk result (λ out. IsOutcome (length sets.items) out.text) }
     ensures refused { IfErr result (λ e. (e ≡ Refusal.NoMemory) ⊎ ((s : ℕ) × (e ≡ Refusal.Mixed s))) }
 {
-    // For the proof: there are at most 16 sites.
-    let _sites = setup.sites();
+    setup.keeps();
     let cluster = Cluster::new(alloc, setup)?;
     // A cluster is dropped by a call: where it goes out of scope, the proof takes it apart.
     let Ok(hands) = deal(alloc, sets, callers.get()) else {

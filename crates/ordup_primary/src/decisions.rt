@@ -11,7 +11,7 @@ use ordup_objects::{Refusal, SiteId};
 use ordup_rounds::Window;
 use std::alloc::Allocator;
 
-/// Sites at the start: nothing was sent to them, and nothing is decided.
+/// The sites at the start: nothing was sent to them, and nothing is decided.
 pub(crate) fn first_sites<A: Allocator + Copy>(
     alloc: A,
     count: usize,

@@ -8,7 +8,7 @@ use std::alloc::Allocator;
 
 /// The marks of a place: for each object of a log, how much the updates up to the place weigh on it.
 ///
-/// It is refused `NoMemory` alone.
+/// The only refusal is `NoMemory`.
 pub(crate) fn marks_of<A: Allocator + Copy>(
     alloc: A,
     log: &Log<A>,

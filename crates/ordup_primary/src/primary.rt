@@ -32,7 +32,7 @@ pub struct Primary<A: Allocator + Copy = Global> {
     sites: Vec<Progress<A>, A>,
     /// The limits of each site, which begin as those that were declared.
     limits: Vec<LimitTable<A>, A>,
-    /// For each site what the updates up to the head weigh that it has not reported.
+    /// For each site the weight of the updates up to the head that it has not reported.
     ledgers: Vec<LagLedger<A>, A>,
 }
 
@@ -62,7 +62,7 @@ impl<A: Allocator + Copy> Primary<A> {
 
     /// A primary with an empty log, to which no site has reported.
     ///
-    /// The setup is ready: it has an object and a site. It is refused `NoMemory` alone.
+    /// The setup is ready: it has an object and a site. The only refusal is `NoMemory`.
     pub fn new(alloc: A, setup: Setup<A>) -> Result<Self, Refusal>
         requires { start_refusal setup ≡ None }
         ensures setup { IfOk result (λ p. p.setup ≡ setup) }
@@ -103,7 +103,7 @@ impl<A: Allocator + Copy> Primary<A> {
         Ok(number)
     }
 
-    /// The first update that was not sent to a site, copied.
+    /// A copy of the first update that was not sent to a site.
     ///
     /// It is refused `NothingToSend` where all were sent, and `NoMemory`.
     pub fn next_for(&self, site: SiteId) -> Result<Parcel<A>, Refusal>
@@ -122,7 +122,7 @@ impl<A: Allocator + Copy> Primary<A> {
         Ok(Parcel { number, set })
     }
 
-    /// Notes that the first update that was not sent to a site was sent.
+    /// Notes that one update more was sent to a site.
     pub fn mark_sent(&mut self, site: SiteId)
         requires site { site < length self.old.sites }
         requires unsent { (progress_at self.old site).sent < length self.old.log.sets }
@@ -173,7 +173,7 @@ impl<A: Allocator + Copy> Primary<A> {
         }
     }
 
-    /// Changes the limit of a site on a scope from the head on, or begins one there. It answers the place of the head.
+    /// Changes the limit of a site on a scope from the head on, or begins one there. It returns the place of the head.
     ///
     /// The limits that were in force at a place when it was decided stay so. It is refused `UnknownObject`, `UnknownGroup`,
     /// `OutOfRange` for the amount, `TooMany` for a 65th scope or a 1,089th entry of the site, `HeadPending` where the head is
@@ -260,8 +260,8 @@ impl<A: Allocator + Copy> Primary<A> {
         self.sites[site.index()].reports.at(place)
     }
 
-    /// The decided places at whose decision a site had reported another number than at the decision before, 0 before the first,
-    /// each with this number, in order.
+    /// How what a site had reported changed from one decision to the next: each decided place where it was another number than
+    /// at the place before, which is 0 before the first, with this number, in order.
     pub fn report_changes(&self, site: SiteId) -> &[(u64, u64)]
         requires { site < length self.now.sites }
         ensures changes { result.now ≡ changes_of (progress_at self.now site).reports }
@@ -288,6 +288,8 @@ impl<A: Allocator + Copy> Primary<A> {
         ensures fewest { HasFewestRounds self.now }
     {
         self.sites[site.index()].windows.as_slice()
+    }
+
     /// Whether the head waits for a site: it is decided and not acknowledged, it forced the site, and the site has not reported it.
     ///
     /// The rounds of a site end with the head exactly where the head forced it, so nothing is weighed again.
@@ -302,7 +304,6 @@ impl<A: Allocator + Copy> Primary<A> {
         last_place(self.rounds(site)) == head
     }
 
-    /// For each object, in order of declaration, how much the acknowledged updates weigh on it.
     /// What each primary keeps, for the proofs of its users. It does nothing.
     #[inline(always)]
     pub fn keeps(&self)
@@ -312,9 +313,10 @@ impl<A: Allocator + Copy> Primary<A> {
         let _ = &self.acked;
     }
 
+    /// For each object, in order of declaration, how much the acknowledged updates weigh on it.
     ///
     /// A query that begins now keeps them as its reference: a read imports the weight of the updates between those that are
-    /// acknowledged now and those that the site has applied then. It is refused `NoMemory` alone.
+    /// acknowledged now and those that the site has applied then. The only refusal is `NoMemory`.
     pub fn marks(&self) -> Result<Vec<u64, A>, Refusal>
         ensures count { IfOk result (λ marks. length marks.items ≡ length self.now.log.start) }
         ensures marks { IfOk result (λ marks. AreMarks self.now.log self.now.acked marks.items) }
@@ -351,7 +353,7 @@ impl<A: Allocator + Copy> Primary<A> {
         Ok(())
     }
 
-    /// What the acknowledged updates weigh on a scope that a site has not reported.
+    /// The weight on a scope of the acknowledged updates that a site has not reported.
     fn lag_on(&self, site: SiteId, scope: Scope) -> u64
         requires site { site < length self.now.sites }
         requires known { IsScopeKnown (length self.now.setup.objects) self.now.setup.groups scope }
@@ -365,7 +367,7 @@ impl<A: Allocator + Copy> Primary<A> {
             .span(scope, self.setup.groups(), reported, self.acked)
     }
 
-    /// Changes the limit of a site on a scope from the head on, where that is allowed. It is refused `NoMemory` alone.
+    /// Changes the limit of a site on a scope from the head on, where that is allowed. The only refusal is `NoMemory`.
     fn put_limit(&mut self, site: SiteId, scope: Scope, amount: u64) -> Result<(), Refusal>
         requires site { site < length self.old.sites }
         requires known { IsScopeKnown (length self.old.setup.objects) self.old.setup.groups scope }

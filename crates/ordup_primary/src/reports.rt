@@ -67,7 +67,7 @@ impl<A: Allocator + Copy> Reports<A> {
         as_of(self.changes.as_slice(), place)
     }
 
-    /// The decisions at which another number was reported than at the one before, each with it.
+    /// The decisions at which the site had reported another number than at the one before, each with it.
     pub(crate) fn changes(&self) -> &[(u64, u64)]
         ensures { result.now ≡ changes_of self.now.reports }
     {

@@ -119,6 +119,7 @@ impl<A: Allocator + Copy> Setup<A> {
         }
         self.limits[site.index()].add(&self.objects, &self.groups, *scope, amount)
     }
+
     /// What each setup keeps, for the proofs of its users. It does nothing.
     #[inline(always)]
     pub fn keeps(&self)
@@ -126,7 +127,6 @@ impl<A: Allocator + Copy> Setup<A> {
     {
         let _ = &self.objects;
     }
-
 
     /// Whether a store can start: whether there is at least one object and one site.
     pub fn is_ready(&self) -> bool

@@ -27,8 +27,7 @@ pub fn record_of<A: Allocator + Copy>(
     ensures allowed { IfOk result (λ _. record_refusal primary.now site ≡ None) }
     ensures refused { IfErr result (λ e. IsRefusal (record_refusal primary.now site) e) }
 {
-    // For the proof: what each primary keeps.
-    let _acked = primary.acked();
+    primary.keeps();
     if site.index() >= primary.setup().sites() {
         return Err(Refusal::UnknownSite);
     }
@@ -48,8 +47,7 @@ fn parts_of<A: Allocator + Copy>(
     ensures valid { IfOk result (λ parts. IsValid (state_of parts)) }
     ensures refused { IfErr result (λ e. e ≡ Refusal.NoMemory) }
 {
-    // For the proof: what each primary keeps.
-    let _acked = primary.acked();
+    primary.keeps();
     let setup = primary.setup();
     let name = *setup.site_name(site);
     let objects = setup.objects().copy(alloc)?;
@@ -57,18 +55,13 @@ fn parts_of<A: Allocator + Copy>(
     let limits = primary.limits(site).copy(alloc)?;
     let log = primary.log().copy_prefix(alloc, primary.decided())?;
     let reports = report_changes(alloc, primary, site)?;
-    let Ok(rounds) = Vec::from_slice(alloc, primary.rounds(site)) else {
-        return Err(Refusal::NoMemory);
-    };
-    let Ok(windows) = Vec::from_slice(alloc, primary.windows(site)) else {
-        return Err(Refusal::NoMemory);
-    };
-    // For the proof: what each name, table and log keeps.
-    let _bytes = name.as_bytes();
-    let _objects = objects.len();
-    let _groups = groups.len();
-    let _limits = limits.len();
-    let _updates = log.len();
+    let rounds = Vec::from_slice(alloc, primary.rounds(site))?;
+    let windows = Vec::from_slice(alloc, primary.windows(site))?;
+    name.keeps();
+    objects.keeps();
+    groups.keeps();
+    limits.keeps();
+    log.keeps();
     Ok(RecordParts {
         site: name,
         objects,
@@ -93,9 +86,7 @@ fn report_changes<A: Allocator + Copy>(
     ensures refused { IfErr result (λ e. e ≡ Refusal.NoMemory) }
 {
     let steps = primary.report_changes(site);
-    let Ok(mut changes) = Vec::with_capacity(alloc, steps.len()) else {
-        return Err(Refusal::NoMemory);
-    };
+    let mut changes = Vec::with_capacity(alloc, steps.len())?;
     for step in steps {
         changes.push_reserved(ReportChange {
             place: step.0,

@@ -115,7 +115,7 @@ impl<A: Allocator + Copy> TextBuffer<A> {
         self.len = end;
     }
 
-    /// Adds a value in digits, with a minus before one below 0. A minus and the most digits must fit into the spare capacity.
+    /// Adds a value in digits, with a minus before one below 0. A minus and the most digits of a number must fit into the spare capacity.
     #[inline(always)]
     pub fn put_value(&mut self, value: i64)
         requires { MOST_DIGITS + 1 ≤ self.old.room }

@@ -15,8 +15,9 @@ use Rattle.ordup_limits.specs.Limits.{within, scope_refusal}
 use Rattle.ordup_limits.specs.Entries.{Entries, entry_of, in_force, changed, change_refusal}
 use Rattle.ordup_limits.proofs.EntryLemmas.{in_force-before}
 use Rattle.ordup_primary.specs.Declarations.{Declared}
+use Rattle.ordup_primary.specs.LimitChanges.{limit_change_refusal}
 use Rattle.ordup_primary.specs.Settling.{report_at}
-use Rattle.ordup_world.specs.Events.{Past, log_of, decisions, reported, is_within_after, relimit_refusal, reply, is_refused}
+use Rattle.ordup_world.specs.Events.{Past, log_of, decisions, reported, is_within_after, view_after, reply, is_refused}
 use Rattle.ordup_world.specs.Changes.{ChangesLeaveDecidedPlaces, ChangesLeaveRounds}
 use Rattle.ordup_world.specs.declared.event.Event.TheVariants.{Relimit}
 use Rattle.ordup_world.specs.declared.event.Answer.TheVariants.{Relimited}
@@ -55,7 +56,7 @@ module _ {A : Type 0} (setup : Declared) (past : Past A) where
       if not (ds.acked == ds.decided) then Some HeadPending else
       if nat_lt amount (span (log_of setup past) setup.groups scope (reported s past) ds.acked) then Some LagOver else None in
       let beside : Option Refusal = if not (nat_lt s (length setup.sites)) then Some UnknownSite else option_or change late in
-      let none = unrefused (relimit_refusal setup past ds s scope amount) (Relimited s (ds.acked + 1)) fine in
+      let none = unrefused (limit_change_refusal (view_after setup past ds s) scope amount) (Relimited s (ds.acked + 1)) fine in
       let rest : beside ≡ None = (neither (scope_refusal (length setup.objects) setup.groups scope) beside none).1 in
       elim (cases_Bool (nat_lt s (length setup.sites))) [
         | inr unknown ↦ absurd (let no : Some UnknownSite ≡ None = rw unknown at rest in cc)

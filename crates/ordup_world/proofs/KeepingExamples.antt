@@ -73,7 +73,7 @@ sent_too_much k = let le : 1 ≤ 0 = k.logged in omega arith
 fed_too_much : KeepsSite {A = ℕ} setup (Send 1 ∷ Send 1 ∷ add_to_x 1 ∷ add_to_x 1 ∷ []) 1 → ⊥
 fed_too_much k = let le : 2 ≤ 1 = k.feed in omega arith
 
--- a world of the one update, which adds n to x and is acknowledged; the sites have reported and applied this many
+-- a world of one update, which adds this much to x and is acknowledged; the sites have reported and applied this many
 abbrev world : Declared → ℕ → ℕ → ℕ → WorldState
 world declared n reported applied = record {
   primary = record {

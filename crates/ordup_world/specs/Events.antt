@@ -1,30 +1,31 @@
 -- Events, what they are answered, and the numbers of a list of accepted events.
 use Rattle.std.specs.Prelude.{◌≡◌, ◌⊎◌, ℕ, ◌+◌, ◌-◌, ◌==◌, not, if◌then◌else◌, nat_eq, nat_lt, Bool}
 use Rattle.std.specs.Prelude.{true, false, Option, Some, None, option_map, is_some, List, [], ◌∷◌, ◌++◌, length, slice_index_or, slice_set}
-use Rattle.std.specs.Option.{option_or}
 use Rattle.std.specs.Cmp.Lexicographic.{pointwise}
 use Rattle.ordup_objects.specs.declared.change.Change.{Change}
 use Rattle.ordup_objects.specs.declared.refusal.Refusal.{Refusal}
 use Rattle.ordup_objects.specs.declared.refusal.Refusal.TheVariants.{UnknownObject, UnknownSite, OutOfRange, TooMany}
 use Rattle.ordup_objects.specs.declared.refusal.Refusal.TheVariants.{NothingToSend, FeedFull, NothingToApply, NothingToSettle}
-use Rattle.ordup_objects.specs.declared.refusal.Refusal.TheVariants.{UnknownQuery, QueryOpen, NoMemory, HeadPending, LagOver}
+use Rattle.ordup_objects.specs.declared.refusal.Refusal.TheVariants.{UnknownQuery, QueryOpen, NoMemory}
 use Rattle.ordup_objects.specs.States.{value_at}
 use Rattle.ordup_objects.specs.Tables.{initial_state}
 use Rattle.ordup_objects.specs.Sets.{are_known}
 use Rattle.ordup_objects.specs.Serial.{History, serial}
 use Rattle.ordup_log.specs.Appending.{append_refusal}
-use Rattle.ordup_log.specs.Spans.{span}
 use Rattle.ordup_log.specs.declared.scope.Scope.{Scope}
 use Rattle.ordup_rounds.specs.declared.window.Window.{Window}
 use Rattle.ordup_rounds.specs.Rounds.{rounds_upto, windows_upto}
-use Rattle.ordup_limits.specs.Limits.{Limits, within, scope_refusal}
-use Rattle.ordup_limits.specs.Entries.{Entries, entry_of, in_force, latest, changed, change_refusal}
+use Rattle.ordup_limits.specs.Limits.{Limits, within}
+use Rattle.ordup_limits.specs.Entries.{Entries, entry_of, in_force, latest, changed}
 use Rattle.ordup_primary.specs.Declarations.{Declared, capacity_of}
+use Rattle.ordup_primary.specs.LimitChanges.{SiteView, limit_change_refusal}
 use Rattle.ordup_primary.specs.Settling.{forced_sites, waiting_sites, report_at}
 use Rattle.ordup_primary.specs.Primaries.{acked_after, acked_or_round, acked_or_waiting}
 use Rattle.ordup_primary.specs.declared.settled.Settled.{Settled}
+use Rattle.ordup_query.specs.Sizes.{greatest_import_limit}
 use Rattle.ordup_query.specs.Imports.{import_of}
 use Rattle.ordup_query.specs.Queries.{value_sum}
+use Rattle.ordup_world.specs.Sizes.{most_queries}
 use Rattle.ordup_world.specs.Queries.{ReadMade, Opened, import_total, values_read, refusal_now}
 use Rattle.ordup_world.specs.declared.event.Event.{Event}
 use Rattle.ordup_world.specs.declared.event.Event.TheVariants.{Propose, Send, Apply, Report, Settle, Relimit}
@@ -133,15 +134,17 @@ module _ {A : Type 0} where
       if ds.acked == ds.decided then acked_or_round (ds.acked + 1) (forced_after setup past ds)
       else acked_or_waiting (ds.acked + 1) (waiting_after setup past ds)
 
-  -- why a change of a limit of site s is refused, if it is. While the head is decided and not acknowledged there is none; and the amount
-  -- is no less than what the acknowledged updates weigh that the site has not reported.
-  abbrev pub relimit_refusal : Declared → Past A → Decisions → ℕ → Scope → ℕ → Option Refusal
-  relimit_refusal setup past ds s scope amount = option_or (scope_refusal (length setup.objects) setup.groups scope) (
-      if not (nat_lt s (length setup.sites)) then Some UnknownSite else
-      option_or
-      (change_refusal (length setup.objects) setup.groups (slice_index_or ds.limits s []) (entry_of scope amount (ds.acked + 1))) (
-      if not (ds.acked == ds.decided) then Some HeadPending else
-      if nat_lt amount (span (log_of setup past) setup.groups scope (reported s past) ds.acked) then Some LagOver else None))
+  -- what a change of a limit of site s is judged by
+  abbrev pub view_after : Declared → Past A → Decisions → ℕ → SiteView
+  view_after setup past ds s = record {
+    site = s;
+    setup = setup;
+    log = log_of setup past;
+    acked = ds.acked;
+    decided = ds.decided;
+    limits = slice_index_or ds.limits s [];
+    reported = reported s past;
+  }
 
   -- the rounds of a site: the decided places for which the span from what it had reported at the decision passes a limit
   abbrev pub rounds : Declared → ℕ → Past A → List ℕ
@@ -231,11 +234,12 @@ module _ {A : Type 0} where
       if (decisions setup past).acked == length (sets_of past) then Refused NothingToSettle else
       Settlement (settlement_of setup past (decisions setup past))
   reply setup past (Relimit s scope amount) =
-      refused_or (relimit_refusal setup past (decisions setup past) s scope amount) (Relimited s ((decisions setup past).acked + 1))
+      refused_or (limit_change_refusal (view_after setup past (decisions setup past) s) scope amount)
+      (Relimited s ((decisions setup past).acked + 1))
   reply setup past (Begin q s limit) =
       if not (nat_lt s (length setup.sites)) then Refused UnknownSite else
-      if nat_lt 1000000000000000000 limit then Refused OutOfRange else
-      if open_count past == 64 then Refused TooMany else
+      if nat_lt greatest_import_limit limit then Refused OutOfRange else
+      if open_count past == most_queries then Refused TooMany else
       if is_some (opened setup q past) then Refused QueryOpen else
       Begun q (decisions setup past).acked
   reply setup past (Read q x) =

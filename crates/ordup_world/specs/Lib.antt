@@ -1,3 +1,4 @@
+pub mod Sizes
 pub mod Queries
 pub mod Events
 pub mod Changes

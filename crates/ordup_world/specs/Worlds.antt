@@ -9,6 +9,7 @@ use Rattle.ordup_primary.specs.Primaries.{PrimaryState, SiteProgress, IsPrimary,
 use Rattle.ordup_site.specs.Sites.{SiteState, HoldsPrefix}
 use Rattle.ordup_objects.specs.Marks.{AreMarks}
 use Rattle.ordup_query.specs.Queries.{QueryState, value_sum}
+use Rattle.ordup_world.specs.Sizes.{most_queries}
 use Rattle.ordup_world.specs.Queries.{Opened, import_total, values_read}
 use Rattle.ordup_world.specs.Events.{Past, is_same, sent, applied, reported, log_of, decisions, rounds, windows, opened, open_count}
 
@@ -72,7 +73,7 @@ pub record IsOpenSound (w : StoreState) (o : OpenState) : Type 0 where
 -- what each world keeps
 pub record IsSound (w : WorldState) : Type 0 where
   pub store : IsStore (store_of w)
-  pub few : length w.queries ≤ 64
+  pub few : length w.queries ≤ most_queries
   pub queries : (q : List ℕ) (o : OpenState) → find_query q w.queries ≡ Some o → IsOpenSound (store_of w) o
 
 -- the acknowledged updates that a site has not applied weigh at most each of its limits that are in force now

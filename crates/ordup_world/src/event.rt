@@ -34,7 +34,7 @@ pub enum Event<A: Allocator + Copy = Global> {
         query: Name,
         object: ObjectId,
     },
-    /// The query ends, and is answered what its reads added up to.
+    /// The query ends. Its answer is what its reads added up to.
     End(Name),
     /// The query ends without an answer.
     Abandon(Name),
@@ -42,7 +42,7 @@ pub enum Event<A: Allocator + Copy = Global> {
     Show(SiteId),
 }
 
-/// What an event is answered. Places count from 1, sites from 0.
+/// The answer to an event. Places count from 1, sites from 0.
 #[derive(Debug, Drop)]
 pub enum Answer<A: Allocator + Copy = Global> {
     /// The update has this number.
@@ -80,8 +80,8 @@ pub enum Answer<A: Allocator + Copy = Global> {
     Ended(QueryAnswer),
     /// The query with this name is given up.
     Abandoned(Name),
-    /// How many updates were sent to the site, were applied by it and were reported by it, how many of its rounds were
-    /// forced, and its values.
+    /// How many updates were sent to the site, how many it applied and how many it reported, how many rounds it has, and its
+    /// values.
     Shown {
         sent: u64,
         applied: u64,
@@ -89,6 +89,6 @@ pub enum Answer<A: Allocator + Copy = Global> {
         rounds: u64,
         values: Values<A>,
     },
-    /// The event was refused, and all is as before.
+    /// The event was refused. Everything is as it was before.
     Refused(Refusal),
 }

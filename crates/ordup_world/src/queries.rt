@@ -1,5 +1,6 @@
 ghost use Rattle.std.specs.Prelude.{◌≡◌, ℕ, ◌+◌, ◌<◌, ◌≤◌, None, Some, List, [], cond, length, option_map, slice_index_or, IfOk, IfErr, IfSome, OnErr, IsSome, is_some};
 ghost use Rattle.ordup_site.specs.Sites.{SiteState};
+ghost use Rattle.ordup_query.specs.Sizes.{greatest_import_limit};
 ghost use Rattle.ordup_world.specs.Events.{is_same};
 ghost use Rattle.ordup_world.specs.Worlds.{find_query};
 ghost use Rattle.ordup_world.specs.OpenQueries.{refusal_of, IsRead, IsBegun};
@@ -131,7 +132,7 @@ impl<A: Allocator + Copy> OpenQueries<A> {
         }
     }
 
-    /// The query ends, and is answered what its reads added up to.
+    /// The query ends. Its answer is what its reads added up to.
     #[inline(always)]
     pub(crate) fn end(&mut self, name: Name) -> Answer<A>
         ensures { (store : StoreState) → IsSound (with_queries store self.old) → StepsWorld (with_queries store self.old) (Event.End name) result (with_queries store self.new) }
@@ -174,10 +175,8 @@ impl<A: Allocator + Copy> OpenQueries<A> {
         ensures len { IfOk result (λ _. length self.new ≡ length self.old + 1) }
         ensures err { OnErr result (self.new ≡ self.old) }
     {
-        let _bytes = name.as_bytes();
-        let Ok(_) = self.entries.insert(name, query) else {
-            return Err(AllocError);
-        };
+        name.keeps();
+        self.entries.insert(name, query)?;
         Ok(())
     }
 
@@ -219,7 +218,7 @@ fn open<A: Allocator + Copy>(
     site: SiteId,
     limit: u64,
 ) -> Result<OpenQuery<A>, Refusal>
-    requires { limit ≤ 1000000000000000000 }
+    requires { limit ≤ greatest_import_limit }
     ensures begun { IfOk result (λ o. IsBegun primary.now site limit o) }
     ensures refused { IfErr result (λ e. e ≡ Refusal.NoMemory) }
 {

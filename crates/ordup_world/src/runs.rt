@@ -14,7 +14,7 @@ use ordup_objects::Refusal;
 use ordup_primary::Setup;
 use std::alloc::{Allocator, Global};
 
-/// Starts a store and takes the events in their order. An event that is refused leaves all as it was.
+/// Starts a store and takes the events in their order. A refused event leaves everything as it was.
 ///
 /// It is refused `Empty` where the setup lacks an object or a site, and `NoMemory` where there is none for the start or for
 /// the list of answers, whose memory it takes before the first event.
@@ -42,7 +42,7 @@ pub fn run<A: Allocator + Copy>(
     Ok(Run { world, answers })
 }
 
-/// A started store, and no answers yet, with memory for `count` of them.
+/// A started store, and no answers yet, with room for `count` of them.
 fn start<A: Allocator + Copy>(
     alloc: A,
     setup: Setup<A>,
@@ -58,8 +58,6 @@ fn start<A: Allocator + Copy>(
     ensures refused { IfErr result (λ e. IsRefusal (start_refusal setup) e) }
 {
     let world = World::start(alloc, setup)?;
-    let Ok(answers) = Vec::with_capacity(alloc, count) else {
-        return Err(Refusal::NoMemory);
-    };
+    let answers = Vec::with_capacity(alloc, count)?;
     Ok((world, answers))
 }

@@ -167,14 +167,10 @@ fn first_sites<A: Allocator + Copy>(alloc: A, setup: &Setup<A>) -> Result<Vec<Si
     ensures refused { IfErr result (λ e. e ≡ Refusal.NoMemory) }
 {
     let count = setup.sites();
-    let Ok(mut sites) = Vec::with_capacity(alloc, count) else {
-        return Err(Refusal::NoMemory);
-    };
+    let mut sites = Vec::with_capacity(alloc, count)?;
     for _site in 0..count {
         let site = Site::new(alloc, setup.objects())?;
-        if sites.push(site).is_err() {
-            return Err(Refusal::NoMemory);
-        }
+        sites.push(site)?;
     }
     Ok(sites)
 }

@@ -10,7 +10,7 @@ use ordup_primary::{Primary, Setup};
 use std::alloc::{Allocator, Global};
 use std::marker::Model;
 
-/// A running store: its primary, its sites and its open queries. It is stepped by events and waits for nobody.
+/// A running store: its primary, its sites and its open queries. It moves by `step` alone, and waits for nobody.
 #[derive(Drop)]
 pub struct World<A: Allocator + Copy = Global> {
     store: Store<A>,
@@ -58,7 +58,7 @@ impl<A: Allocator + Copy> World<A> {
         })
     }
 
-    /// Takes one event and answers it. A refused event leaves all as it was.
+    /// Takes one event and answers it. A refused event leaves everything as it was.
     // Inlined, and with it each step: a caller that knows the event moves neither it nor its answer.
     #[inline(always)]
     pub fn step(&mut self, event: Event<A>) -> Answer<A>

@@ -16,8 +16,7 @@ pub fn agree(primary: &Primary, site: SiteId, replica: &Site, values: Values) ->
     requires values { values ≡ primary.now.log.start }
     ensures { IsTrue result ↔ Agrees primary.now site replica.now }
 {
-    // For the proof: no site was sent more than the log has.
-    let _acked = primary.acked();
+    primary.keeps();
     let applied = replica.applied();
     if applied < primary.reported(site) || primary.sent(site) < applied {
         return false;

@@ -4,7 +4,7 @@ ghost use Rattle.ordup_cluster.specs.Books.{KeepsBook, AreSpareValues};
 
 use ordup_feed::SendEnd;
 use ordup_limits::later_spans_keep_limits;
-use ordup_objects::{SiteId, Values};
+use ordup_objects::Values;
 use ordup_primary::Primary;
 use std::marker::Model;
 
@@ -55,8 +55,7 @@ impl Book {
         ensures within { (s applied : ℕ) → s < length self.now.primary.sites → (progress_at self.now.primary s).reported ≤ applied → is_lag_within self.now.primary s applied ≡ true }
     {
         later_spans_keep_limits();
-        let _acked = self.primary.acked();
-        let _windows = self.primary.windows(SiteId::new(0));
+        self.primary.keeps();
         &self.primary
     }
 

@@ -25,8 +25,7 @@ pub fn number(book: &mut Book, set: MessageSet) -> Result<u64, Refusal>
     ensures refused { IfErr result (λ e. IsRefusal (append_refusal book.old.primary.log set) e) }
     ensures err { OnErr result (book.new ≡ book.old) }
 {
-    // For the proof: no site was sent more than the log has.
-    let _acked = book.primary.acked();
+    book.primary.keeps();
     let number = book.primary.propose(set)?;
     Ok(number)
 }

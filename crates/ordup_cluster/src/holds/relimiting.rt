@@ -23,8 +23,7 @@ pub fn relimit(book: &mut Book, site: SiteId, scope: Scope, amount: u64) -> Resu
 {
     // The prover joins branches over a borrowed scope, not over a copied one.
     let scope = &scope;
-    // For the proof: there are as many sites as were declared.
-    let _acked = book.primary.acked();
+    book.primary.keeps();
     let setup = book.primary.setup();
     check_scope(setup.objects(), setup.groups(), *scope)?;
     if site.index() >= setup.sites() {

@@ -1,8 +1,7 @@
 ghost use Rattle.std.specs.Prelude.{◌≡◌, ◌<◌, ◌≤◌, ℕ, length, IfOk, IfErr, OnOk, OnErr};
 ghost use Rattle.ordup_primary.specs.Primaries.{progress_at};
-ghost use Rattle.ordup_primary.specs.Settling.{last_place};
 ghost use Rattle.ordup_cluster.specs.Books.{KeepsBook, IsTied};
-ghost use Rattle.ordup_cluster.specs.Turning.{Reported, Sent, SentOut, AtEachSite, SameFeeds, Acknowledges, SettlesOut, Turned, TurnedInPart, kept_at, with_progress, is_held, send_bound};
+ghost use Rattle.ordup_cluster.specs.Turning.{Reported, Sent, SentOut, AtEachSite, SameFeeds, Acknowledges, SettlesOut, Turned, TurnedInPart, kept_at, with_progress, send_bound};
 
 use crate::holds::book::Book;
 use ordup_feed::SendEnd;
@@ -34,8 +33,7 @@ fn report_all<R: Wait>(rt: &R, primary: &mut Primary, ends: &mut Vec<SendEnd>)
     ensures kept { KeepsBook primary.new ends.new.items }
     ensures reported { AtEachSite Reported (record { primary = primary.old; ends = ends.old.items }) (record { primary = primary.new; ends = ends.new.items }) }
 {
-    // For the proof: there are as many sites as were declared.
-    let _acked = primary.acked();
+    primary.keeps();
     for place in 0..primary.setup().sites() {
         let site = SiteId::new(place as u8);
         report(rt, primary, &mut ends[place], site);
@@ -50,8 +48,7 @@ fn report<R: Wait>(rt: &R, primary: &mut Primary, end: &mut SendEnd, site: SiteI
     ensures site { primary.new ≡ with_progress primary.old site (progress_at primary.new site) }
     ensures reported { Reported site (kept_at primary.old site end.old) (kept_at primary.new site end.new) }
 {
-    // For the proof: no site was sent more than the log has.
-    let _acked = primary.acked();
+    primary.keeps();
     let place = end.look(rt);
     primary.report(site, place);
 }
@@ -80,8 +77,7 @@ fn send_all<R: Wait>(rt: &R, primary: &mut Primary, ends: &mut Vec<SendEnd>) -> 
     ensures out { OnOk result (AtEachSite (SentOut (send_bound primary.old)) (record { primary = primary.old; ends = ends.old.items }) (record { primary = primary.new; ends = ends.new.items })) }
     ensures refused { IfErr result (λ e. e ≡ Refusal.NoMemory) }
 {
-    // For the proof: there are as many sites as were declared.
-    let _acked = primary.acked();
+    primary.keeps();
     for place in 0..primary.setup().sites() {
         let site = SiteId::new(place as u8);
         send(rt, primary, &mut ends[place], site)?;
@@ -107,8 +103,7 @@ fn send<R: Wait>(
     next_updates_may_follow();
     let last = last_to_send(primary, site);
     while primary.sent(site) < last {
-        // For the proof: no site was sent more than the log has.
-        let _acked = primary.acked();
+        primary.keeps();
         let parcel = primary.next_for(site)?;
         match end.push(rt, parcel) {
             Ok(()) => primary.mark_sent(site),
@@ -124,28 +119,9 @@ fn last_to_send(primary: &Primary, site: SiteId) -> u64
     ensures bound { result ≡ send_bound primary.now site }
     ensures logged { result ≤ length primary.now.log.sets }
 {
-    if is_held(primary, site) {
+    if primary.waits_for(site) {
         primary.acked() + 1
     } else {
         primary.log().len()
     }
-}
-
-/// Whether the head waits for a site: it is decided with a round of the site, and the site has not reported it.
-fn is_held(primary: &Primary, site: SiteId) -> bool
-    requires { site < length primary.now.sites }
-    ensures { result ≡ is_held primary.now site }
-{
-    let head = primary.acked() + 1;
-    if primary.acked() == primary.decided() || primary.reported(site) >= head {
-        return false;
-    }
-    last_place(primary.rounds(site)) == head
-}
-
-/// The last of these places, 0 where there is none.
-fn last_place(places: &[u64]) -> u64
-    ensures { result ≡ last_place places.now }
-{
-    places.last().copied().unwrap_or(0)
 }

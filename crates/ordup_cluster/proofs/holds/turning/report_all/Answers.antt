@@ -10,7 +10,7 @@ loop-place-init g c = record {
   kept = c.requires.kept;
   upto = upto-none Reported _;
   sites =
-      let count = c.acked-acked.ensures.sound.count in
+      let count = c.keeps.ensures.sound.count in
       omega (arith, count, c.sites-place-end.ensures.sites, ap (λ (d : Declared). length d.sites) c.setup.ensures);
 }
 

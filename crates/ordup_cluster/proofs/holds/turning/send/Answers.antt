@@ -33,6 +33,6 @@ loop-site-preserved g c =
 pub returns-in-Err-clause-out : goal.returns-in-Err-clause-out
 returns-in-Err-clause-out g c =
     let before = c.loop-site.invariant in
-    let count = pushed-count _ _ _ c.acked-acked.ensures.sound before.inside before.tied in
+    let count = pushed-count _ _ _ c.keeps.ensures.sound before.inside before.tied in
     rw c.in-Err.ensures.refused.2
     (record { some = before.sent; out = inr (omega (arith, count, c.in-Err.ensures.full)) })

@@ -11,7 +11,7 @@ use Rattle.ordup_feed.proofs.send_end.SendEnd.push.Goals as goal
 pub push_as-requires-clause-rule : goal.push_as-requires-clause-rule
 push_as-requires-clause-rule g c =
     let next = subst (λ (s : Sending). IsNext s.start s.pushed c.args.parcel) (sym c.self.view_is) c.requires in
-    (pushes _ _ _ _ c.self.invariant.sender next c.changes-changes.ensures.set, learns _ _ c.self.invariant.sender)
+    (pushes _ _ _ _ c.self.invariant.sender next c.keeps.ensures, learns _ _ c.self.invariant.sender)
 
 pub invariant_of-self : goal.invariant_of-self
 invariant_of-self g c =
@@ -27,5 +27,5 @@ invariant_of-self g c =
           rw c.in-Ok.ensures.rule
           (let counted = old.counted in
           omega (arith, counted, length_push (parcels_of (view c.self.inside.pass)) c.args.parcel));
-      order = rw c.in-Ok.ensures.rule (in-order-push _ _ _ old.order next c.changes-changes.ensures.set);
+      order = rw c.in-Ok.ensures.rule (in-order-push _ _ _ old.order next c.keeps.ensures);
     }

@@ -67,11 +67,11 @@ impl Cluster {
         ensures refused { IfErr result (λ e. IsRefusal (start_refusal setup) e) }
     {
         let (book, cells) = open(alloc, setup)?;
-        let objects = book.primary().setup().objects().copy(alloc)?;
         let cells = locked(alloc, cells)?;
         let Ok(room) = Vec::with_capacity(alloc, cells.len()) else {
             return Err(Refusal::NoMemory);
         };
+        let objects = book.primary().setup().objects().copy(alloc)?;
         Ok(Cluster {
             book: Mutex::new(book),
             cells,

@@ -1,13 +1,19 @@
-//! What is said of a text.
-use ordup_check::{Record, RecordReadFault, Verdict, check, read_record, read_record_within};
+//! Records as texts: what the check says of them, and changed records.
+//!
+//! A test changes a record by lines. Those that begin with `- ` are rows of the record, those with `+ ` what stands in their place,
+//! and the line with `= ` is what comes of it: the verdict, or `same` or `another`, which is whether the changed record tells the
+//! same as the record. Without rows of its own a change takes those of the change before.
+use ordup_check::{Record, Verdict, check, read_record};
+use ordup_record_reader::{RecordReadFault, read_record_within};
 use std::alloc::{AllocError, Global};
 use std::io::{self, Read};
 use std::process::Abort;
+use std::test::Fail;
 
 /// More bytes than a test reads.
 pub(crate) const ALL: usize = 1_000_000;
 
-/// Gives at most this many bytes a call.
+/// Gives at most this count of bytes a call.
 #[derive(Drop)]
 struct ShortReader<'a> {
     left: &'a [u8],
@@ -24,8 +30,8 @@ impl<'a> Read for ShortReader<'a> {
     }
 }
 
-/// What is said of a text of at most this many bytes, which comes in short reads: the verdict on its record, or why it is none.
-pub(crate) fn said_within(
+/// The verdict on the record in a text of at most this count of bytes, which comes in short reads, or why it is no record.
+pub(crate) fn verdict_within(
     alloc: Global,
     text: &str,
     at_once: usize,
@@ -51,9 +57,9 @@ pub(crate) fn said_within(
     }
 }
 
-/// What is said of a text.
-pub(crate) fn said(alloc: Global, text: &str) -> Result<String, AllocError> {
-    said_within(alloc, text, ALL, u64::MAX)
+/// The verdict on the record in a text, or why it is no record.
+pub(crate) fn verdict_on(alloc: Global, text: &str) -> Result<String, AllocError> {
+    verdict_within(alloc, text, ALL, u64::MAX)
 }
 
 /// The record in a text.
@@ -91,54 +97,103 @@ fn push_row(text: &mut String, row: &str) -> Result<(), AllocError> {
     text.push('\n')
 }
 
-/// Sees that this is said of a record in which other rows stand in the place of a part.
-fn assert_said<R: Abort>(
-    rt: &R,
+/// Sees that this is the verdict on the record in a text, whole and in short reads.
+fn expect_verdict(
+    rt: &impl Abort,
     alloc: Global,
-    record: &str,
-    part: &str,
-    other: &str,
+    text: &str,
     wanted: &str,
 ) -> Result<(), AllocError> {
-    let changed = record.replace(alloc, part, other)?;
-    let text = spelled(alloc, changed.as_str())?;
     for at_once in [ALL, 1, 2, 3] {
-        let told = said_within(alloc, text.as_str(), at_once, u64::MAX)?;
-        assert!(rt; told.as_str() == wanted, "{other}by {at_once}: {told}");
+        let verdict = verdict_within(alloc, text, at_once, u64::MAX)?;
+        assert!(rt; verdict.as_str() == wanted, "{text}by {at_once}: {verdict}");
     }
     Ok(())
 }
 
-/// Sees that of a record with changes is said what they say. In a change, lines that begin with `- ` are rows of the record,
-/// those with `+ ` what stands in their place, and the line with `= ` what is said then. Without rows of its own a change takes
-/// those of the one before.
-pub(crate) fn assert_told<R: Abort>(
-    rt: &R,
+/// Sees whether the records in two texts tell the same, asked of each of them.
+fn expect_same(rt: &impl Abort, alloc: Global, these: &str, those: &str, wanted: bool) {
+    let Ok(one) = record_in(alloc, these) else {
+        panic!(rt; "this is no record: {these}")
+    };
+    let Ok(other) = record_in(alloc, those) else {
+        panic!(rt; "this is no record: {those}")
+    };
+    let are_same = [one.same(&other), other.same(&one)];
+    drop(one);
+    drop(other);
+    assert!(rt; are_same == [wanted, wanted], "{those}");
+}
+
+/// Sees what comes of a record in which other rows stand in the place of some.
+fn expect_change(
+    rt: &impl Abort,
+    alloc: Global,
+    record: &str,
+    (rows, others): (&str, &str),
+    wanted: &str,
+) -> Result<(), AllocError> {
+    let changed = record.replace(alloc, rows, others)?;
+    let text = spelled(alloc, changed.as_str())?;
+    if wanted == "same" || wanted == "another" {
+        expect_same(rt, alloc, record, text.as_str(), wanted == "same");
+        Ok(())
+    } else {
+        expect_verdict(rt, alloc, text.as_str(), wanted)
+    }
+}
+
+/// Sees what comes of each change of a record.
+pub(crate) fn expect_changes(
+    rt: &impl Abort,
     alloc: Global,
     record: &str,
     changes: &str,
 ) -> Result<(), AllocError> {
-    let mut part = String::new(alloc);
-    let mut other = String::new(alloc);
-    let mut is_said = false;
+    let mut rows = String::new(alloc);
+    let mut others = String::new(alloc);
+    let mut is_whole = false;
     for line in changes.lines() {
         if let Some(row) = line.strip_prefix("- ") {
-            if is_said {
-                part.clear();
+            if is_whole {
+                rows.clear();
             }
-            other.clear();
-            push_row(&mut part, row)?;
-            is_said = false;
+            others.clear();
+            push_row(&mut rows, row)?;
+            is_whole = false;
         } else if let Some(row) = line.strip_prefix("+ ") {
-            if is_said {
-                other.clear();
+            if is_whole {
+                others.clear();
             }
-            push_row(&mut other, row)?;
-            is_said = false;
+            push_row(&mut others, row)?;
+            is_whole = false;
         } else if let Some(wanted) = line.strip_prefix("= ") {
-            assert_said(rt, alloc, record, part.as_str(), other.as_str(), wanted)?;
-            is_said = true;
+            let change = (rows.as_str(), others.as_str());
+            expect_change(rt, alloc, record, change, wanted)?;
+            is_whole = true;
         }
     }
+    Ok(())
+}
+
+/// Sees the verdict on a record that is cut after 0 bytes, 1 byte, and so on. Each of the cuts is the last after which a verdict is
+/// given.
+pub(crate) fn expect_cuts(
+    rt: &impl Abort,
+    alloc: Global,
+    record: &str,
+    cuts: &[(usize, &str)],
+) -> Result<(), Fail> {
+    let mut cut = 0;
+    for &(last, wanted) in cuts {
+        assert!(rt; last <= record.len(), "{last} bytes are more than all");
+        for length in cut..=last {
+            let front = record.get(..length).ok_or("no such cut")?;
+            let verdict = verdict_on(alloc, front)?;
+            assert_eq!(rt; verdict.as_str(), wanted, "after {length} bytes");
+        }
+        cut = last + 1;
+    }
+    assert_eq!(rt; cut, record.len() + 1);
     Ok(())
 }

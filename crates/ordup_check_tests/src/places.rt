@@ -1,7 +1,5 @@
 //! Limits that hold from a place on: records of the second version.
-
-use crate::fixtures::assert_told;
-use crate::spellings::assert_cuts_told;
+use crate::fixtures::{expect_changes, expect_cuts};
 use std::test::Fail;
 
 /// The site's limit on x is 5 from the start, 3 from place 2 and 0 from place 3 on.
@@ -290,10 +288,11 @@ const RAISED_CHANGES: &str = "\
 = yes 1
 ";
 
+/// Checks records whose limits change.
 #[test]
 fn limits_hold_from_their_places_on(rt: HostRuntime) -> Result<(), Fail> {
     for changes in LOWERED_CHANGES {
-        assert_told(&rt, rt.alloc(), LOWERED, changes)?;
+        expect_changes(&rt, rt.alloc(), LOWERED, changes)?;
     }
     for (record, changes) in [
         (LATER, LATER_CHANGES),
@@ -304,7 +303,7 @@ fn limits_hold_from_their_places_on(rt: HostRuntime) -> Result<(), Fail> {
         (BELOW_THE_LAG, BELOW_THE_LAG_CHANGES),
         (RAISED, RAISED_CHANGES),
     ] {
-        assert_told(&rt, rt.alloc(), record, changes)?;
+        expect_changes(&rt, rt.alloc(), record, changes)?;
     }
     Ok(())
 }
@@ -321,7 +320,7 @@ round,1,2,-
 window,1,0,2
 ";
 
-/// The last of the cuts after which this is said.
+/// The cuts of the record, and the verdict up to each.
 ///
 /// A row is whole one byte before its end, without its line feed. A limit that lacks its place is none, nor is one that lacks the
 /// `@` too.
@@ -339,7 +338,8 @@ const PLACED_CUTS: [(usize, &str); 11] = [
     (125, "yes 1"),
 ];
 
+/// Cuts a record of the second version at each byte.
 #[test]
-fn a_record_with_places_that_is_cut_is_told_at_its_row(rt: HostRuntime) -> Result<(), Fail> {
-    assert_cuts_told(&rt, rt.alloc(), PLACED, &PLACED_CUTS)
+fn a_record_with_places_that_is_cut_is_malformed_at_its_row(rt: HostRuntime) -> Result<(), Fail> {
+    expect_cuts(&rt, rt.alloc(), PLACED, &PLACED_CUTS)
 }

@@ -1,5 +1,5 @@
 //! Each rule of the format, broken once.
-use crate::fixtures::assert_told;
+use crate::fixtures::expect_changes;
 use std::test::Fail;
 
 /// A record with rows of every kind. It is valid: x goes from 0 to 3 to 9, y from 10 to 7 to 3, and the site had reported
@@ -531,7 +531,7 @@ const CHANGES: [&str; 8] = [
 ",
 ];
 
-/// Three rows of members, and two of the first update, stand before the row that is told.
+/// Three rows of members, and two of the first update, stand before the row of the verdict.
 const GROUPED: &str = "\
 ordup,1,a,2
 object,1,x,0
@@ -545,18 +545,19 @@ change,1,2,add:x:1
 change,2,1,add:x:1000000000
 ";
 
+/// Checks a record with each rule broken once.
 #[test]
 fn a_broken_rule_is_found_at_its_row(rt: HostRuntime) -> Result<(), Fail> {
-    assert_told(
+    expect_changes(
         &rt,
         rt.alloc(),
         WHOLE,
         "- object,1,x,0\n+ object,1,x,0\n= yes 1\n",
     )?;
     for changes in CHANGES {
-        assert_told(&rt, rt.alloc(), WHOLE, changes)?;
+        expect_changes(&rt, rt.alloc(), WHOLE, changes)?;
     }
-    assert_told(
+    expect_changes(
         &rt,
         rt.alloc(),
         GROUPED,

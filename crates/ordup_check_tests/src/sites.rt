@@ -23,6 +23,7 @@ fn refusal_of(alloc: Global, primary: &Primary, place: u8) -> Option<Refusal> {
     record_of(alloc, primary, SiteId::new(place)).err()
 }
 
+/// Asks for records of unknown sites.
 #[test]
 fn a_site_that_is_not_there_has_no_record(rt: HostRuntime) {
     let primary = started(&rt, rt.alloc());

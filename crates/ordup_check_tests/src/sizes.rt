@@ -1,5 +1,5 @@
 //! Sizes at their edges, and long records.
-use crate::fixtures::said;
+use crate::fixtures::verdict_on;
 use std::alloc::{AllocError, Global};
 use std::test::Fail;
 
@@ -13,8 +13,8 @@ change,2,1,add:x:1
 round,1,2,-
 ";
 
-/// The first rows; a row that stands there this many times, with its number from 1 on in the place of `#`; another one; and what
-/// is said.
+/// The first rows; a row and how often it is repeated, with its number from 1 on in the place of `#`; another one; and the
+/// verdict.
 const SIZES: [(&str, &str, usize, &str, usize, &str); 20] = [
     ("ordup,1,a,0\n", "object,#,o#,0\n", 256, "", 0, "yes 0"),
     (
@@ -164,7 +164,7 @@ const SIZES: [(&str, &str, usize, &str, usize, &str); 20] = [
     ),
 ];
 
-/// Adds a row to a text this many times, with its number from 1 on in the place of `#`.
+/// Adds a row to a text this count of times, with its number from 1 on in the place of `#`.
 fn push_times(alloc: Global, text: &mut String, row: &str, count: usize) -> Result<(), AllocError> {
     for number in 1..=count {
         let number = number.to_string(alloc)?;
@@ -174,8 +174,8 @@ fn push_times(alloc: Global, text: &mut String, row: &str, count: usize) -> Resu
     Ok(())
 }
 
-/// What is said of the first rows, and of two rows after them that stand there this many times.
-fn said_of(
+/// The verdict on the first rows, and two rows after them that are repeated.
+fn verdict_of(
     alloc: Global,
     first: &str,
     (row, count): (&str, usize),
@@ -185,15 +185,16 @@ fn said_of(
     text.push_str(first)?;
     push_times(alloc, &mut text, row, count)?;
     push_times(alloc, &mut text, other, other_count)?;
-    said(alloc, text.as_str())
+    verdict_on(alloc, text.as_str())
 }
 
+/// Reads as many rows of each kind as a record may have, and one more.
 #[test]
-fn as_many_rows_of_a_kind_as_may_be_are_read_and_no_more(rt: HostRuntime) -> Result<(), Fail> {
+fn each_kind_of_row_has_its_greatest_count(rt: HostRuntime) -> Result<(), Fail> {
     for &(first, row, count, other, other_count, wanted) in &SIZES {
-        let told = said_of(rt.alloc(), first, (row, count), (other, other_count))?;
+        let verdict = verdict_of(rt.alloc(), first, (row, count), (other, other_count))?;
         assert_eq!(rt;
-            told.as_str(),
+            verdict.as_str(),
             wanted,
             "{count} of {row:?}, {other_count} of {other:?}"
         );

@@ -1,10 +1,7 @@
-//! What text is read as the same rows, and what of a record that is cut or too long.
-
-use crate::fixtures::{ALL, assert_told, said, said_within};
-use ordup_check::{RecordReadFault, read_record};
-use std::alloc::Global;
+//! Spellings that are read as the same rows, and records that are cut or too long.
+use crate::fixtures::{ALL, expect_changes, expect_cuts, verdict_within};
+use ordup_record_reader::{RecordReadFault, read_record};
 use std::io::{self, Read};
-use std::process::Abort;
 use std::test::Fail;
 
 /// A record of 121 bytes. Its rows end after 12, 25, 39, 58, 77, 96, 108 and 121 of them.
@@ -144,22 +141,23 @@ const SPELLINGS: [&str; 4] = [
 ",
 ];
 
+/// Checks records with quotes, blank lines and marks.
 #[test]
 fn other_spellings_are_read_as_the_same_rows(rt: HostRuntime) -> Result<(), Fail> {
     for changes in SPELLINGS {
-        assert_told(&rt, rt.alloc(), RECORD, changes)?;
+        expect_changes(&rt, rt.alloc(), RECORD, changes)?;
     }
     for end in ["\r\n", "\r", "\n\n", "\r\r\n", "\n\r"] {
         let text = RECORD.replace(rt.alloc(), "\n", end)?;
         for at_once in [ALL, 1, 2, 3] {
-            let told = said_within(rt.alloc(), text.as_str(), at_once, u64::MAX)?;
-            assert_eq!(rt; told.as_str(), "yes 1", "{end:?} by {at_once}");
+            let verdict = verdict_within(rt.alloc(), text.as_str(), at_once, u64::MAX)?;
+            assert_eq!(rt; verdict.as_str(), "yes 1", "{end:?} by {at_once}");
         }
     }
     Ok(())
 }
 
-/// The last of the cuts after which this is said: the record is cut after 0 bytes, 1 byte, 2 bytes, and so on.
+/// The cuts of the record, and the verdict up to each.
 ///
 /// A row is whole one byte before its end, without its line feed. `object,2,y,1` is a row too, so the third row is whole two bytes
 /// before its end.
@@ -177,32 +175,13 @@ const CUTS: [(usize, &str); 11] = [
     (121, "yes 1"),
 ];
 
-/// Sees what is said of a record after each cut, by the last of the cuts after which each thing is said.
-pub(crate) fn assert_cuts_told<R: Abort>(
-    rt: &R,
-    alloc: Global,
-    record: &str,
-    cuts: &[(usize, &str)],
-) -> Result<(), Fail> {
-    let mut cut = 0;
-    for &(last, wanted) in cuts {
-        assert!(rt; last <= record.len(), "{last} bytes are more than all");
-        for length in cut..=last {
-            let front = record.get(..length).ok_or("no such cut")?;
-            let told = said(alloc, front)?;
-            assert_eq!(rt; told.as_str(), wanted, "after {length} bytes");
-        }
-        cut = last + 1;
-    }
-    assert_eq!(rt; cut, record.len() + 1);
-    Ok(())
-}
-
+/// Cuts a record at each byte.
 #[test]
-fn a_record_that_is_cut_is_told_at_its_row(rt: HostRuntime) -> Result<(), Fail> {
-    assert_cuts_told(&rt, rt.alloc(), RECORD, &CUTS)
+fn a_record_that_is_cut_is_malformed_at_its_row(rt: HostRuntime) -> Result<(), Fail> {
+    expect_cuts(&rt, rt.alloc(), RECORD, &CUTS)
 }
 
+/// Reads a record under limits of bytes.
 #[test]
 fn a_record_of_more_bytes_than_the_limit_is_not_read(rt: HostRuntime) -> Result<(), Fail> {
     for at_once in [ALL, 1, 120, 121] {
@@ -212,14 +191,14 @@ fn a_record_of_more_bytes_than_the_limit_is_not_read(rt: HostRuntime) -> Result<
             (120, "read fault"),
             (0, "read fault"),
         ] {
-            let told = said_within(rt.alloc(), RECORD, at_once, limit)?;
-            assert_eq!(rt; told.as_str(), wanted, "{limit} bytes, by {at_once}");
+            let verdict = verdict_within(rt.alloc(), RECORD, at_once, limit)?;
+            assert_eq!(rt; verdict.as_str(), wanted, "{limit} bytes, by {at_once}");
         }
     }
     Ok(())
 }
 
-/// Gives one byte for ever.
+/// Gives one byte without end.
 #[derive(Drop)]
 struct Endless {
     byte: u8,
@@ -232,10 +211,11 @@ impl Read for Endless {
     }
 }
 
+/// Reads rows that have no end.
 #[test]
 fn a_row_that_never_ends_is_malformed(rt: HostRuntime) {
     for byte in *b",\"x\0" {
-        let told = match read_record(rt.alloc(), &mut Endless { byte }) {
+        let malformed = match read_record(rt.alloc(), &mut Endless { byte }) {
             Ok(read) => {
                 drop(read);
                 0
@@ -243,12 +223,13 @@ fn a_row_that_never_ends_is_malformed(rt: HostRuntime) {
             Err(RecordReadFault::Malformed { row }) => row,
             Err(_) => 0,
         };
-        assert_eq!(rt; told, 1, "{byte} for ever");
+        assert_eq!(rt; malformed, 1, "{byte} for ever");
     }
 }
 
+/// Reads rows that the limit of bytes cuts.
 #[test]
-fn a_row_that_the_limit_cuts_is_not_told(rt: HostRuntime) -> Result<(), Fail> {
+fn a_row_that_the_limit_cuts_is_no_fault_of_the_record(rt: HostRuntime) -> Result<(), Fail> {
     // The limit is after 'ordup,1,so', which goes on as a right row. Three columns that end within it do not.
     for (text, limit, wanted) in [
         (RECORD, 10, "read fault"),
@@ -256,8 +237,8 @@ fn a_row_that_the_limit_cuts_is_not_told(rt: HostRuntime) -> Result<(), Fail> {
         ("ordup,1,south\nand more", 13, "read fault"),
         ("ordup,1,south", 13, "malformed 1"),
     ] {
-        let told = said_within(rt.alloc(), text, ALL, limit)?;
-        assert_eq!(rt; told.as_str(), wanted, "{limit} bytes");
+        let verdict = verdict_within(rt.alloc(), text, ALL, limit)?;
+        assert_eq!(rt; verdict.as_str(), wanted, "{limit} bytes");
     }
     Ok(())
 }

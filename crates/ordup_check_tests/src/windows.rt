@@ -1,5 +1,5 @@
 //! Windows in other orders than that of their rounds, also where limits change.
-use crate::fixtures::assert_told;
+use crate::fixtures::expect_changes;
 use std::test::Fail;
 
 /// Updates of 3, 3, 3, 6 and 1 under a limit of 5. The spans from 0 to 2, from 1 to 3 and from 3 to 4 are over it, with all around
@@ -141,9 +141,10 @@ const WINDOWS_BY_PLACE: &str = "\
 = no 13 WindowLight
 ";
 
+/// Checks records whose windows stand in another order.
 #[test]
-fn windows_that_go_back_and_forth_are_looked_at_each(rt: HostRuntime) -> Result<(), Fail> {
-    assert_told(&rt, rt.alloc(), FIVE, WINDOWS)?;
-    assert_told(&rt, rt.alloc(), RAISED, WINDOWS_BY_PLACE)?;
+fn windows_in_another_order_are_checked_each(rt: HostRuntime) -> Result<(), Fail> {
+    expect_changes(&rt, rt.alloc(), FIVE, WINDOWS)?;
+    expect_changes(&rt, rt.alloc(), RAISED, WINDOWS_BY_PLACE)?;
     Ok(())
 }

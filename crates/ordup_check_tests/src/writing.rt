@@ -9,7 +9,7 @@ use ordup_rows::{RecordWriteFault, write_record};
 use std::alloc::Global;
 use std::io::{self, ErrorKind, Write};
 
-/// Takes this many bytes, and then fails or takes nothing. It cannot be flushed.
+/// Takes this count of bytes, and then fails or takes nothing. It cannot be flushed.
 #[derive(Drop)]
 struct ShortWriter {
     taken: Vec<u8>,
@@ -35,7 +35,7 @@ impl Write for ShortWriter {
     }
 }
 
-/// Whether a record is written so to a writer that takes this many bytes, and this is what it has got.
+/// Whether writing a record to a writer with this room has this outcome, and the writer has got these bytes.
 fn is_written(
     alloc: Global,
     shown: &Record,
@@ -52,6 +52,7 @@ fn is_written(
     (written, output.taken.as_slice()) == wanted
 }
 
+/// Writes a record to a writer that fails after each count of bytes.
 #[test]
 fn a_writer_that_fails_has_got_a_front_of_the_record(rt: HostRuntime) {
     let Ok(shown) = record_in(rt.alloc(), RECORD) else {
@@ -91,6 +92,7 @@ round,1,2,-
 window,1,0,2
 ";
 
+/// Writes records of both versions.
 #[test]
 fn a_record_is_written_in_the_first_version_where_that_can_tell_it(rt: HostRuntime) {
     for (text, written) in [

@@ -31,7 +31,7 @@ use Rattle.ordup_rows.specs.Versions.{CanTell, CanTellPlace}
 use Rattle.ordup_rows.specs.declared.version.Version.{Version}
 use Rattle.ordup_audit.proofs.AscendingLemmas.{above}
 use Rattle.ordup_rows.proofs.Columns.{bound, bytes_same, natural_of-decimal, writes-decimal}
-use Rattle.ordup_rows.proofs.Growth.{ends, last_members-of, last_name-of, last_set-of, member_count-append, with_change-last}
+use Rattle.ordup_rows.proofs.Growth.{ends, last_members-of, last_name-of, last_set-of, member_count-append, member_count-more, with_change-last}
 use Rattle.ordup_rows.proofs.Growth.{with_member-last}
 use Rattle.ordup_rows.proofs.Names.{absent_before, index_of-name, other_name}
 use Rattle.ordup_rows.proofs.Refusals.{IsNewEntry, IsNewGroup, IsNewMember, IsNewObject, entry_allowed, group_allowed, member_allowed}
@@ -215,7 +215,8 @@ module _ (v : Version) (d : ℕ) (r : RecordState) (is : IsRecord r) where
       let few = member_count-few (done ++ g ∷ more) are.each in
       let most = are.few in
       run_on (counted (member_row r.objects g.0) n g.1) (member_rows r.objects (n + length g.1) more) _ _ _
-      (group_run done g.0 g.1 more n are count (omega (arith, few, most, member_count-append done (g ∷ more))))
+      (group_run done g.0 g.1 more n are count
+      (omega (arith, few, most, member_count-append done (g ∷ more), member_count-more g more)))
       (groups_run more (done ++ g ∷ []) (n + length g.1) (e ∙ sym (append_assoc done (g ∷ []) more))
       (omega (arith, member_count-append done (g ∷ []))))
 

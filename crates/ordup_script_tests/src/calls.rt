@@ -3,7 +3,8 @@ ghost use Rattle.std.specs.Prelude.{◌≡◌, ◌<◌, IfOk, length};
 ghost use Rattle.ordup_limits.specs.Ledgers.{StandsFor};
 
 use crate::digests::{Digest, add_groups, add_limits, add_log, add_primary, add_set, add_table};
-use crate::lines::{GROUPED, Session};
+use crate::growths::GROUPED;
+use crate::lines::Session;
 use crate::scarce::{Heap, Scarce};
 use ordup_answers::{ScriptEnd, push_answer};
 use ordup_audit::Record;
@@ -447,7 +448,7 @@ fn digest_of_tables(rt: &impl Abort, heap: Heap<'_>, tables: &Tables<'_>) -> Dig
     digest
 }
 
-/// Makes a call with this many growths allowed, and makes it again with memory where one is refused: whether one was refused.
+/// Makes a call with this count of growths allowed, and again with memory where one is refused: whether one was refused.
 fn is_refused(
     rt: &impl Abort,
     heap: Heap<'_>,
@@ -491,6 +492,7 @@ fn growths_of_addition(rt: &impl Abort, heap: Heap<'_>, addition: Addition) -> u
     panic!(rt; "{addition:?} has no end")
 }
 
+/// Refuses each growth of each addition in turn.
 #[test]
 fn each_growth_of_each_addition_is_refused(rt: HostRuntime) {
     let scarce = Scarce::new(rt.alloc(), 0);
@@ -500,6 +502,7 @@ fn each_growth_of_each_addition_is_refused(rt: HostRuntime) {
     }
 }
 
+/// Refuses each growth of each call over a primary in turn.
 #[test]
 fn each_growth_of_what_is_made_of_a_primary_is_refused(rt: HostRuntime) {
     let scarce = Scarce::new(rt.alloc(), u64::MAX);
@@ -524,7 +527,7 @@ fn declared<'a>(rt: &impl Abort, heap: Heap<'a>) -> Setup<Heap<'a>> {
     setup
 }
 
-/// Makes a primary with this many growths allowed, where its declarations are given up: why there is none, if there is none.
+/// Makes a primary with this count of growths allowed, where its declarations are given up: why there is none, if there is none.
 fn primary_refusal(rt: &impl Abort, heap: Heap<'_>, allowed: u64) -> Option<Refusal> {
     let setup = declared(rt, heap);
     assert!(rt; setup.is_ready());
@@ -600,7 +603,7 @@ ok acked 2
 ok show a sent 2 applied 2 reported 2 rounds 1 x=6 y=10
 ";
 
-/// Runs the events with this many growths allowed.
+/// Runs the events with this count of growths allowed.
 fn run_with<'a>(rt: &impl Abort, heap: Heap<'a>, allowed: u64) -> Result<Run<Heap<'a>>, Refusal> {
     let setup = declared(rt, heap);
     let events = events(rt, heap, setup.objects());
@@ -760,6 +763,7 @@ fn passed(rt: &impl Abort, heap: Heap<'_>, primary: &Primary<Heap<'_>>) -> Optio
     passed
 }
 
+/// Makes calls with no allocation allowed.
 #[test]
 fn calls_that_take_no_memory_are_answered_without_any(rt: HostRuntime) {
     let scarce = Scarce::new(rt.alloc(), u64::MAX);

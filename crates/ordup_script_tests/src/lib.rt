@@ -6,6 +6,8 @@ mod calls;
 #[cfg(test)]
 mod digests;
 #[cfg(test)]
+mod growths;
+#[cfg(test)]
 mod lines;
 #[cfg(test)]
 mod memory;
@@ -17,5 +19,7 @@ mod readers;
 mod scarce;
 #[cfg(test)]
 mod script;
+#[cfg(test)]
+mod transcripts;
 #[cfg(test)]
 mod windows;

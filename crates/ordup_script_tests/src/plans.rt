@@ -2,6 +2,7 @@
 ghost use Rattle.std.specs.Prelude.{◌≤◌};
 
 use crate::readers::PieceReader;
+use crate::transcripts::parts;
 use ordup_script::{PlanFault, read_plan, read_plan_within};
 use std::alloc::{AllocError, Global};
 use std::io::Read;
@@ -159,7 +160,7 @@ plan of 1 sets
 ];
 
 /// What a plan comes to.
-fn told(alloc: Global, text: &[u8]) -> Result<String, Fail> {
+fn outcome_of(alloc: Global, text: &[u8]) -> Result<String, Fail> {
     let mut input = text;
     match read_plan(alloc, &mut input) {
         Ok(plan) => {
@@ -172,19 +173,16 @@ fn told(alloc: Global, text: &[u8]) -> Result<String, Fail> {
     }
 }
 
+/// Reads plans, right and wrong.
 #[test]
-fn plans_come_to_their_sets_or_to_a_line(rt: HostRuntime) -> Result<(), Fail> {
+fn a_plan_has_its_sets_or_its_first_wrong_line(rt: HostRuntime) -> Result<(), Fail> {
     for plan in SHOWN.iter().chain(MORE.iter()) {
-        let mut text = String::new(rt.alloc());
-        for line in plan.lines() {
-            match line.strip_prefix("> ") {
-                Some(line) => {
-                    text.push_str(line)?;
-                    text.push('\n')?;
-                }
-                None => assert_eq!(rt; told(rt.alloc(), text.as_bytes())?.as_str(), line, "{plan}"),
-            }
-        }
+        let (text, wanted) = parts(rt.alloc(), plan)?;
+        let outcome = outcome_of(rt.alloc(), &text)?;
+        assert!(rt;
+            wanted.as_slice().strip_suffix(b"\n") == Some(outcome.as_bytes()),
+            "{plan}"
+        );
     }
     Ok(())
 }
@@ -201,13 +199,15 @@ fn fifty(alloc: Global) -> Result<Vec<u8>, AllocError> {
     Ok(text)
 }
 
+/// Reads a plan of 50 sets.
 #[test]
 fn a_plan_of_50_sets(rt: HostRuntime) -> Result<(), Fail> {
     let text = fifty(rt.alloc())?;
-    assert_eq!(rt; told(rt.alloc(), &text)?.as_str(), "plan of 50 sets");
+    assert_eq!(rt; outcome_of(rt.alloc(), &text)?.as_str(), "plan of 50 sets");
     Ok(())
 }
 
+/// Reads comments of 4,096 and 4,097 bytes.
 #[test]
 fn a_comment_that_is_too_long_does_not_belong(rt: HostRuntime) -> Result<(), Fail> {
     let mut text: Vec<u8> = Vec::new(rt.alloc());
@@ -216,17 +216,18 @@ fn a_comment_that_is_too_long_does_not_belong(rt: HostRuntime) -> Result<(), Fai
     text.extend_from_slice(b"\n#")?;
     text.resize(12 + 4097 + 4096, b'a')?;
     text.push(b'\n')?;
-    assert_eq!(rt; told(rt.alloc(), &text)?.as_str(), "Malformed{3}");
+    assert_eq!(rt; outcome_of(rt.alloc(), &text)?.as_str(), "Malformed{3}");
     Ok(())
 }
 
-/// Why a plan of at most this many bytes is not read, if it is for another reason than a line.
+/// Why a plan of at most this count of bytes is not read, if it is not.
 fn fault<R: Read>(alloc: Global, input: &mut R, limit: u64) -> Option<PlanFault>
     requires { limit ≤ 1073741824 }
 {
     read_plan_within(alloc, input, limit).err()
 }
 
+/// Reads plans from a reader that fails, and over a limit.
 #[test]
 fn plans_that_cannot_be_read(rt: HostRuntime) {
     let failed = fault(rt.alloc(), &mut PieceReader::new(b"", 1, 0), 100);

@@ -1,7 +1,7 @@
 //! A reader that gives a little at a time, and one that has no end.
 use std::io::{self, ErrorKind, Read};
 
-/// Gives at most this many bytes a call, and fails once that many were given.
+/// Gives a few bytes a call, and fails after a count of bytes.
 #[derive(Drop)]
 pub(crate) struct PieceReader<'a> {
     left: &'a [u8],
@@ -20,7 +20,7 @@ impl<'a> PieceReader<'a> {
         }
     }
 
-    /// Gives all at once, and fails so after this many bytes.
+    /// Gives all at once, and fails by this kind of error after a count of bytes.
     pub(crate) fn failing(left: &'a [u8], before_failure: usize, failure: ErrorKind) -> Self {
         PieceReader {
             left,

@@ -1,4 +1,4 @@
-//! An allocator that gives a number of allocations and no more.
+//! An allocator that gives a count of allocations and no more.
 use std::alloc::{AllocError, Allocator, Global};
 use std::cell::Cell;
 
@@ -21,7 +21,7 @@ impl<A: Allocator> Scarce<A> {
         }
     }
 
-    /// Allows this many allocations from now on.
+    /// Allows this count of allocations from now on.
     pub(crate) fn allow(&self, allocations: u64) {
         self.until_refused.set(allocations.saturating_add(1));
     }

@@ -1,39 +1,21 @@
 //! Readers and writers that fail, and scripts that are too long: over the first run, and over lines that each session answers alike.
 use crate::readers::{CommentReader, PieceReader};
+use crate::transcripts::{FIRST_RUN, parts};
 use ordup_script::{ScriptFault, run_script, run_script_within};
 use std::alloc::{AllocError, Global};
 use std::io::{self, ErrorKind, Write};
 use std::test::Fail;
 
-/// The first run, whole: 64 bytes, and 123 bytes of answers.
-pub(crate) const FIRST_RUN: &[u8] = b"object x 0
-site a 4
-start
-propose add:x:5
-send a
-apply a
-show a
-";
-
-pub(crate) const FIRST_ANSWERS: &[u8] = b"ok object x
-ok site a
-ok start
-ok proposed 1
-ok sent a 1
-ok applied a 1
-ok show a sent 1 applied 1 reported 0 rounds 0 x=5
-";
-
-/// How a writer is full.
+/// How a writer has no more room.
 #[derive(Clone, Copy, Debug)]
 enum Full {
-    /// Each write fails so.
+    /// Each write fails by this kind of error.
     Fails(ErrorKind),
     /// Each write takes nothing.
     TakesNothing,
 }
 
-/// Takes this many bytes, a few a call, and then is full. Its flush may fail.
+/// Takes this count of bytes, a few a call, and then is full. Its flush may fail.
 #[derive(Drop)]
 struct FullWriter {
     taken: Vec<u8>,
@@ -78,7 +60,7 @@ fn script(alloc: Global) -> Result<Vec<u8>, AllocError> {
 
 const ANSWERS: &[u8] = b"refused 1 Syntax\nrefused 1 Syntax\n";
 
-/// What a writer took of the answers to a script, which is read by this many bytes, and why the script did not end, if it did not.
+/// What a writer took of the answers to a script that is read in pieces, and why the script did not end, if it did not.
 fn run_into(
     script: &[u8],
     at_once: usize,
@@ -90,12 +72,14 @@ fn run_into(
     (output.taken, fault)
 }
 
+/// Writes to a writer that is full after each count of bytes.
 #[test]
-fn each_cut_of_the_output(rt: HostRuntime) -> Result<(), Fail> {
+fn a_full_writer_has_got_a_front_of_the_answers(rt: HostRuntime) -> Result<(), Fail> {
     let script = script(rt.alloc())?;
+    let (first_run, first_answers) = parts(rt.alloc(), FIRST_RUN)?;
     let runs = [
         (script.as_slice(), 7, ANSWERS),
-        (FIRST_RUN, 64, FIRST_ANSWERS),
+        (first_run.as_slice(), 64, first_answers.as_slice()),
     ];
     let fulls = [
         Full::Fails(ErrorKind::Other),
@@ -123,9 +107,11 @@ fn each_cut_of_the_output(rt: HostRuntime) -> Result<(), Fail> {
     Ok(())
 }
 
+/// Runs a script whose output cannot be flushed.
 #[test]
-fn a_flush_that_fails_is_told_after_all_answers(rt: HostRuntime) {
-    assert!(rt; FIRST_RUN.len() == 64 && FIRST_ANSWERS.len() == 123);
+fn a_flush_that_fails_is_a_fault_after_all_answers(rt: HostRuntime) -> Result<(), Fail> {
+    let (script, answers) = parts(rt.alloc(), FIRST_RUN)?;
+    assert!(rt; script.len() == 64 && answers.len() == 123);
     for (flush, wanted) in [
         (None, None),
         (Some(ErrorKind::Other), Some(ScriptFault::Write)),
@@ -137,39 +123,48 @@ fn a_flush_that_fails_is_told_after_all_answers(rt: HostRuntime) {
             full: Full::TakesNothing,
             flush,
         };
-        let (taken, fault) = run_into(FIRST_RUN, 64, output, rt.alloc());
+        let (taken, fault) = run_into(&script, 64, output, rt.alloc());
         assert!(rt;
-            taken.as_slice() == FIRST_ANSWERS && fault == wanted,
+            taken.as_slice() == answers.as_slice() && fault == wanted,
             "{flush:?}"
         );
     }
+    Ok(())
 }
 
-/// What is written of the answers to the first run, whose reader fails so after this many bytes.
-fn run_failing(alloc: Global, given: usize, kind: ErrorKind) -> (Vec<u8>, Option<ScriptFault>) {
-    let mut input = PieceReader::failing(FIRST_RUN, given, kind);
+/// What is written of the answers to a script whose reader fails after this count of bytes, and why the script did not end.
+fn run_failing(
+    alloc: Global,
+    script: &[u8],
+    given: usize,
+    kind: ErrorKind,
+) -> (Vec<u8>, Option<ScriptFault>) {
+    let mut input = PieceReader::failing(script, given, kind);
     let mut output: Vec<u8> = Vec::new(alloc);
     let fault = run_script(alloc, &mut input, &mut output).err();
     (output, fault)
 }
 
+/// Reads a script from a reader that fails.
 #[test]
-fn a_read_that_fails_is_not_tried_again(rt: HostRuntime) {
+fn a_read_that_fails_is_not_tried_again(rt: HostRuntime) -> Result<(), Fail> {
+    let (script, answers) = parts(rt.alloc(), FIRST_RUN)?;
     // The first two lines have 11 + 9 bytes, and their answers 12 + 10; the third has 6, and its answer 9.
     for (given, written) in [(0, 0), (25, 22), (26, 31), (64, 123)] {
-        assert!(rt; written <= FIRST_ANSWERS.len());
+        assert!(rt; written <= answers.len());
         for kind in [ErrorKind::Other, ErrorKind::Interrupted] {
-            let (output, fault) = run_failing(rt.alloc(), given, kind);
-            let is_front = output.as_slice() == &FIRST_ANSWERS[..written];
+            let (output, fault) = run_failing(rt.alloc(), &script, given, kind);
+            let is_front = output.as_slice() == &answers[..written];
             assert!(rt;
                 is_front && fault == Some(ScriptFault::Read),
                 "{kind:?} at {given}"
             );
         }
     }
+    Ok(())
 }
 
-/// What is written of the answers to a script of at most this many bytes, and why it did not end, if it did not.
+/// What is written of the answers to a script of at most this count of bytes, and why it did not end, if it did not.
 fn run_limited(alloc: Global, script: &[u8], limit: u64) -> (Vec<u8>, Option<ScriptFault>) {
     let mut input = script;
     let mut output: Vec<u8> = Vec::new(alloc);
@@ -177,10 +172,13 @@ fn run_limited(alloc: Global, script: &[u8], limit: u64) -> (Vec<u8>, Option<Scr
     (output, fault)
 }
 
+/// Runs scripts at their limit of bytes, and over it.
 #[test]
-fn the_limit(rt: HostRuntime) -> Result<(), Fail> {
+fn a_script_ends_at_its_limit_of_bytes(rt: HostRuntime) -> Result<(), Fail> {
     let script = script(rt.alloc())?;
     let script = script.as_slice();
+    let (first_run, first_answers) = parts(rt.alloc(), FIRST_RUN)?;
+    let (first_run, first_answers) = (first_run.as_slice(), first_answers.as_slice());
     for (script, answers, limit, written, wanted) in [
         (script, ANSWERS, 0, 0, Some(ScriptFault::TooLong)),
         (script, ANSWERS, 4109, 0, Some(ScriptFault::TooLong)),
@@ -188,8 +186,8 @@ fn the_limit(rt: HostRuntime) -> Result<(), Fail> {
         (script, ANSWERS, 17206, 17, Some(ScriptFault::TooLong)),
         (script, ANSWERS, 17207, 34, None),
         // All lines but the last: 123 bytes of answers, less its 51.
-        (FIRST_RUN, FIRST_ANSWERS, 63, 72, Some(ScriptFault::TooLong)),
-        (FIRST_RUN, FIRST_ANSWERS, 64, 123, None),
+        (first_run, first_answers, 63, 72, Some(ScriptFault::TooLong)),
+        (first_run, first_answers, 64, 123, None),
     ] {
         let (output, fault) = run_limited(rt.alloc(), script, limit);
         assert!(rt; written <= answers.len());
@@ -199,6 +197,7 @@ fn the_limit(rt: HostRuntime) -> Result<(), Fail> {
     Ok(())
 }
 
+/// Reads a comment that has no end.
 #[test]
 fn a_comment_without_an_end_is_too_long(rt: HostRuntime) {
     let mut output: Vec<u8> = Vec::new(rt.alloc());

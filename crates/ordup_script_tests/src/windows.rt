@@ -1,12 +1,13 @@
 //! The windows that show how many rounds each site has to have, by `Primary::windows`.
+use crate::transcripts::parts;
 use ordup_objects::SiteId;
 use ordup_script::{ScriptEnd, ScriptFault, run_script};
 use ordup_world::Primary;
 use std::alloc::{AllocError, Global};
 use std::test::Fail;
 
-/// Scripts, and what is shown of their sites at the end: a line that begins with `> ` is one of the script, the other is
-/// each site, with each of its windows as the places between which it lies.
+/// Scripts, and what is shown of their sites at the end, in the last line: each site, with each of its windows as the places between
+/// which it lies.
 const SHOWN: [&str; 10] = [
     // Equal is not over.
     "\
@@ -213,22 +214,16 @@ fn shown_after(alloc: Global, script: &[u8]) -> Result<Vec<u8>, Fail> {
     shown
 }
 
+/// Shows the windows at the end of each script.
 #[test]
 fn each_round_has_a_window(rt: HostRuntime) -> Result<(), Fail> {
-    for script in &SHOWN {
-        let mut text = String::new(rt.alloc());
-        for line in script.lines() {
-            match line.strip_prefix("> ") {
-                Some(line) => {
-                    text.push_str(line)?;
-                    text.push('\n')?;
-                }
-                None => {
-                    let windows = shown_after(rt.alloc(), text.as_bytes())?;
-                    assert!(rt; windows.as_slice() == line.as_bytes(), "{script}");
-                }
-            }
-        }
+    for transcript in SHOWN {
+        let (script, wanted) = parts(rt.alloc(), transcript)?;
+        let windows = shown_after(rt.alloc(), &script)?;
+        assert!(rt;
+            wanted.as_slice().strip_suffix(b"\n") == Some(windows.as_slice()),
+            "{transcript}"
+        );
     }
     Ok(())
 }

@@ -1,6 +1,6 @@
 //! Spellings that are read as the same rows, and records that are cut or too long.
 use crate::fixtures::{ALL, expect_changes, expect_cuts, verdict_within};
-use ordup_record_reader::{RecordReadFault, read_record};
+use ordup_check::{RecordReadFault, read_record};
 use std::io::{self, Read};
 use std::test::Fail;
 

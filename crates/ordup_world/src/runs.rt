@@ -17,7 +17,7 @@ use std::alloc::{Allocator, Global};
 /// Starts a store and takes the events in their order. A refused event leaves everything as it was.
 ///
 /// It is refused `Empty` where the setup lacks an object or a site, and `NoMemory` where there is none for the start or for
-/// the list of answers, whose memory it takes before the first event.
+/// the list of answers, whose room it takes before the first event.
 pub fn run<A: Allocator + Copy>(
     alloc: A,
     setup: Setup<A>,

@@ -4,7 +4,7 @@
 use anyhow::{Result, bail};
 use ordup_cluster::{Closed, Cluster, OpenGate, Session};
 use ordup_limits::Scope;
-use ordup_objects::{Change, MessageSet, ObjectId, ObjectTable, Op, Refusal, SiteId};
+use ordup_objects::{Change, MessageSet, ObjectId, Op, Refusal, SiteId};
 use ordup_primary::Setup;
 use std::alloc::Global;
 use std::sync::Wait;
@@ -16,7 +16,7 @@ const TURNS: u64 = 1_000_000;
 
 fn main(rt: HostRuntime) -> Result<()> {
     let cluster = open(rt.alloc())?;
-    let served = serve(&rt, rt.alloc(), &cluster);
+    let served = serve(&rt, &cluster);
     close(&rt, cluster)?;
     served
 }
@@ -36,12 +36,12 @@ fn open(alloc: Global) -> Result<Cluster, Refusal> {
 }
 
 /// Runs the shops until the clerks are done. Then a customer looks at each shop.
-fn serve<R: Threads + Wait + Print + Sync>(rt: &R, alloc: Global, cluster: &Cluster) -> Result<()> {
+fn serve<R: Threads + Wait + Print + Sync>(rt: &R, cluster: &Cluster) -> Result<()> {
     let (_, sold) = thread::join(
         rt,
         move || follow(rt, cluster),
         move || {
-            let sold = sell(rt, alloc, cluster);
+            let sold = sell(rt, cluster);
             cluster.stop();
             sold
         },
@@ -69,21 +69,21 @@ fn apply_at<R: Wait>(rt: &R, cluster: &Cluster, shop: u8) {
 }
 
 /// The two clerks: one sells 3 bags at a time, the other 5.
-fn sell<R: Threads + Wait + Sync>(rt: &R, alloc: Global, cluster: &Cluster) -> u64 {
+fn sell<R: Threads + Wait + Sync>(rt: &R, cluster: &Cluster) -> u64 {
     let (first, second) = thread::join(
         rt,
-        move || sell_all(rt, alloc, cluster, 3),
-        move || sell_all(rt, alloc, cluster, 5),
+        move || sell_all(rt, cluster, 3),
+        move || sell_all(rt, cluster, 5),
     );
     first.saturating_add(second)
 }
 
 /// A clerk makes fifty sales of this many bags each, and answers how many bags were sold.
-fn sell_all<R: Wait>(rt: &R, alloc: Global, cluster: &Cluster, bags: u64) -> u64 {
+fn sell_all<R: Wait>(rt: &R, cluster: &Cluster, bags: u64) -> u64 {
     let mut session = Session::new();
     let mut sold = 0u64;
     for _ in 0..50 {
-        if sell_one(rt, alloc, cluster, &mut session, bags).is_ok() {
+        if sell_one(rt, cluster, &mut session, bags).is_ok() {
             sold = sold.saturating_add(bags);
         }
     }
@@ -93,12 +93,11 @@ fn sell_all<R: Wait>(rt: &R, alloc: Global, cluster: &Cluster, bags: u64) -> u64
 /// Sells this many bags, and waits until the sale is acknowledged.
 fn sell_one<R: Wait>(
     rt: &R,
-    alloc: Global,
     cluster: &Cluster,
     session: &mut Session,
     bags: u64,
 ) -> Result<(), Refusal> {
-    let set = sale(alloc, bags)?;
+    let set = sale(cluster, bags)?;
     match cluster.propose(rt, session, set, TURNS) {
         Ok(_) => Ok(()),
         // The sale stands in the log, so wait for it: a second proposal would sell twice.
@@ -107,15 +106,13 @@ fn sell_one<R: Wait>(
     }
 }
 
-/// The message set of a sale.
-fn sale(alloc: Global, bags: u64) -> Result<MessageSet, Refusal> {
-    let mut objects = ObjectTable::new(alloc);
-    let tea = objects.declare(b"tea", 1_000)?;
+/// The message set of a sale: it takes this many bags off.
+fn sale(cluster: &Cluster, bags: u64) -> Result<MessageSet, Refusal> {
     let change = Change {
-        object: tea,
+        object: ObjectId::new(0),
         op: Op::Add(-(bags.min(1_000) as i64)),
     };
-    MessageSet::single(&objects, change)
+    MessageSet::single(cluster.objects(), change)
 }
 
 /// A customer who has seen nothing before asks how many bags a shop has.

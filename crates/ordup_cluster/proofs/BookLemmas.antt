@@ -17,7 +17,8 @@ use Rattle.ordup_feed.specs.Parcels.{PlainParcel}
 use Rattle.ordup_feed.specs.Ends.{Sending}
 use Rattle.ordup_objects.specs.States.{State}
 use Rattle.ordup_cluster.specs.Books.{BookState, IsTied, KeepsBook, AreSpareValues}
-use Rattle.ordup_cluster.specs.Relimiting.{limit_change_refusal}
+use Rattle.ordup_primary.specs.LimitChanges.{limit_change_refusal}
+use Rattle.ordup_primary.specs.Primaries.{site_view}
 use Rattle.ordup_cluster.specs.Turning.{KeptSite, AtEachSite, Reported, Sent, SentOut, SameFeeds, kept_at, with_progress, send_bound}
 
 -- ---- lists in which an element changed
@@ -93,7 +94,7 @@ keeps-relimited p s scope amount ends kept = record {
 -- where the scope and the site are there, what the primary refuses is refused
 pub primary-refuses : (p : PrimaryState) (s : ℕ) (scope : Scope) (amount : ℕ)
     → scope_refusal (length p.setup.objects) p.setup.groups scope ≡ None → s < length p.setup.sites
-    → limit_change_refusal p s scope amount ≡ relimit_refusal p s scope amount
+    → limit_change_refusal (site_view p s) scope amount ≡ relimit_refusal p s scope amount
 primary-refuses p s scope amount known there = rw (known, lt-ltb s (length p.setup.sites) there) refl
 
 pub progress-same : (p q : PrimaryState) (s : ℕ) (x : SiteProgress) → q ≡ with_progress p s x → s < length p.sites

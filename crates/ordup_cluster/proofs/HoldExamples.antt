@@ -7,7 +7,9 @@ use Rattle.ordup_log.specs.declared.scope.Scope.TheVariants.{Object, Group, Coun
 use Rattle.ordup_limits.specs.Entries.{entry_of}
 use Rattle.ordup_primary.specs.Primaries.{PrimaryState, first_progress}
 use Rattle.ordup_cluster.specs.Books.{BookState}
-use Rattle.ordup_cluster.specs.Relimiting.{limit_change_refusal, with_changed_limit}
+use Rattle.ordup_primary.specs.LimitChanges.{limit_change_refusal}
+use Rattle.ordup_primary.specs.Primaries.{site_view}
+use Rattle.ordup_cluster.specs.Relimiting.{with_changed_limit}
 use Rattle.ordup_cluster.specs.Turning.{KeptSite, SentOut}
 use Rattle.ordup_cluster.specs.Waiting.{EndsUnmet}
 
@@ -50,12 +52,12 @@ lagging = record {
 }
 
 -- the order of the refusals of a change: the scope is looked at before the site, and the site before the amount
-change_refusals : (limit_change_refusal lagging 2 (Object 1) 1000000000000000001 ≡ Some UnknownObject)
-    × (limit_change_refusal lagging 2 (Group 0) 1000000000000000001 ≡ Some UnknownGroup)
-    × (limit_change_refusal lagging 2 Count 1000000000000000001 ≡ Some UnknownSite)
-    × (limit_change_refusal lagging 1 Count 1000000000000000001 ≡ Some OutOfRange)
-    × (limit_change_refusal lagging 1 (Object 0) 2 ≡ Some LagOver)
-    × (limit_change_refusal lagging 1 (Object 0) 3 ≡ None)
+change_refusals : (limit_change_refusal (site_view lagging 2) (Object 1) 1000000000000000001 ≡ Some UnknownObject)
+    × (limit_change_refusal (site_view lagging 2) (Group 0) 1000000000000000001 ≡ Some UnknownGroup)
+    × (limit_change_refusal (site_view lagging 2) Count 1000000000000000001 ≡ Some UnknownSite)
+    × (limit_change_refusal (site_view lagging 1) Count 1000000000000000001 ≡ Some OutOfRange)
+    × (limit_change_refusal (site_view lagging 1) (Object 0) 2 ≡ Some LagOver)
+    × (limit_change_refusal (site_view lagging 1) (Object 0) 3 ≡ None)
 change_refusals = (refl, refl, refl, refl, refl, refl)
 
 -- b gets the limit from place 2 on, and a has its own as before

@@ -12,7 +12,8 @@ use Rattle.ordup_log.specs.Appending.{append_refusal}
 use Rattle.ordup_log.specs.declared.scope.Scope.{Scope}
 use Rattle.ordup_primary.specs.Primaries.{PrimaryState, IsPrimary}
 use Rattle.ordup_cluster.specs.Clusters.{ClusterState}
-use Rattle.ordup_cluster.specs.Relimiting.{limit_change_refusal}
+use Rattle.ordup_primary.specs.LimitChanges.{limit_change_refusal}
+use Rattle.ordup_primary.specs.Primaries.{site_view}
 use Rattle.ordup_query.specs.Queries.{QueryState, begin_refusal, read_refusal}
 
 -- the number of an update in a log
@@ -40,11 +41,11 @@ IsSettlementRefusal number e = (e ≡ OutOfRange) ⊎ ((e ≡ NoMemory) × IsNum
 -- lock, which no contract sees.
 abbrev pub IsLimitPlace : ℕ → Scope → ℕ → ℕ → Type 0
 IsLimitPlace site scope amount place =
-    (p : PrimaryState) × IsPrimary p × (place ≡ p.acked + 1) × (limit_change_refusal p site scope amount ≡ None)
+    (p : PrimaryState) × IsPrimary p × (place ≡ p.acked + 1) × (limit_change_refusal (site_view p site) scope amount ≡ None)
 
 -- of a change of a limit: what that primary refuses, or else that there is no memory
 abbrev pub IsLimitChangeRefusal : ℕ → Scope → ℕ → Refusal → Type 0
-IsLimitChangeRefusal site scope amount e = (p : PrimaryState) × IsPrimary p × IsRefusal (limit_change_refusal p site scope amount) e
+IsLimitChangeRefusal site scope amount e = (p : PrimaryState) × IsPrimary p × IsRefusal (limit_change_refusal (site_view p site) scope amount) e
 
 -- what a read asks for: an object at a site, for a session that has seen a number of updates
 pub record ReadRequest : Type 0 where

@@ -1,6 +1,8 @@
 ghost use Rattle.std.specs.Prelude.{◌≡◌, ◌+◌, None, IfOk, IfErr, OnErr};
 ghost use Rattle.ordup_objects.specs.Refusals.{IsRefusal};
-ghost use Rattle.ordup_cluster.specs.Relimiting.{limit_change_refusal, with_changed_limit};
+ghost use Rattle.ordup_primary.specs.LimitChanges.{limit_change_refusal};
+ghost use Rattle.ordup_primary.specs.Primaries.{site_view};
+ghost use Rattle.ordup_cluster.specs.Relimiting.{with_changed_limit};
 
 use crate::holds::book::Book;
 use ordup_limits::check_scope;
@@ -17,8 +19,8 @@ use ordup_objects::{Refusal, SiteId};
 pub fn relimit(book: &mut Book, site: SiteId, scope: Scope, amount: u64) -> Result<u64, Refusal>
     ensures place { IfOk result (λ k. k ≡ book.old.primary.acked + 1) }
     ensures changed { IfOk result (λ _. book.new ≡ with_changed_limit book.old site scope amount) }
-    ensures allowed { IfOk result (λ _. limit_change_refusal book.old.primary site scope amount ≡ None) }
-    ensures refused { IfErr result (λ e. IsRefusal (limit_change_refusal book.old.primary site scope amount) e) }
+    ensures allowed { IfOk result (λ _. limit_change_refusal (site_view book.old.primary site) scope amount ≡ None) }
+    ensures refused { IfErr result (λ e. IsRefusal (limit_change_refusal (site_view book.old.primary site) scope amount) e) }
     ensures err { OnErr result (book.new ≡ book.old) }
 {
     // The prover joins branches over a borrowed scope, not over a copied one.

@@ -67,10 +67,17 @@ impl Cluster {
         ensures refused { IfErr result (λ e. IsRefusal (start_refusal setup) e) }
     {
         let (book, cells) = open(alloc, setup)?;
+        Cluster::under_locks(alloc, book, cells)
+    }
+
+    /// The store of a book and of the cells of its sites, each of them under a lock of its own.
+    fn under_locks(alloc: Global, book: Book, cells: Vec<SiteCell>) -> Result<Cluster, Refusal>
+        requires { 0 < length cells.items }
+        ensures cluster { IfOk result (λ c. c ≡ record { objects = book.primary.setup.objects; sites = length cells.items }) }
+        ensures refused { IfErr result (λ e. e ≡ Refusal.NoMemory) }
+    {
         let cells = locked(alloc, cells)?;
-        let Ok(room) = Vec::with_capacity(alloc, cells.len()) else {
-            return Err(Refusal::NoMemory);
-        };
+        let room = Vec::with_capacity(alloc, cells.len())?;
         let objects = book.primary().setup().objects().copy(alloc)?;
         Ok(Cluster {
             book: Mutex::new(book),
@@ -365,9 +372,7 @@ fn locked(alloc: Global, cells: Vec<SiteCell>) -> Result<Vec<Mutex<SiteCell>>, R
     ensures count { IfOk result (λ locked. vec_len locked ≡ length cells.items) }
     ensures refused { IfErr result (λ e. e ≡ Refusal.NoMemory) }
 {
-    let Ok(mut locked) = Vec::with_capacity(alloc, cells.len()) else {
-        return Err(Refusal::NoMemory);
-    };
+    let mut locked = Vec::with_capacity(alloc, cells.len())?;
     for cell in cells {
         locked.push_reserved(Mutex::new(cell));
     }

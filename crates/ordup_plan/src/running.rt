@@ -62,10 +62,7 @@ pub fn run_threads<R: Threads + Wait + Sync>(
     let closed = cluster.close()?;
     let outcome = outcome_of(alloc, &closed, tally);
     drop(closed);
-    match outcome {
-        Ok(text) => Ok(text),
-        Err(_) => Err(Refusal::NoMemory),
-    }
+    Ok(outcome?)
 }
 
 /// Starts the appliers, lets the callers propose, stops the cluster once all of them have ended, and waits for all threads.

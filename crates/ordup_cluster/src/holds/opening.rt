@@ -58,9 +58,8 @@ fn add_feed(
 {
     let (end, taker) = Feed::new(alloc, setup.objects(), setup.capacity(site))?;
     let replica = Site::new(alloc, setup.objects())?;
-    if ends.push(end).is_err() || cells.push(SiteCell::new(replica, taker)).is_err() {
-        return Err(Refusal::NoMemory);
-    }
+    ends.push(end)?;
+    cells.push(SiteCell::new(replica, taker))?;
     Ok(())
 }
 
@@ -72,10 +71,7 @@ fn first_spare_values(alloc: Global, setup: &Setup) -> Result<Vec<Values>, Refus
 {
     let mut spare_values = Vec::new(alloc);
     for _ in 0..setup.sites() {
-        let values = Values::initial(alloc, setup.objects())?;
-        if spare_values.push(values).is_err() {
-            return Err(Refusal::NoMemory);
-        }
+        spare_values.push(Values::initial(alloc, setup.objects())?)?;
     }
     Ok(spare_values)
 }

@@ -7,10 +7,11 @@ use Rattle.std.proofs.lemmas.List.{length_push, length-replicate, get_or-replica
 use Rattle.ordup_objects.specs.Tables.{initial_state}
 use Rattle.ordup_primary.specs.Declarations.{Declared, capacity_of}
 use Rattle.ordup_primary.specs.Primaries.{PrimaryState, first_progress, progress_at}
+use Rattle.ordup_primary.specs.PrimaryInside.{first_state}
 use Rattle.ordup_feed.specs.Ends.{Sending, AreNewEnds}
 use Rattle.ordup_cluster.specs.Books.{KeepsBook}
 use Rattle.ordup_cluster.specs.Cells.{CellState}
-use Rattle.ordup_cluster.specs.Opening.{AreFirstFeeds, first_primary}
+use Rattle.ordup_cluster.specs.Opening.{AreFirstFeeds}
 
 -- ---- a list with one element more
 
@@ -50,14 +51,14 @@ feeds-more d n ends cells e c feeds made = record {
 
 -- ---- the book
 
-pub keeps-first : (d : Declared) (p : PrimaryState) (ends : List Sending) (cells : List CellState) → p ≡ first_primary d
+pub keeps-first : (d : Declared) (p : PrimaryState) (ends : List Sending) (cells : List CellState) → p ≡ first_state d
     → AreFirstFeeds d (length d.sites) ends cells → KeepsBook p ends
 keeps-first d p ends cells is feeds = rw is (record {
   count = feeds.end_count ∙ sym (length-replicate (length d.sites) first_progress);
   tied = λ s e at.
       let inside : s < length d.sites = let count = feeds.end_count in let there = slice_get_within ends s e at in omega arith in
       let made = (feeds.each s e at).2 in
-      let first : progress_at (first_primary d) s ≡ first_progress =
+      let first : progress_at (first_state d) s ≡ first_progress =
       get_or-replicate (length d.sites) s first_progress first_progress inside in
       record {
         capacity = made.room;
@@ -66,7 +67,7 @@ keeps-first d p ends cells is feeds = rw is (record {
       };
 })
 
-pub first-is : (d : Declared) (p : PrimaryState) → p.setup ≡ d → p.log ≡ (first_primary d).log → (p.acked ≡ 0) × (p.decided ≡ 0)
-    → p.sites ≡ (first_primary d).sites → p.limits ≡ d.limits → p ≡ first_primary d
+pub first-is : (d : Declared) (p : PrimaryState) → p.setup ≡ d → p.log ≡ (first_state d).log → (p.acked ≡ 0) × (p.decided ≡ 0)
+    → p.sites ≡ (first_state d).sites → p.limits ≡ d.limits → p ≡ first_state d
 first-is d p setup log numbers sites limits =
     λ i. record { setup = setup i; log = log i; acked = numbers.0 i; decided = numbers.1 i; sites = sites i; limits = limits i }

@@ -1,8 +1,8 @@
 -- A book and cells at the start.
-use Rattle.std.specs.Prelude.{◌≡◌, ℕ, Some, List, [], length, replicate, slice_get}
+use Rattle.std.specs.Prelude.{◌≡◌, ℕ, Some, List, length, slice_get}
 use Rattle.ordup_objects.specs.Tables.{initial_state}
 use Rattle.ordup_primary.specs.Declarations.{Declared, capacity_of}
-use Rattle.ordup_primary.specs.Primaries.{PrimaryState, first_progress}
+use Rattle.ordup_primary.specs.PrimaryInside.{first_state}
 use Rattle.ordup_feed.specs.Ends.{Sending, AreNewEnds}
 use Rattle.ordup_cluster.specs.Books.{BookState}
 use Rattle.ordup_cluster.specs.Cells.{CellState}
@@ -15,18 +15,7 @@ pub record AreFirstFeeds (d : Declared) (n : ℕ) (ends : List Sending) (cells :
   pub each : (s : ℕ) (e : Sending) → slice_get ends s ≡ Some e
       → (c : CellState) × (slice_get cells s ≡ Some c) × AreNewEnds (initial_state d.objects) (capacity_of d s) e c.end
 
--- a primary in which nothing has happened, whose limits are those that were declared
-abbrev pub first_primary : Declared → PrimaryState
-first_primary d = record {
-  setup = d;
-  log = record { start = initial_state d.objects; sets = [] };
-  acked = 0;
-  decided = 0;
-  sites = replicate (length d.sites) first_progress;
-  limits = d.limits;
-}
-
 -- a store in which nothing has happened, as a book and cells
 pub record AreOpened (d : Declared) (b : BookState) (cells : List CellState) : Type 0 where
-  pub primary : b.primary ≡ first_primary d
+  pub primary : b.primary ≡ first_state d
   pub feeds : AreFirstFeeds d (length d.sites) b.ends cells

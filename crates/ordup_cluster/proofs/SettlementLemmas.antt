@@ -36,7 +36,6 @@ same-feeds p q is settles = elim (cases_eq p.acked p.decided) [
   | inl first ↦ (let decides = settles.first first in record {
     setup = decides.setup;
     log = decides.log;
-    limits = decides.limits;
     count = decides.count;
     sent = λ s lt. ap (λ (x : SiteProgress). x.sent) (decides.sites s first_progress lt);
     reported = λ s lt. ap (λ (x : SiteProgress). x.reported) (decides.sites s first_progress lt);
@@ -46,7 +45,6 @@ same-feeds p q is settles = elim (cases_eq p.acked p.decided) [
       record {
         setup = ap (λ (r : PrimaryState). r.setup) later;
         log = ap (λ (r : PrimaryState). r.log) later;
-        limits = ap (λ (r : PrimaryState). r.limits) later;
         count = ap (λ (r : PrimaryState). length r.sites) later;
         sent = λ s lt. ap (λ (r : PrimaryState). (progress_at r s).sent) later;
         reported = λ s lt. ap (λ (r : PrimaryState). (progress_at r s).reported) later;
@@ -57,7 +55,6 @@ pub same-feeds-more : (p m q : PrimaryState) → SameFeeds p m → SameFeeds m q
 same-feeds-more p m q first next = record {
   setup = next.setup ∙ first.setup;
   log = next.log ∙ first.log;
-  limits = next.limits ∙ first.limits;
   count = next.count ∙ first.count;
   sent = λ s lt. let count = first.count in next.sent s (omega arith) ∙ first.sent s lt;
   reported = λ s lt. let count = first.count in next.reported s (omega arith) ∙ first.reported s lt;

@@ -47,12 +47,10 @@ pub record AtEachSite (Step : ℕ → KeptSite → KeptSite → Type 0) (b c : B
   pub each : (s : ℕ) (e f : Sending) → slice_get b.ends s ≡ Some e → slice_get c.ends s ≡ Some f
       → Step s (kept_at b.primary s e) (kept_at c.primary s f)
 
--- no more of the primary changed than settlements change: the limits of each site, what was sent to it and what it reported are as they
--- were
+-- what settlements leave of the primary as it was: what is declared, the log, what was sent to each site and what it reported
 pub record SameFeeds (p q : PrimaryState) : Type 0 where
   pub setup : q.setup ≡ p.setup
   pub log : q.log ≡ p.log
-  pub limits : q.limits ≡ p.limits
   pub count : length q.sites ≡ length p.sites
   pub sent : (s : ℕ) → s < length p.sites → (progress_at q s).sent ≡ (progress_at p s).sent
   pub reported : (s : ℕ) → s < length p.sites → (progress_at q s).reported ≡ (progress_at p s).reported

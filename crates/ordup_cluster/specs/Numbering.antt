@@ -7,7 +7,7 @@ use Rattle.ordup_objects.specs.declared.refusal.Refusal.TheVariants.{NoMemory}
 use Rattle.ordup_cluster.specs.Books.{BookState}
 use Rattle.ordup_cluster.specs.Turning.{Turned, TurnedInPart}
 
--- the book with one update more in its log
+-- the book with one more update in its log
 abbrev pub with_numbered : BookState → List Change → BookState
 with_numbered b set = record b { primary = record b.primary { log = with_update b.primary.log set } }
 

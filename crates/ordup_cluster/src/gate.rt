@@ -1,16 +1,16 @@
 use ordup_objects::SiteId;
 use std::sync::Wait;
 
-/// What stands between an applier and its feed. Both calls are made in each turn of the applier, also where its feed is empty.
+/// A gate between an applier and its feed. The applier makes both calls in each of its turns, also where its feed is empty.
 pub trait Gate {
-    /// Is called with the number of the update that the site applies next, while no lock is held.
+    /// The first call of a turn, with the number of the update that the site applies next. The applier holds no lock then.
     fn before_apply<R: Wait>(&self, rt: &R, site: SiteId, number: u64);
 
-    /// Is called with the number of the update that the site applies next, under the lock of the site.
+    /// The second call of a turn, with the number of the update that the site applies next. The applier holds the lock of the site then.
     fn at_apply<R: Wait>(&self, rt: &R, site: SiteId, number: u64);
 }
 
-/// A gate that holds nothing up.
+/// A gate that holds up nothing.
 pub struct OpenGate;
 
 impl Gate for OpenGate {

@@ -25,10 +25,16 @@ impl<'a> Model for SiteQuery<'a> {
 }
 
 impl SiteQuery<'_> {
-    /// Reads an object at the site: its value, what the read imports, and the new total.
+    /// Reads an object at the site: its value, what the read imports, and the new total. It takes the lock of the site.
     ///
-    /// It is refused `UnknownObject` where there is no such object, `TooMany` after 256 accepted reads, and `OverImport` where the
-    /// total would pass the limit. The query then stands as before.
+    /// - The new total is the old one and the import.
+    /// - The query has the value in its sum, the new total, and one more read.
+    /// - Whatever answers the query had, it has this one after them.
+    /// - The object has a mark.
+    /// - The read is allowed by its import and by what was read before.
+    /// - It is refused `UnknownObject` where there is no such object, `TooMany` after 256 accepted reads, and `OverImport` where the
+    ///   total would pass the limit.
+    /// - Where it is refused, the query stays as it was.
     pub fn read<R: Wait>(&mut self, rt: &R, object: ObjectId) -> Result<ReadAnswer, Refusal>
         ensures total { IfOk result (λ a. a.total ≡ self.old.total + a.import) }
         ensures query { IfOk result (λ a. self.new ≡ record self.old { sum = self.old.sum +ℤ a.value; total = a.total; reads = self.old.reads + 1 }) }
@@ -48,7 +54,11 @@ impl SiteQuery<'_> {
         self.query.read(cell.site(), object)
     }
 
-    /// Ends the query, and answers what its accepted reads added up to.
+    /// Ends the query, and answers what its accepted reads added up to. It takes no lock.
+    ///
+    /// - The answer has the place of the reference, the sum of the values, the total of the imports, and how many reads there were.
+    /// - These are those of the answers that the query had.
+    /// - The total is within the limit.
     pub fn end(self) -> QueryAnswer
         ensures answer { result ≡ record { place = self.entry.place; sum = self.entry.sum; total = self.entry.total; reads = self.entry.reads } }
         ensures reads { (answers : List ReadAnswer) → HasRead self.entry answers → result ≡ record { place = self.entry.place; sum = value_sum (map (λ a. a.value) answers); total = import_sum (map (λ a. a.import) answers); reads = length answers } }

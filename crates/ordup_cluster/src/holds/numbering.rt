@@ -30,7 +30,7 @@ pub fn number(book: &mut Book, set: MessageSet) -> Result<u64, Refusal>
     Ok(number)
 }
 
-/// What came of the hold in which a set was numbered.
+/// The answer of the hold in which a set was numbered.
 #[derive(Drop)]
 pub struct Numbered {
     /// The number of the update.

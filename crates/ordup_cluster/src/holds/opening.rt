@@ -43,7 +43,7 @@ fn first_feeds(alloc: Global, setup: &Setup) -> Result<(Vec<SendEnd>, Vec<SiteCe
     Ok((ends, cells))
 }
 
-/// The feed of one site more.
+/// Adds the feed of one more site.
 fn add_feed(
     alloc: Global,
     setup: &Setup,

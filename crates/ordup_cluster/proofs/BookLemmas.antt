@@ -10,15 +10,14 @@ use Rattle.std.proofs.lemmas.List.{get_or-set_same, get_or-set_other, length-map
 use Rattle.ordup_objects.specs.declared.change.Change.{Change}
 use Rattle.ordup_objects.specs.Serial.{History, set_at, with_update}
 use Rattle.ordup_primary.specs.Primaries.{PrimaryState, SiteProgress, IsPrimary, first_progress, progress_at, reported_at, is_within}
-use Rattle.ordup_primary.specs.Primaries.{relimited, relimit_refusal}
+use Rattle.ordup_primary.specs.LimitChanges.{limit_change_refusal}
+use Rattle.ordup_primary.specs.Primaries.{relimited, relimit_refusal, site_view}
 use Rattle.ordup_limits.specs.Limits.{scope_refusal}
 use Rattle.ordup_log.specs.declared.scope.Scope.{Scope}
 use Rattle.ordup_feed.specs.Parcels.{PlainParcel}
 use Rattle.ordup_feed.specs.Ends.{Sending}
 use Rattle.ordup_objects.specs.States.{State}
 use Rattle.ordup_cluster.specs.Books.{BookState, IsTied, KeepsBook, AreSpareValues}
-use Rattle.ordup_primary.specs.LimitChanges.{limit_change_refusal}
-use Rattle.ordup_primary.specs.Primaries.{site_view}
 use Rattle.ordup_cluster.specs.Turning.{KeptSite, AtEachSite, Reported, Sent, SentOut, SameFeeds, kept_at, with_progress, send_bound}
 
 -- ---- lists in which an element changed

@@ -5,10 +5,9 @@ use Rattle.ordup_objects.specs.declared.change.Op.TheVariants.{Add}
 use Rattle.ordup_objects.specs.declared.refusal.Refusal.TheVariants.{UnknownObject, UnknownGroup, UnknownSite, OutOfRange, LagOver, NotYet}
 use Rattle.ordup_log.specs.declared.scope.Scope.TheVariants.{Object, Group, Count}
 use Rattle.ordup_limits.specs.Entries.{entry_of}
-use Rattle.ordup_primary.specs.Primaries.{PrimaryState, first_progress}
-use Rattle.ordup_cluster.specs.Books.{BookState}
 use Rattle.ordup_primary.specs.LimitChanges.{limit_change_refusal}
-use Rattle.ordup_primary.specs.Primaries.{site_view}
+use Rattle.ordup_primary.specs.Primaries.{PrimaryState, first_progress, site_view}
+use Rattle.ordup_cluster.specs.Books.{BookState}
 use Rattle.ordup_cluster.specs.Relimiting.{with_changed_limit}
 use Rattle.ordup_cluster.specs.Turning.{KeptSite, SentOut}
 use Rattle.ordup_cluster.specs.Waiting.{EndsUnmet}

@@ -4,9 +4,8 @@ use Rattle.std.specs.Prelude.{Result}
 use Rattle.ordup_objects.specs.declared.refusal.Refusal.{Refusal}
 use Rattle.ordup_objects.specs.Refusals.{IsRefusal}
 use Rattle.ordup_log.specs.declared.scope.Scope.{Scope}
-use Rattle.ordup_primary.specs.Primaries.{PrimaryState, IsPrimary}
 use Rattle.ordup_primary.specs.LimitChanges.{limit_change_refusal}
-use Rattle.ordup_primary.specs.Primaries.{site_view}
+use Rattle.ordup_primary.specs.Primaries.{PrimaryState, IsPrimary, site_view}
 use Rattle.ordup_cluster.specs.Refusals.{IsLimitPlace, IsLimitChangeRefusal}
 
 pub place-by : (p : PrimaryState) (site : ℕ) (scope : Scope) (amount : ℕ) (r : Result ℕ Refusal) → IsPrimary p

@@ -10,10 +10,9 @@ use Rattle.ordup_objects.specs.Serial.{History}
 use Rattle.ordup_objects.specs.Sets.{are_known}
 use Rattle.ordup_log.specs.Appending.{append_refusal}
 use Rattle.ordup_log.specs.declared.scope.Scope.{Scope}
-use Rattle.ordup_primary.specs.Primaries.{PrimaryState, IsPrimary}
-use Rattle.ordup_cluster.specs.Clusters.{ClusterState}
 use Rattle.ordup_primary.specs.LimitChanges.{limit_change_refusal}
-use Rattle.ordup_primary.specs.Primaries.{site_view}
+use Rattle.ordup_primary.specs.Primaries.{PrimaryState, IsPrimary, site_view}
+use Rattle.ordup_cluster.specs.Clusters.{ClusterState}
 use Rattle.ordup_query.specs.Queries.{QueryState, begin_refusal, read_refusal}
 
 -- the number of an update in a log

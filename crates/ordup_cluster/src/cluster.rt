@@ -276,8 +276,7 @@ impl Cluster {
         ensures refused { IfErr result (IsLimitChangeRefusal site scope amount) }
     {
         let mut book = self.book.lock(rt);
-        // For the proof: what each book keeps.
-        let _primary = book.primary();
+        book.primary().keeps();
         relimit(&mut book, site, scope, amount)
     }
 
@@ -333,7 +332,6 @@ impl Cluster {
             sites.push_reserved(cell.into_inner().into_site());
         }
         let book = book.into_inner();
-        let _primary = book.primary();
         let (primary, spare_values) = book.into_parts();
         match first_mixed(&primary, &sites, spare_values) {
             Some(site) => Err(Refusal::Mixed { site }),

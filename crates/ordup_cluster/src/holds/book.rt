@@ -63,7 +63,11 @@ impl Book {
     pub fn into_parts(self) -> (Primary, Vec<Values>)
         ensures primary { result.0 ≡ self.primary }
         ensures rooms { AreSpareValues result.0 result.1.items }
+        ensures sound { IsPrimary result.0 }
+        ensures within { (s applied : ℕ) → s < length result.0.sites → (progress_at result.0 s).reported ≤ applied → is_lag_within result.0 s applied ≡ true }
     {
+        later_spans_keep_limits();
+        self.primary.keeps();
         let Book {
             primary,
             ends: _,

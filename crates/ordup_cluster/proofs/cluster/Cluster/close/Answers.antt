@@ -4,17 +4,15 @@ use Rattle.ordup_cluster.proofs.cluster.Cluster.close.Goals as goal
 
 pub invariant_of-result : goal.invariant_of-result
 invariant_of-result c =
-    let is = c.into_parts-primary.ensures.primary in
+    let parts = c.into_parts-primary.ensures in
     let same = c.in-None-first_mixed.ensures in
-    is-closed c.into_parts-primary.result.0 c.loop-cell.sites.items (rw is c.primary-primary.ensures.sound) same.count same.agree
-    (rw is c.primary-primary.ensures.within)
+    is-closed c.into_parts-primary.result.0 c.loop-cell.sites.items parts.sound same.count same.agree parts.within
 
 pub returns-clause-closed : goal.returns-clause-closed
 returns-clause-closed c =
-    let is = c.into_parts-primary.ensures.primary in
+    let parts = c.into_parts-primary.ensures in
     let same = c.in-None-first_mixed.ensures in
-    is-closed c.into_parts-primary.result.0 c.loop-cell.sites.items (rw is c.primary-primary.ensures.sound) same.count same.agree
-    (rw is c.primary-primary.ensures.within)
+    is-closed c.into_parts-primary.result.0 c.loop-cell.sites.items parts.sound same.count same.agree parts.within
 
 pub returns-in-Some-first_mixed-clause-refused : goal.returns-in-Some-first_mixed-clause-refused
 returns-in-Some-first_mixed-clause-refused c =

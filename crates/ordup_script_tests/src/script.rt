@@ -6,7 +6,7 @@ use std::alloc::{AllocError, Global};
 use std::io::{self, ErrorKind, Write};
 use std::test::Fail;
 
-/// How a writer has no more room.
+/// How a writer is full.
 #[derive(Clone, Copy, Debug)]
 enum Full {
     /// Each write fails by this kind of error.

@@ -1,22 +1,14 @@
 -- Updates that are legal up to one that is not.
 use Rattle.ordup_audit.proofs.Common.{◌++◌, ◌+◌, ◌<◌, ◌∙◌, ◌∷◌, ◌≡◌, ◌≤◌, [], All, ap, AreKnown, arith, Bool, cases_lt, Change, drop}
-use Rattle.ordup_audit.proofs.Common.{get_or, get_or-map, greatest_value, History, history_of, in_range, inl, inr, IsInRange, IsLegalFront}
-use Rattle.ordup_audit.proofs.Common.{IsLegalHistory, IsState, le-leb, length, List, list_all, map, pos, RecordState, refl, result_at}
-use Rattle.ordup_audit.proofs.Common.{serial, serial-longer, State, subst, suc, sym, take-append-drop, take_all, true, value_at, with_more}
+use Rattle.ordup_audit.proofs.Common.{get_or, get_or-map, greatest_value, History, history_of, in_range, inl, inr, IsLegalFront}
+use Rattle.ordup_audit.proofs.Common.{IsLegalHistory, le-leb, length, List, list_all, map, RecordState, refl, result_at}
+use Rattle.ordup_audit.proofs.Common.{serial, serial-longer, State, subst, suc, sym, take-append-drop, take_all, true, with_more}
 use Rattle.ordup_audit.proofs.Common.{ℕ, ℤ}
 use Rattle.std.specs.Int.RustNames.{unsigned_abs}
-use Rattle.std.proofs.lemmas.List.{get_or-take, get_or_past}
-use Rattle.ordup_objects.proofs.SerialLemmas.{IsState-serial}
+use Rattle.std.proofs.lemmas.List.{get_or-take}
 use Rattle.ordup_audit.specs.Passing.{PassesBelow, IsFirstFailure, is_update_legal, is_change_in_range}
 use Rattle.ordup_audit.specs.Rows.{change_row}
 use Rattle.ordup_audit.specs.Verdicts.{IsIllegalRow}
-
--- a value after all updates is in range
-pub value-in_range : (h : History) (x : ℕ) → IsLegalHistory h → IsInRange (value_at (serial h (length h.sets)) x)
-value-in_range h x legal =
-    let v = serial h (length h.sets) in
-    let is : IsState v = IsState-serial h legal (length h.sets) (omega arith) in
-    elim (cases_lt x (length v)) [ inl lt ↦ is x (pos 0) lt | inr le ↦ rw (get_or_past v x (pos 0) le) (omega arith) ]
 
 -- a test that passes at each element passes at all
 pub all-pass : {X : Type 0} (f : X → Bool) (xs : List X) → PassesBelow (λ p. get_or (map f xs) p true) (length xs)
@@ -92,6 +84,6 @@ module _ (r : RecordState) (log : History) (front : IsLegalFront r log) where
       (n, p, rw count (front-fails (omega arith)), first, is)
 
 -- the changes of a set are on objects that are there
-pub known-at : (n k : ℕ) (sets : List (List Change)) (changes : List Change) (log : History) → All (AreKnown n) sets → k < length sets
-    → changes ≡ get_or sets k [] → length log.start ≡ n → AreKnown (length log.start) changes
-known-at n k sets changes log known lt set same = rw (set, same) (known k [] lt)
+pub known-at : (n k : ℕ) (sets : List (List Change)) (changes : List Change) (v : State) → All (AreKnown n) sets → k < length sets
+    → changes ≡ get_or sets k [] → length v ≡ n → AreKnown (length v) changes
+known-at n k sets changes v known lt set same = rw (set, same) (known k [] lt)

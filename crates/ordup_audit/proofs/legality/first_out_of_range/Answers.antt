@@ -1,20 +1,20 @@
-use Rattle.ordup_audit.proofs.Common.{◌∙◌, ◌≡◌, ◌≤◌, arith, false≢true, greatest_value, in_range, is_legal, length, of_z, result_at, rules}
-use Rattle.ordup_audit.proofs.Common.{serial, sym, to_z, to_z-of_z, true, w64}
+use Rattle.ordup_audit.proofs.Common.{◌∙◌, ◌≡◌, ◌≤◌, arith, false≢true, greatest_value, in_range, is_legal, of_z, result_at, rules}
+use Rattle.ordup_audit.proofs.Common.{sym, to_z, to_z-of_z, true, w64}
 use Rattle.std.specs.Int.RustNames.{unsigned_abs}
 use Rattle.ordup_audit.proofs.LegalityLemmas.{all-pass, results-more}
 use Rattle.ordup_audit.proofs.legality.first_out_of_range.Goals as goal
 
 pub loop-place-preserved : goal.loop-place-preserved
 loop-place-preserved g c =
-    let same : to_z w64 (of_z w64 c.result_at.result) ≡ c.result_at.result = to_z-of_z w64 c.result_at.result (search rules) in
-    let few : unsigned_abs c.result_at.result ≤ greatest_value =
+    let same : to_z w64 (of_z w64 c.result.result) ≡ c.result.result = to_z-of_z w64 c.result.result (search rules) in
+    let few : unsigned_abs c.result.result ≤ greatest_value =
     rw same at (rw c.unsigned_abs.ensures.value at c.if-unsigned_abs-gt-GREATEST_VALUE.false) in
-    results-more (serial c.args.log.now (length c.args.log.now.sets)) c.args.changes.now c.loop-place.place c.index-changes-place.result
-    c.result_at.result c.loop-place-test.true c.index-changes-place.is c.result_at.ensures few c.loop-place.invariant
+    results-more c.args.values.now c.args.changes.now c.loop-place.place c.index-changes-place.result
+    c.result.result c.loop-place-test.true c.index-changes-place.is c.result.ensures few c.loop-place.invariant
 
 pub unreachable-requires : goal.unreachable-requires
 unreachable-requires g c =
-    let v = serial c.args.log.now (length c.args.log.now.sets) in
+    let v = c.args.values.now in
     let all : is_legal c.args.changes.now v ≡ true =
     all-pass (λ d. in_range (result_at v d)) c.args.changes.now (λ k lt. c.loop-place.invariant k (omega arith)) in
     false≢true (sym c.requires.illegal ∙ all)

@@ -1,8 +1,8 @@
-use Rattle.ordup_audit.proofs.Common.{get_or, in_range, length, map, result_at, serial, true}
+use Rattle.ordup_audit.proofs.Common.{get_or, in_range, map, result_at, true}
 use Rattle.ordup_audit.specs.Passing.{PassesBelow}
 use Rattle.ordup_audit.proofs.legality.first_out_of_range.Given as goal
 
 -- the results so far are in range
 abbrev pub invariant-loop-place : goal.invariant-loop-place
 invariant-loop-place g l =
-    PassesBelow (λ p. get_or (map (λ c. in_range (result_at (serial l.log (length l.log.sets)) c)) l.changes) p true) l.place
+    PassesBelow (λ p. get_or (map (λ c. in_range (result_at l.values c)) l.changes) p true) l.place

@@ -58,8 +58,7 @@ fn find_starts<A: Allocator + Copy>(audited: &Record<A>) -> Option<Vec<u64, A>>
 {
     let decided = audited.decided();
     let (log, groups) = (audited.log(), audited.groups());
-    // For the proof: the entries are in the order of their places.
-    let _scopes = audited.limits().len();
+    audited.limits().keeps();
     let entries = audited.limits().entries();
     let no_limits = LimitTable::new(audited.allocator());
     let Ok(mut ledger) = LagLedger::new(audited.allocator(), &no_limits) else {

@@ -134,8 +134,7 @@ impl<A: Allocator + Copy> Record<A> {
         ensures front { IsLegalFront self.now result.now }
         ensures whole { IsLegalHistory (history_of self.now) → result.now ≡ history_of self.now }
     {
-        // For the proof: the log is legal.
-        let _updates = self.parts.log.len();
+        self.parts.log.keeps();
         &self.parts.log
     }
 
@@ -143,8 +142,7 @@ impl<A: Allocator + Copy> Record<A> {
     pub fn is_legal(&self) -> bool
         ensures { IsTrue result ↔ IsLegalHistory (history_of self.now) }
     {
-        // For the proof: the log is legal.
-        let _updates = self.parts.log.len();
+        self.parts.log.keeps();
         self.parts.rest.is_empty()
     }
 

@@ -45,8 +45,7 @@ fn rows_before_changes<A: Allocator + Copy>(audited: &Record<A>) -> u64
     ensures few { result ≤ most_rows_before_changes }
 {
     let objects = audited.objects().len() as u64;
-    // For the proof: there are few enough entries for the sum to be small.
-    let _scopes = audited.limits().len();
+    audited.limits().keeps();
     let limits = audited.limits().entries().len() as u64;
     1 + objects + member_count(audited.groups()) + limits
 }

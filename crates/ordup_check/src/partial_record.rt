@@ -175,8 +175,7 @@ impl PartialRecord {
             (not (has_entry self.old.limits e) && is_none (change_refusal (length self.old.objects) self.old.groups self.old.limits e))
             (record (record_so_far self.old) { limits = self.old.limits ++ e ∷ [] })) }
     {
-        // For the proof: the limits are in the order of their places.
-        let _scopes = self.limits.len();
+        self.limits.keeps();
         let count = self.limits.entries().len();
         match self
             .limits

@@ -6,4 +6,4 @@ use Rattle.ordup_audit.proofs.record.Record.is_legal.Goals as goal
 pub returns : goal.returns
 returns g c =
     rw (← c.self.view_is) (legal-rest c.self.inside.parts c.self.invariant c.is_empty.result (c.is_empty.ensures ∙ ap (λ n. n == 0)
-    c.self.inside.parts.rest.ok.0) c.len-updates.ensures.legal)
+    c.self.inside.parts.rest.ok.0) c.keeps.ensures.legal)

@@ -58,8 +58,9 @@ fn add_feed(
 {
     let (end, taker) = Feed::new(alloc, setup.objects(), setup.capacity(site))?;
     let replica = Site::new(alloc, setup.objects())?;
+    let cell = SiteCell::new(replica, taker);
     ends.push(end)?;
-    cells.push(SiteCell::new(replica, taker))?;
+    cells.push(cell)?;
     Ok(())
 }
 

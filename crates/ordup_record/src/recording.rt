@@ -55,8 +55,12 @@ fn parts_of<A: Allocator + Copy>(
     let limits = primary.limits(site).copy(alloc)?;
     let log = primary.log().copy_prefix(alloc, primary.decided())?;
     let reports = report_changes(alloc, primary, site)?;
-    let rounds = Vec::from_slice(alloc, primary.rounds(site))?;
-    let windows = Vec::from_slice(alloc, primary.windows(site))?;
+    let Ok(rounds) = Vec::from_slice(alloc, primary.rounds(site)) else {
+        return Err(Refusal::NoMemory);
+    };
+    let Ok(windows) = Vec::from_slice(alloc, primary.windows(site)) else {
+        return Err(Refusal::NoMemory);
+    };
     name.keeps();
     objects.keeps();
     groups.keeps();

@@ -13,8 +13,8 @@ pub returns : goal.returns
 returns g c =
     let p = c.args.primary.now in
     let s = c.args.site in
-    let sound = c.acked-acked.ensures.sound in
-    let fewest = c.windows.ensures.fewest in
+    let sound = c.keeps.ensures.sound in
+    let fewest = c.keeps.ensures.fewest in
     let setup : c.setup-setup.result.now ≡ p.setup = c.setup-setup.ensures in
     let known : s < length p.setup.sites = rw (← sound.count) c.requires in
     let name : c.site_name.result.now ≡ (record_of p s).site =
@@ -25,20 +25,20 @@ returns g c =
     c.in_ok-groups.ensures.copied ∙ c.groups.ensures.groups ∙ ap (λ (d : Declared). d.groups) setup in
     let limits : c.in_ok-limits.limits ≡ limits_at p s = c.in_ok-limits.ensures.copied ∙ c.limits.ensures.limits in
     let log : c.in_ok-log.log ≡ prefix_of p.log p.decided = rw (c.log.ensures, c.decided.ensures) at c.in_ok-log.ensures.copied in
-    let prefix : IsLegalHistory (prefix_of p.log p.decided) = rw log at c.len-updates.ensures.legal in
+    let prefix : IsLegalHistory (prefix_of p.log p.decided) = rw log at c.keeps-6.ensures.legal in
     let legal : IsLegalHistory (history_of (record_of p s)) = rw sound.start at prefix in
     let is : IsRecord (record_of p s) =
     record-sound p s sound c.requires fewest
-    (rw name at c.as_bytes-bytes.ensures.name)
-    (rw objects at c.len-objects.ensures.few)
-    (rw objects at c.len-objects.ensures.names)
-    (rw objects at c.len-objects.ensures.distinct)
-    (rw groups at c.len-groups.ensures.few)
-    (rw groups at c.len-groups.ensures.groups)
-    (rw groups at c.len-groups.ensures.names)
-    (rw groups at c.len-groups.ensures.distinct)
+    (rw name at c.keeps-2.ensures)
+    (rw objects at c.keeps-3.ensures.few)
+    (rw objects at c.keeps-3.ensures.names)
+    (rw objects at c.keeps-3.ensures.distinct)
+    (rw groups at c.keeps-4.ensures.few)
+    (rw groups at c.keeps-4.ensures.groups)
+    (rw groups at c.keeps-4.ensures.names)
+    (rw groups at c.keeps-4.ensures.distinct)
     (rw setup at c.groups.ensures.members)
-    (rw limits at c.len-limits.ensures.entries)
+    (rw limits at c.keeps-5.ensures)
     legal in
     let q : RecordParts g.row.A.Denot = record {
       site = c.site_name.result.now;

@@ -3,8 +3,7 @@
 //! A test changes a record by lines. Those that begin with `- ` are rows of the record, those with `+ ` what stands in their place,
 //! and the line with `= ` is what comes of it: the verdict, or `same` or `another`, which is whether the changed record tells the
 //! same as the record. Without rows of its own a change takes those of the change before.
-use ordup_check::{Record, Verdict, check, read_record};
-use ordup_check::{RecordReadFault, read_record_within};
+use ordup_check::{Record, RecordReadFault, Verdict, check, read_record, read_record_within};
 use std::alloc::{AllocError, Global};
 use std::io::{self, Read};
 use std::process::Abort;

@@ -3,6 +3,7 @@ use super::fixtures::{
     add, apply_at, expect_closed, expect_proposed, expect_settled, opened, opened_pair,
 };
 use crate::fixtures::{a, b, seen, x, z};
+use ordup_audit::{Verdict, check};
 use ordup_cluster::{Cluster, Session};
 use ordup_limits::{GroupId, Limit, LimitEntry, Scope};
 use ordup_objects::{MessageSet, Refusal, SiteId};

@@ -3,7 +3,7 @@ use crate::streams::{Ended, SOUND, Streams, run_on, run_over};
 use std::test::Fail;
 
 /// Whether a run of the check ended with this: a verdict on the output, or the line of a fault.
-fn says(ended: &Ended, said: &[u8]) -> bool {
+pub(crate) fn says(ended: &Ended, said: &[u8]) -> bool {
     match said {
         [b'y', ..] => ended.is(0, said, b""),
         [b'n', ..] => ended.is(1, said, b""),

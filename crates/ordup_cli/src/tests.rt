@@ -57,20 +57,6 @@ pub(crate) fn parts(alloc: Global, transcript: &str) -> Result<(Vec<u8>, Vec<u8>
     Ok((script, wanted))
 }
 
-#[test]
-fn scripts_are_answered_as_their_transcripts_say(rt: HostRuntime) -> Result<(), Fail> {
-    assert_eq!(rt; ROWS.split("\n\n").count(), 53);
-    for row in ROWS.split("\n\n") {
-        let (script, wanted) = parts(rt.alloc(), row)?;
-        for at_once in [SOUND.at_once, 1, 2, 3] {
-            let streams = Streams { at_once, ..SOUND };
-            let ended = run_over(&rt, &["ordup", "run"], &script, streams);
-            assert!(rt; ended.is(0, &wanted, b""), "by {at_once}: {row}");
-        }
-    }
-    Ok(())
-}
-
 /// Adds a part to a script `count` times. Each has its number, from 0 on, in place of `#`.
 fn push_times(
     alloc: Global,

@@ -4,7 +4,7 @@ use std::io::{self, Write};
 
 use crate::words::{Word, LONGEST_NAME};
 
-/// No answer has more bytes: the longest one shows 256 values.
+/// No answer but a certificate has more bytes: the longest one shows 256 values.
 const LONGEST_ANSWER: usize = 16 * 1024;
 
 #[derive(Clone, Copy)]
@@ -84,6 +84,14 @@ impl Out {
 
     pub fn len(&self) -> usize {
         self.end
+    }
+
+    /// Makes room for so many bytes more than an answer has.
+    pub fn reserve(&mut self, more: usize) {
+        let wanted = self.end + more + LONGEST_ANSWER;
+        if self.bytes.len() < wanted {
+            self.bytes.resize(wanted, 0);
+        }
     }
 
     /// Drops what is unwritten.

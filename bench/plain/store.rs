@@ -89,6 +89,7 @@ const END: u64 = key(b"end");
 const ABANDON: u64 = key(b"abandon");
 const SHOW: u64 = key(b"show");
 const RELIMIT: u64 = key(b"relimit");
+const CERTIFY: u64 = key(b"certify");
 const ALL: u64 = key(b"all");
 const COUNT: u64 = key(b"count");
 
@@ -133,6 +134,7 @@ impl Store {
             ABANDON => self.abandon(last_word(words)?, out),
             SHOW => self.show(last_word(words)?, out),
             RELIMIT => self.relimit(words, out),
+            CERTIFY => self.certify(last_word(words)?, out),
             OBJECT => self.object(words.word()?, last_number(words)?, out),
             GROUP => self.group(words, out),
             SITE => self.site(words.word()?, last_number(words)?, out),

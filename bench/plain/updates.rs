@@ -6,6 +6,9 @@ use crate::names::Names;
 use crate::store::{is_value, repeats, Store, MOST_CHANGES, MOST_UPDATES};
 use crate::words::{Kind, Operand, Word, Words};
 
+/// No window of a certificate has more bytes.
+const LONGEST_WINDOW: usize = 16;
+
 #[derive(Clone, Copy)]
 pub struct Change {
     /// A number of the change, or the place of the object that it takes from.
@@ -281,6 +284,17 @@ impl Store {
         put!(out, b" reported ", site.reported, b" rounds ", site.rounds.len());
         for (&object, held) in self.objects.words().iter().zip(&site.held) {
             put!(out, b" ", object, b"=", held.value);
+        }
+        answer!(out)
+    }
+
+    /// Answers the rounds of a site and the window of each, which show that they are the fewest.
+    pub fn certify(&self, name: Word, out: &mut Out) -> Result<(), Refusal> {
+        let rounds = &self.sites[self.find_site(name)?].rounds;
+        out.reserve(LONGEST_WINDOW * rounds.len());
+        put!(out, b"ok certified ", name, b" ", rounds.len());
+        for round in rounds {
+            put!(out, b" ", round.from, b"-", round.to);
         }
         answer!(out)
     }

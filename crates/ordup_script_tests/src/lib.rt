@@ -2,7 +2,9 @@
 #![tactic(auto)]
 
 #[cfg(test)]
-mod calls;
+mod additions;
+#[cfg(test)]
+mod copies;
 #[cfg(test)]
 mod digests;
 #[cfg(test)]
@@ -20,6 +22,12 @@ mod scarce;
 #[cfg(test)]
 mod script;
 #[cfg(test)]
+mod sets;
+#[cfg(test)]
+mod starts;
+#[cfg(test)]
 mod transcripts;
 #[cfg(test)]
 mod windows;
+#[cfg(test)]
+mod without_memory;

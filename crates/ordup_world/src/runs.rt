@@ -14,10 +14,21 @@ use ordup_objects::Refusal;
 use ordup_primary::Setup;
 use std::alloc::{Allocator, Global};
 
-/// Starts a store and takes the events in their order. A refused event leaves everything as it was.
+/// Starts a store and takes the events in their order. A refused event leaves everything as it was. It promises, clause by clause:
 ///
-/// It is refused `Empty` where the setup lacks an object or a site, and `NoMemory` where there is none for the start or for
-/// the list of answers, whose room it takes before the first event.
+/// - `answers`: the answers are the replies to the events, each over those that were accepted before it.
+/// - `state`: the world stands for the setup and the accepted events.
+/// - `setup`: the world's setup is the one that was given.
+/// - `sound`: each site holds the serial result of a prefix of the log, and the world's other conditions hold.
+/// - `limits`: at the end, the acknowledged updates that a site has not applied weigh at most each of its limits.
+/// - `rounds`: at the end, each site's forced rounds are the fewest of any schedule that keeps its limits, shown by as many windows.
+/// - `imports`: after each event, each open query keeps its import limit.
+/// - `along`: after each event, each site keeps its limits. It has applied what it reported, and no more than was sent to it, and
+///   its feed holds no more than its capacity.
+/// - `fewest`: after each event, each site's forced rounds were the fewest.
+/// - `allowed`: it succeeds only where nothing refuses the start.
+/// - `refused`: it is refused `Empty` where the setup lacks an object or a site, and else `NoMemory` alone. It takes what the start
+///   and the list of answers need before the first event.
 pub fn run<A: Allocator + Copy>(
     alloc: A,
     setup: Setup<A>,

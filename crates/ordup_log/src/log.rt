@@ -1,15 +1,17 @@
-ghost use Rattle.std.specs.Prelude.{◌≡◌, ◌≤◌, ◌+◌, ◌-◌, ℕ, ◌<◌, None, IfOk, IfErr, List, [], ◌∷◌, ◌++◌, length, take, drop, sum, sum_by, ◌^◌, ◌*◌};
+ghost use Rattle.std.specs.Prelude.{◌≡◌, ◌≤◌, ◌+◌, ◌-◌, ℕ, ◌<◌, None, IfOk, IfErr, OnOk, List, [], ◌∷◌, ◌++◌, length, take, drop, sum, sum_by, ◌^◌, ◌*◌};
+ghost use Rattle.std.specs.Prelude.{All, Vec, slice_index_or, vec_len, vec_capacity};
 ghost use Rattle.ordup_objects.specs.Sizes.{greatest_distance, most_members, most_updates, greatest_weight};
 ghost use Rattle.ordup_objects.specs.Tables.{initial_state};
 ghost use Rattle.ordup_objects.specs.Weights.{distances_of, object_weight, object_span};
+ghost use Rattle.ordup_log.specs.Postings.{HasRoomAt};
 
 use crate::groups::Groups;
 use crate::postings::{no_postings, post, post_all, reserve_postings};
 use crate::scope::Scope;
 use crate::steps::as_of;
 use ordup_objects::sizes::MOST_UPDATES;
-use ordup_objects::{MessageSet, ObjectId, ObjectTable, Refusal, Results, Values};
-use std::alloc::{Allocator, Global};
+use ordup_objects::{Change, MessageSet, ObjectId, ObjectTable, Refusal, Results, Values};
+use std::alloc::{AllocError, Allocator, Global};
 use std::marker::Model;
 
 /// The updates in their global order: each is a message set, legal on the serial result of those before it.
@@ -134,18 +136,41 @@ impl<A: Allocator + Copy> Log<A> {
         ensures refused { IfErr result (λ e. IsRefusal (append_refusal self.old set) e) }
         ensures err { IfErr result (λ _. self.new ≡ self.old) }
     {
-        if self.sets.len() == MOST_UPDATES {
-            return Err(Refusal::LogFull);
+        match self.append_or_return(set) {
+            Ok(number) => Ok(number),
+            Err((refusal, _set)) => Err(refusal),
         }
-        self.end.results(&set, &mut self.results)?;
-        let count = set.changes().len();
-        self.sets.reserve(1)?;
-        self.distances.reserve(count)?;
-        self.begins.reserve(1)?;
-        self.all.reserve(1)?;
-        reserve_postings(&mut self.postings, set.changes())?;
+    }
+
+    /// Adds a message set as the last update, as `append` does. A set that is refused is given back.
+    pub fn append_or_return(&mut self, set: MessageSet<A>) -> Result<u64, (Refusal, MessageSet<A>)>
+        requires { AreKnown (length self.old.start) set }
+        ensures number { IfOk result (λ k. k ≡ length self.old.sets + 1) }
+        ensures added { IfOk result (λ _. self.new ≡ with_update self.old set) }
+        ensures allowed { IfOk result (λ _. append_refusal self.old set ≡ None) }
+        ensures refused { IfErr result (λ e. IsRefusal (append_refusal self.old set) e.0) }
+        ensures returned { IfErr result (λ e. e.1 ≡ set) }
+        ensures err { IfErr result (λ _. self.new ≡ self.old) }
+    {
+        if self.sets.len() == MOST_UPDATES {
+            return Err((Refusal::LogFull, set));
+        }
+        let Ok(()) = self.end.results(&set, &mut self.results) else {
+            return Err((Refusal::OutOfRange, set));
+        };
+        let Ok(()) = reserve_update(
+            &mut self.sets,
+            &mut self.distances,
+            &mut self.begins,
+            &mut self.all,
+            &mut self.postings,
+            set.changes(),
+        ) else {
+            return Err((Refusal::NoMemory, set));
+        };
         let number = self.sets.len() as u64 + 1;
         let begin = self.distances.len();
+        let count = set.changes().len();
         self.end
             .push_distances(&set, &self.results, &mut self.distances);
         let distances = part(self.distances.as_slice(), begin, count);
@@ -291,6 +316,35 @@ impl<A: Allocator + Copy> Log<A> {
         }
         total
     }
+}
+
+/// Reserves memory for one update more, which makes these changes.
+fn reserve_update<A: Allocator + Copy>(
+    sets: &mut Vec<MessageSet<A>, A>,
+    distances: &mut Vec<u64, A>,
+    begins: &mut Vec<usize, A>,
+    all: &mut Vec<(u64, u64), A>,
+    postings: &mut Vec<Vec<(u64, u64), A>, A>,
+    changes: &[Change],
+) -> Result<(), AllocError>
+    requires { All (λ c. c.object < length postings.old.items) changes.now }
+    ensures sets { sets.new.items ≡ sets.old.items }
+    ensures distances { distances.new.items ≡ distances.old.items }
+    ensures begins { begins.new.items ≡ begins.old.items }
+    ensures all { all.new.items ≡ all.old.items }
+    ensures count { length postings.new.items ≡ length postings.old.items }
+    ensures same { (x : ℕ) (d : Vec (ℕ × ℕ) A) → (slice_index_or postings.new.items x d).items ≡ (slice_index_or postings.old.items x d).items }
+    ensures set_room { OnOk result (vec_len sets.new < vec_capacity sets.new) }
+    ensures distance_room { OnOk result (vec_len distances.new + length changes.now ≤ vec_capacity distances.new) }
+    ensures begin_room { OnOk result (vec_len begins.new < vec_capacity begins.new) }
+    ensures all_room { OnOk result (vec_len all.new < vec_capacity all.new) }
+    ensures room { OnOk result (All (λ c. HasRoomAt postings.new.items c.object) changes.now) }
+{
+    sets.reserve(1)?;
+    distances.reserve(changes.len())?;
+    begins.reserve(1)?;
+    all.reserve(1)?;
+    reserve_postings(postings, changes)
 }
 
 /// `count` numbers of a list, from `begin` on.

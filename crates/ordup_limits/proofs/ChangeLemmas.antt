@@ -1,13 +1,11 @@
 -- A ledger whose limit on a scope changes.
-use Rattle.std.proofs.Common.{◌≡◌, ℕ, ◌-◌, ◌*◌, ◌<◌, ◌≤◌, ◌^◌, ◌%◌, Bool, true, false, not, List, length, get_or}
+use Rattle.std.proofs.Common.{◌≡◌, ℕ, ◌+◌, ◌-◌, ◌*◌, ◌<◌, ◌≤◌, Bool, true, false, List, length, get_or}
 use Rattle.std.proofs.Common.{arith, refl, sym, ap, ◌∙◌, inl, inr}
-use Rattle.std.specs.Prelude.{◌==◌, ◌&&◌, ◌||◌, nat_le, nat_lt, All}
-use Rattle.std.specs.Int.{bit_at}
-use Rattle.std.specs.Int.RustNames.{bit_or}
+use Rattle.std.specs.Prelude.{◌==◌, ◌&&◌, ◌||◌, nat_lt, All}
 use Rattle.std.specs.List.{position_or_len}
 use Rattle.std.proofs.Math.ListN.{set}
 use Rattle.std.proofs.Math.Bool.{and-false, and-true}
-use Rattle.std.proofs.lemmas.Bool.{cases_eq, cases_lt, eq-eqb, ne_eqb, lt-ltb, le-ltb, ltb-true, or_parts, true≢false}
+use Rattle.std.proofs.lemmas.Bool.{cases_eq, cases_lt, eq-eqb, ne_eqb, lt-ltb, le-ltb, ltb-true}
 use Rattle.std.proofs.lemmas.Grind.{get_or-set_at}
 use Rattle.std.proofs.lemmas.List.{get_or-set_other}
 use Rattle.std.proofs.lemmas.List.Sums.{passes_at_first}
@@ -22,12 +20,9 @@ use Rattle.ordup_log.proofs.WeightLemmas.{weight-few}
 use Rattle.ordup_limits.specs.declared.limit.Limit.{Limit}
 use Rattle.ordup_limits.specs.Limits.{Limits, is_same_scope, are_on_one_scope}
 use Rattle.ordup_limits.specs.Entries.{put}
-use Rattle.ordup_limits.specs.PassedLimits.{no_limit, limit_at, keeps_at, lag, IsMask}
-use Rattle.ordup_limits.specs.Sizes.{most_limits}
-use Rattle.ordup_limits.specs.Totals.{counts_on, weighed, AreTotals, AreMasks, has_bit, IsBelow}
+use Rattle.ordup_limits.specs.Sizes.{most_limits, greatest_amount}
+use Rattle.ordup_limits.specs.Totals.{counts_on, weighed, kept_amount, AreTotals, AreAllowed, AreMasks, has_bit}
 use Rattle.ordup_limits.proofs.EntryLemmas.{same_scope}
-use Rattle.ordup_limits.proofs.MaskLemmas.{bit-put}
-use Rattle.ordup_limits.proofs.PassedLemmas.{IsBelow-mask, IsMask-looked, kept-unpassed}
 use Rattle.ordup_limits.proofs.PutLemmas.{place-below, put-here, put-elsewhere, put-length}
 
 -- the index of the limit on a scope, or else the one after the last
@@ -65,6 +60,10 @@ AreTotals-put h groups limits l place i w totals are at below is few = record {
     | inl here ↦ omega (arith, get_or-set_at totals i k w 0 here below, few)
     | inr other ↦ omega (arith, get_or-set_other totals i k w 0 other, are.few k)
   ];
+  none = λ k past. (let other : k ≡ i → ⊥ =
+      λ e. absurd (omega (arith, (put-here are_on_one_scope limits l k (record { scope = Count; amount = 0 }) (e ∙ at)).1)) in
+      get_or-set_other totals i k w 0 other
+      ∙ are.none k (omega (arith, past, put-length are_on_one_scope limits l)));
   each = λ k d lt. elim (cases_eq k i) [
     | inl here ↦ (let this = put-here are_on_one_scope limits l k d (here ∙ at) in
         get_or-set_at totals i k w 0 here below ∙ is ∙ ap (λ (m : Limit). weighed h groups m.scope place) (sym this.0))
@@ -72,6 +71,27 @@ AreTotals-put h groups limits l place i w totals are at below is few = record {
         get_or-set_other totals i k w 0 other
         ∙ are.each k d (ltb-true k (length limits) (sym kept.0 ∙ lt-ltb k _ lt))
         ∙ ap (λ (m : Limit). weighed h groups m.scope place) (sym (kept.1 lt)))
+  ];
+}
+
+-- and what is allowed on it
+pub AreAllowed-put : (h : History) (groups : GroupList) (limits : Limits) (l : Limit) (place i w : ℕ) (allowed : List ℕ)
+    → AreAllowed h groups limits place allowed → i ≡ index_of limits l → i < length allowed
+    → w ≡ kept_amount l + weighed h groups l.scope place
+    → w ≤ greatest_amount + greatest_weight * place → AreAllowed h groups (put are_on_one_scope limits l) place (set allowed i w)
+AreAllowed-put h groups limits l place i w allowed are at below is few = record {
+  few = λ k. elim (cases_eq k i) [
+    | inl here ↦ omega (arith, get_or-set_at allowed i k w 0 here below, few)
+    | inr other ↦ omega (arith, get_or-set_other allowed i k w 0 other, are.few k)
+  ];
+  each = λ k d lt. elim (cases_eq k i) [
+    | inl here ↦ (let this = put-here are_on_one_scope limits l k d (here ∙ at) in
+        get_or-set_at allowed i k w 0 here below ∙ is
+        ∙ ap (λ (m : Limit). kept_amount m + weighed h groups m.scope place) (sym this.0))
+    | inr other ↦ (let kept = put-elsewhere are_on_one_scope limits l k d (λ e. other (e ∙ sym at)) in
+        get_or-set_other allowed i k w 0 other
+        ∙ are.each k d (ltb-true k (length limits) (sym kept.0 ∙ lt-ltb k _ lt))
+        ∙ ap (λ (m : Limit). kept_amount m + weighed h groups m.scope place) (sym (kept.1 lt)))
   ];
 }
 
@@ -120,52 +140,3 @@ AreMasks-put groups limits l place old new are at bits x i d below few = elim (c
             rw (le-ltb i (length (put are_on_one_scope limits l)) le, past) refl)
       ]))
 ]
-
--- what a span weighs on a scope, where the totals of its place are the same
-same_lag : (updates : ℕ) (added more_added taken more_taken : List ℕ) (s : Scope) (i : ℕ) → get_or added i 0 ≡ get_or more_added i 0
-    → get_or taken i 0 ≡ get_or more_taken i 0 → lag updates added taken s i ≡ lag updates more_added more_taken s i
-same_lag updates added more_added taken more_taken Count i up down = refl
-same_lag updates added more_added taken more_taken s i up down = rw (up, down) refl
-
--- so a limit is kept as before
-same_keeping : (limits more : Limits) (updates : ℕ) (added more_added taken more_taken : List ℕ) (i : ℕ)
-    → limit_at limits i ≡ limit_at more i → get_or added i 0 ≡ get_or more_added i 0 → get_or taken i 0 ≡ get_or more_taken i 0
-    → keeps_at limits updates added taken i ≡ keeps_at more updates more_added more_taken i
-same_keeping limits more updates added more_added taken more_taken i same up down =
-    ap (λ (l : Limit). nat_le (lag updates added taken l.scope i) l.amount) same
-    ∙ ap (λ n. nat_le n (limit_at more i).amount) (same_lag updates added more_added taken more_taken (limit_at more i).scope i up down)
-
--- a mask of limits with the bit of a place put into it
-pub IsBelow-put : (limits : Limits) (l : Limit) (test : ℕ → Bool) (place passed : ℕ) → IsMask (length limits) test passed
-    → place ≡ index_of limits l → place < most_limits
-    → IsBelow (length (put are_on_one_scope limits l)) (bit_or passed (1 * 2 ^ place % 18446744073709551616))
-IsBelow-put limits l test place passed was at few i past small =
-    let other : i ≡ place → ⊥ = λ e. absurd (omega (arith, (put-here are_on_one_scope limits l i no_limit (e ∙ at)).1)) in
-    bit-put passed place i few
-    ∙ rw (ne_eqb i place other, IsBelow-mask (length limits) test passed was i (omega (arith, put-length are_on_one_scope limits l)) small)
-    refl
-
--- A span passes what it passed before, but for the limit on the scope, which is looked at anew.
-pub IsMask-put : (limits : Limits) (l : Limit) (updates place : ℕ) (added more_added taken more_taken : List ℕ) (passed looked : ℕ)
-    → IsMask (length limits) (λ i. not (keeps_at limits updates added taken i)) passed
-    → place ≡ index_of limits l → place < most_limits
-    → ((i : ℕ) → (i ≡ place → ⊥) → get_or more_added i 0 ≡ get_or added i 0)
-    → ((i : ℕ) → (i ≡ place → ⊥) → get_or more_taken i 0 ≡ get_or taken i 0)
-    → ((i : ℕ) → i < most_limits → (bit_at looked i == 1)
-    ≡ ((bit_at (bit_or passed (1 * 2 ^ place % 18446744073709551616)) i == 1)
-    && not (keeps_at (put are_on_one_scope limits l) updates more_added more_taken i)))
-    → IsMask (length (put are_on_one_scope limits l)) (λ i. not (keeps_at (put are_on_one_scope limits l) updates more_added more_taken i))
-    looked
-IsMask-put limits l updates place added more_added taken more_taken passed looked was at few same_added same_taken answer =
-    let next = put are_on_one_scope limits l in
-    let bit = λ (i : ℕ). bit-put passed place i few in
-    IsMask-looked (length next) (keeps_at next updates more_added more_taken)
-    (bit_or passed (1 * 2 ^ place % 18446744073709551616)) looked
-    (IsBelow-put limits l (λ i. not (keeps_at limits updates added taken i)) place passed was at few)
-    (λ i lt small out. (let parts = or_parts (i == place) (bit_at passed i == 1) (sym (bit i) ∙ out) in
-    let other : i ≡ place → ⊥ = λ e. true≢false (sym (eq-eqb i place e) ∙ parts.0) in
-    let kept = put-elsewhere are_on_one_scope limits l i no_limit (λ e. other (e ∙ sym at)) in
-    let there : i < length limits = ltb-true i (length limits) (sym kept.0 ∙ lt-ltb i _ lt) in
-    let before = kept-unpassed (length limits) (keeps_at limits updates added taken) passed i was there small parts.1 in
-    same_keeping next limits updates more_added added more_taken taken i (kept.1 lt) (same_added i other) (same_taken i other) ∙ before))
-    answer

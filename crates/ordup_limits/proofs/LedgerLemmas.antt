@@ -1,5 +1,5 @@
 -- Ledgers and limits.
-use Rattle.std.proofs.Common.{◌≡◌, ℕ, ◌-◌, ◌≤◌, true, List, length, length-append, get_or, arith, refl, sym, ap, ◌∙◌}
+use Rattle.std.proofs.Common.{◌≡◌, ℕ, ◌+◌, ◌-◌, ◌≤◌, true, List, length, length-append, get_or, arith, refl, sym, ap, ◌∙◌}
 use Rattle.std.proofs.Common.{inl, inr}
 use Rattle.std.proofs.lemmas.Bool.{cases_lt}
 use Rattle.ordup_objects.specs.declared.change.Change.{Change}
@@ -10,7 +10,7 @@ use Rattle.ordup_log.specs.declared.scope.Scope.{Scope}
 use Rattle.ordup_log.specs.declared.scope.Scope.TheVariants.{Count}
 use Rattle.ordup_log.proofs.SpanLemmas.{span-longer, span-inner}
 use Rattle.ordup_limits.specs.Limits.{Limits}
-use Rattle.ordup_limits.specs.Totals.{weighed, AreTotals, AreMasks}
+use Rattle.ordup_limits.specs.Totals.{weighed, kept_amount, AreTotals, AreAllowed, AreMasks}
 use Rattle.ordup_limits.specs.Ledgers.{LedgerState, StandsFor, LongerHistoriesKeepLedgers}
 use Rattle.ordup_limits.proofs.TotalLemmas.{span-from_start}
 
@@ -31,8 +31,8 @@ StandsFor-prepared q is same masks = rw same (record {
   known = is.known;
   reported = is.reported;
   extended = is.extended;
-  taken = is.taken;
   added = is.added;
+  allowed = is.allowed;
   masks = λ e. rw (ap (λ (k : LedgerState). k.limits) same) at masks;
 })
 
@@ -47,7 +47,17 @@ AreTotals-longer : (h : History) (groups : GroupList) (limits : Limits) (more : 
     → AreTotals (with_more h more) groups limits place totals
 AreTotals-longer h groups limits more place totals le are = record {
   few = are.few;
+  none = are.none;
   each = λ i d lt. are.each i d lt ∙ sym (weighed-longer h groups more (get_or limits i d).scope place le);
+}
+
+AreAllowed-longer : (h : History) (groups : GroupList) (limits : Limits) (more : List (List Change)) (place : ℕ) (allowed : List ℕ)
+    → place ≤ length h.sets → AreAllowed h groups limits place allowed
+    → AreAllowed (with_more h more) groups limits place allowed
+AreAllowed-longer h groups limits more place allowed le are = record {
+  few = are.few;
+  each = λ i d lt. are.each i d lt
+      ∙ ap (λ n. kept_amount (get_or limits i d) + n) (sym (weighed-longer h groups more (get_or limits i d).scope place le));
 }
 
 -- so a ledger of a history is one of each longer history
@@ -57,7 +67,7 @@ StandsFor-longer l h groups more is = record {
   known = is.known;
   reported = omega (arith, is.reported, length-append h.sets more);
   extended = omega (arith, is.extended, length-append h.sets more);
-  taken = AreTotals-longer h groups l.limits more l.reported l.taken is.reported is.taken;
   added = AreTotals-longer h groups l.limits more l.extended l.added is.extended is.added;
+  allowed = AreAllowed-longer h groups l.limits more l.reported l.allowed is.reported is.allowed;
   masks = is.masks;
 }

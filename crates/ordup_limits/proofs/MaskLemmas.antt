@@ -1,7 +1,7 @@
 -- Masks, and the bits that are put into them.
 use Rattle.std.proofs.Common.{◌≡◌, ℕ, ◌+◌, ◌*◌, ◌<◌, ◌≤◌, ◌^◌, ◌%◌, Bool, true, false, List, length, get_or, arith, sym, refl, ap, ◌∙◌, inl}
 use Rattle.std.proofs.Common.{inr, w64}
-use Rattle.std.specs.Prelude.{◌==◌, ◌&&◌, ◌||◌, nat_lt, bit_and}
+use Rattle.std.specs.Prelude.{◌==◌, ◌&&◌, ◌||◌, if◌then◌else◌, nat_lt, bit_and}
 use Rattle.std.specs.Int.{bit_at, bit_not}
 use mir.Val.{bits}
 use Rattle.std.proofs.lemmas.Nat.{and_le_l}
@@ -9,13 +9,12 @@ use Rattle.std.specs.Int.RustNames.{bit_or}
 use Rattle.std.proofs.Math.Bool.{and-false, and-true, or-false}
 use Rattle.std.proofs.Math.ListN.{set}
 use Rattle.std.proofs.Math.Pow.{pow-lt}
-use Rattle.std.proofs.lemmas.Bool.{cases_eq, cases_lt, eq-eqb, ne_eqb, lt-ltb, le-ltb, false≢true}
+use Rattle.std.proofs.lemmas.Bool.{cases_eq, cases_lt, eq-eqb, ne_eqb, lt-ltb, le-ltb}
 use Rattle.std.proofs.lemmas.Grind.{get_or-set_at, get_or_default_zero}
-use Rattle.std.proofs.lemmas.List.{get_or_past, get_or-set_other}
-use Rattle.std.proofs.lemmas.Nat.Bits.{bit_at-zero, bit_at_or, bit_at-lt, bit_at-pow_same, bit_at-pow_other}
+use Rattle.std.proofs.lemmas.List.{get_or-set_other}
+use Rattle.std.proofs.lemmas.Nat.Bits.{bit_at_or, bit_at-lt, bit_at-pow_same, bit_at-pow_other}
 use Rattle.std.proofs.lemmas.Nat.Bits.{bit_at_clear_same, bit_at_clear_other}
-use Rattle.ordup_limits.specs.Totals.{has_bit, HasBitsBelow, IsBelow, share}
-use Rattle.ordup_objects.specs.Sizes.{most_objects}
+use Rattle.ordup_limits.specs.Totals.{has_bit, share}
 
 shifted : (limit : ℕ) → limit < 64 → 1 * 2 ^ limit % 18446744073709551616 ≡ 2 ^ limit
 shifted limit lt = let small : 2 ^ limit < 18446744073709551616 = pow-lt lt in omega (arith, small)
@@ -30,22 +29,22 @@ bit-put mask limit i few = rw (shifted limit few, bit_at_or mask (2 ^ limit) i) 
       rw (ne_eqb i limit other) (ap (λ n. n == 1) (omega (arith, bit))))
 ])
 
--- a mask has the bits of two
-pub bit-either : (a b i : ℕ) → (bit_at (bit_or a b) i == 1) ≡ ((bit_at a i == 1) || (bit_at b i == 1))
-bit-either a b i = rw (bit_at_or a b i) (elim (cases_eq (bit_at a i) 1) [
-  | inl one ↦ rw (eq-eqb _ 1 one) (eq-eqb _ 1 (omega (arith, one, bit_at-lt b i)))
-  | inr other ↦ rw (ne_eqb _ 1 other) (ap (λ n. n == 1) (omega (arith, other, bit_at-lt a i)))
-])
+-- a bit is cleared in a mask
+pub bit-cleared : (mask z i : ℕ) → z < 64 → i < 64
+    → (bit_at (bit_and mask (bit_not w64 (1 * 2 ^ z % 2 ^ bits w64))) i == 1) ≡ (if i == z then false else bit_at mask i == 1)
+bit-cleared mask z i few small = elim (cases_eq i z) [
+  | inl this ↦ (let gone : bit_at (bit_and mask (bit_not w64 (1 * 2 ^ z % 2 ^ bits w64))) i ≡ 0 =
+      rw this (bit_at_clear_same w64 mask z few) in
+      rw (gone, eq-eqb i z this) refl)
+  | inr other ↦ rw (bit_at_clear_other w64 mask z few i small other, ne_eqb i z other) refl
+]
 
--- where two masks have no bit from n on, nor has the mask with the bits of both
-pub IsBelow-either : (n a b : ℕ) → IsBelow n a → IsBelow n b → IsBelow n (bit_or a b)
-IsBelow-either n a b first second i past few = bit-either a b i ∙ rw (first i past few, second i past few) refl
-
--- nor has what is read among masks that have none
-pub IsBelow-at : (n : ℕ) (masks : List ℕ) (x : ℕ) → length masks ≡ most_objects → HasBitsBelow n masks → IsBelow n (get_or masks x 0)
-IsBelow-at n masks x same below i past few = elim (cases_lt x most_objects) [
-  | inl lt ↦ below x i lt past few
-  | inr other ↦ rw (get_or_past masks x 0 (omega arith), bit_at-zero i) refl
+-- a bit is set in a mask
+pub bit-set : (mask z i : ℕ) → z < 64
+    → (bit_at (bit_or mask (1 * 2 ^ z % 18446744073709551616)) i == 1) ≡ (if i == z then true else bit_at mask i == 1)
+bit-set mask z i few = bit-put mask z i few ∙ elim (cases_eq i z) [
+  | inl this ↦ rw (eq-eqb i z this) refl
+  | inr other ↦ rw (ne_eqb i z other) refl
 ]
 
 -- a bit is put into the mask of an object
@@ -91,19 +90,6 @@ cleared-less rest z few one = elim (cases_lt (cleared rest z) rest) [
   | inr le ↦ absurd (let same : cleared rest z ≡ rest = omega (arith, le, and_le_l rest (bit_not w64 (1 * 2 ^ z % 2 ^ bits w64))) in
       omega (arith, bit_at_clear_same w64 rest z few, ap (λ n. bit_at n z) same, one))
 ]
-
--- where all bits are below n, so is each of them
-pub bit-below : (rest z n : ℕ) → bit_at rest z ≡ 1 → z < 64 → IsBelow n rest → z < n
-bit-below rest z n one few below = elim (cases_lt z n) [
-  | inl lt ↦ lt
-  | inr past ↦ absurd (false≢true (sym (below z past few) ∙ eq-eqb (bit_at rest z) 1 one))
-]
-
--- and so are those that are left without one
-pub IsBelow-cleared : (n rest z : ℕ) → IsBelow n rest → bit_at rest z ≡ 1 → z < 64 → IsBelow n (cleared rest z)
-IsBelow-cleared n rest z below one few k past small =
-    ap (λ n. n == 1) (bit_at_clear_other w64 rest z few k small (λ e. absurd (omega (arith, e, past, bit-below rest z n one few below))))
-    ∙ below k past small
 
 pub share-most : (b : Bool) (weight : ℕ) → share b weight ≤ weight
 share-most true weight = omega arith

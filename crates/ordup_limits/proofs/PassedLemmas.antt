@@ -1,190 +1,167 @@
 -- Masks of limits, and which limits the span that a site lags passes.
-use Rattle.std.proofs.Common.{◌≡◌, ℕ, ◌-◌, ◌<◌, ◌≤◌, ◌^◌, Bool, true, false, not, List, length, get_or, arith, refl, sym, ap}
-use Rattle.std.proofs.Common.{◌⊎◌, ◌∙◌, inl, inr, w64}
-use Rattle.std.specs.Prelude.{◌==◌, ◌&&◌, ◌||◌, nat_le, nat_lt}
+use Rattle.std.proofs.Common.{◌≡◌, ℕ, zero, suc, ◌+◌, ◌-◌, ◌*◌, ◌<◌, ◌≤◌, ◌^◌, Bool, true, false, not, List, [], ◌∷◌, length, get_or}
+use Rattle.std.proofs.Common.{arith, refl, sym, ap, ◌∙◌, inl, inr, w64}
+use Rattle.std.specs.Prelude.{◌==◌, ◌||◌, if◌then◌else◌, fold, min, nat_lt}
 use Rattle.std.specs.Int.{bit_at, trailing_zeros}
-use Rattle.std.specs.Int.RustNames.{bit_or}
+use Rattle.std.specs.List.{list_all}
 use Rattle.std.proofs.lemmas.List.{get_or_default}
 use Rattle.std.proofs.lemmas.List.Sums.{list_all-from_AllPass}
-use Rattle.std.proofs.lemmas.Bool.{cases_Bool, cases_eq, cases_lt, and_parts, and_right, or_parts, eq-eqb, ne_eqb, lt-ltb, le-ltb}
-use Rattle.std.proofs.lemmas.Bool.{ltb-true, le-leb, leb-true}
-use Rattle.std.proofs.lemmas.Bool.{not-true, not-false, true≢false}
+use Rattle.std.proofs.lemmas.Bool.{cases_Bool, cases_eq, cases_lt, eq-eqb, ne_eqb, lt-ltb, le-ltb, ltb-true, le-leb, leb-true, and_right}
+use Rattle.std.proofs.lemmas.Bool.{true≢false}
 use Rattle.std.proofs.lemmas.List.Folds.{list_all_at}
-use Rattle.std.proofs.lemmas.Nat.Bits.{bit_at-zero, bit_at-trailing_zeros, bit_at_clear_same, bit_at_clear_other}
+use Rattle.std.proofs.lemmas.Nat.Bits.{bit_at-zero, bit_at-trailing_zeros}
 use Rattle.ordup_objects.specs.Serial.{History}
+use Rattle.ordup_objects.specs.Sizes.{greatest_weight, most_updates}
 use Rattle.ordup_log.specs.Groups.{GroupList}
 use Rattle.ordup_log.specs.Spans.{span}
 use Rattle.ordup_log.specs.declared.scope.Scope.{Scope}
-use Rattle.ordup_log.specs.declared.scope.Scope.TheVariants.{Count}
+use Rattle.ordup_log.specs.declared.scope.Scope.TheVariants.{Object, Group, All as Everything, Count}
 use Rattle.ordup_log.proofs.SpanLemmas.{span-count}
+use Rattle.ordup_limits.specs.declared.limit.Limit.{Limit}
 use Rattle.ordup_limits.specs.Limits.{Limits, keeps, within}
-use Rattle.ordup_limits.specs.Ledgers.{LedgerState, StandsFor}
-use Rattle.ordup_limits.specs.PassedLimits.{no_limit, limit_at, is_on_count, lag, keeps_at, IsMask}
-use Rattle.ordup_limits.specs.Sizes.{most_limits}
-use Rattle.ordup_limits.specs.Totals.{weighed, IsBelow}
+use Rattle.ordup_limits.specs.Ledgers.{LedgerState, IsLedger, StandsFor}
+use Rattle.ordup_limits.specs.PassedLimits.{no_limit, least_with, least_count, ArePassed}
+use Rattle.ordup_limits.specs.Sizes.{most_limits, greatest_amount}
+use Rattle.ordup_limits.specs.Totals.{weighed}
 use Rattle.ordup_limits.proofs.LedgerLemmas.{span-difference}
-use Rattle.ordup_limits.proofs.MaskLemmas.{bit-either, cleared, IsBelow-either}
 
 -- ---- masks
 
--- a mask has no bit for a number that it is not of
-pub IsBelow-mask : (n : ℕ) (test : ℕ → Bool) (mask : ℕ) → IsMask n test mask → IsBelow n mask
-IsBelow-mask n test mask is i past few = is i few ∙ rw (le-ltb i n past) refl
-
--- nor has one of the limits that an extension looks at
-pub IsBelow-extended : (n : ℕ) (first last : ℕ → Bool) (passed touched counts : ℕ) → IsMask n first passed → IsBelow n touched
-    → IsMask n last counts → IsBelow n (bit_or (bit_or passed touched) counts)
-IsBelow-extended n first last passed touched counts was below on =
-    IsBelow-either n _ _ (IsBelow-either n _ _ (IsBelow-mask n first passed was) below) (IsBelow-mask n last counts on)
-
--- ---- limits that are looked at again
-
--- a limit that is looked at is left, or taken out where it is kept
-pub bits-looked : (mask rest passed next : ℕ) (kept : ℕ → Bool) (z : ℕ) → z < 64 → bit_at rest z ≡ 1
-    → ((k : ℕ) → k < most_limits → (bit_at passed k == 1) ≡ ((bit_at mask k == 1) && ((bit_at rest k == 1) || not (kept k))))
-    → (kept z ≡ true × next ≡ cleared passed z) ⊎ (kept z ≡ false × next ≡ passed)
-    → (k : ℕ) → k < most_limits
-    → (bit_at next k == 1) ≡ ((bit_at mask k == 1) && ((bit_at (cleared rest z) k == 1) || not (kept k)))
-bits-looked mask rest passed next kept z few one before looked k below = elim (cases_eq k z) [
-  | inl same ↦ (let gone : bit_at (cleared rest z) k ≡ 0 = rw same (bit_at_clear_same w64 rest z few) in
-      elim looked [
-        | inl is ↦ (let out : bit_at next k ≡ 0 = rw (is.1, same) (bit_at_clear_same w64 passed z few) in
-            let here : kept k ≡ true = rw same is.0 in
-            rw (out, gone, here) (sym (and_right (bit_at mask k == 1) false refl)))
-        | inr is ↦ (let here : kept k ≡ false = rw same is.0 in
-            let left : bit_at rest k ≡ 1 = rw same one in
-            rw (is.1, gone, here) (before k below ∙ rw left refl))
-      ])
-  | inr other ↦ (let same : bit_at (cleared rest z) k ≡ bit_at rest k = bit_at_clear_other w64 rest z few k below other in
-      let left : bit_at next k ≡ bit_at passed k =
-      elim looked [
-        | inl is ↦ rw is.1 (bit_at_clear_other w64 passed z few k below other)
-        | inr is ↦ rw is.1 refl
-      ] in
-      rw (left, same) (before k below))
+-- a mask of passed weights is one still where a weight is looked at again, and no other changes
+pub ArePassed-put : (over next z : ℕ) (added allowed more_added more_allowed : List ℕ) (is : Bool) → ArePassed over added allowed
+    → ((i : ℕ) → i < most_limits → (bit_at next i == 1) ≡ (if i == z then is else bit_at over i == 1))
+    → is ≡ nat_lt (get_or more_allowed z 0) (get_or more_added z 0)
+    → ((i : ℕ) → (i ≡ z → ⊥) → get_or more_added i 0 ≡ get_or added i 0)
+    → ((i : ℕ) → (i ≡ z → ⊥) → get_or more_allowed i 0 ≡ get_or allowed i 0)
+    → ArePassed next more_added more_allowed
+ArePassed-put over next z added allowed more_added more_allowed is are put looked same_added same_allowed i few = elim (cases_eq i z) [
+  | inl here ↦ put i few ∙ rw (eq-eqb i z here) (rw here looked)
+  | inr other ↦ put i few ∙ rw (ne_eqb i z other, same_added i other, same_allowed i other) (are i few)
 ]
 
--- a scope that is no other is the count
-pub is_on_count-other : (s : Scope) → (s ≡ Count → ⊥) → is_on_count s ≡ false
-is_on_count-other Count other = absurd (other refl)
-is_on_count-other s other = refl
+-- with nothing added no weight is passed
+pub ArePassed-none : (added allowed : List ℕ) → ((i : ℕ) → get_or added i 0 ≡ 0) → ArePassed 0 added allowed
+ArePassed-none added allowed none i few =
+    let not_more : nat_lt (get_or allowed i 0) (get_or added i 0) ≡ false =
+    le-ltb (get_or allowed i 0) (get_or added i 0) (omega (arith, none i)) in
+    rw (bit_at-zero i, not_more) refl
 
--- what a span weighs on a scope that is not the count is as it was where the totals are
-lag-same : (u v : ℕ) (added more_added taken : List ℕ) (s : Scope) (i : ℕ) → is_on_count s ≡ false
-    → get_or more_added i 0 ≡ get_or added i 0
-    → lag v more_added taken s i ≡ lag u added taken s i
-lag-same u v added more_added taken Count i other same = absurd (true≢false other)
-lag-same u v added more_added taken s i other same = rw same refl
-
--- what it weighs is no more where it is of no more updates, and the updates up to its first place weigh no less
-lag-less : (u v : ℕ) (added taken more_taken : List ℕ) (s : Scope) (i : ℕ) → v ≤ u → get_or taken i 0 ≤ get_or more_taken i 0
-    → lag v added more_taken s i ≤ lag u added taken s i
-lag-less u v added taken more_taken Count i fewer more = fewer
-lag-less u v added taken more_taken s i fewer more = omega (arith, more)
-
--- The limits that a span passes are those of a mask that are found passed by it, where it keeps all others.
-pub IsMask-looked : (n : ℕ) (kept : ℕ → Bool) (mask looked : ℕ) → IsBelow n mask
-    → ((i : ℕ) → i < n → i < most_limits → (bit_at mask i == 1) ≡ false → kept i ≡ true)
-    → ((i : ℕ) → i < most_limits → (bit_at looked i == 1) ≡ ((bit_at mask i == 1) && not (kept i)))
-    → IsMask n (λ i. not (kept i)) looked
-IsMask-looked n kept mask looked below others answer i few = elim (cases_lt i n) [
-  | inl lt ↦ elim (cases_Bool (bit_at mask i == 1)) [
-    | inl seen ↦ answer i few ∙ rw (seen, lt-ltb i n lt) refl
-    | inr out ↦ answer i few ∙ rw (out, others i lt few out, lt-ltb i n lt) refl
-  ]
-  | inr past ↦ answer i few ∙ rw (below i past few, le-ltb i n past) refl
+-- where more is allowed, what was not passed is not passed
+pub kept-allowed : (over : ℕ) (added allowed more_allowed : List ℕ) → ArePassed over added allowed
+    → ((i : ℕ) → i < most_limits → get_or allowed i 0 ≤ get_or more_allowed i 0)
+    → (i : ℕ) → i < most_limits → (bit_at over i == 1) ≡ false → get_or added i 0 ≤ get_or more_allowed i 0
+kept-allowed over added allowed more_allowed are more i few out = elim (cases_lt (get_or allowed i 0) (get_or added i 0)) [
+  | inl lt ↦ absurd (true≢false (sym (are i few ∙ lt-ltb (get_or allowed i 0) (get_or added i 0) lt) ∙ out))
+  | inr le ↦ omega (arith, le, more i few)
 ]
 
--- where no update is added, nothing weighs on a scope
-lag-none : (added taken : List ℕ) (s : Scope) (i : ℕ) → get_or added i 0 ≡ 0 → lag 0 added taken s i ≡ 0
-lag-none added taken Count i none = refl
-lag-none added taken s i none = omega (arith, none)
+-- ---- the limit on the count
 
--- so a new ledger passes no limit
-pub IsMask-new : (limits : Limits) (added taken : List ℕ) → ((i : ℕ) → get_or added i 0 ≡ 0)
-    → IsMask (length limits) (λ i. not (keeps_at limits 0 added taken i)) 0
-IsMask-new limits added taken none i few =
-    let l = limit_at limits i in
-    let kept : keeps_at limits 0 added taken i ≡ true =
-    le-leb (lag 0 added taken l.scope i) l.amount (omega (arith, lag-none added taken l.scope i (none i))) in
-    rw (bit_at-zero i, kept) (sym (and_right (nat_lt i (length limits)) false refl))
+least_with-less : (n : ℕ) (s : Scope) (amount : ℕ) → least_with n s amount ≤ n
+least_with-less n Count amount = omega arith
+least_with-less n (Object x) amount = omega arith
+least_with-less n (Group g) amount = omega arith
+least_with-less n Everything amount = omega arith
 
--- a limit without a bit among those that a span passes is kept
-pub kept-unpassed : (n : ℕ) (kept : ℕ → Bool) (passed i : ℕ) → IsMask n (λ i. not (kept i)) passed → i < n → i < most_limits
-    → (bit_at passed i == 1) ≡ false → kept i ≡ true
-kept-unpassed n kept passed i is lt few none = not-false _ (rw (lt-ltb i n lt) at (sym (is i few) ∙ none))
+-- the least amount is no more than what it begins with
+least-less : (n : ℕ) (limits : Limits) → fold (λ n l. least_with n l.scope l.amount) n limits ≤ n
+least-less n [] = omega arith
+least-less n (l ∷ limits) =
+    omega (arith, least-less (least_with n l.scope l.amount) limits, least_with-less n l.scope l.amount)
 
--- With more updates the span passes only limits that it passed before, those whose totals changed, and those on the count.
-pub IsMask-extended : (limits : Limits) (u v : ℕ) (added more_added taken : List ℕ) (passed touched counts looked : ℕ)
-    → IsMask (length limits) (λ i. not (keeps_at limits u added taken i)) passed
-    → IsMask (length limits) (λ i. is_on_count (limit_at limits i).scope) counts
-    → IsBelow (length limits) touched
-    → ((i : ℕ) → i < length limits → (bit_at touched i == 1) ≡ false → get_or more_added i 0 ≡ get_or added i 0)
-    → ((i : ℕ) → i < most_limits → (bit_at looked i == 1)
-    ≡ ((bit_at (bit_or (bit_or passed touched) counts) i == 1) && not (keeps_at limits v more_added taken i)))
-    → IsMask (length limits) (λ i. not (keeps_at limits v more_added taken i)) looked
-IsMask-extended limits u v added more_added taken passed touched counts looked was on below untouched =
-    IsMask-looked (length limits) (keeps_at limits v more_added taken) (bit_or (bit_or passed touched) counts) looked
-    (IsBelow-extended (length limits) _ _ passed touched counts was below on)
-    (λ i lt few out. (let counted = or_parts _ _ (sym (bit-either (bit_or passed touched) counts i) ∙ out) in
-    let parts = or_parts _ _ (sym (bit-either passed touched i) ∙ counted.0) in
-    let other : is_on_count (limit_at limits i).scope ≡ false = rw (lt-ltb i (length limits) lt) at (sym (on i few) ∙ counted.1) in
-    ap (λ n. nat_le n (limit_at limits i).amount)
-    (lag-same u v added more_added taken (limit_at limits i).scope i other (untouched i lt parts.1))
-    ∙ kept-unpassed (length limits) (keeps_at limits u added taken) passed i was lt few parts.0))
+-- nor more than each amount on the count
+least-at : (n : ℕ) (limits : Limits) (i : ℕ) (d : Limit) → i < length limits → (get_or limits i d).scope ≡ Count
+    → fold (λ n l. least_with n l.scope l.amount) n limits ≤ (get_or limits i d).amount
+least-at n [] i d lt on = absurd (omega (arith, lt))
+least-at n (l ∷ limits) zero d lt on =
+    let first : least_with n l.scope l.amount ≤ l.amount = rw on (omega arith) in
+    omega (arith, least-less (least_with n l.scope l.amount) limits, first)
+least-at n (l ∷ limits) (suc i) d lt on = least-at (least_with n l.scope l.amount) limits i d (omega (arith, lt)) on
 
--- Of a span that begins later only limits that it passed before are passed.
-pub IsMask-reported : (limits : Limits) (u v : ℕ) (added taken more_taken : List ℕ) (passed looked : ℕ)
-    → IsMask (length limits) (λ i. not (keeps_at limits u added taken i)) passed
-    → v ≤ u → ((i : ℕ) → i < length limits → get_or taken i 0 ≤ get_or more_taken i 0)
-    → ((i : ℕ) → i < most_limits → (bit_at looked i == 1) ≡ ((bit_at passed i == 1) && not (keeps_at limits v added more_taken i)))
-    → IsMask (length limits) (λ i. not (keeps_at limits v added more_taken i)) looked
-IsMask-reported limits u v added taken more_taken passed looked was fewer more =
-    IsMask-looked (length limits) (keeps_at limits v added more_taken) passed looked (IsBelow-mask _ _ passed was)
-    (λ i lt few out. (let l = limit_at limits i in
-    let before : lag u added taken l.scope i ≤ l.amount =
-    leb-true (lag u added taken l.scope i) l.amount
-    (kept-unpassed (length limits) (keeps_at limits u added taken) passed i was lt few out) in
-    le-leb (lag v added more_taken l.scope i) l.amount
-    (omega (arith, lag-less u v added taken more_taken l.scope i fewer (more i lt), before))))
+-- below what it begins with only an amount on the count is
+least_with-on : (n u : ℕ) (s : Scope) (amount : ℕ) → u ≤ n → least_with n s amount < u → s ≡ Count × amount < u
+least_with-on n u Count amount most lt = (refl, omega (arith, most, lt))
+least_with-on n u (Object x) amount most lt = absurd (omega (arith, most, lt))
+least_with-on n u (Group g) amount most lt = absurd (omega (arith, most, lt))
+least_with-on n u Everything amount most lt = absurd (omega (arith, most, lt))
+
+-- so what is above the least amount passes a limit, where a test fails on each limit on the count with a lesser amount
+least-passed : (test : Limit → Bool) (u n : ℕ) (limits : Limits) → ((l : Limit) → l.scope ≡ Count → l.amount < u → test l ≡ false)
+    → u ≤ n → fold (λ n l. least_with n l.scope l.amount) n limits < u → list_all test limits ≡ false
+least-passed test u n [] fails most above = absurd (omega (arith, most, above))
+least-passed test u n (l ∷ limits) fails most above = elim (cases_lt (least_with n l.scope l.amount) u) [
+  | inl lt ↦ (let on = least_with-on n u l.scope l.amount most lt in
+      rw (fails l on.0 on.1) refl)
+  | inr le ↦ and_right (test l) (list_all test limits) (least-passed test u (least_with n l.scope l.amount) limits fails le above)
+]
 
 -- ---- the span between the places
 
--- a span weighs on each scope what the totals of its places say
-lag-span : (h : History) (groups : GroupList) (s : Scope) (a b : ℕ) (added taken : List ℕ) (i : ℕ)
-    → get_or added i 0 ≡ weighed h groups s b → get_or taken i 0 ≡ weighed h groups s a
-    → lag (b - a) added taken s i ≡ span h groups s a b
-lag-span h groups Count a b added taken i up down = sym (span-count h groups a b)
-lag-span h groups s a b added taken i up down = rw (up, down) (span-difference h groups s a b)
+-- a span that is heavier than an amount does not keep the limit
+keeps-false : (h : History) (groups : GroupList) (a b : ℕ) (l : Limit) → l.amount < span h groups l.scope a b
+    → keeps h groups a b l ≡ false
+keeps-false h groups a b l lt = elim (cases_Bool (keeps h groups a b l)) [
+  | inl kept ↦ absurd (omega (arith, lt, leb-true (span h groups l.scope a b) l.amount kept))
+  | inr not_kept ↦ not_kept
+]
 
--- so what a ledger says of a limit is what holds
-keeps_at-keeps : (l : LedgerState) (h : History) (groups : GroupList) → StandsFor l h groups → (i : ℕ) → i < length l.limits
-    → keeps_at l.limits (l.extended - l.reported) l.added l.taken i ≡ keeps h groups l.reported l.extended (limit_at l.limits i)
-keeps_at-keeps l h groups stands i lt =
-    ap (λ n. nat_le n (limit_at l.limits i).amount)
-    (lag-span h groups (limit_at l.limits i).scope l.reported l.extended l.added l.taken i (stands.added.each i no_limit lt)
-    (stands.taken.each i no_limit lt))
+-- a span weighs no more than the amount where what is added is allowed
+span-allowed : (h : History) (groups : GroupList) (s : Scope) (a b amount added allowed : ℕ) → added ≡ weighed h groups s b
+    → allowed ≡ min amount greatest_amount + weighed h groups s a → (s ≡ Count → b - a ≤ amount) → added ≤ allowed
+    → span h groups s a b ≤ amount
+span-allowed h groups Count a b amount added allowed up down on le = omega (arith, on refl, span-count h groups a b)
+span-allowed h groups s a b amount added allowed up down on le = omega (arith, up, down, le, span-difference h groups s a b)
 
--- a span passes a limit where the mask of those that it passes has a bit
-pub within-mask : (l : LedgerState) (passed : ℕ) → length l.limits ≤ most_limits → passed < 2 ^ 64
-    → IsMask (length l.limits) (λ i. not (keeps_at l.limits (l.extended - l.reported) l.added l.taken i)) passed
-    → (h : History) (groups : GroupList) → StandsFor l h groups
-    → not (passed == 0) ≡ not (within h groups l.limits l.reported l.extended)
-within-mask l passed most fits is h groups stands = elim (cases_eq passed 0) [
-  | inl none ↦ (let all : within h groups l.limits l.reported l.extended ≡ true =
-      list_all-from_AllPass (keeps h groups l.reported l.extended) l.limits
-      (λ i d lt. ap (keeps h groups l.reported l.extended) (get_or_default l.limits i d no_limit lt)
-      ∙ sym (keeps_at-keeps l h groups stands i lt)
-      ∙ kept-unpassed (length l.limits) (keeps_at l.limits (l.extended - l.reported) l.added l.taken) passed i is lt (omega arith)
-      (rw (none, bit_at-zero i) refl)) in
-      rw (none, all) refl)
+-- and more where it is not
+span-passed : (h : History) (groups : GroupList) (s : Scope) (a b amount added allowed : ℕ) → added ≡ weighed h groups s b
+    → allowed ≡ min amount greatest_amount + weighed h groups s a → added ≤ greatest_weight * b → b ≤ most_updates → allowed < added
+    → amount < span h groups s a b
+span-passed h groups Count a b amount added allowed up down few last lt = absurd (omega (arith, up, lt))
+span-passed h groups s a b amount added allowed up down few last lt =
+    omega (arith, up, down, few, last, lt, span-difference h groups s a b)
+
+-- a span passes a limit where it is of more updates than the least amount on the count, or the mask of passed weights has a bit
+pub within-passed : (l : LedgerState) (passed count : ℕ) → IsLedger l → passed < 2 ^ 64 → count ≡ least_count l.limits
+    → ArePassed passed l.added l.allowed → (h : History) (groups : GroupList) → StandsFor l h groups
+    → (not (passed == 0) || nat_lt count (l.extended - l.reported)) ≡ not (within h groups l.limits l.reported l.extended)
+within-passed l passed count is fits least are h groups stands = elim (cases_eq passed 0) [
+  | inl none ↦ elim (cases_lt count (l.extended - l.reported)) [
+    | inl lt ↦ (let over : within h groups l.limits l.reported l.extended ≡ false =
+        least-passed (keeps h groups l.reported l.extended) (l.extended - l.reported) most_updates l.limits
+        (λ m on less. keeps-false h groups l.reported l.extended m
+        (rw on (omega (arith, less, span-count h groups l.reported l.extended)))) (omega (arith, is.last)) (rw least at lt) in
+        rw (none, lt-ltb count (l.extended - l.reported) lt, over) refl)
+    | inr le ↦ (let all : within h groups l.limits l.reported l.extended ≡ true =
+        list_all-from_AllPass (keeps h groups l.reported l.extended) l.limits
+        (λ i d lt. (let m = get_or l.limits i no_limit in
+        let kept : get_or l.added i 0 ≤ get_or l.allowed i 0 =
+        elim (cases_lt (get_or l.allowed i 0) (get_or l.added i 0)) [
+          | inl more ↦ absurd (true≢false (sym (are i (omega (arith, lt, is.few))
+              ∙ lt-ltb (get_or l.allowed i 0) (get_or l.added i 0) more) ∙ rw (none, bit_at-zero i) refl))
+          | inr less ↦ less
+        ] in
+        let weight : span h groups m.scope l.reported l.extended ≤ m.amount =
+        span-allowed h groups m.scope l.reported l.extended m.amount (get_or l.added i 0) (get_or l.allowed i 0)
+        (stands.added.each i no_limit lt) (stands.allowed.each i no_limit lt)
+        (λ on. (let low = least-at most_updates l.limits i no_limit lt on in omega (arith, low, le, least))) kept in
+        ap (keeps h groups l.reported l.extended) (get_or_default l.limits i d no_limit lt)
+        ∙ le-leb (span h groups m.scope l.reported l.extended) m.amount weight)) in
+        rw (none, le-ltb count (l.extended - l.reported) le, all) refl)
+  ]
   | inr some ↦ (let low = bit_at-trailing_zeros w64 passed (omega arith) fits in
       let z = trailing_zeros w64 passed in
-      let parts : nat_lt z (length l.limits) ≡ true × not (keeps_at l.limits (l.extended - l.reported) l.added l.taken z) ≡ true =
-      and_parts _ _ (sym (is z low.0) ∙ eq-eqb _ 1 low.1) in
-      let lt : z < length l.limits = ltb-true z (length l.limits) parts.0 in
+      let more : get_or l.allowed z 0 < get_or l.added z 0 =
+      ltb-true (get_or l.allowed z 0) (get_or l.added z 0) (sym (are z low.0) ∙ eq-eqb (bit_at passed z) 1 low.1) in
+      let lt : z < length l.limits =
+      elim (cases_lt z (length l.limits)) [
+        | inl lt ↦ lt
+        | inr past ↦ absurd (omega (arith, more, stands.added.none z past))
+      ] in
+      let m = get_or l.limits z no_limit in
       let over : within h groups l.limits l.reported l.extended ≡ false =
       list_all_at (keeps h groups l.reported l.extended) l.limits z no_limit lt
-      (sym (keeps_at-keeps l h groups stands z lt) ∙ not-true _ parts.1) in
+      (keeps-false h groups l.reported l.extended m
+      (span-passed h groups m.scope l.reported l.extended m.amount (get_or l.added z 0) (get_or l.allowed z 0)
+      (stands.added.each z no_limit lt) (stands.allowed.each z no_limit lt) (stands.added.few z) is.last more)) in
       rw (ne_eqb passed 0 some, over) refl)
 ]

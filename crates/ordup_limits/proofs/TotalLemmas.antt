@@ -3,8 +3,9 @@ use Rattle.std.proofs.Common.{◌≡◌, ℕ, zero, suc, ◌+◌, ◌-◌, ◌*�
 use Rattle.std.proofs.Common.{length, get_or, replicate, sum, sum_by, drop, drop-cons, add-one, arith, refl, sym, ap, ◌∙◌, inl, inr}
 use Rattle.std.specs.Prelude.{◌==◌, All}
 use Rattle.std.specs.List.{list_any}
-use Rattle.std.proofs.lemmas.Bool.{cases_Bool, cases_eq, or_parts, eq-eqb, ne_eqb, eqb-true, lt-ltb, le-ltb}
-use Rattle.std.proofs.lemmas.List.{length-map}
+use Rattle.std.proofs.lemmas.Bool.{cases_Bool, cases_eq, cases_lt, or_parts, eq-eqb, ne_eqb, eqb-true, lt-ltb, le-ltb}
+use Rattle.std.proofs.Math.Nat.{min-le_right}
+use Rattle.std.proofs.lemmas.List.{get_or_past, length-map}
 use Rattle.std.proofs.lemmas.List.Sums.{sum_by-cons}
 use Rattle.ordup_objects.specs.declared.change.Change.{Change}
 use Rattle.ordup_objects.specs.Repeats.{repeats}
@@ -23,8 +24,8 @@ use Rattle.ordup_log.specs.declared.scope.Scope.TheVariants.{Object, Group, All 
 use Rattle.ordup_log.proofs.WeightLemmas.{distance_beside-at, distances-few, sum-at, sum-few}
 use Rattle.ordup_limits.specs.declared.limit.Limit.{Limit}
 use Rattle.ordup_limits.specs.Limits.{Limits, AreScopesKnown}
-use Rattle.ordup_limits.specs.Sizes.{most_limits}
-use Rattle.ordup_limits.specs.Totals.{counts_on, weighed, AreTotals, has_bit, HasBitsBelow, AreMasks, share, weight_of, weight_where}
+use Rattle.ordup_limits.specs.Sizes.{most_limits, greatest_amount}
+use Rattle.ordup_limits.specs.Totals.{counts_on, weighed, kept_amount, AreTotals, AreAllowed, has_bit, AreMasks, share, weight_of, weight_where}
 
 -- ---- changes that pass a test
 
@@ -233,32 +234,101 @@ counts_at : (groups : GroupList) (limits : Limits) (masks : List ℕ) → length
 counts_at groups limits masks few masked x i d below lt =
     masked x i d below (omega arith) ∙ rw (lt-ltb i (length limits) lt) refl
 
--- it has no bit for more limits
-pub HasBitsBelow-masks : (groups : GroupList) (limits : Limits) (masks : List ℕ) (n : ℕ) → n ≡ length limits
-    → AreMasks groups limits masks → HasBitsBelow n masks
-HasBitsBelow-masks groups limits masks n same masked x i below past few =
-    masked x i (record { scope = Count; amount = 0 }) below few ∙ rw (le-ltb i (length limits) (omega arith)) refl
+-- what the changes that have the bits of a limit weigh is what the updates weigh on its scope
+raised-weight : (h : History) (groups : GroupList) (limits : Limits) (masks : List ℕ) (a b : ℕ)
+    → IsLegalHistory h → All (λ g. IsGroup g.1) groups → AreScopesKnown (length h.start) groups limits
+    → length h.start ≤ most_objects → length limits ≤ most_limits → AreMasks groups limits masks → a ≤ b → b ≤ length h.sets
+    → (i : ℕ) (d : Limit) → i < length limits
+    → weighed h groups (get_or limits i d).scope a + sum_from (weight_where (has_bit masks i) h) a (b - a)
+    ≡ weighed h groups (get_or limits i d).scope b
+raised-weight h groups limits masks a b legal are known objects most masked le last i d lt =
+    let s = (get_or limits i d).scope in
+    let same : sum_from (weight_where (has_bit masks i) h) a (b - a) ≡ sum_from (weight_where (counts_on groups s) h) a (b - a) =
+    sum_from-same _ _ a (b - a)
+    (λ j below. weight_of-same (has_bit masks i) (counts_on groups s) (get_or h.sets j [])
+    (distances_of (serial h j) (get_or h.sets j []))
+    (λ k c at. counts_at groups limits masks most masked (get_or (get_or h.sets j []) k c).object i d
+    (let there = (legal.known j [] (omega arith) k c at).0 in omega (arith, there)) lt)) in
+    let more = weighed-more h legal groups are s (known i d lt) a b le last in
+    omega (arith, more, same)
+
+-- and nothing where there is no limit
+raised-none : (h : History) (groups : GroupList) (limits : Limits) (masks : List ℕ) (a b : ℕ)
+    → IsLegalHistory h → length h.start ≤ most_objects → AreMasks groups limits masks → a ≤ b → b ≤ length h.sets
+    → (i : ℕ) → length limits ≤ i → i < most_limits → sum_from (weight_where (has_bit masks i) h) a (b - a) ≡ 0
+raised-none h groups limits masks a b legal objects masked le last i past few =
+    let no : (x : ℕ) → x < most_objects → has_bit masks i x ≡ false =
+    λ x below. masked x i (record { scope = Count; amount = 0 }) below few ∙ rw (le-ltb i (length limits) past) refl in
+    omega (
+      arith,
+      sum_from-same (weight_where (has_bit masks i) h) (λ j. 0) a (b - a)
+          (λ j below. weight_of-same (has_bit masks i) (λ z. false) (get_or h.sets j [])
+          (distances_of (serial h j) (get_or h.sets j []))
+          (λ k c at. no (get_or (get_or h.sets j []) k c).object
+          (let there = (legal.known j [] (omega arith) k c at).0 in omega (arith, there)))
+          ∙ weight_of-none (get_or h.sets j []) (distances_of (serial h j) (get_or h.sets j []))),
+      sum_from-constant 0 a (b - a),
+    )
 
 -- totals that are raised by the changes that have the bits of the masks
 pub AreTotals-raised : {h : History} {groups : GroupList} {limits : Limits} (masks : List ℕ) {old new : List ℕ} {a b : ℕ}
     → IsLegalHistory h → All (λ g. IsGroup g.1) groups → AreScopesKnown (length h.start) groups limits
     → length h.start ≤ most_objects → length limits ≤ most_limits → AreMasks groups limits masks → a ≤ b → b ≤ length h.sets
-    → length limits ≤ length old → AreTotals h groups limits a old
+    → AreTotals h groups limits a old → length new ≡ most_limits
     → ((i : ℕ) → get_or new i 0 ≤ greatest_weight * b)
-    → ((i : ℕ) → i < length old → get_or new i 0 ≡ get_or old i 0 + sum_from (weight_where (has_bit masks i) h) a (b - a))
+    → ((i : ℕ) → i < most_limits → get_or new i 0 ≡ get_or old i 0 + sum_from (weight_where (has_bit masks i) h) a (b - a))
     → AreTotals h groups limits b new
-AreTotals-raised {h} {groups} {limits} masks {a = a} {b = b} legal are known objects most masked le last count before few raised = record {
+AreTotals-raised {h} {groups} {limits} masks {new = new} {a = a} {b = b} legal are known objects most masked le last before count few raised =
+    record {
+      few = few;
+      none = λ i past. elim (cases_lt i most_limits) [
+        | inl small ↦ omega (
+          arith,
+          raised i small,
+          before.none i past,
+          raised-none h groups limits masks a b legal objects masked le last i past small,
+        )
+        | inr beyond ↦ get_or_past new i 0 (omega arith)
+      ];
+      each = λ i d lt. (let first = before.each i d lt in
+          let more = raised-weight h groups limits masks a b legal are known objects most masked le last i d lt in
+          let now = raised i (omega arith) in
+          omega (arith, now, first, more));
+    }
+
+-- and what is allowed that is raised so
+pub AreAllowed-raised : {h : History} {groups : GroupList} {limits : Limits} (masks : List ℕ) {old new : List ℕ} {a b : ℕ}
+    → IsLegalHistory h → All (λ g. IsGroup g.1) groups → AreScopesKnown (length h.start) groups limits
+    → length h.start ≤ most_objects → length limits ≤ most_limits → AreMasks groups limits masks → a ≤ b → b ≤ length h.sets
+    → AreAllowed h groups limits a old
+    → ((i : ℕ) → get_or new i 0 ≤ greatest_amount + greatest_weight * b)
+    → ((i : ℕ) → i < most_limits → get_or new i 0 ≡ get_or old i 0 + sum_from (weight_where (has_bit masks i) h) a (b - a))
+    → AreAllowed h groups limits b new
+AreAllowed-raised {h} {groups} {limits} masks {a = a} {b = b} legal are known objects most masked le last before few raised = record {
   few = few;
-  each = λ i d lt. (let s = (get_or limits i d).scope in
-      let same : sum_from (weight_where (has_bit masks i) h) a (b - a) ≡ sum_from (weight_where (counts_on groups s) h) a (b - a) =
-      sum_from-same _ _ a (b - a)
-      (λ j below. weight_of-same (has_bit masks i) (counts_on groups s) (get_or h.sets j [])
-      (distances_of (serial h j) (get_or h.sets j []))
-      (λ k c at. counts_at groups limits masks most masked (get_or (get_or h.sets j []) k c).object i d
-      (let there = (legal.known j [] (omega arith) k c at).0 in omega (arith, there)) lt)) in
-      raised i (omega arith)
-      ∙ (let first = before.each i d lt in let more = weighed-more h legal groups are s (known i d lt) a b le last in
-      omega (arith, first, more, same)));
+  each = λ i d lt. (let first = before.each i d lt in
+      let more = raised-weight h groups limits masks a b legal are known objects most masked le last i d lt in
+      let now = raised i (omega arith) in
+      omega (arith, now, first, more));
+}
+
+-- totals with the amounts of the limits
+pub AreAllowed-amounts : (h : History) (groups : GroupList) (limits : Limits) (place : ℕ) (old new : List ℕ)
+    → AreTotals h groups limits place old
+    → ((i : ℕ) (d : Limit) → i < length limits → get_or new i 0 ≡ get_or old i 0 + kept_amount (get_or limits i d))
+    → ((i : ℕ) → length limits ≤ i → get_or new i 0 ≡ get_or old i 0)
+    → AreAllowed h groups limits place new
+AreAllowed-amounts h groups limits place old new are raised rest = record {
+  few = λ i. elim (cases_lt i (length limits)) [
+    | inl lt ↦ omega (
+      arith,
+      raised i (record { scope = Count; amount = 0 }) lt,
+      are.few i,
+      min-le_right (get_or limits i (record { scope = Count; amount = 0 })).amount greatest_amount,
+    )
+    | inr past ↦ omega (arith, rest i past, are.few i)
+  ];
+  each = λ i d lt. (let more = raised i d lt in let first = are.each i d lt in omega (arith, more, first));
 }
 
 -- a list of zeros has no other number
@@ -275,5 +345,6 @@ weighed-start h groups s = refl
 pub AreTotals-start : (h : History) (groups : GroupList) (limits : Limits) → AreTotals h groups limits 0 (replicate most_limits 0)
 AreTotals-start h groups limits = record {
   few = λ i. omega (arith, none_at most_limits i);
+  none = λ i past. none_at most_limits i;
   each = λ i d lt. none_at most_limits i ∙ sym (weighed-start h groups (get_or limits i d).scope);
 }

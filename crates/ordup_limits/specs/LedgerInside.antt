@@ -1,7 +1,7 @@
 -- A ledger in the fields of a `LagLedger`.
-use Rattle.std.specs.Prelude.{◌-◌, ◌<◌, ◌^◌, length, not}
+use Rattle.std.specs.Prelude.{◌≡◌, ◌<◌, ◌^◌}
 use Rattle.ordup_limits.specs.Ledgers.{LedgerState, IsLedger}
-use Rattle.ordup_limits.specs.PassedLimits.{limit_at, is_on_count, keeps_at, IsMask}
+use Rattle.ordup_limits.specs.PassedLimits.{least_count, ArePassed}
 use Rattle.ordup_limits.specs.Sizes.{most_limits}
 use Rattle.ordup_limits.specs.declared.lag_ledger.LagLedger.TheInside.{Inside}
 
@@ -11,17 +11,16 @@ module _ {A : Type 0} where
     limits = l.limits;
     reported = l.reported;
     extended = l.extended;
-    taken = l.taken.items;
     added = l.added.items;
+    allowed = l.allowed.items;
     masks = l.masks.items;
     has_masks = l.has_masks;
   }
 
-  -- what the fields keep: a ledger, with masks of its limits on the count and of those that the span between its places passes
+  -- what the fields keep: a ledger, with the limit on the count and a mask of the other limits that the span between its places passes
   pub record KeepsLedger (l : Inside A) : Type 0 where
     pub ledger : IsLedger (ledger_of l)
-    pub counts : IsMask (length l.limits) (λ i. is_on_count (limit_at l.limits i).scope) l.counts
-    pub passed : IsMask (length l.limits)
-        (λ i. not (keeps_at l.limits (l.extended - l.reported) l.added.items l.taken.items i)) l.passed
+    pub count : l.count ≡ least_count l.limits
+    pub passed : ArePassed l.passed l.added.items l.allowed.items
     -- for the proof: no mask has more bits than there may be limits
     pub fits : l.passed < 2 ^ most_limits

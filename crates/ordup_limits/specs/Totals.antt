@@ -1,6 +1,6 @@
 -- Totals: for each limit of a site what the updates up to a place weigh on its scope.
 use Rattle.std.specs.Prelude.{◌≡◌, ℕ, ◌+◌, ◌*◌, ◌<◌, ◌≤◌, ◌==◌, ◌&&◌, if◌then◌else◌, Bool, true, false, List, [], ◌∷◌}
-use Rattle.std.specs.Prelude.{length, nat_lt, slice_index, slice_index_or}
+use Rattle.std.specs.Prelude.{length, min, nat_lt, slice_index, slice_index_or}
 use Rattle.std.specs.Int.{bit_at}
 use Rattle.std.specs.List.{list_any}
 use Rattle.ordup_objects.specs.declared.change.Change.{Change}
@@ -13,7 +13,7 @@ use Rattle.ordup_log.specs.declared.scope.Scope.{Scope}
 use Rattle.ordup_log.specs.declared.scope.Scope.TheVariants.{Object, Group, All as Everything, Count}
 use Rattle.ordup_limits.specs.declared.limit.Limit.{Limit}
 use Rattle.ordup_limits.specs.Limits.{Limits}
-use Rattle.ordup_limits.specs.Sizes.{most_limits}
+use Rattle.ordup_limits.specs.Sizes.{most_limits, greatest_amount}
 
 -- a change of object x counts on a scope, by its distance; none does on the count of updates
 abbrev pub counts_on : GroupList → Scope → ℕ → Bool
@@ -29,27 +29,26 @@ weighed h groups (Group g) place = span h groups (Group g) 0 place
 weighed h groups Everything place = span h groups Everything 0 place
 weighed h groups Count place = 0
 
--- for each limit what the updates up to a place weigh on its scope
+-- for each limit what the updates up to a place weigh on its scope, and nothing where there is no limit
 pub record AreTotals (h : History) (groups : GroupList) (limits : Limits) (place : ℕ) (totals : List ℕ) : Type 0 where
   pub few : (i : ℕ) → slice_index totals i ≤ greatest_weight * place
+  pub none : (i : ℕ) → length limits ≤ i → slice_index totals i ≡ 0
   pub each : (i : ℕ) (d : Limit) → i < length limits
       → slice_index totals i ≡ weighed h groups (slice_index_or limits i d).scope place
+
+-- the amount of a limit, and no more than the greatest one, which no log passes
+abbrev pub kept_amount : Limit → ℕ
+kept_amount l = min l.amount greatest_amount
+
+-- for each limit its amount with what the updates up to a place weigh on its scope
+pub record AreAllowed (h : History) (groups : GroupList) (limits : Limits) (place : ℕ) (allowed : List ℕ) : Type 0 where
+  pub few : (i : ℕ) → slice_index allowed i ≤ greatest_amount + greatest_weight * place
+  pub each : (i : ℕ) (d : Limit) → i < length limits
+      → slice_index allowed i ≡ kept_amount (slice_index_or limits i d) + weighed h groups (slice_index_or limits i d).scope place
 
 -- the mask of object x has a bit for limit i
 abbrev pub has_bit : List ℕ → ℕ → ℕ → Bool
 has_bit masks i x = bit_at (slice_index masks x) i == 1
-
--- a mask has no bit from n on
-abbrev pub IsBelow : ℕ → ℕ → Type 0
-IsBelow n mask = (i : ℕ) → n ≤ i → i < most_limits → (bit_at mask i == 1) ≡ false
-
--- no mask has a bit from n on
-abbrev pub HasBitsBelow : ℕ → List ℕ → Type 0
-HasBitsBelow n masks = (x i : ℕ) → x < most_objects → n ≤ i → i < most_limits → has_bit masks i x ≡ false
-
--- totals are as they were, but for those that a mask has a bit for
-abbrev pub AreUntouched : ℕ → List ℕ → List ℕ → Type 0
-AreUntouched mask old new = (i : ℕ) → i < length old → (bit_at mask i == 1) ≡ false → slice_index new i ≡ slice_index old i
 
 -- for each object the limits on whose scopes its changes count, a bit for each
 abbrev pub AreMasks : GroupList → Limits → List ℕ → Type 0

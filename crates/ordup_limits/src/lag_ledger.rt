@@ -11,8 +11,10 @@ use crate::limit::Limit;
 use crate::limit_list::LimitList;
 use crate::limit_table::LimitTable;
 use crate::masks::{fill, no_masks, put_scope};
-use crate::passed::{counts_of, passed_among, passed_of};
-use crate::totals::{move_to, no_totals, raise_to, weighed};
+use crate::passed::{least_count, passed_among, passed_of, with_bit};
+use crate::totals::{
+    add_amounts, extend_to, kept_amount, move_added, move_allowed, no_totals, raise_to, weighed,
+};
 use ordup_log::{Groups, Log, Scope};
 use ordup_objects::Refusal;
 use std::alloc::{Allocator, Global};
@@ -21,8 +23,9 @@ use std::marker::Model;
 /// The weight of the updates by which a site lags, kept while the log grows and the site reports.
 ///
 /// It stands at two places of a log: the reported one, up to which the site has reported, and the extended one, up to which
-/// updates were added. For each limit it keeps what the updates up to each place weigh, so the span between the places
-/// weighs the difference. The reported place may pass the extended one: then the span is empty and weighs nothing.
+/// updates were added. For each limit it keeps what the updates up to the extended place weigh, and which weight is allowed: the
+/// amount and what the updates up to the reported place weigh. The span between the places passes the limit where the first is
+/// above the second. The reported place may pass the extended one: then the span is empty and passes none.
 ///
 /// All calls of a ledger take one log, as it grows, and the same groups. The cost of a call grows with the changes of the
 /// updates that it goes over, and not with the length of the span.
@@ -32,16 +35,16 @@ pub struct LagLedger<A: Allocator + Copy = Global> {
     limits: LimitList,
     reported: u64,
     extended: u64,
-    /// For each limit what the updates up to the reported place weigh on its scope; nothing is kept on the count of updates.
-    taken: Vec<u64, A>,
-    /// The same of the updates up to the extended place.
+    /// For each limit what the updates up to the extended place weigh on its scope; nothing is kept on the count of updates.
     added: Vec<u64, A>,
+    /// For each limit its amount with what the updates up to the reported place weigh. It is kept up to this weight of `added`.
+    allowed: Vec<u64, A>,
     /// For each object the limits on whose scopes its changes count, a bit for each, once a call has seen the groups.
     masks: Vec<u64, A>,
     has_masks: bool,
-    /// The limits on the count of updates, a bit for each.
-    counts: u64,
-    /// The limits that the span between the places passes, a bit for each.
+    /// The amount of the limit on the count of updates; without one the most updates of a log.
+    count: u64,
+    /// The other limits that the span between the places passes, a bit for each.
     passed: u64,
 }
 
@@ -70,20 +73,21 @@ impl<A: Allocator + Copy> LagLedger<A> {
             AreEntriesKnown (length h.start) groups limits.now → StandsFor ledger h groups) }
         ensures refused { IfErr result (λ e. e ≡ Refusal.NoMemory) }
     {
-        let taken = no_totals(alloc)?;
         let added = no_totals(alloc)?;
+        let mut allowed = no_totals(alloc)?;
         let masks = no_masks(alloc)?;
         let limits = limits.latest().copy();
-        let counts = counts_of(limits.as_slice());
+        add_amounts(&mut allowed, limits.as_slice());
+        let count = least_count(limits.as_slice());
         Ok(LagLedger {
             limits,
             reported: 0,
             extended: 0,
-            taken,
             added,
+            allowed,
             masks,
             has_masks: false,
-            counts,
+            count,
             passed: 0,
         })
     }
@@ -100,13 +104,16 @@ impl<A: Allocator + Copy> LagLedger<A> {
         log.keeps();
         groups.keeps();
         self.prepare(groups);
-        let masks = self.masks.as_slice();
-        let touched = raise_to(&mut self.added, log, masks, self.extended, to);
+        self.passed = extend_to(
+            &mut self.added,
+            self.allowed.as_slice(),
+            self.passed,
+            log,
+            self.masks.as_slice(),
+            self.extended,
+            to,
+        );
         self.extended = to;
-        let updates = to.saturating_sub(self.reported);
-        let (added, taken) = (self.added.as_slice(), self.taken.as_slice());
-        let mask = self.passed | touched | self.counts;
-        self.passed = passed_among(self.limits.as_slice(), updates, added, taken, mask);
     }
 
     /// Takes off the updates up to a place that the site has reported. It takes no memory.
@@ -122,11 +129,10 @@ impl<A: Allocator + Copy> LagLedger<A> {
         groups.keeps();
         self.prepare(groups);
         let masks = self.masks.as_slice();
-        raise_to(&mut self.taken, log, masks, self.reported, to);
+        raise_to(&mut self.allowed, log, masks, self.reported, to);
         self.reported = to;
-        let updates = self.extended.saturating_sub(to);
-        let (added, taken) = (self.added.as_slice(), self.taken.as_slice());
-        self.passed = passed_among(self.limits.as_slice(), updates, added, taken, self.passed);
+        let (added, allowed) = (self.added.as_slice(), self.allowed.as_slice());
+        self.passed = passed_among(added, allowed, self.passed);
     }
 
     /// Changes the amount of the limit on a scope, or begins a limit there, with an amount from 0 to 10^18. It takes no memory.
@@ -146,18 +152,17 @@ impl<A: Allocator + Copy> LagLedger<A> {
         // What is kept for the scope is put down again, also where it stays the same.
         let place = self.limits.index_for(scope);
         put_scope(&mut self.masks, groups, *scope, place);
-        self.taken[place] = weighed(log, groups, *scope, self.reported);
-        self.added[place] = weighed(log, groups, *scope, self.extended);
         let limit = Limit {
             scope: *scope,
             amount,
         };
+        let total = weighed(log, groups, *scope, self.extended);
+        let allowed = kept_amount(&limit) + weighed(log, groups, *scope, self.reported);
+        self.added[place] = total;
+        self.allowed[place] = allowed;
         self.limits.put(&limit);
-        self.counts = counts_of(self.limits.as_slice());
-        let updates = self.extended.saturating_sub(self.reported);
-        let (added, taken) = (self.added.as_slice(), self.taken.as_slice());
-        let mask = self.passed | 1 << place;
-        self.passed = passed_among(self.limits.as_slice(), updates, added, taken, mask);
+        self.count = least_count(self.limits.as_slice());
+        self.passed = with_bit(self.passed, place, total > allowed);
     }
 
     /// Puts the ledger at two places of the log, wherever it stood. It takes no memory.
@@ -171,28 +176,14 @@ impl<A: Allocator + Copy> LagLedger<A> {
         ensures places { (self.new.reported ≡ reported) × (self.new.extended ≡ extended) }
         ensures stands { StandsFor self.new log.now groups.now }
     {
+        log.keeps();
         let limits = self.limits.as_slice();
-        move_to(
-            &mut self.taken,
-            limits,
-            log,
-            groups,
-            self.reported,
-            reported,
-        );
-        move_to(
-            &mut self.added,
-            limits,
-            log,
-            groups,
-            self.extended,
-            extended,
-        );
+        let (from, until) = (self.reported, self.extended);
+        move_allowed(&mut self.allowed, limits, log, groups, from, reported);
+        move_added(&mut self.added, limits, log, groups, until, extended);
         self.reported = reported;
         self.extended = extended;
-        let updates = extended.saturating_sub(reported);
-        let (added, taken) = (self.added.as_slice(), self.taken.as_slice());
-        self.passed = passed_of(limits, updates, added, taken);
+        self.passed = passed_of(self.added.as_slice(), self.allowed.as_slice());
     }
 
     /// Whether the span from the reported place to the extended one passes a limit. Equal is not over.
@@ -200,10 +191,12 @@ impl<A: Allocator + Copy> LagLedger<A> {
         ensures { (h : History) (groups : GroupList) → StandsFor self.now h groups →
             result ≡ not (within h groups self.now.limits self.now.reported self.now.extended) }
     {
-        self.passed != 0
+        self.passed != 0 || self.extended.saturating_sub(self.reported) > self.count
     }
 
     /// Puts the masks down, where that was not done.
+    // Inlined, since each update and each report asks, and nearly always finds them.
+    #[inline(always)]
     fn prepare(&mut self, groups: &Groups<A>)
         requires known { (n : ℕ) × AreScopesKnown n groups.now self.old.limits }
         requires masks { self.old.has_masks ≡ true → AreMasks groups.now self.old.limits self.old.masks }

@@ -21,6 +21,8 @@ pub(crate) fn no_masks<A: Allocator + Copy>(alloc: A) -> Result<Vec<u64, A>, Ref
 }
 
 /// Puts down for each object the limits on which its changes count.
+// Kept out of its caller, which is inlined where each update is added, and calls it once.
+#[inline(never)]
 pub(crate) fn fill<A: Allocator + Copy>(
     masks: &mut Vec<u64, A>,
     limits: &[Limit],

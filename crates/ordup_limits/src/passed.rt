@@ -1,84 +1,71 @@
-ghost use Rattle.std.specs.Prelude.{◌≡◌, ◌==◌, ◌&&◌, ◌<◌, ◌≤◌, ℕ, length, not};
+ghost use Rattle.std.specs.Prelude.{◌≡◌, ◌==◌, ◌≤◌, ◌<◌, ℕ, if◌then◌else◌, false, length, slice_index};
 ghost use Rattle.std.specs.Int.{bit_at};
+ghost use Rattle.ordup_objects.specs.Sizes.{most_updates};
 ghost use Rattle.ordup_limits.specs.Sizes.{most_limits};
-ghost use Rattle.ordup_limits.specs.PassedLimits.{limit_at, is_on_count, keeps_at, IsMask};
-ghost use Rattle.ordup_limits.specs.Totals.{IsBelow};
+ghost use Rattle.ordup_limits.specs.PassedLimits.{least_count, least_with, ArePassed};
 
 use crate::limit::Limit;
+use crate::sizes::MOST_LIMITS;
 use ordup_log::Scope;
+use ordup_objects::sizes::MOST_UPDATES;
 
-/// The limits on the count of updates, a bit for each.
-pub(crate) fn counts_of(limits: &[Limit]) -> u64
-    requires { length limits.now ≤ most_limits }
-    ensures { IsMask (length limits.now) (λ i. is_on_count (limit_at limits.now i).scope) result }
+/// The least amount of these limits that is on the count of updates. Without one it is the most updates of a log, which none passes.
+pub(crate) fn least_count(limits: &[Limit]) -> u64
+    ensures { result ≡ least_count limits.now }
 {
-    let mut counts = 0;
-    for (place, limit) in limits.iter().enumerate() {
-        if let Scope::Count = limit.scope {
-            counts |= 1 << place;
-        }
+    let mut least = MOST_UPDATES as u64;
+    for limit in limits {
+        least = least_with(least, limit);
     }
-    counts
+    least
 }
 
-/// The limits that a span of this many updates passes, a bit for each.
-pub(crate) fn passed_of(limits: &[Limit], updates: u64, added: &[u64], taken: &[u64]) -> u64
-    requires few { length limits.now ≤ most_limits }
+/// The lesser of a number and the limit's amount, where it is on the count of updates.
+fn least_with(least: u64, limit: &Limit) -> u64
+    ensures { result ≡ least_with least limit.now.scope limit.now.amount }
+{
+    match limit.scope {
+        Scope::Count => least.min(limit.amount),
+        Scope::Object(_) | Scope::Group(_) | Scope::All => least,
+    }
+}
+
+/// The totals that are above what is allowed, a bit for each.
+pub(crate) fn passed_of(added: &[u64], allowed: &[u64]) -> u64
     requires added { length added.now ≡ most_limits }
-    requires taken { length taken.now ≡ most_limits }
-    ensures { IsMask (length limits.now) (λ i. not (keeps_at limits.now updates added.now taken.now i)) result }
+    requires allowed { length allowed.now ≡ most_limits }
+    ensures { ArePassed result added.now allowed.now }
 {
     let mut passed = 0;
-    for place in 0..limits.len() {
-        if !is_kept(limits, updates, added, taken, place) {
-            passed |= 1 << place;
-        }
+    for place in 0..MOST_LIMITS {
+        passed = with_bit(passed, place, added[place] > allowed[place]);
     }
     passed
 }
 
-/// Those of a mask's limits that a span of this many updates passes, a bit for each.
-pub(crate) fn passed_among(
-    limits: &[Limit],
-    updates: u64,
-    added: &[u64],
-    taken: &[u64],
-    mask: u64,
-) -> u64
-    requires few { length limits.now ≤ most_limits }
+/// Those of a mask's totals that are above what is allowed, a bit for each. The others are not.
+pub(crate) fn passed_among(added: &[u64], allowed: &[u64], mask: u64) -> u64
     requires added { length added.now ≡ most_limits }
-    requires taken { length taken.now ≡ most_limits }
-    requires mask { IsBelow (length limits.now) mask }
-    ensures { (i : ℕ) → i < most_limits →
-        (bit_at result i == 1) ≡ ((bit_at mask i == 1) && not (keeps_at limits.now updates added.now taken.now i)) }
+    requires allowed { length allowed.now ≡ most_limits }
+    requires others { (i : ℕ) → i < most_limits → (bit_at mask i == 1) ≡ false → slice_index added.now i ≤ slice_index allowed.now i }
+    ensures { ArePassed result added.now allowed.now }
 {
     let mut passed = mask;
     let mut rest = mask;
     while rest != 0 {
-        let place = rest.trailing_zeros();
-        let bit = 1 << place;
-        if is_kept(limits, updates, added, taken, place as usize) {
-            passed &= !bit;
-        }
-        rest &= !bit;
+        let bit = rest.trailing_zeros();
+        let place = bit as usize;
+        passed = with_bit(passed, place, added[place] > allowed[place]);
+        rest &= !(1 << bit);
     }
     passed
 }
 
-/// Whether a span of this many updates keeps a limit.
-fn is_kept(limits: &[Limit], updates: u64, added: &[u64], taken: &[u64], place: usize) -> bool
-    requires place { place < length limits.now }
-    requires few { length limits.now ≤ most_limits }
-    requires added { length added.now ≡ most_limits }
-    requires taken { length taken.now ≡ most_limits }
-    ensures { result ≡ keeps_at limits.now updates added.now taken.now place }
+/// A mask with one bit set or cleared.
+pub(crate) fn with_bit(mask: u64, place: usize, is_set: bool) -> u64
+    requires { place < most_limits }
+    ensures { (i : ℕ) → i < most_limits → (bit_at result i == 1) ≡ (if i == place then is_set else bit_at mask i == 1) }
 {
-    let limit = limits[place];
-    let weight = match limit.scope {
-        Scope::Count => updates,
-        Scope::Object(_) | Scope::Group(_) | Scope::All => {
-            added[place].saturating_sub(taken[place])
-        }
-    };
-    weight <= limit.amount
+    let bit = 1 << place;
+    if is_set { mask | bit } else { mask & !bit }
 }

@@ -2,14 +2,16 @@ ghost use Rattle.std.specs.Prelude.{◌≡◌, ◌==◌, ◌≤◌, ◌<◌, ◌
 ghost use Rattle.std.specs.Int.{bit_at};
 ghost use Rattle.ordup_objects.specs.Sizes.{greatest_weight, greatest_distance, most_objects, most_updates};
 ghost use Rattle.ordup_objects.specs.Sums.{sum_from};
-ghost use Rattle.ordup_limits.specs.Sizes.{most_limits};
+ghost use Rattle.ordup_limits.specs.Sizes.{greatest_amount, most_limits};
 ghost use Rattle.ordup_log.specs.Spans.{IsScopeKnown};
 ghost use Rattle.ordup_limits.specs.Limits.{AreScopesKnown};
 ghost use Rattle.ordup_limits.specs.declared.limit.Limit.{Limit};
-ghost use Rattle.ordup_limits.specs.Totals.{has_bit, AreTotals, AreUntouched, HasBitsBelow, IsBelow, share, weight_where, weighed};
+ghost use Rattle.ordup_limits.specs.Totals.{has_bit, kept_amount, share, weight_where, weighed, AreAllowed, AreTotals};
+ghost use Rattle.ordup_limits.specs.PassedLimits.{ArePassed};
 
 use crate::limit::Limit;
-use crate::sizes::MOST_LIMITS;
+use crate::passed::with_bit;
+use crate::sizes::{GREATEST_AMOUNT, MOST_LIMITS};
 use ordup_log::{Groups, Log, Scope};
 use ordup_objects::Refusal;
 use std::alloc::Allocator;
@@ -39,9 +41,9 @@ pub(crate) fn weighed<A: Allocator + Copy>(
     }
 }
 
-/// Moves the totals of the updates up to a place to those of the updates up to another one.
-pub(crate) fn move_to<A: Allocator + Copy>(
-    totals: &mut Vec<u64, A>,
+/// Moves the weights of the updates up to a place to those of the updates up to another one.
+pub(crate) fn move_added<A: Allocator + Copy>(
+    added: &mut Vec<u64, A>,
     limits: &[Limit],
     log: &Log<A>,
     groups: &Groups<A>,
@@ -51,13 +53,60 @@ pub(crate) fn move_to<A: Allocator + Copy>(
     requires last { to ≤ length log.now.sets }
     requires known { AreScopesKnown (length log.now.start) groups.now limits.now }
     requires few { length limits.now ≤ most_limits }
-    requires count { length totals.old.items ≡ most_limits }
-    requires totals { AreTotals log.now groups.now limits.now from totals.old.items }
-    ensures count { length totals.new.items ≡ most_limits }
-    ensures totals { AreTotals log.now groups.now limits.now to totals.new.items }
+    requires count { length added.old.items ≡ most_limits }
+    requires totals { AreTotals log.now groups.now limits.now from added.old.items }
+    ensures count { length added.new.items ≡ most_limits }
+    ensures totals { AreTotals log.now groups.now limits.now to added.new.items }
 {
     if from != to {
-        put_down(totals, limits, log, groups, to);
+        put_down(added, limits, log, groups, to);
+    }
+}
+
+/// Moves what is allowed after the updates up to a place to what is allowed after the updates up to another one.
+pub(crate) fn move_allowed<A: Allocator + Copy>(
+    allowed: &mut Vec<u64, A>,
+    limits: &[Limit],
+    log: &Log<A>,
+    groups: &Groups<A>,
+    from: u64,
+    to: u64,
+)
+    requires last { to ≤ length log.now.sets }
+    requires known { AreScopesKnown (length log.now.start) groups.now limits.now }
+    requires few { length limits.now ≤ most_limits }
+    requires count { length allowed.old.items ≡ most_limits }
+    requires allowed { AreAllowed log.now groups.now limits.now from allowed.old.items }
+    ensures count { length allowed.new.items ≡ most_limits }
+    ensures allowed { AreAllowed log.now groups.now limits.now to allowed.new.items }
+{
+    if from == to {
+        return;
+    }
+    log.keeps();
+    put_down(allowed, limits, log, groups, to);
+    add_amounts(allowed, limits);
+}
+
+/// The amount of a limit. No log weighs more than the greatest one, and with it no sum of an amount and a weight is too large.
+pub(crate) fn kept_amount(limit: &Limit) -> u64
+    ensures { result ≡ kept_amount limit.now }
+{
+    limit.amount.min(GREATEST_AMOUNT)
+}
+
+/// Adds the amount of each limit to its total.
+pub(crate) fn add_amounts<A: Allocator + Copy>(totals: &mut Vec<u64, A>, limits: &[Limit])
+    requires few { length limits.now ≤ most_limits }
+    requires count { length totals.old.items ≡ most_limits }
+    requires small { (i : ℕ) → slice_index totals.old.items i ≤ greatest_weight * most_updates }
+    ensures count { length totals.new.items ≡ most_limits }
+    ensures raised { (i : ℕ) (d : Limit) → i < length limits.now →
+        slice_index totals.new.items i ≡ slice_index totals.old.items i + kept_amount (slice_index_or limits.now i d) }
+    ensures rest { (i : ℕ) → length limits.now ≤ i → slice_index totals.new.items i ≡ slice_index totals.old.items i }
+{
+    for (place, limit) in limits.iter().enumerate() {
+        totals[place] += kept_amount(limit);
     }
 }
 
@@ -104,10 +153,11 @@ fn total_of<A: Allocator + Copy>(
     weighed(log, groups, *scope, place)
 }
 
-/// Raises the totals of the updates up to a place to those of the updates up to a later one. It answers a mask that has a bit for
-/// each total that is raised.
-pub(crate) fn raise_to<A: Allocator + Copy>(
-    totals: &mut Vec<u64, A>,
+/// Adds the updates after a place, up to a later one, to the totals. It answers the mask of the totals that are above what is allowed.
+pub(crate) fn extend_to<A: Allocator + Copy>(
+    added: &mut Vec<u64, A>,
+    allowed: &[u64],
+    over: u64,
     log: &Log<A>,
     masks: &[u64],
     from: u64,
@@ -117,29 +167,29 @@ pub(crate) fn raise_to<A: Allocator + Copy>(
     requires last { to ≤ length log.now.sets }
     requires objects { length log.now.start ≤ most_objects }
     requires masks { length masks.now ≡ most_objects }
-    requires count { length totals.old.items ≡ most_limits }
-    requires few { (i : ℕ) → slice_index totals.old.items i ≤ greatest_weight * from }
-    ensures count { length totals.new.items ≡ length totals.old.items }
-    ensures few { (i : ℕ) → slice_index totals.new.items i ≤ greatest_weight * to }
-    ensures totals { (i : ℕ) → i < length totals.old.items →
-        slice_index totals.new.items i ≡ slice_index totals.old.items i + sum_from
+    requires count { length added.old.items ≡ most_limits }
+    requires bounds { length allowed.now ≡ most_limits }
+    requires few { (i : ℕ) → slice_index added.old.items i ≤ greatest_weight * from }
+    requires passed { ArePassed over added.old.items allowed.now }
+    ensures count { length added.new.items ≡ most_limits }
+    ensures few { (i : ℕ) → slice_index added.new.items i ≤ greatest_weight * to }
+    ensures totals { (i : ℕ) → i < most_limits →
+        slice_index added.new.items i ≡ slice_index added.old.items i + sum_from
         (weight_where (has_bit masks.now i) log.now) from (to - from) }
-    ensures below { (n : ℕ) → HasBitsBelow n masks.now → IsBelow n result }
-    ensures untouched { AreUntouched result totals.old.items totals.new.items }
+    ensures passed { ArePassed result added.new.items allowed.now }
 {
-    let mut touched = 0;
+    let mut passed = over;
     for place in from..to {
-        touched |= raise(totals, log, masks, place + 1);
+        passed = extend(added, allowed, passed, log, masks, place + 1);
     }
-    touched
+    passed
 }
 
-/// Raises the totals of the updates before a place to those of the updates up to it.
-///
-/// It looks at the changes of the update at the place, and at no other. It answers a mask that has a bit for each total that is
-/// raised.
-fn raise<A: Allocator + Copy>(
-    totals: &mut Vec<u64, A>,
+/// Adds the update at a place to the totals of the updates before it, and looks again at each total that it raises.
+fn extend<A: Allocator + Copy>(
+    added: &mut Vec<u64, A>,
+    allowed: &[u64],
+    over: u64,
     log: &Log<A>,
     masks: &[u64],
     place: u64,
@@ -148,41 +198,117 @@ fn raise<A: Allocator + Copy>(
     requires last { place ≤ length log.now.sets }
     requires objects { length log.now.start ≤ most_objects }
     requires masks { length masks.now ≡ most_objects }
-    requires count { length totals.old.items ≡ most_limits }
-    requires few { (i : ℕ) → slice_index totals.old.items i ≤ greatest_weight * (place - 1) }
-    ensures count { length totals.new.items ≡ length totals.old.items }
-    ensures few { (i : ℕ) → slice_index totals.new.items i ≤ greatest_weight * place }
-    ensures totals { (i : ℕ) → i < length totals.old.items →
-        slice_index totals.new.items i ≡ slice_index totals.old.items i + weight_where (has_bit masks.now i) log.now (place - 1) }
-    ensures below { (n : ℕ) → HasBitsBelow n masks.now → IsBelow n result }
-    ensures untouched { AreUntouched result totals.old.items totals.new.items }
+    requires count { length added.old.items ≡ most_limits }
+    requires bounds { length allowed.now ≡ most_limits }
+    requires few { (i : ℕ) → slice_index added.old.items i ≤ greatest_weight * (place - 1) }
+    requires passed { ArePassed over added.old.items allowed.now }
+    ensures count { length added.new.items ≡ most_limits }
+    ensures few { (i : ℕ) → slice_index added.new.items i ≤ greatest_weight * place }
+    ensures totals { (i : ℕ) → i < most_limits →
+        slice_index added.new.items i ≡ slice_index added.old.items i + weight_where (has_bit masks.now i) log.now (place - 1) }
+    ensures passed { ArePassed result added.new.items allowed.now }
 {
     log.keeps();
     let changes = log.set(place).changes();
     let distances = log.distances(place);
-    let mut touched = 0;
+    let mut passed = over;
     for (i, change) in changes.iter().enumerate() {
         let mask = masks[change.object.index()];
-        add(totals, mask, distances[i]);
-        touched |= mask;
+        passed = add(added, allowed, passed, mask, distances[i]);
     }
-    touched
+    passed
 }
 
-/// Adds a weight to the totals whose bits are set in the mask, from the lowest on.
-fn add<A: Allocator + Copy>(totals: &mut Vec<u64, A>, mask: u64, weight: u64)
-    requires count { length totals.old.items ≤ most_limits }
-    requires mask { IsBelow (length totals.old.items) mask }
+/// Adds a weight to the totals whose bits are set in the mask, from the lowest on, and looks again at each of them.
+fn add<A: Allocator + Copy>(
+    added: &mut Vec<u64, A>,
+    allowed: &[u64],
+    over: u64,
+    mask: u64,
+    weight: u64,
+) -> u64
+    requires count { length added.old.items ≡ most_limits }
+    requires bounds { length allowed.now ≡ most_limits }
     requires weight { weight ≤ greatest_distance }
-    requires few { (i : ℕ) → slice_index totals.old.items i ≤ greatest_weight * most_updates }
-    ensures count { length totals.new.items ≡ length totals.old.items }
-    ensures totals { (i : ℕ) → i < length totals.old.items →
-        slice_index totals.new.items i ≡ slice_index totals.old.items i + share (bit_at mask i == 1) weight }
+    requires few { (i : ℕ) → slice_index added.old.items i ≤ greatest_weight * most_updates }
+    requires passed { ArePassed over added.old.items allowed.now }
+    ensures count { length added.new.items ≡ most_limits }
+    ensures totals { (i : ℕ) → i < most_limits →
+        slice_index added.new.items i ≡ slice_index added.old.items i + share (bit_at mask i == 1) weight }
+    ensures passed { ArePassed result added.new.items allowed.now }
+{
+    let mut passed = over;
+    let mut rest = mask;
+    while rest != 0 {
+        let bit = rest.trailing_zeros();
+        let place = bit as usize;
+        let total = added[place] + weight;
+        added[place] = total;
+        passed = with_bit(passed, place, total > allowed[place]);
+        rest &= !(1 << bit);
+    }
+    passed
+}
+
+/// Raises by the updates after a place, up to a later one, what is allowed on the scopes on which they count.
+pub(crate) fn raise_to<A: Allocator + Copy>(
+    allowed: &mut Vec<u64, A>,
+    log: &Log<A>,
+    masks: &[u64],
+    from: u64,
+    to: u64,
+)
+    requires forward { from ≤ to }
+    requires last { to ≤ length log.now.sets }
+    requires objects { length log.now.start ≤ most_objects }
+    requires masks { length masks.now ≡ most_objects }
+    requires count { length allowed.old.items ≡ most_limits }
+    requires few { (i : ℕ) → slice_index allowed.old.items i ≤ greatest_amount + greatest_weight * from }
+    ensures count { length allowed.new.items ≡ most_limits }
+    ensures few { (i : ℕ) → slice_index allowed.new.items i ≤ greatest_amount + greatest_weight * to }
+    ensures totals { (i : ℕ) → i < most_limits →
+        slice_index allowed.new.items i ≡ slice_index allowed.old.items i + sum_from
+        (weight_where (has_bit masks.now i) log.now) from (to - from) }
+{
+    for place in from..to {
+        raise(allowed, log, masks, place + 1);
+    }
+}
+
+/// Raises by the update at a place what is allowed on the scopes on which its changes count.
+fn raise<A: Allocator + Copy>(allowed: &mut Vec<u64, A>, log: &Log<A>, masks: &[u64], place: u64)
+    requires first { 0 < place }
+    requires last { place ≤ length log.now.sets }
+    requires objects { length log.now.start ≤ most_objects }
+    requires masks { length masks.now ≡ most_objects }
+    requires count { length allowed.old.items ≡ most_limits }
+    requires few { (i : ℕ) → slice_index allowed.old.items i ≤ greatest_amount + greatest_weight * (place - 1) }
+    ensures count { length allowed.new.items ≡ most_limits }
+    ensures few { (i : ℕ) → slice_index allowed.new.items i ≤ greatest_amount + greatest_weight * place }
+    ensures totals { (i : ℕ) → i < most_limits →
+        slice_index allowed.new.items i ≡ slice_index allowed.old.items i + weight_where (has_bit masks.now i) log.now (place - 1) }
+{
+    log.keeps();
+    let changes = log.set(place).changes();
+    let distances = log.distances(place);
+    for (i, change) in changes.iter().enumerate() {
+        raise_by(allowed, masks[change.object.index()], distances[i]);
+    }
+}
+
+/// Adds a weight to what is allowed where a bit is set in the mask, from the lowest on.
+fn raise_by<A: Allocator + Copy>(allowed: &mut Vec<u64, A>, mask: u64, weight: u64)
+    requires count { length allowed.old.items ≡ most_limits }
+    requires weight { weight ≤ greatest_distance }
+    requires few { (i : ℕ) → slice_index allowed.old.items i ≤ greatest_amount + greatest_weight * most_updates }
+    ensures count { length allowed.new.items ≡ most_limits }
+    ensures totals { (i : ℕ) → i < most_limits →
+        slice_index allowed.new.items i ≡ slice_index allowed.old.items i + share (bit_at mask i == 1) weight }
 {
     let mut rest = mask;
     while rest != 0 {
         let place = rest.trailing_zeros();
-        totals[place as usize] += weight;
+        allowed[place as usize] += weight;
         rest &= !(1 << place);
     }
 }

@@ -1,7 +1,8 @@
-use Rattle.std.proofs.Common.{not}
-use Rattle.ordup_limits.specs.PassedLimits.{keeps_at, IsMask}
+use Rattle.std.proofs.Common.{◌≡◌, ◌<◌, ℕ}
+use Rattle.std.specs.Prelude.{◌==◌, nat_lt, slice_index}
+use Rattle.std.specs.Int.{bit_at}
 use Rattle.ordup_limits.proofs.passed.passed_of.Given as goal
 
--- the limits so far
+-- the bits so far
 abbrev pub invariant-loop-place : goal.invariant-loop-place
-invariant-loop-place l = IsMask l.place (λ i. not (keeps_at l.limits l.updates l.added l.taken i)) l.passed
+invariant-loop-place l = (i : ℕ) → i < l.place → (bit_at l.passed i == 1) ≡ nat_lt (slice_index l.allowed i) (slice_index l.added i)

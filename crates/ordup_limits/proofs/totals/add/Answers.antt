@@ -1,34 +1,36 @@
-use Rattle.std.proofs.Common.{arith, ◌∙◌, w64}
+use Rattle.std.proofs.Common.{arith, ap, refl, sym, get_or, ◌+◌, ◌∙◌, w64}
 use Rattle.std.proofs.Math.ListN.{length-set}
-use Rattle.std.proofs.lemmas.List.{get_or_read}
-use Rattle.std.specs.Prelude.{◌==◌}
+use Rattle.std.proofs.lemmas.List.{get_or_read, get_or-set_other}
+use Rattle.std.specs.Prelude.{◌==◌, nat_lt}
+use Rattle.std.proofs.lemmas.Grind.{get_or-set_at}
 use Rattle.std.specs.Int.{bit_at, trailing_zeros}
 use Rattle.std.proofs.Math.Facts.{Fits-lt-pow}
 use Rattle.std.proofs.lemmas.Nat.Bits.{bit_at-trailing_zeros}
-use Rattle.ordup_limits.proofs.MaskLemmas.{cleared-less, bit-below, IsBelow-cleared, share-most, share-next}
+use Rattle.ordup_limits.proofs.MaskLemmas.{cleared-less, share-most, share-next}
+use Rattle.ordup_limits.proofs.PassedLemmas.{ArePassed-put}
 use Rattle.ordup_limits.proofs.totals.add.Goals as goal
+
+pub index-requires : goal.index-requires
+index-requires g c =
+    let rest = c.loop-rest.rest in
+    let low = bit_at-trailing_zeros w64 rest (omega (arith, c.loop-rest-test.true)) (Fits-lt-pow c.loop-rest.auto.rest-fits) in
+    omega (arith, low.0, c.loop-rest.invariant.count, c.loop-rest.added.ok.0)
 
 pub index_mut-requires : goal.index_mut-requires
 index_mut-requires g c =
     let rest = c.loop-rest.rest in
     let low = bit_at-trailing_zeros w64 rest (omega (arith, c.loop-rest-test.true)) (Fits-lt-pow c.loop-rest.auto.rest-fits) in
-    omega (
-      arith,
-      bit-below rest _ _ low.1 low.0 c.loop-rest.invariant.below,
-      c.loop-rest.invariant.count,
-      c.loop-rest.totals.ok.0,
-    )
+    omega (arith, low.0, c.loop-rest.invariant.count, c.loop-rest.added.ok.0)
 
-pub overflow_add-index_mut : goal.overflow_add-index_mut
-overflow_add-index_mut g c =
+pub overflow_add-total : goal.overflow_add-total
+overflow_add-total g c =
     let rest = c.loop-rest.rest in
     let low = bit_at-trailing_zeros w64 rest (omega (arith, c.loop-rest-test.true)) (Fits-lt-pow c.loop-rest.auto.rest-fits) in
-    let lt = bit-below rest _ _ low.1 low.0 c.loop-rest.invariant.below in
     let place = trailing_zeros w64 rest in
     omega (
       arith,
-      get_or_read c.loop-rest.totals.items _ _ (omega (arith, lt, c.loop-rest.invariant.count)) c.index_mut.ensures.value 0,
-      c.loop-rest.invariant.totals place lt,
+      get_or_read c.loop-rest.added.items _ _ (omega (arith, low.0, c.loop-rest.invariant.count)) c.index.ensures 0,
+      c.loop-rest.invariant.totals place low.0,
       share-most (bit_at c.args.mask place == 1) c.args.weight,
       c.requires.few place,
       c.requires.weight,
@@ -43,15 +45,19 @@ loop-rest-smaller g c =
 pub loop-rest-preserved : goal.loop-rest-preserved
 loop-rest-preserved g c =
     let rest = c.loop-rest.rest in
-    let totals = c.loop-rest.totals.items in
+    let added = c.loop-rest.added.items in
     let before = c.loop-rest.invariant in
     let low = bit_at-trailing_zeros w64 rest (omega (arith, c.loop-rest-test.true)) (Fits-lt-pow c.loop-rest.auto.rest-fits) in
-    let lt = bit-below rest _ _ low.1 low.0 before.below in
     record {
-      count = length-set totals _ _ ∙ before.count;
-      below = IsBelow-cleared _ rest _ before.below low.1 low.0;
+      count = length-set added _ _ ∙ before.count;
       totals = λ k below.
-          share-next totals rest _ k c.index_mut.result.now c.args.weight _ low.0 (omega (arith, below, c.requires.count))
-          (omega (arith, lt, before.count)) low.1
-          (get_or_read totals _ _ (omega (arith, lt, before.count)) c.index_mut.ensures.value 0) (before.totals k below);
+          share-next added rest _ k c.index.result.now c.args.weight _ low.0 below
+          (omega (arith, low.0, before.count)) low.1
+          (get_or_read added _ _ (omega (arith, low.0, before.count)) c.index.ensures 0) (before.totals k below);
+      passed = ArePassed-put c.loop-rest.passed c.with_bit-passed.result (trailing_zeros w64 rest) added c.args.allowed.now _ c.args.allowed.now _
+          before.passed c.with_bit-passed.ensures
+          (ap (nat_lt (get_or c.args.allowed.now (trailing_zeros w64 rest) 0))
+          (sym (get_or-set_at added (trailing_zeros w64 rest) (trailing_zeros w64 rest) (c.index.result.now + c.args.weight) 0 refl
+          (omega (arith, low.0, before.count)))))
+          (λ k other. get_or-set_other added _ k _ 0 other) (λ k other. refl);
     }

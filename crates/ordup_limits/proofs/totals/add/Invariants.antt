@@ -1,17 +1,19 @@
 use Rattle.std.proofs.Common.{◌≡◌, ◌<◌, ◌+◌, ℕ, length}
 use Rattle.std.specs.Prelude.{slice_index, ◌==◌}
 use Rattle.std.specs.Int.{bit_at}
-use Rattle.ordup_limits.specs.Totals.{IsBelow, share}
+use Rattle.ordup_limits.specs.PassedLimits.{ArePassed}
+use Rattle.ordup_limits.specs.Sizes.{most_limits}
+use Rattle.ordup_limits.specs.Totals.{share}
 use Rattle.ordup_limits.proofs.totals.add.Given as goal
 
 -- with the weight where a bit is left, the totals are those with the weight where the mask has one
 abbrev pub invariant-loop-rest : goal.invariant-loop-rest
 invariant-loop-rest g l = record {
-  count : length l.totals.items ≡ length l.fn.totals.items;
-  below : IsBelow (length l.fn.totals.items) l.rest;
-  totals : (k : ℕ) → k < length l.fn.totals.items
-      → slice_index l.totals.items k + share (bit_at l.rest k == 1) l.weight
-      ≡ slice_index l.fn.totals.items k + share (bit_at l.mask k == 1) l.weight;
+  count : length l.added.items ≡ most_limits;
+  totals : (k : ℕ) → k < most_limits
+      → slice_index l.added.items k + share (bit_at l.rest k == 1) l.weight
+      ≡ slice_index l.fn.added.items k + share (bit_at l.mask k == 1) l.weight;
+  passed : ArePassed l.passed l.added.items l.allowed;
 }
 
 abbrev pub decreases-loop-rest : goal.decreases-loop-rest

@@ -34,6 +34,10 @@ loop-i-preserved g c =
         | inl here ↦ omega (arith, get_or-set_at totals i k w 0 here below, small)
         | inr other ↦ omega (arith, get_or-set_other totals i k w 0 other, before.few k (omega arith))
       ];
+      none = λ k lt past. elim (cases_eq k i) [
+        | inl here ↦ get_or-set_at totals i k w 0 here below ∙ c.total_of.ensures.none (omega (arith, here, past))
+        | inr other ↦ get_or-set_other totals i k w 0 other ∙ before.none k (omega arith) past
+      ];
       each = λ k d lt there. elim (cases_eq k i) [
         | inl here ↦ get_or-set_at totals i k w 0 here below ∙ rw here (c.total_of.ensures.total d (omega (arith, here)))
         | inr other ↦ get_or-set_other totals i k w 0 other ∙ before.each k d (omega arith) there
@@ -48,6 +52,10 @@ returns-clause-totals g c =
       few = λ k. elim (cases_lt k (length totals)) [
         | inl lt ↦ all.few k (omega (arith, all.count, c.loop-i-test.false))
         | inr past ↦ omega (arith, get_or_past totals k 0 past)
+      ];
+      none = λ k past. elim (cases_lt k (length totals)) [
+        | inl lt ↦ all.none k (omega (arith, lt, all.count, c.loop-i-test.false)) past
+        | inr beyond ↦ get_or_past totals k 0 beyond
       ];
       each = λ k d lt. all.each k d (omega (arith, c.requires.few, c.loop-i-test.false)) lt;
     }

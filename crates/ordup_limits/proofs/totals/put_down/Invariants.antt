@@ -11,6 +11,7 @@ abbrev pub invariant-loop-i : goal.invariant-loop-i
 invariant-loop-i g l = record {
   count : length l.totals.items ≡ most_limits;
   few : (k : ℕ) → k < l.i → slice_index l.totals.items k ≤ greatest_weight * l.place;
+  none : (k : ℕ) → k < l.i → length l.limits ≤ k → slice_index l.totals.items k ≡ 0;
   each : (k : ℕ) (d : Limit) → k < l.i → k < length l.limits
       → slice_index l.totals.items k ≡ weighed l.log l.groups (slice_index_or l.limits k d).scope l.place;
 }

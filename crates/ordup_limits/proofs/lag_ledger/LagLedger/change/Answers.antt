@@ -1,4 +1,4 @@
-use Rattle.std.proofs.Common.{arith, ap, sym, length, ◌-◌, ◌∙◌}
+use Rattle.std.proofs.Common.{arith, ap, refl, sym, length, ◌+◌, ◌∙◌}
 use Rattle.std.proofs.Math.ListN.{length-set}
 use Rattle.std.proofs.lemmas.Bool.{true≢false}
 use Rattle.ordup_log.specs.Spans.{IsScopeKnown}
@@ -6,9 +6,14 @@ use Rattle.ordup_limits.specs.declared.limit.Limit.{Limit}
 use Rattle.ordup_limits.specs.Ledgers.{LedgerState}
 use Rattle.ordup_limits.specs.LedgerInside.{ledger_of}
 use Rattle.ordup_limits.specs.Limits.{are_on_one_scope}
-use Rattle.ordup_limits.proofs.ChangeLemmas.{place-small, weighed-few, AreTotals-put, AreMasks-put, IsBelow-put, IsMask-put}
+use Rattle.ordup_limits.proofs.ChangeLemmas.{place-small, weighed-few, AreTotals-put, AreAllowed-put, AreMasks-put}
 use Rattle.ordup_limits.proofs.LedgerLemmas.{StandsFor-prepared}
+use Rattle.ordup_limits.specs.PassedLimits.{least_count}
+use Rattle.ordup_limits.specs.Sizes.{greatest_amount}
+use Rattle.ordup_limits.proofs.PassedLemmas.{ArePassed-put}
 use Rattle.ordup_limits.proofs.PutLemmas.{All-put}
+use Rattle.std.proofs.Math.Nat.{min-le_right}
+use Rattle.std.proofs.lemmas.Grind.{get_or-set_at}
 use Rattle.std.proofs.lemmas.List.{get_or-set_other}
 use Rattle.ordup_limits.proofs.lag_ledger.LagLedger.change.Goals as goal
 
@@ -19,20 +24,24 @@ put_scope-requires-clause-limit g c =
     place-small c.args.self.now.limits c.self.inside.limits l c.index_for-place.result same c.index_for-place.ensures c.requires.room
     c.self.invariant.ledger.few
 
-pub index_mut-requires : goal.index_mut-requires
-index_mut-requires g c =
-    let l : Limit = record { scope = c.args.scope; amount = c.args.amount } in
-    let same = ap (λ (k : LedgerState). k.limits) (rw (← c.self.view_is) at c.prepare.ensures.rest) in
+pub overflow_add-allowed : goal.overflow_add-allowed
+overflow_add-allowed g c =
+    let h = c.args.log.now in
+    let groups = c.args.groups.now in
+    let now = StandsFor-prepared (ledger_of c.self.inside) c.requires.stands (rw (← c.self.view_is) at c.prepare.ensures.rest)
+    (rw (← c.self.view_is) at c.prepare.ensures.masks) in
     omega (
       arith,
-      place-small c.args.self.now.limits c.self.inside.limits l c.index_for-place.result same c.index_for-place.ensures c.requires.room
-          c.self.invariant.ledger.few,
-      c.self.invariant.ledger.taken,
-      c.self.inside.taken.ok.0,
+      c.kept_amount.ensures,
+      min-le_right c.args.amount greatest_amount,
+      c.weighed.ensures,
+      weighed-few h c.keeps.ensures.legal groups c.keeps-2.ensures.groups c.args.scope c.requires.known c.self.inside.reported now.reported,
+      now.reported,
+      c.keeps.ensures.few,
     )
 
-pub index_mut-requires-2 : goal.index_mut-requires-2
-index_mut-requires-2 g c =
+pub index_mut-requires : goal.index_mut-requires
+index_mut-requires g c =
     let l : Limit = record { scope = c.args.scope; amount = c.args.amount } in
     let same = ap (λ (k : LedgerState). k.limits) (rw (← c.self.view_is) at c.prepare.ensures.rest) in
     omega (
@@ -43,21 +52,24 @@ index_mut-requires-2 g c =
       c.self.inside.added.ok.0,
     )
 
-pub overflow_shl-mask : goal.overflow_shl-mask
-overflow_shl-mask g c =
+pub index_mut-requires-2 : goal.index_mut-requires-2
+index_mut-requires-2 g c =
+    let l : Limit = record { scope = c.args.scope; amount = c.args.amount } in
+    let same = ap (λ (k : LedgerState). k.limits) (rw (← c.self.view_is) at c.prepare.ensures.rest) in
+    omega (
+      arith,
+      place-small c.args.self.now.limits c.self.inside.limits l c.index_for-place.result same c.index_for-place.ensures c.requires.room
+          c.self.invariant.ledger.few,
+      c.self.invariant.ledger.allowed,
+      c.self.inside.allowed.ok.0,
+    )
+
+pub with_bit-self-inside-requires : goal.with_bit-self-inside-requires
+with_bit-self-inside-requires g c =
     let l : Limit = record { scope = c.args.scope; amount = c.args.amount } in
     let same = ap (λ (k : LedgerState). k.limits) (rw (← c.self.view_is) at c.prepare.ensures.rest) in
     place-small c.args.self.now.limits c.self.inside.limits l c.index_for-place.result same c.index_for-place.ensures c.requires.room
     c.self.invariant.ledger.few
-
-pub passed_among-self-inside-requires-clause-mask : goal.passed_among-self-inside-requires-clause-mask
-passed_among-self-inside-requires-clause-mask g c =
-    let l : Limit = record { scope = c.args.scope; amount = c.args.amount } in
-    let same = ap (λ (k : LedgerState). k.limits) (rw (← c.self.view_is) at c.prepare.ensures.rest) in
-    rw (c.as_slice-2.ensures.limits, c.put.ensures) (IsBelow-put c.self.inside.limits l _ c.index_for-place.result c.self.inside.passed
-    c.self.invariant.passed c.index_for-place.ensures
-    (place-small c.args.self.now.limits c.self.inside.limits l c.index_for-place.result same c.index_for-place.ensures c.requires.room
-    c.self.invariant.ledger.few))
 
 pub returns-clause-stands : goal.returns-clause-stands
 returns-clause-stands g c =
@@ -79,12 +91,19 @@ returns-clause-stands g c =
           (All-put (λ (m : Limit). IsScopeKnown (length h.start) groups m.scope) are_on_one_scope limits l now.known c.requires.known);
       reported = now.reported;
       extended = now.extended;
-      taken = rw c.put.ensures (AreTotals-put h groups limits l c.self.inside.reported place c.weighed.result c.self.inside.taken.items
-          now.taken c.index_for-place.ensures (omega (arith, small, c.self.invariant.ledger.taken)) c.weighed.ensures
-          (omega (arith, c.weighed.ensures, weighed-few h legal groups are l.scope c.requires.known c.self.inside.reported now.reported)));
-      added = rw c.put.ensures (AreTotals-put h groups limits l c.self.inside.extended place c.weighed-2.result c.self.inside.added.items
-          now.added c.index_for-place.ensures (omega (arith, small, c.self.invariant.ledger.added)) c.weighed-2.ensures
-          (omega (arith, c.weighed-2.ensures, weighed-few h legal groups are l.scope c.requires.known c.self.inside.extended now.extended)));
+      added = rw c.put.ensures (AreTotals-put h groups limits l c.self.inside.extended place c.weighed-total.result c.self.inside.added.items
+          now.added c.index_for-place.ensures (omega (arith, small, c.self.invariant.ledger.added)) c.weighed-total.ensures
+          (omega (arith, c.weighed-total.ensures, weighed-few h legal groups are l.scope c.requires.known c.self.inside.extended now.extended)));
+      allowed = rw c.put.ensures (AreAllowed-put h groups limits l c.self.inside.reported place (c.kept_amount.result + c.weighed.result)
+          c.self.inside.allowed.items now.allowed c.index_for-place.ensures (omega (arith, small, c.self.invariant.ledger.allowed))
+          (omega (arith, c.kept_amount.ensures, c.weighed.ensures))
+          (omega (
+            arith,
+            c.kept_amount.ensures,
+            min-le_right c.args.amount greatest_amount,
+            c.weighed.ensures,
+            weighed-few h legal groups are l.scope c.requires.known c.self.inside.reported now.reported,
+          )));
       masks = λ e. rw c.put.ensures (AreMasks-put groups limits l place c.self.inside.masks.items c.put_scope.new.masks.items masks
           c.index_for-place.ensures c.put_scope.ensures.bits);
     }
@@ -101,22 +120,22 @@ invariant_of-self g c =
     record {
       ledger = record {
         few = c.as_slice.ensures.few;
-        taken = length-set k.taken.items place c.weighed.result ∙ before.ledger.taken;
-        added = length-set k.added.items place c.weighed-2.result ∙ before.ledger.added;
+        last = before.ledger.last;
+        added = length-set k.added.items place c.weighed-total.result ∙ before.ledger.added;
+        allowed = length-set k.allowed.items place (c.kept_amount.result + c.weighed.result) ∙ before.ledger.allowed;
         masks = c.put_scope.ensures.count;
         empty = λ e x. absurd (true≢false (sym (ap (λ (s : LedgerState). s.has_masks) rest) ∙ e));
       };
-      counts = rw c.as_slice.ensures.limits at c.counts_of-self-inside.ensures;
-      passed = rw c.put.ensures (IsMask-put k.limits l (k.extended - k.reported) place k.added.items _ k.taken.items _ k.passed
-          c.passed_among-self-inside.result before.passed c.index_for-place.ensures small
-          (λ i other. get_or-set_other k.added.items place i c.weighed-2.result 0 other)
-          (λ i other. get_or-set_other k.taken.items place i c.weighed.result 0 other)
+      count = c.least_count-self-inside.ensures ∙ ap least_count c.as_slice.ensures.limits;
+      passed = ArePassed-put k.passed c.with_bit-self-inside.result place k.added.items k.allowed.items _ _ _ before.passed
+          c.with_bit-self-inside.ensures
           (rw (
-            c.saturating_sub-updates.ensures,
-            c.as_slice-2.ensures.limits,
-            c.put.ensures,
-            c.as_slice-added.ensures.value,
-            c.as_slice-taken.ensures.value,
-          ) at c.passed_among-self-inside.ensures));
-      fits = c.passed_among-self-inside.type_inv;
+            get_or-set_at k.allowed.items place place (c.kept_amount.result + c.weighed.result) 0 refl
+                (omega (arith, small, before.ledger.allowed)),
+            get_or-set_at k.added.items place place c.weighed-total.result 0 refl (omega (arith, small, before.ledger.added)),
+          )
+          refl)
+          (λ i other. get_or-set_other k.added.items place i c.weighed-total.result 0 other)
+          (λ i other. get_or-set_other k.allowed.items place i (c.kept_amount.result + c.weighed.result) 0 other);
+      fits = c.with_bit-self-inside.type_inv;
     }

@@ -1,3 +1,4 @@
+use Rattle.std.proofs.Common.{arith}
 use Rattle.ordup_limits.proofs.lag_ledger.LagLedger.stand_at.Goals as goal
 
 pub invariant_of-self : goal.invariant_of-self
@@ -6,17 +7,13 @@ invariant_of-self g c =
     record {
       ledger = record {
         few = before.ledger.few;
-        taken = c.move_to.ensures.count;
-        added = c.move_to-2.ensures.count;
+        last = omega (arith, c.requires.extended, c.keeps.ensures.few);
+        added = c.move_added.ensures.count;
+        allowed = c.move_allowed.ensures.count;
         masks = before.ledger.masks;
         empty = before.ledger.empty;
       };
-      counts = before.counts;
-      passed = rw (
-        c.saturating_sub-updates.ensures,
-        c.as_slice-added.ensures.value,
-        c.as_slice-taken.ensures.value,
-        c.as_slice-limits.ensures.limits,
-      ) at c.passed_of-self-inside.ensures;
+      count = before.count;
+      passed = rw (c.as_slice.ensures.value, c.as_slice-2.ensures.value) at c.passed_of-self-inside.ensures;
       fits = c.passed_of-self-inside.type_inv;
     }

@@ -6,7 +6,7 @@ use Rattle.ordup_primary.proofs.primary.Primary.forced_now.Goals as goal
 
 -- a ledger, for a place that has none
 default : LedgerState
-default = record { limits = []; reported = 0; extended = 0; taken = []; added = []; masks = []; has_masks = false }
+default = record { limits = []; reported = 0; extended = 0; added = []; allowed = []; masks = []; has_masks = false }
 
 pub invariant_of-self : goal.invariant_of-self
 invariant_of-self g c =

@@ -1,0 +1,49 @@
+use Rattle.std.proofs.Common.{arith, ◌∙◌, w64}
+use Rattle.std.proofs.Math.ListN.{length-set}
+use Rattle.std.proofs.lemmas.List.{get_or_read}
+use Rattle.std.specs.Prelude.{◌==◌}
+use Rattle.std.specs.Int.{bit_at, trailing_zeros}
+use Rattle.std.proofs.Math.Facts.{Fits-lt-pow}
+use Rattle.std.proofs.lemmas.Nat.Bits.{bit_at-trailing_zeros}
+use Rattle.ordup_limits.proofs.MaskLemmas.{cleared-less, share-most, share-next}
+use Rattle.ordup_limits.proofs.totals.raise_by.Goals as goal
+
+pub index_mut-requires : goal.index_mut-requires
+index_mut-requires g c =
+    let rest = c.loop-rest.rest in
+    let low = bit_at-trailing_zeros w64 rest (omega (arith, c.loop-rest-test.true)) (Fits-lt-pow c.loop-rest.auto.rest-fits) in
+    omega (arith, low.0, c.loop-rest.invariant.count, c.loop-rest.allowed.ok.0)
+
+pub overflow_add-index_mut : goal.overflow_add-index_mut
+overflow_add-index_mut g c =
+    let rest = c.loop-rest.rest in
+    let low = bit_at-trailing_zeros w64 rest (omega (arith, c.loop-rest-test.true)) (Fits-lt-pow c.loop-rest.auto.rest-fits) in
+    let place = trailing_zeros w64 rest in
+    omega (
+      arith,
+      get_or_read c.loop-rest.allowed.items _ _ (omega (arith, low.0, c.loop-rest.invariant.count)) c.index_mut.ensures.value 0,
+      c.loop-rest.invariant.totals place low.0,
+      share-most (bit_at c.args.mask place == 1) c.args.weight,
+      c.requires.few place,
+      c.requires.weight,
+    )
+
+pub loop-rest-smaller : goal.loop-rest-smaller
+loop-rest-smaller g c =
+    let rest = c.loop-rest.rest in
+    let low = bit_at-trailing_zeros w64 rest (omega (arith, c.loop-rest-test.true)) (Fits-lt-pow c.loop-rest.auto.rest-fits) in
+    cleared-less rest _ low.0 low.1
+
+pub loop-rest-preserved : goal.loop-rest-preserved
+loop-rest-preserved g c =
+    let rest = c.loop-rest.rest in
+    let allowed = c.loop-rest.allowed.items in
+    let before = c.loop-rest.invariant in
+    let low = bit_at-trailing_zeros w64 rest (omega (arith, c.loop-rest-test.true)) (Fits-lt-pow c.loop-rest.auto.rest-fits) in
+    record {
+      count = length-set allowed _ _ ∙ before.count;
+      totals = λ k below.
+          share-next allowed rest _ k c.index_mut.result.now c.args.weight _ low.0 below
+          (omega (arith, low.0, before.count)) low.1
+          (get_or_read allowed _ _ (omega (arith, low.0, before.count)) c.index_mut.ensures.value 0) (before.totals k below);
+    }

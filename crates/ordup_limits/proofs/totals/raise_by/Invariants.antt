@@ -1,0 +1,18 @@
+use Rattle.std.proofs.Common.{◌≡◌, ◌<◌, ◌+◌, ℕ, length}
+use Rattle.std.specs.Prelude.{slice_index, ◌==◌}
+use Rattle.std.specs.Int.{bit_at}
+use Rattle.ordup_limits.specs.Sizes.{most_limits}
+use Rattle.ordup_limits.specs.Totals.{share}
+use Rattle.ordup_limits.proofs.totals.raise_by.Given as goal
+
+-- with the weight where a bit is left, the totals are those with the weight where the mask has one
+abbrev pub invariant-loop-rest : goal.invariant-loop-rest
+invariant-loop-rest g l = record {
+  count : length l.allowed.items ≡ most_limits;
+  totals : (k : ℕ) → k < most_limits
+      → slice_index l.allowed.items k + share (bit_at l.rest k == 1) l.weight
+      ≡ slice_index l.fn.allowed.items k + share (bit_at l.mask k == 1) l.weight;
+}
+
+abbrev pub decreases-loop-rest : goal.decreases-loop-rest
+decreases-loop-rest g l = l.rest

@@ -14,14 +14,15 @@ use Rattle.ordup_objects.specs.Sizes.{most_updates, greatest_distance, greatest_
 use Rattle.ordup_objects.specs.States.{State, after, is_legal, IsState}
 use Rattle.ordup_objects.specs.Sets.{IsSet, AreKnown}
 use Rattle.ordup_objects.specs.Serial.{History, serial, set_at, with_update, prefix_of, IsLegalHistory}
+use Rattle.ordup_objects.specs.Sums.{sum_from}
 use Rattle.ordup_objects.specs.Weights.{object_weight, distance_by, distances_of, distance_beside}
 use Rattle.ordup_log.specs.declared.log.Log.TheInside.{Inside}
 use Rattle.ordup_log.specs.declared.scope.Scope.TheVariants.{All as Everything}
 use Rattle.ordup_log.specs.Appending.{append_refusal}
-use Rattle.ordup_log.specs.Spans.{weight}
+use Rattle.ordup_log.specs.Spans.{weight, span}
 use Rattle.ordup_log.specs.Postings.{last_weight, posted}
 use Rattle.ordup_log.specs.LogInside.{IsLog, IsKept, history_of}
-use Rattle.ordup_objects.proofs.SumLemmas.{sum_from-few}
+use Rattle.ordup_objects.proofs.SumLemmas.{sum_from-few, sum_from-same}
 use Rattle.ordup_objects.proofs.SetLemmas.{distances_of-few, distance_beside-few}
 use Rattle.ordup_objects.proofs.SpanLemmas.{object_weight-longer}
 use Rattle.ordup_objects.proofs.SerialLemmas.{length-after, serial-longer, serial-last, IsLegalHistory-longer, IsState-serial}
@@ -37,6 +38,20 @@ take-drop-more n b xs ys le =
 -- what comes after a list is the part from its end on
 pub take-drop-last : (n b : ℕ) (xs ys : List ℕ) → b ≡ length xs → n ≡ length ys → take n (drop b (xs ++ ys)) ≡ ys
 take-drop-last n b xs ys at len = rw (at, len, drop-append_seam xs ys) (take-length ys)
+
+-- the running weights of a log that grows are those of its updates
+running-longer : (f g : ℕ → ℕ) (n : ℕ) (running : List ℕ) (before w : ℕ) → length running ≡ n
+    → ((k : ℕ) → k < n → get_or running k 0 ≡ sum_from f 0 (suc k)) → ((j : ℕ) → j < n → f j ≡ g j) → before ≡ sum_from f 0 n
+    → w ≡ g n → (k : ℕ) → k < suc n → get_or (running ++ (before + w) ∷ []) k 0 ≡ sum_from g 0 (suc k)
+running-longer f g n running before w len each same at weight k lt = elim (cases_lt k n) [
+  | inl below ↦
+      get_or-append running ((before + w) ∷ []) 0 k (omega (arith, len, below)) ∙ each k below
+      ∙ sum_from-same f g 0 (suc k) (λ j less. same j (omega (arith, less, below)))
+  | inr past ↦ (let here : k ≡ n = omega (arith, lt, past) in
+      let start : 0 + n ≡ n = omega arith in
+      get_or_push running (before + w) 0 k (len ∙ sym here)
+      ∙ rw here (omega (arith, at, weight, sum_from-same f g 0 n (λ j less. same j (omega (arith, less))), ap g start)))
+]
 
 -- the distances of a log that grows are those of its updates
 kept-longer : (h : History) (m : List Change) (distances begins ds : List ℕ) → length begins ≡ length h.sets
@@ -76,33 +91,44 @@ module _ {A : Type 0} (l : Inside A) (is : IsLog l) where
       let now : is_legal m (serial (history_of l) (length l.sets.items)) ≡ true = rw (← l.sets.ok.0, ← is.end) legal in
       rw (← view, other, now) refl
 
+  -- what all updates of a log weigh, by its fields
+  pub weighed-before : (h : History) (count before : ℕ) → history_of l ≡ h → count ≡ length h.sets → before ≡ span h [] Everything 0 count
+      → before ≡ sum_from (weight (history_of l) [] Everything) 0 (length l.sets.items)
+  weighed-before h count before view at weighs =
+      let all : count - 0 ≡ length h.sets = omega (arith, at) in
+      weighs ∙ ap (sum_from (weight h [] Everything) 0) all
+      ∙ ap (λ (k : History). sum_from (weight k [] Everything) 0 (length k.sets)) (sym view)
+
   -- a log keeps its invariant where its lists only get room
   pub IsLog-same : {results : List ℤ} (sets : Vec (List Change) A) (distances begins : Vec ℕ A) (postings : Vec (Vec (ℕ × ℕ) A) A)
-      (all : Vec (ℕ × ℕ) A) → sets.items ≡ l.sets.items → distances.items ≡ l.distances.items → begins.items ≡ l.begins.items
+      (running : Vec ℕ A) → sets.items ≡ l.sets.items → distances.items ≡ l.distances.items → begins.items ≡ l.begins.items
       → length postings.items ≡ length l.postings.items
       → ((x : ℕ) (d : Vec (ℕ × ℕ) A) → (get_or postings.items x d).items ≡ (get_or l.postings.items x d).items)
-      → all.items ≡ l.all.items
+      → running.items ≡ l.running.items
       → IsLog (record {
         start = l.start;
         sets = sets;
         distances = distances;
         begins = begins;
         postings = postings;
-        all = all;
+        running = running;
         end = l.end;
         results = results;
       })
-  IsLog-same sets distances begins postings all e f b count each g =
+  IsLog-same sets distances begins postings running e f b count each g =
       let len : vec_len sets ≡ vec_len l.sets = omega (arith, sets.ok.0, l.sets.ok.0, ap length e) in
       record {
         few = omega (arith, len, is.few);
         legal = rw e is.legal;
         same = is.same;
         kept = omega (arith, len, begins.ok.0, l.begins.ok.0, ap length b, is.kept);
+        short = omega (arith, len, distances.ok.0, l.distances.ok.0, ap length f, is.short);
         each = λ k lt. rw (e, f, b) (is.each k (rw e at lt));
         count = count ∙ is.count;
         posted = λ x d lt. rw e (each x d ∙ is.posted x d lt);
-        all = rw e (g ∙ is.all);
+        counted = omega (arith, len, running.ok.0, l.running.ok.0, ap length g, is.counted);
+        running = λ k lt. ap (λ xs. get_or xs k 0) g ∙ is.running k (rw e at lt)
+            ∙ ap (λ xs. sum_from (weight (record { start = l.start; sets = xs }) [] Everything) 0 (suc k)) (sym e);
         end = rw (len, e) is.end;
       }
 
@@ -137,14 +163,13 @@ module _ {A : Type 0} (l : Inside A) (is : IsLog l) where
         )
 
     -- and so on all objects
-    pub all-fits : (all : List (ℕ × ℕ)) → all ≡ l.all.items → last_weight all + sum ds < 2 ^ 64
-    all-fits all e =
+    pub all-fits : (before : ℕ) → before ≡ sum_from (weight (history_of l) [] Everything) 0 (length l.sets.items) → before + sum ds < 2 ^ 64
+    all-fits before at =
         let h : History = history_of l in
         omega (
           arith,
           total-few,
-          ap last_weight (e ∙ is.all),
-          last_weight-postings (weight h [] Everything) (length h.sets),
+          at,
           sum_from-few (weight h [] Everything) greatest_weight 0 (length h.sets)
               (λ j below. all_weight-few h is.legal j (omega arith)),
           is.few,
@@ -153,25 +178,26 @@ module _ {A : Type 0} (l : Inside A) (is : IsLog l) where
 
     -- a log keeps its invariant by one legal set more, with its distances and postings and the values after it
     pub IsLog-longer : {results : List ℤ} (sets : Vec (List Change) A) (distances begins : Vec ℕ A) (postings : Vec (Vec (ℕ × ℕ) A) A)
-        (all : Vec (ℕ × ℕ) A) (end : State) (number : ℕ)
+        (running : Vec ℕ A) (end : State) (number so_far : ℕ)
         → AreKnown (length l.start) m → vec_len l.sets < most_updates → number ≡ vec_len l.sets + 1
         → sets.items ≡ l.sets.items ++ m ∷ [] → distances.items ≡ l.distances.items ++ ds
         → begins.items ≡ l.begins.items ++ length l.distances.items ∷ []
         → length postings.items ≡ length l.postings.items
         → ((x : ℕ) (d : Vec (ℕ × ℕ) A) → x < length l.postings.items →
         (get_or postings.items x d).items ≡ posted (get_or l.postings.items x d).items number (distance_beside m ds x))
-        → all.items ≡ posted l.all.items number (sum ds) → end ≡ after m l.end
+        → so_far ≡ sum_from (weight (history_of l) [] Everything) 0 (length l.sets.items)
+        → running.items ≡ l.running.items ++ (so_far + sum ds) ∷ [] → end ≡ after m l.end
         → IsLog (record {
           start = l.start;
           sets = sets;
           distances = distances;
           begins = begins;
           postings = postings;
-          all = all;
+          running = running;
           end = end;
           results = results;
         })
-    IsLog-longer sets distances begins postings all end number known few at e f b same each g k =
+    IsLog-longer sets distances begins postings running end number so_far known few at e f b same each was g k =
         let h : History = history_of l in
         let longer : History = with_update h m in
         let n : ℕ = length h.sets in
@@ -203,6 +229,21 @@ module _ {A : Type 0} (l : Inside A) (is : IsLog l) where
             length_push l.begins.items (length l.distances.items),
             is.kept,
           );
+          short = omega (
+            arith,
+            distances.ok.0,
+            l.distances.ok.0,
+            sets.ok.0,
+            ap length e,
+            more,
+            here,
+            ap length f,
+            length-append l.distances.items ds,
+            ap length are,
+            length-map m (distance_by l.end),
+            set.few,
+            is.short,
+          );
           each = λ j lt. rw (e, f, b) (kept-longer h m l.distances.items l.begins.items ds
               (omega (arith, l.sets.ok.0, l.begins.ok.0, is.kept)) is.each (are ∙ ap (λ v. distances_of v m) now) j
               (omega (arith, ap length e)));
@@ -212,9 +253,24 @@ module _ {A : Type 0} (l : Inside A) (is : IsLog l) where
               (λ j below. sym (object_weight-longer h (m ∷ []) x j below))
               (ap (λ w. distance_beside m w x) are ∙ beside x ∙ distance_beside-at longer legal_now x n (omega (arith, more)))
               number_is);
-          all = rw (e, more) (postings-grown (weight h [] Everything) (weight longer [] Everything) n number (sum ds) _ _
-              is.all g (λ j below. sym (weight-longer h (m ∷ []) [] Everything j below))
-              (ap sum are ∙ added ∙ sum-at longer legal_now n (omega (arith, more))) number_is);
+          counted = omega (
+            arith,
+            sets.ok.0,
+            running.ok.0,
+            l.sets.ok.0,
+            l.running.ok.0,
+            ap length e,
+            more,
+            ap length g,
+            length_push l.running.items (so_far + sum ds),
+            is.counted,
+          );
+          running = λ j lt. ap (λ xs. get_or xs j 0) g
+              ∙ running-longer (weight h [] Everything) (weight longer [] Everything) n l.running.items so_far (sum ds)
+              (omega (arith, l.sets.ok.0, l.running.ok.0, is.counted)) is.running
+              (λ i below. sym (weight-longer h (m ∷ []) [] Everything i below)) was
+              (ap sum are ∙ added ∙ sum-at longer legal_now n (omega (arith, more))) j (omega (arith, lt, ap length e, more))
+              ∙ ap (λ xs. sum_from (weight (record { start = l.start; sets = xs }) [] Everything) 0 (suc j)) (sym e);
           end = rw (sets.ok.0, e, length_push h.sets m, serial-last h m, ← now) k;
         }
 

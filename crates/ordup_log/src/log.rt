@@ -6,7 +6,7 @@ ghost use Rattle.ordup_objects.specs.Weights.{distances_of, object_weight, objec
 ghost use Rattle.ordup_log.specs.Postings.{HasRoomAt};
 
 use crate::groups::Groups;
-use crate::postings::{no_postings, post, post_all, reserve_postings};
+use crate::postings::{no_postings, post_all, reserve_postings};
 use crate::scope::Scope;
 use crate::steps::as_of;
 use ordup_objects::sizes::MOST_UPDATES;
@@ -23,12 +23,12 @@ pub struct Log<A: Allocator + Copy = Global> {
     sets: Vec<MessageSet<A>, A>,
     /// How far each change of each set moved its object's value, set after set.
     distances: Vec<u64, A>,
-    /// Where the distances of each set begin.
-    begins: Vec<usize, A>,
+    /// Where the distances of each set begin. A log has at most 64,000,000 of them, so a place fits in four bytes.
+    begins: Vec<u32, A>,
     /// For each object the places with a weight above 0 on it, each with the running weight up to it.
     postings: Vec<Vec<(u64, u64), A>, A>,
-    /// The same for all objects together.
-    all: Vec<(u64, u64), A>,
+    /// What the updates up to each one weigh on all objects together.
+    running: Vec<u64, A>,
     end: Values<A>,
     // Kept from one update to the next, since new memory is zeroed.
     results: Results,
@@ -93,7 +93,7 @@ impl<A: Allocator + Copy> Log<A> {
             distances: Vec::new(alloc),
             begins: Vec::new(alloc),
             postings,
-            all: Vec::new(alloc),
+            running: Vec::new(alloc),
             end,
             results: Results::new(),
         })
@@ -152,6 +152,7 @@ impl<A: Allocator + Copy> Log<A> {
         ensures returned { IfErr result (λ e. e.1 ≡ set) }
         ensures err { IfErr result (λ _. self.new ≡ self.old) }
     {
+        let before = self.running_weight_on_all(self.len());
         if self.sets.len() == MOST_UPDATES {
             return Err((Refusal::LogFull, set));
         }
@@ -162,7 +163,7 @@ impl<A: Allocator + Copy> Log<A> {
             &mut self.sets,
             &mut self.distances,
             &mut self.begins,
-            &mut self.all,
+            &mut self.running,
             &mut self.postings,
             set.changes(),
         ) else {
@@ -175,10 +176,10 @@ impl<A: Allocator + Copy> Log<A> {
             .push_distances(&set, &self.results, &mut self.distances);
         let distances = part(self.distances.as_slice(), begin, count);
         post_all(&mut self.postings, set.changes(), distances, number);
-        post(&mut self.all, number, total(distances));
+        self.running.push_reserved(before + total(distances));
         self.end.put(&set, &self.results);
         self.sets.push_reserved(set);
-        self.begins.push_reserved(begin);
+        self.begins.push_reserved(begin as u32);
         Ok(number)
     }
 
@@ -226,7 +227,7 @@ impl<A: Allocator + Copy> Log<A> {
         ensures distances { result.now ≡ distances_of (serial self.now (number - 1)) (set_at self.now number) }
         ensures legal { IsLegalHistory self.now }
     {
-        let begin = self.begins[number as usize - 1];
+        let begin = self.begins[number as usize - 1] as usize;
         let count = self.set(number).changes().len();
         part(self.distances.as_slice(), begin, count)
     }
@@ -289,7 +290,11 @@ impl<A: Allocator + Copy> Log<A> {
         requires { place ≤ length self.now.sets }
         ensures { result ≡ span self.now [] Scope.All 0 place }
     {
-        as_of(self.all.as_slice(), place)
+        if place == 0 {
+            0
+        } else {
+            self.running[place as usize - 1]
+        }
     }
 
     fn span_on(&self, object: ObjectId, from: u64, to: u64) -> u64
@@ -322,8 +327,8 @@ impl<A: Allocator + Copy> Log<A> {
 fn reserve_update<A: Allocator + Copy>(
     sets: &mut Vec<MessageSet<A>, A>,
     distances: &mut Vec<u64, A>,
-    begins: &mut Vec<usize, A>,
-    all: &mut Vec<(u64, u64), A>,
+    begins: &mut Vec<u32, A>,
+    running: &mut Vec<u64, A>,
     postings: &mut Vec<Vec<(u64, u64), A>, A>,
     changes: &[Change],
 ) -> Result<(), AllocError>
@@ -331,19 +336,19 @@ fn reserve_update<A: Allocator + Copy>(
     ensures sets { sets.new.items ≡ sets.old.items }
     ensures distances { distances.new.items ≡ distances.old.items }
     ensures begins { begins.new.items ≡ begins.old.items }
-    ensures all { all.new.items ≡ all.old.items }
+    ensures running { running.new.items ≡ running.old.items }
     ensures count { length postings.new.items ≡ length postings.old.items }
     ensures same { (x : ℕ) (d : Vec (ℕ × ℕ) A) → (slice_index_or postings.new.items x d).items ≡ (slice_index_or postings.old.items x d).items }
     ensures set_room { OnOk result (vec_len sets.new < vec_capacity sets.new) }
     ensures distance_room { OnOk result (vec_len distances.new + length changes.now ≤ vec_capacity distances.new) }
     ensures begin_room { OnOk result (vec_len begins.new < vec_capacity begins.new) }
-    ensures all_room { OnOk result (vec_len all.new < vec_capacity all.new) }
+    ensures running_room { OnOk result (vec_len running.new < vec_capacity running.new) }
     ensures room { OnOk result (All (λ c. HasRoomAt postings.new.items c.object) changes.now) }
 {
     sets.reserve(1)?;
     distances.reserve(changes.len())?;
     begins.reserve(1)?;
-    all.reserve(1)?;
+    running.reserve(1)?;
     reserve_postings(postings, changes)
 }
 

@@ -62,7 +62,7 @@ pub(crate) fn post_all<A: Allocator + Copy>(
 }
 
 /// Adds a posting at a place, if the place weighs something, to postings that have spare capacity.
-pub(crate) fn post<A: Allocator + Copy>(postings: &mut Vec<(u64, u64), A>, number: u64, weight: u64)
+fn post<A: Allocator + Copy>(postings: &mut Vec<(u64, u64), A>, number: u64, weight: u64)
     requires room { vec_len postings.old < vec_capacity postings.old }
     requires few { last_weight postings.old.items + weight < 2 ^ 64 }
     ensures { postings.new.items ≡ posted postings.old.items number weight }

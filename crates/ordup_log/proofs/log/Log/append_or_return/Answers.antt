@@ -6,7 +6,7 @@ use Rattle.ordup_objects.specs.States.{is_legal}
 use Rattle.ordup_objects.specs.Sets.{IsSet, AreKnown}
 use Rattle.ordup_objects.specs.Weights.{distance_by, distance_beside, distances_of}
 use Rattle.ordup_log.specs.Postings.{posted}
-use Rattle.ordup_log.proofs.LogLemmas.{allowed, IsLog-same, IsLog-longer, total-few, posted-fits, all-fits, take-drop-last}
+use Rattle.ordup_log.proofs.LogLemmas.{allowed, weighed-before, IsLog-same, IsLog-longer, total-few, posted-fits, all-fits, take-drop-last}
 use Rattle.ordup_log.proofs.log.Log.append_or_return.Goals as goal
 
 pub returns-in_default-clause-refused : goal.returns-in_default-clause-refused
@@ -15,8 +15,8 @@ returns-in_default-clause-refused g c = grind (arith, common_steps)
 pub invariant_of-self-in_default-reserve_update : goal.invariant_of-self-in_default-reserve_update
 invariant_of-self-in_default-reserve_update g c =
     let r = c.reserve_update in
-    IsLog-same c.self.inside c.self.invariant r.new.sets r.new.distances r.new.begins r.new.postings r.new.all
-    r.ensures.sets r.ensures.distances r.ensures.begins r.ensures.count r.ensures.same r.ensures.all
+    IsLog-same c.self.inside c.self.invariant r.new.sets r.new.distances r.new.begins r.new.postings r.new.running
+    r.ensures.sets r.ensures.distances r.ensures.begins r.ensures.count r.ensures.same r.ensures.running
 
 pub returns-in_default-reserve_update-clause-refused : goal.returns-in_default-reserve_update-clause-refused
 returns-in_default-reserve_update-clause-refused g c =
@@ -68,8 +68,8 @@ total-requires g c =
     (omega (arith, ap length c.changes-count.ensures.changes, length-map c.args.set (distance_by c.self.inside.end))) in
     omega (arith, total-few c.self.inside c.self.invariant c.args.set ds set legal are)
 
-pub post-requires-clause-few : goal.post-requires-clause-few
-post-requires-clause-few g c =
+pub overflow_add-before : goal.overflow_add-before
+overflow_add-before g c =
     let legal : is_legal c.args.set c.self.inside.end ≡ true = search rules in
     let set : IsSet c.args.set = c.changes.ensures.set in
     let ds = c.part-distances.result.now in
@@ -81,8 +81,9 @@ post-requires-clause-few g c =
     omega (
       arith,
       c.total.ensures,
-      all-fits c.self.inside c.self.invariant c.args.set ds set legal are c.reserve_update.new.all.items
-          c.reserve_update.ensures.all,
+      all-fits c.self.inside c.self.invariant c.args.set ds set legal are
+          c.running_weight_on_all-before.result (weighed-before c.self.inside c.self.invariant c.args.self.now c.len.result
+          c.running_weight_on_all-before.result c.self.view_is c.len.ensures.len c.running_weight_on_all-before.ensures),
     )
 
 pub put-requires-clause-known : goal.put-requires-clause-known
@@ -107,25 +108,28 @@ invariant_of-self-2 g c =
     (distances_of c.self.inside.end c.args.set) (omega (arith, c.reserve_update.new.distances.ok.0))
     (omega (arith, ap length c.changes-count.ensures.changes, length-map c.args.set (distance_by c.self.inside.end))) in
     let posts = rw c.changes-2.ensures.changes at c.post_all.ensures in
-    IsLog-longer c.self.inside c.self.invariant c.args.set ds set legal are c.push_reserved.new.self c.push_distances.new.distances
-    c.push_reserved-2.new.self c.post_all.new.postings c.post.new.postings c.put.new.self (c.len-2.result + 1)
+    IsLog-longer c.self.inside c.self.invariant c.args.set ds set legal are c.push_reserved-2.new.self c.push_distances.new.distances
+    c.push_reserved-3.new.self c.post_all.new.postings c.push_reserved.new.self c.put.new.self (c.len-3.result + 1)
+    c.running_weight_on_all-before.result
     (rw (← c.self.view_is) at c.requires)
     (omega arith)
     (omega (arith, ap length c.reserve_update.ensures.sets, c.self.inside.sets.ok.0, c.reserve_update.new.sets.ok.0))
-    (c.push_reserved.ensures.items ∙ ap (λ xs. xs ++ c.args.set ∷ []) c.reserve_update.ensures.sets)
+    (c.push_reserved-2.ensures.items ∙ ap (λ xs. xs ++ c.args.set ∷ []) c.reserve_update.ensures.sets)
     (c.push_distances.ensures ∙ ap (λ xs. xs ++ distances_of c.self.inside.end c.args.set) c.reserve_update.ensures.distances
     ∙ ap (λ xs. c.self.inside.distances.items ++ xs) (sym are))
-    (c.push_reserved-2.ensures.items
+    (c.push_reserved-3.ensures.items
     ∙ ap (λ xs. xs ++ c.len-begin.result ∷ []) c.reserve_update.ensures.begins
     ∙ ap (λ n. c.self.inside.begins.items ++ n ∷ [])
     (omega (arith, c.reserve_update.new.distances.ok.0, ap length c.reserve_update.ensures.distances)))
     (posts.count ∙ c.reserve_update.ensures.count)
     (λ x d lt.
     posts.each x d (omega (arith, lt, c.reserve_update.ensures.count))
-    ∙ ap (λ p. posted p (c.len-2.result + 1) (distance_beside c.args.set ds x)) (c.reserve_update.ensures.same x d))
-    (c.post.ensures
-    ∙ ap (λ p. posted p (c.len-2.result + 1) c.total.result) c.reserve_update.ensures.all
-    ∙ ap (posted c.self.inside.all.items (c.len-2.result + 1)) c.total.ensures)
+    ∙ ap (λ p. posted p (c.len-3.result + 1) (distance_beside c.args.set ds x)) (c.reserve_update.ensures.same x d))
+    (weighed-before c.self.inside c.self.invariant c.args.self.now c.len.result
+    c.running_weight_on_all-before.result c.self.view_is c.len.ensures.len c.running_weight_on_all-before.ensures)
+    (c.push_reserved.ensures.items
+    ∙ ap (λ xs. xs ++ (c.running_weight_on_all-before.result + c.total.result) ∷ []) c.reserve_update.ensures.running
+    ∙ ap (λ n. c.self.inside.running.items ++ (c.running_weight_on_all-before.result + n) ∷ []) c.total.ensures)
     c.put.ensures.after
 
 pub returns-clause-allowed : goal.returns-clause-allowed

@@ -1,4 +1,4 @@
-ghost use Rattle.std.specs.Prelude.{◌≡◌, ◌≤◌, [], ◌∷◌, ◌++◌, length, min, IfOk, IfErr};
+ghost use Rattle.std.specs.Prelude.{◌≡◌, ◌≤◌, [], ◌∷◌, ◌++◌, length, min, IsTrue, IfOk, IfErr};
 ghost use Rattle.ordup_feed.specs.Parcels.{AreInOrder, IsNext};
 ghost use Rattle.ordup_feed.specs.Ends.{Sending};
 
@@ -66,6 +66,14 @@ impl SendEnd {
                 Err(Returned { refusal, parcel })
             }
         }
+    }
+
+    /// Whether the queue is full at one moment of the call: then a push would be refused. It takes no memory.
+    pub fn is_full(&mut self) -> bool
+        ensures full { IsTrue result → self.old.feed.capacity ≤ length self.old.pushed }
+        ensures same { self.new ≡ self.old }
+    {
+        self.queue.is_full_as::<Push>(&mut self.pass)
     }
 
     /// How many parcels the site took, as the counter says now; or the number pushed where that is less. It takes no memory.

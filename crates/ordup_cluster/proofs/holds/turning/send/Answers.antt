@@ -11,7 +11,7 @@ loop-site-preserved g c =
     let p = c.loop-site.primary in
     let s = c.args.site in
     let marked = c.mark_sent.ensures.marked in
-    let pushed = c.in-Ok.ensures.pushed in
+    let pushed = rw c.is_full.ensures.same at c.in-Ok.ensures.pushed in
     let log = ap (λ (q : PrimaryState). length q.log.sets) before.site in
     let last = c.last_to_send-last.ensures in
     let unsent : (progress_at p s).sent < length p.log.sets =
@@ -34,5 +34,6 @@ pub returns-in-Err-clause-out : goal.returns-in-Err-clause-out
 returns-in-Err-clause-out g c =
     let before = c.loop-site.invariant in
     let count = pushed-count _ _ _ c.keeps.ensures.sound before.inside before.tied in
-    rw c.in-Err.ensures.refused.2
-    (record { some = before.sent; out = inr (omega (arith, count, c.in-Err.ensures.full)) })
+    let full = rw c.is_full.ensures.same at c.in-Err.ensures.full in
+    rw (c.in-Err.ensures.refused.2, c.is_full.ensures.same)
+    (record { some = before.sent; out = inr (omega (arith, count, full)) })

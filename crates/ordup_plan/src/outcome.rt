@@ -4,13 +4,11 @@ ghost use Rattle.ordup_primary.specs.Primaries.{IsPrimary};
 ghost use Rattle.ordup_plan.specs.Outcomes.{outcome_text, site_text, certified_text};
 
 use crate::tally::Tally;
-use ordup_audit::{Verdict, check};
 use ordup_cluster::Closed;
 use ordup_objects::SiteId;
 use ordup_primary::Primary;
-use ordup_record::record_of;
 use ordup_site::Site;
-use ordup_text::{TextBuffer, push_done, push_named, push_numbered, push_values, push_with_number};
+use ordup_text::{TextBuffer, push_done, push_numbered, push_values, push_with_number};
 use std::alloc::{AllocError, Global};
 
 /// The outcome as text: what is left of a cluster, and how its callers were answered.
@@ -32,7 +30,7 @@ pub(crate) fn outcome_of(
         push_site(&mut out, primary, site, closed.site(site))?;
     }
     for place in 0..primary.setup().sites() {
-        push_certified(alloc, &mut out, primary, SiteId::new(place as u8))?;
+        push_certified(&mut out, primary, SiteId::new(place as u8))?;
     }
     Ok(out)
 }
@@ -57,30 +55,19 @@ fn push_site(
     Ok(())
 }
 
-/// Adds how many rounds a site needs at least, which the check of its record has shown to be as many as it had.
-fn push_certified(
-    alloc: Global,
-    out: &mut TextBuffer,
-    primary: &Primary,
-    site: SiteId,
-) -> Result<(), AllocError>
+/// Adds how many rounds a site had, which are the fewest that its record can have.
+///
+/// The check of the site's record would answer the same number, so no record is formed: each record of a primary is valid, and of a
+/// valid record the check answers the number of its rounds.
+fn push_certified(out: &mut TextBuffer, primary: &Primary, site: SiteId) -> Result<(), AllocError>
     requires { site < length primary.now.sites }
     ensures { OnOk result (out.new.text ≡ out.old.text ++ certified_text primary.now site) }
 {
-    let Ok(shown) = record_of(alloc, primary, site) else {
-        return Err(AllocError);
-    };
-    let pushed = match check(&shown) {
-        Verdict::Fewest(rounds) => push_numbered(
-            out,
-            b"certified ",
-            shown.site().as_bytes(),
-            rounds,
-        ),
-        // For the proof: no record of a primary is refused.
-        Verdict::No { .. } => push_named(out, b"uncertified ", shown.site().as_bytes()),
-    };
-    // By a call: where the record goes out of scope, the proof takes it apart.
-    drop(shown);
-    pushed
+    primary.keeps();
+    push_numbered(
+        out,
+        b"certified ",
+        primary.setup().site_name(site).as_bytes(),
+        primary.rounds(site).len() as u64,
+    )
 }

@@ -1,6 +1,8 @@
 pub mod Sizes
 pub mod Records
 pub mod RecordInside
+pub mod RecordViews
+pub mod RecordViewInside
 pub mod Validity
 pub mod Reasons
 pub mod Rows

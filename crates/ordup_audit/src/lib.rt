@@ -14,7 +14,9 @@ mod least_starts;
 mod legality;
 mod limits;
 mod record;
+mod record_view;
 mod report_change;
+mod report_changes;
 mod rows;
 mod same;
 pub mod sizes;
@@ -23,6 +25,8 @@ mod windows;
 
 pub use checking::check;
 pub use record::{Record, RecordParts};
+pub use record_view::RecordView;
 pub use report_change::ReportChange;
+pub use report_changes::ReportChanges;
 pub use rows::member_count;
 pub use verdict::{Reason, Verdict};

@@ -1,6 +1,8 @@
 ghost use Rattle.std.specs.Prelude.{◌≡◌, ◌≤◌, ◌<◌, ◌↔◌, ℕ, IsTrue, length};
 
+use crate::record_view::RecordView;
 use crate::report_change::{ReportChange, reported_at};
+use crate::report_changes::ReportChanges;
 use crate::same;
 use ordup_limits::{Groups, LimitTable};
 use ordup_log::Log;
@@ -65,6 +67,25 @@ impl<A: Allocator + Copy> Record<A> {
         ensures { result ≡ state_of parts }
     {
         Record { parts }
+    }
+
+    /// All parts of the record, lent.
+    pub fn view(&self) -> RecordView<'_, A>
+        ensures { result ≡ self.now }
+    {
+        let parts = &self.parts;
+        RecordView {
+            site: &parts.site,
+            objects: &parts.objects,
+            groups: &parts.groups,
+            limits: &parts.limits,
+            log: &parts.log,
+            logged: parts.log.len(),
+            rest: parts.rest.as_slice(),
+            reports: ReportChanges::Changes(parts.reports.as_slice()),
+            rounds: parts.rounds.as_slice(),
+            windows: parts.windows.as_slice(),
+        }
     }
 
     /// The allocator that the record's memory is of.

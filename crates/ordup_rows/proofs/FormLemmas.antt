@@ -4,14 +4,14 @@ use Rattle.ordup_audit.proofs.Common.{GroupList, length, List, map, names_of, No
 use Rattle.ordup_audit.proofs.Common.{slice_get, Some, sym, ℕ}
 use Rattle.std.proofs.Common.{add-one, drop-cons}
 use Rattle.std.specs.Prelude.{Vec}
-use Rattle.std.proofs.lemmas.Option.{slice_get-map}
+use Rattle.std.proofs.lemmas.Option.{slice_get-map, slice_get_within}
 use Rattle.csv.specs.Writing.{default_writer, row_text}
 use Rattle.csv.specs.declared.writer.Writer.{Writer}
-use Rattle.ordup_rows.specs.Forming.{IsClean, csv_text, text_so_far}
-use Rattle.ordup_rows.specs.Rows.{Row, change_row, change_rows, counted, limit_row, member_row, member_rows, name_at, object_row}
-use Rattle.ordup_rows.specs.Rows.{report_row, round_row, window_row}
+use Rattle.ordup_rows.specs.Forming.{IsClean, csv_text, first_rows, last_rows, text_so_far}
+use Rattle.ordup_rows.specs.Rows.{Row, change_row, change_rows, counted, member_row, member_rows, name_at, report_row}
+use Rattle.ordup_rows.specs.Rows.{rows_in}
+use Rattle.ordup_audit.specs.declared.report_change.ReportChange.{ReportChange}
 use Rattle.ordup_rows.specs.declared.version.Version.{Version}
-use Rattle.ordup_rows.proofs.Growth.{rows_after}
 
 -- rows were written up to some rest of all of them
 abbrev pub IsUpto : {A : Type 0} → Writer (Vec ℕ A) → Writer (Vec ℕ A) → List Row → List Row → Type 0
@@ -49,6 +49,15 @@ pub counted-more : {X : Type 0} (row : ℕ → X → Row) (n i : ℕ) (xs : List
     ++ csv_text (counted row (n + 1) (drop (i + 1) xs))
 counted-more row n i xs d lt = ap (λ l. csv_text (counted row n l)) (rest_of xs i d lt)
 
+-- the next row of a report change
+pub reports-more : (i : ℕ) (changes : List ReportChange) (change : ReportChange) → slice_get changes i ≡ Some change
+    → csv_text (map report_row (drop i changes)) ≡ row_text default_writer (report_row change)
+    ++ csv_text (map report_row (drop (i + 1) changes))
+reports-more i changes change at =
+    let there : i < length changes = slice_get_within changes i change at in
+    ap (λ l. csv_text (map report_row l))
+    (rest_of changes i change there ∙ ap (λ c. c ∷ drop (i + 1) changes) (get_or_from_slice_get changes i change change at))
+
 -- the members of the next group
 pub member_rows-more : (objects : Objects) (n i : ℕ) (groups : GroupList) (d : List ℕ × List ℕ) → i < length groups
     → csv_text (member_rows objects n (drop i groups))
@@ -76,11 +85,17 @@ name_at-is {V} table i name h = get_or_from_slice_get (names_of table) i name []
 abbrev Adds : Option (List ℕ) → List Row → Option (List ℕ) → Type 0
 Adds old rows new = new ≡ option_map (λ t. t ++ csv_text rows) old
 
--- the rows of a record, written from nothing after a first row
-pub all_written : (version : Version) (head : Row) (r : RecordState) (t0 t1 t2 t3 t4 t5 t6 t7 t8 : Option (List ℕ)) → t0 ≡ Some []
-    → t1 ≡ option_map (λ t. t ++ row_text default_writer head) t0 → Adds t1 (counted object_row 1 r.objects) t2
-    → Adds t2 (member_rows r.objects 1 r.groups) t3 → Adds t3 (counted (limit_row version r.objects r.groups) 1 r.limits) t4
-    → Adds t4 (change_rows r.objects 1 r.sets) t5 → Adds t5 (map report_row r.reports) t6 → Adds t6 (counted round_row 1 r.rounds) t7
-    → Adds t7 (counted window_row 1 r.windows) t8 → t8 ≡ Some (csv_text (head ∷ rows_after version (length r.sets) r))
-all_written version head r t0 t1 t2 t3 t4 t5 t6 t7 t8 e0 e1 e2 e3 e4 e5 e6 e7 e8 =
-    rw (e8, e7, e6, e5, e4, e3, e2, e1, e0) (ap (λ t. Some t) (simp (csv_text-append, append_assoc)))
+-- the rows before those of the changes, one kind after the other
+pub first_written : (head : Row) (objects members limits : List Row) (t0 t1 t2 t3 t4 : Option (List ℕ))
+    → t1 ≡ option_map (λ t. t ++ row_text default_writer head) t0 → Adds t1 objects t2 → Adds t2 members t3 → Adds t3 limits t4
+    → Adds t0 (head ∷ (objects ++ members ++ limits)) t4
+first_written head objects members limits None t1 t2 t3 t4 e1 e2 e3 e4 = rw (e4, e3, e2, e1) refl
+first_written head objects members limits (Some t) t1 t2 t3 t4 e1 e2 e3 e4 =
+    rw (e4, e3, e2, e1) (ap (λ t. Some t) (simp (csv_text-append, append_assoc)))
+
+-- the text of a record is that of its first rows and that of its last ones
+pub two_parts : (version : Version) (r : RecordState)
+    → csv_text (first_rows version r) ++ csv_text (last_rows r) ≡ csv_text (rows_in version r)
+two_parts version r =
+    let rows : first_rows version r ++ last_rows r ≡ rows_in version r = simp append_assoc in
+    sym (csv_text-append (first_rows version r) (last_rows r)) ∙ ap csv_text rows

@@ -12,6 +12,7 @@ pub mod GoingOn
 pub mod BadRows
 pub mod FormLemmas
 pub mod PlainLemmas
+mod SentLemmas
 pub mod SizeLemmas
 pub mod TextLemmas
 mod Examples

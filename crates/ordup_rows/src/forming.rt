@@ -1,20 +1,21 @@
-//! A record to rows.
-ghost use Rattle.std.specs.Prelude.{◌≡◌, ℕ, ℤ, ◌+◌, ◌*◌, ◌<◌, ◌≤◌, ◌∷◌, [], List, IfOk, OnOk, length, map, slice_index_or};
+//! The rows of a record, one by one.
+ghost use Rattle.std.specs.Prelude.{◌≡◌, ℕ, ℤ, ◌+◌, ◌*◌, ◌<◌, ◌≤◌, ◌∷◌, [], List, IfOk, OnOk, length, slice_index_or};
 ghost use Rattle.ordup_objects.specs.Sets.{AreKnown, IsKnown};
 ghost use Rattle.ordup_objects.specs.Sizes.{most_groups, most_members};
 ghost use Rattle.ordup_log.specs.Groups.{AreMembersKnown};
 ghost use Rattle.ordup_log.specs.Spans.{IsScopeKnown};
 ghost use Rattle.ordup_limits.specs.Entries.{AreEntriesKnown};
-ghost use Rattle.ordup_rows.specs.Forming.{AddsRow, AddsRows, IsClean};
+ghost use Rattle.ordup_rows.specs.Forming.{AddsRow, AddsRows, IsClean, first_rows};
 ghost use Rattle.ordup_log.specs.Groups.{AreGroupsKnown};
-ghost use Rattle.ordup_rows.specs.Rows.{change_row, change_rows, counted, first_row, limit_row, member_row, member_rows};
-ghost use Rattle.ordup_rows.specs.Rows.{object_row, report_row, round_row, rows_of, rows_text, window_row};
+ghost use Rattle.ordup_rows.specs.Rows.{change_row, counted, first_row, limit_row, member_row, member_rows};
+ghost use Rattle.ordup_rows.specs.Rows.{object_row, report_row, round_row, window_row};
+ghost use Rattle.ordup_rows.specs.Versions.{version_for};
 
 use crate::spelling::{add_amount, put_change, put_scope};
 use crate::version::Version;
 use csv::{Writer, WriterBuilder};
 use itoa::Buffer;
-use ordup_audit::{Record, ReportChange};
+use ordup_audit::{RecordView, ReportChange};
 use ordup_limits::{GroupId, Groups, LimitEntry};
 use ordup_objects::{Change, Name, ObjectId, ObjectTable};
 use ordup_rounds::Window;
@@ -203,6 +204,33 @@ fn push_limits<A: Allocator + Copy>(
     Ok(())
 }
 
+/// Writes the rows that stand before those of the changes.
+pub(crate) fn push_first_rows<A: Allocator + Copy>(
+    rows: &mut Writer<Vec<u8, A>>,
+    column: &mut Vec<u8, A>,
+    whole: &RecordView<'_, A>,
+) -> Result<(), AllocError>
+    requires { IsClean rows.old }
+    ensures clean { OnOk result (IsClean rows.new) }
+    ensures text { OnOk result (AddsRows rows.old rows.new (first_rows (version_for whole.now.limits) whole.now)) }
+{
+    whole.keeps();
+    let entries = whole.limits().entries();
+    let version = Version::of(entries);
+    push_head(rows, version, whole.site().as_bytes(), whole.decided())?;
+    push_objects(rows, whole.objects())?;
+    push_groups(rows, whole.objects(), whole.groups())?;
+    push_limits(
+        rows,
+        column,
+        version,
+        whole.objects(),
+        whole.groups(),
+        entries,
+    )?;
+    Ok(())
+}
+
 /// Writes the row of a change.
 fn push_change<A: Allocator + Copy>(
     rows: &mut Writer<Vec<u8, A>>,
@@ -233,7 +261,7 @@ fn push_change<A: Allocator + Copy>(
 }
 
 /// Writes the rows of an update.
-fn push_set<A: Allocator + Copy>(
+pub(crate) fn push_set<A: Allocator + Copy>(
     rows: &mut Writer<Vec<u8, A>>,
     column: &mut Vec<u8, A>,
     objects: &ObjectTable<A>,
@@ -251,25 +279,8 @@ fn push_set<A: Allocator + Copy>(
     Ok(())
 }
 
-/// Writes the rows of the decided updates.
-fn push_sets<A: Allocator + Copy>(
-    rows: &mut Writer<Vec<u8, A>>,
-    column: &mut Vec<u8, A>,
-    whole: &Record<A>,
-) -> Result<(), AllocError>
-    requires { IsClean rows.old }
-    ensures clean { OnOk result (IsClean rows.new) }
-    ensures text { OnOk result (AddsRows rows.old rows.new (change_rows whole.now.objects 1 whole.now.sets)) }
-{
-    for place in 0..whole.decided() {
-        let changes = whole.set(place + 1).changes();
-        push_set(rows, column, whole.objects(), place + 1, changes)?;
-    }
-    Ok(())
-}
-
 /// Writes the row of a report change.
-fn push_report<A: Allocator + Copy>(
+pub(crate) fn push_report<A: Allocator + Copy>(
     rows: &mut Writer<Vec<u8, A>>,
     change: ReportChange,
 ) -> Result<(), AllocError>
@@ -284,23 +295,8 @@ fn push_report<A: Allocator + Copy>(
     push_row(rows, b"report", place.as_bytes(), reported.as_bytes(), b"-")
 }
 
-/// Writes the rows of the report changes.
-fn push_reports<A: Allocator + Copy>(
-    rows: &mut Writer<Vec<u8, A>>,
-    changes: &[ReportChange],
-) -> Result<(), AllocError>
-    requires { IsClean rows.old }
-    ensures clean { OnOk result (IsClean rows.new) }
-    ensures text { OnOk result (AddsRows rows.old rows.new (map report_row changes.now)) }
-{
-    for change in changes {
-        push_report(rows, *change)?;
-    }
-    Ok(())
-}
-
 /// Writes the row of a round.
-fn push_round<A: Allocator + Copy>(
+pub(crate) fn push_round<A: Allocator + Copy>(
     rows: &mut Writer<Vec<u8, A>>,
     counter: usize,
     place: u64,
@@ -316,23 +312,8 @@ fn push_round<A: Allocator + Copy>(
     push_row(rows, b"round", counter.as_bytes(), place.as_bytes(), b"-")
 }
 
-/// Writes the rows of the rounds.
-fn push_rounds<A: Allocator + Copy>(
-    rows: &mut Writer<Vec<u8, A>>,
-    places: &[u64],
-) -> Result<(), AllocError>
-    requires { IsClean rows.old }
-    ensures clean { OnOk result (IsClean rows.new) }
-    ensures text { OnOk result (AddsRows rows.old rows.new (counted round_row 1 places.now)) }
-{
-    for (i, place) in places.iter().enumerate() {
-        push_round(rows, i + 1, *place)?;
-    }
-    Ok(())
-}
-
 /// Writes the row of a window.
-fn push_window<A: Allocator + Copy>(
+pub(crate) fn push_window<A: Allocator + Copy>(
     rows: &mut Writer<Vec<u8, A>>,
     counter: usize,
     window: Window,
@@ -354,48 +335,4 @@ fn push_window<A: Allocator + Copy>(
         from.as_bytes(),
         to.as_bytes(),
     )
-}
-
-/// Writes the rows of the windows.
-fn push_windows<A: Allocator + Copy>(
-    rows: &mut Writer<Vec<u8, A>>,
-    windows: &[Window],
-) -> Result<(), AllocError>
-    requires { IsClean rows.old }
-    ensures clean { OnOk result (IsClean rows.new) }
-    ensures text { OnOk result (AddsRows rows.old rows.new (counted window_row 1 windows.now)) }
-{
-    for (i, window) in windows.iter().enumerate() {
-        push_window(rows, i + 1, *window)?;
-    }
-    Ok(())
-}
-
-/// The text of a record.
-pub fn form<A: Allocator + Copy>(alloc: A, whole: &Record<A>) -> Result<Vec<u8, A>, AllocError>
-    ensures { IfOk result (λ text. text.items ≡ rows_text (rows_of whole.now)) }
-{
-    let mut column = Vec::new(alloc);
-    let mut rows = WriterBuilder::new().from_writer(Vec::new(alloc));
-    let entries = whole.limits().entries();
-    let version = Version::of(entries);
-    push_head(&mut rows, version, whole.site().as_bytes(), whole.decided())?;
-    push_objects(&mut rows, whole.objects())?;
-    push_groups(&mut rows, whole.objects(), whole.groups())?;
-    push_limits(
-        &mut rows,
-        &mut column,
-        version,
-        whole.objects(),
-        whole.groups(),
-        entries,
-    )?;
-    push_sets(&mut rows, &mut column, whole)?;
-    push_reports(&mut rows, whole.reports())?;
-    push_rounds(&mut rows, whole.rounds())?;
-    push_windows(&mut rows, whole.windows())?;
-    match rows.into_inner() {
-        Ok(text) => Ok(text),
-        Err(_) => Err(AllocError),
-    }
 }

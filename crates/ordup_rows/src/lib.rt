@@ -8,12 +8,12 @@
 mod forming;
 mod laws;
 mod row_kind;
+mod sending;
 pub mod sizes;
 mod spelling;
 mod version;
 mod writing;
 
-pub use forming::form;
 pub use laws::{
     bad_rows_are_one, malformed_texts_are_one, rows_of_each_version_are_read, rows_tell_one_record,
     rows_tell_or_are_bad, texts_have_one_list_of_rows, texts_tell_one_record,
@@ -23,4 +23,4 @@ pub use laws::{
 };
 pub use row_kind::RowKind;
 pub use version::Version;
-pub use writing::{RecordWriteFault, write_record};
+pub use writing::{RecordWriteFault, write_record, write_view};

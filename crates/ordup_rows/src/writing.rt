@@ -1,12 +1,18 @@
-ghost use Rattle.std.specs.Prelude.{◌≡◌, IfErr, OnOk};
+ghost use Rattle.std.specs.Prelude.{◌≡◌, ◌++◌, IfErr, IfOk, OnErr, OnOk};
 ghost use Rattle.std.specs.Io.KnownBytes.{Appends};
 ghost use Rattle.ordup_text.specs.Fronts.{AppendsFront};
+ghost use Rattle.ordup_rows.specs.Forming.{IsClean, csv_text, first_rows, last_rows, unsent};
 ghost use Rattle.ordup_rows.specs.Rows.{rows_of, rows_text};
+ghost use Rattle.ordup_rows.specs.Versions.{version_for};
 
-use crate::forming::form;
-use ordup_audit::Record;
-use ordup_text::send;
-use std::alloc::Allocator;
+use crate::forming::push_first_rows;
+use crate::sending::{
+    MOST_UNSENT_BYTES, hand_out, send_reports, send_rounds, send_sets, send_windows,
+};
+use csv::{Writer, WriterBuilder};
+use ordup_audit::{Record, RecordView};
+use ordup_text::WriteFault;
+use std::alloc::{AllocError, Allocator};
 use std::io::Write;
 
 /// Why not all of a record was written.
@@ -17,6 +23,9 @@ pub enum RecordWriteFault {
     /// Memory was refused, before the first write.
     NoMemory,
 }
+
+/// The most bytes of a column that is formed: a number, the kind of a change and two names have fewer.
+const MOST_COLUMN_BYTES: usize = 64;
 
 /// Writes a record. It does not flush the writer. It promises, clause by clause, of a writer whose bytes are known:
 ///
@@ -32,11 +41,61 @@ pub fn write_record<A: Allocator + Copy, W: Write>(
     ensures front { AppendsFront (W.contents output.old) (W.contents output.new) (rows_text (rows_of whole.now)) }
     ensures refused { IfErr result (λ e. e ≡ RecordWriteFault.NoMemory → output.new ≡ output.old) }
 {
-    let Ok(text) = form(alloc, whole) else {
+    write_view(alloc, &whole.view(), output)
+}
+
+/// Writes a record that is lent, as [`write_record`] does: its rows go to the writer as they are formed, and its text is never
+/// held whole. The clauses are those of [`write_record`].
+pub fn write_view<A: Allocator + Copy, W: Write>(
+    alloc: A,
+    whole: &RecordView<'_, A>,
+    output: &mut W,
+) -> Result<(), RecordWriteFault>
+    ensures written { OnOk result (Appends (W.contents output.old) (W.contents output.new) (rows_text (rows_of whole.now))) }
+    ensures front { AppendsFront (W.contents output.old) (W.contents output.new) (rows_text (rows_of whole.now)) }
+    ensures refused { IfErr result (λ e. e ≡ RecordWriteFault.NoMemory → output.new ≡ output.old) }
+{
+    whole.keeps();
+    let Ok((mut rows, mut column)) = form_first_rows(alloc, whole) else {
         return Err(RecordWriteFault::NoMemory);
     };
-    match send(output, text.as_slice()) {
+    match send_rows(&mut rows, &mut column, whole, output) {
         Ok(()) => Ok(()),
         Err(_) => Err(RecordWriteFault::Write),
     }
+}
+
+/// The rows that stand before those of the changes, and the memory that all further rows need: so none of them is refused any.
+fn form_first_rows<A: Allocator + Copy>(
+    alloc: A,
+    whole: &RecordView<'_, A>,
+) -> Result<(Writer<Vec<u8, A>>, Vec<u8, A>), AllocError>
+    ensures clean { IfOk result (λ formed. IsClean formed.0) }
+    ensures text { IfOk result (λ formed. unsent formed.0 ≡ csv_text (first_rows (version_for whole.now.limits) whole.now)) }
+{
+    let mut column = Vec::with_capacity(alloc, MOST_COLUMN_BYTES)?;
+    let text = Vec::with_capacity(alloc, MOST_UNSENT_BYTES)?;
+    let mut rows = WriterBuilder::new().from_writer(text);
+    push_first_rows(&mut rows, &mut column, whole)?;
+    Ok((rows, column))
+}
+
+/// Sends the first rows, and all further ones as they are formed.
+fn send_rows<A: Allocator + Copy, W: Write>(
+    rows: &mut Writer<Vec<u8, A>>,
+    column: &mut Vec<u8, A>,
+    whole: &RecordView<'_, A>,
+    output: &mut W,
+) -> Result<(), WriteFault>
+    requires { IsClean rows.old }
+    ensures sent { OnOk result (Appends (W.contents output.old) (W.contents output.new) (unsent rows.old ++ csv_text (last_rows whole.now))) }
+    ensures front { AppendsFront (W.contents output.old) (W.contents output.new) (unsent rows.old ++ csv_text (last_rows whole.now)) }
+{
+    hand_out(rows, output)?;
+    send_sets(rows, column, whole, output)?;
+    send_reports(rows, whole.reports(), output)?;
+    send_rounds(rows, whole.rounds(), output)?;
+    send_windows(rows, whole.windows(), output)?;
+    hand_out(rows, output)?;
+    Ok(())
 }

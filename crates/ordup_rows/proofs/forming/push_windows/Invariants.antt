@@ -1,7 +1,0 @@
-use Rattle.std.proofs.Common.{◌+◌, drop}
-use Rattle.ordup_rows.specs.Rows.{counted, window_row}
-use Rattle.ordup_rows.proofs.FormLemmas.{IsUpto}
-use Rattle.ordup_rows.proofs.forming.push_windows.Given as goal
-
-abbrev pub invariant-loop-i : goal.invariant-loop-i
-invariant-loop-i g l = IsUpto l.initial.rows l.rows (counted window_row (l.i + 1) (drop l.i l.windows)) (counted window_row 1 l.windows)

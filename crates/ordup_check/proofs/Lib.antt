@@ -6,4 +6,5 @@ mod LimitLemmas
 mod Cuts
 mod TextAnswers
 mod LongRowLemmas
+mod PlainRowLemmas
 mod CutRows

@@ -1,7 +1,8 @@
 //! A reader that ends in a row that is too long for one of a record.
-ghost use Rattle.std.specs.Prelude.{◌≡◌, ◌≤◌, ◌++◌, ℕ, List, [], Some, false, if◌then◌else◌, length, option_map, take};
+ghost use Rattle.std.specs.Prelude.{◌≡◌, ◌≤◌, ◌++◌, ℕ, List, [], Some, false, if◌then◌else◌, drop, length, option_map, take};
 ghost use Rattle.ordup_check.specs.ShortRows.{ends_at_long_row, left_after, most_row_bytes};
 
+use memchr::{memchr, memrchr};
 use std::io::{self, Read};
 
 /// The most bytes of a row. The longest row of a record has a third of them, and quotes make a row less than three times as long.
@@ -149,11 +150,18 @@ fn go_over(start: RowState, room: u64, bytes: &[u8]) -> Passed
 {
     let mut state = start;
     let mut left = room;
-    for i in 0..bytes.len() {
-        state = state.after(bytes[i]);
+    let mut count = 0;
+    while count < bytes.len() {
+        let rows = whole_rows(state, left, &bytes[count..]);
+        if rows > 0 {
+            count += rows;
+            continue;
+        }
+        state = state.after(bytes[count]);
+        count += 1;
         let Some(next) = left_after(state, left) else {
             return Passed {
-                count: i + 1,
+                count,
                 state,
                 left,
                 is_ended: true,
@@ -162,11 +170,32 @@ fn go_over(start: RowState, room: u64, bytes: &[u8]) -> Passed
         left = next;
     }
     Passed {
-        count: bytes.len(),
+        count,
         state,
         left,
         is_ended: false,
     }
+}
+
+/// How many of the bytes are whole rows, which are passed on together: at the start of a row, those that end among as many bytes as a
+/// row may have. It is 0 where one of these bytes is a quote.
+// So most bytes are not looked at one by one: that takes a third of all instructions of a check away.
+fn whole_rows(state: RowState, left: u64, bytes: &[u8]) -> usize
+    ensures few { result ≤ length bytes.now }
+    ensures text { (more : List ℕ) → ends_at_long_row state left (bytes.now ++ more)
+        ≡ take result bytes.now ++ ends_at_long_row state left (drop result bytes.now ++ more) }
+{
+    if !state.is_row() || left != MOST_ROW_BYTES {
+        return 0;
+    }
+    let front = &bytes[..bytes.len().min(MOST_ROW_BYTES as usize)];
+    let Some(end) = memrchr(b'\n', front) else {
+        return 0;
+    };
+    if memchr(b'"', &front[..end + 1]).is_some() {
+        return 0;
+    }
+    end + 1
 }
 
 /// How many bytes more the row may have after one that leads to a state, unless that one is too many.

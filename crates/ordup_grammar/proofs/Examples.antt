@@ -2,13 +2,12 @@
 use Rattle.std.proofs.Common.{◌≡◌, pos, refl}
 use Rattle.std.specs.Prelude.{neg_ℤ, Some, codes}
 use Prim.Native.String.{String}
-use Rattle.ordup_grammar.specs.Requests.{request_of}
-use Rattle.ordup_grammar.specs.declared.action.Action.TheVariants.{Relimit}
-use Rattle.ordup_grammar.specs.declared.command.Command.TheVariants.{Act, Declare}
+use Rattle.ordup_grammar.specs.Actions.{Relimit}
+use Rattle.ordup_grammar.specs.Commands.{Act, Declare}
+use Rattle.ordup_grammar.specs.Keywords.{keyword_of}
+use Rattle.ordup_grammar.specs.Requests.{Request, Command, NoCommand, request_of}
 use Rattle.ordup_grammar.specs.declared.declaration.Declaration.TheVariants.{Limit}
 use Rattle.ordup_grammar.specs.declared.declaration.ScopeWord.TheVariants.{Object, Group, All, Count}
-use Rattle.ordup_grammar.specs.declared.request.Request.{Request}
-use Rattle.ordup_grammar.specs.declared.request.Request.TheVariants.{Command, NoCommand}
 
 abbrev asked : String → Request
 asked line = request_of (Some (codes line))
@@ -18,14 +17,14 @@ changed_limits : (asked "relimit a object x 5" ≡ Command (Act (Relimit (codes 
     × (asked "relimit a group g 0" ≡ Command (Act (Relimit (codes "a") (Group (codes "g")) (pos 0))))
     × (asked "  relimit  a  all  -1 " ≡ Command (Act (Relimit (codes "a") All (neg_ℤ (pos 1)))))
     × (asked "relimit all count 12" ≡ Command (Act (Relimit (codes "all") Count (pos 12))))
-unfolding request_of
+unfolding request_of keyword_of
 changed_limits = (refl, refl, refl, refl)
 
 declared_limits : (asked "limit a object x 5" ≡ Command (Declare (Limit (codes "a") (Object (codes "x")) (pos 5))))
     × (asked "limit a group g 0" ≡ Command (Declare (Limit (codes "a") (Group (codes "g")) (pos 0))))
     × (asked "limit a all -1" ≡ Command (Declare (Limit (codes "a") All (neg_ℤ (pos 1)))))
     × (asked "limit all count 12" ≡ Command (Declare (Limit (codes "all") Count (pos 12))))
-unfolding request_of
+unfolding request_of keyword_of
 declared_limits = (refl, refl, refl, refl)
 
 no_changes : (asked "relimit" ≡ NoCommand)
@@ -39,5 +38,5 @@ no_changes : (asked "relimit" ≡ NoCommand)
     × (asked "relimit a site 5" ≡ NoCommand)
     × (asked "relimits a all 5" ≡ NoCommand)
     × (asked "Relimit a all 5" ≡ NoCommand)
-unfolding request_of
+unfolding request_of keyword_of
 no_changes = (refl, refl, refl, refl, refl, refl, refl, refl, refl, refl, refl)

@@ -7,6 +7,7 @@ pub mod Operations
 pub mod ChangeWords
 pub mod ChangeWordsInside
 pub mod Declarations
+pub mod Keywords
 pub mod Actions
 pub mod Commands
 pub mod Requests

@@ -46,7 +46,7 @@ pub enum ScopeWord<'a> {
 
 impl<'a> Declaration<'a> {
     /// The declaration that a first word and the words after it spell.
-    pub(crate) fn parse(first: &Word<'_>, rest: &Words<'a>) -> Option<Declaration<'a>>
+    pub fn parse(first: &Word<'_>, rest: &Words<'a>) -> Option<Declaration<'a>>
         ensures { result ≡ declaration_of first.now rest.now }
     {
         let first = first.as_bytes();
@@ -74,7 +74,7 @@ impl<'a> Declaration<'a> {
 
 impl<'a> ScopeWord<'a> {
     /// A site, what is weighed there and the amount: `S object X N`, `S group G N`, `S all N` or `S count N`.
-    pub(crate) fn parse_limit(rest: &Words<'a>) -> Option<(Word<'a>, ScopeWord<'a>, Number)>
+    pub fn parse_limit(rest: &Words<'a>) -> Option<(Word<'a>, ScopeWord<'a>, Number)>
         ensures { result ≡ limit_of rest.now }
     {
         let (site, rest) = rest.split_first()?;

@@ -3,26 +3,24 @@
 //! What the layers above rely on: what a line asks for depends on its bytes alone, whether they come whole or in pieces.
 #![tactic(auto)]
 
-mod action;
 mod bytes;
 mod change_words;
-mod command;
 mod declaration;
+mod keyword;
 mod line_buffer;
 mod number;
 mod operation;
-mod request;
+mod script_line;
 pub mod sizes;
 mod word;
 mod words;
 
-pub use action::Action;
 pub use change_words::{ChangeWord, ChangeWords};
-pub use command::Command;
 pub use declaration::{Declaration, ScopeWord};
+pub use keyword::Keyword;
 pub use line_buffer::{LineBuffer, LinePart, split_line};
 pub use number::{Number, decimals_read_back, numbers_are_decimals};
 pub use operation::Operation;
-pub use request::Request;
+pub use script_line::ScriptLine;
 pub use word::Word;
 pub use words::Words;

@@ -1,11 +1,11 @@
 //! Lines that come in pieces: where a line ends, and the part of a line that no piece has ended yet.
 ghost use Rattle.std.specs.Prelude.{◌≡◌, ℕ, List, [], ◌∷◌, ◌++◌, ◌<◌, MatchOption, true, false, length};
 ghost use Rattle.ordup_grammar.specs.Lines.{IsPart};
-ghost use Rattle.ordup_grammar.specs.Requests.{is_printed, request_of};
+ghost use Rattle.ordup_grammar.specs.Requests.{is_printed, request_of, asked};
 ghost use Rattle.std.specs.List.{list_all};
 
 use crate::bytes::printed_prefix;
-use crate::request::Request;
+use crate::script_line::ScriptLine;
 use crate::sizes::MOST_LINE_BYTES;
 use memchr::memchr;
 use std::marker::Model;
@@ -129,15 +129,15 @@ impl LineBuffer {
         self.is_long = kept < more.len();
     }
 
-    /// What the line asks for, if it ends here.
+    /// What the line is, if it ends here. What that asks for is what the line asks for.
     #[tactic(auto, unfolding(crate::specs::Requests::request_of))]
-    pub fn request(&self) -> Request<'_>
-        ensures { result ≡ request_of self.now }
+    pub fn line(&self) -> ScriptLine<'_>
+        ensures { request_of self.now ≡ asked result }
     {
         if self.is_long {
-            Request::NoCommand
+            ScriptLine::NoCommand
         } else {
-            Request::of(&LinePart::new(&self.bytes[..self.len]))
+            ScriptLine::of(&LinePart::new(&self.bytes[..self.len]))
         }
     }
 

@@ -60,7 +60,7 @@ impl<'a> Words<'a> {
     // Inlined over a call that returns two numbers. If the call returned an `Option` of a word, room for it would be cleared for
     // each line and for each command of one word, which takes 2 percent more instructions.
     #[inline(always)]
-    pub(crate) fn only_word(&self) -> Option<Word<'a>>
+    pub fn only_word(&self) -> Option<Word<'a>>
         ensures { result ≡ only_word self.now }
     {
         let word = word_or_nothing(self.line);
@@ -74,7 +74,7 @@ impl<'a> Words<'a> {
     /// The words, where there are exactly two.
     // Inlined: the words that a call returns are written in parts and read back in wider ones, which waits for the cache.
     #[inline(always)]
-    pub(crate) fn two_words(&self) -> Option<(Word<'a>, Word<'a>)>
+    pub fn two_words(&self) -> Option<(Word<'a>, Word<'a>)>
         ensures { result ≡ two_words self.now }
     {
         let (word, rest) = self.split_first()?;
@@ -83,7 +83,7 @@ impl<'a> Words<'a> {
     }
 
     /// The name and the number, where there are exactly these two words.
-    pub(crate) fn name_and_number(&self) -> Option<(Word<'a>, Number)>
+    pub fn name_and_number(&self) -> Option<(Word<'a>, Number)>
         ensures { result ≡ name_and_number self.now }
     {
         let (name, word) = self.two_words()?;

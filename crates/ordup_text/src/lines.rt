@@ -49,6 +49,7 @@ pub fn push_named<A: Allocator + Copy>(
 }
 
 /// Adds a line: what was done, and a number.
+#[inline(always)]
 pub fn push_done<A: Allocator + Copy, const N: usize>(
     out: &mut TextBuffer<A>,
     done: &[u8; N],
@@ -64,6 +65,7 @@ pub fn push_done<A: Allocator + Copy, const N: usize>(
 }
 
 /// Adds a line: what was done, a name and a number.
+#[inline(always)]
 pub fn push_numbered<A: Allocator + Copy, const N: usize>(
     out: &mut TextBuffer<A>,
     done: &[u8; N],
@@ -74,7 +76,7 @@ pub fn push_numbered<A: Allocator + Copy, const N: usize>(
 {
     out.push(done)?;
     out.reserve(name.len() + MOST_DIGITS + 2)?;
-    out.put(name);
+    out.put_name(name);
     out.put(b" ");
     out.put_number(number);
     out.put(b"\n");
@@ -89,10 +91,13 @@ fn push_named_value<A: Allocator + Copy>(
 ) -> Result<(), AllocError>
     ensures { OnOk result (out.new.text ≡ out.old.text ++ value_text name.now value) }
 {
-    out.push(b" ")?;
-    out.push(name.as_bytes())?;
-    out.push(b"=")?;
-    out.push_value(value)
+    let name = name.as_bytes();
+    out.reserve(name.len() + MOST_DIGITS + 3)?;
+    out.put(b" ");
+    out.put_name(name);
+    out.put(b"=");
+    out.put_value(value);
+    Ok(())
 }
 
 /// Adds ` X=V` for each object, in order of declaration.

@@ -2,7 +2,7 @@
 //!
 //! The buffer already has bytes behind its text, and a part that is added is copied over them. The compiler knows the length of most
 //! parts, and copies such a part by a move or two. That takes 4 to 8 percent off the instructions of a line of a script.
-ghost use Rattle.std.specs.Prelude.{◌≡◌, ◌+◌, ◌≤◌, ◌++◌, [], OnOk, length};
+ghost use Rattle.std.specs.Prelude.{◌≡◌, ◌+◌, ◌*◌, ◌≤◌, ◌++◌, [], OnOk, length};
 ghost use Rattle.std.specs.Fmt.{decimal, signed_decimal};
 ghost use Rattle.ordup_text.specs.declared.text_buffer.TheConstants.{MOST_DIGITS};
 
@@ -103,6 +103,18 @@ impl<A: Allocator + Copy> TextBuffer<A> {
         self.len = end;
     }
 
+    /// Adds a name, or another text that is short as a rule. It must fit into the spare capacity.
+    #[inline(always)]
+    pub fn put_name(&mut self, name: &[u8])
+        requires { length name.now ≤ self.old.room }
+        ensures text { self.new.text ≡ self.old.text ++ name.now }
+        ensures room { self.new.room + length name.now ≡ self.old.room }
+    {
+        let end = self.len + name.len();
+        copy_short(&mut self.bytes[self.len..end], name);
+        self.len = end;
+    }
+
     /// Adds a number in digits. The most digits of a number must fit into the spare capacity.
     #[inline(always)]
     pub fn put_number(&mut self, number: u64)
@@ -168,4 +180,40 @@ fn digit_count(number: u64) -> usize
         Some(power) => power as usize + 1,
         None => 1,
     }
+}
+
+/// Copies a text of another length each time, as a name is: up to 16 bytes by two moves.
+// A copy of a length that the compiler does not know is a call. Without it, and with the lines that end with a number inlined, the
+// loads `first` and of queries take 4 percent fewer instructions, and the mixed load 2.5 percent.
+#[inline(always)]
+fn copy_short(to: &mut [u8], from: &[u8])
+    requires { length to.old ≡ length from.now }
+    ensures { to.new ≡ from.now }
+{
+    let len = from.len();
+    if len > 16 {
+        to.copy_from_slice(from);
+    } else if len >= 8 {
+        copy_ends::<8>(to, from);
+    } else if len >= 4 {
+        copy_ends::<4>(to, from);
+    } else if len >= 2 {
+        copy_ends::<2>(to, from);
+    } else {
+        to.copy_from_slice(from);
+    }
+}
+
+/// Copies the first and the last N bytes of a text, which are all of its bytes. They may overlap.
+#[inline(always)]
+fn copy_ends<const N: usize>(to: &mut [u8], from: &[u8])
+    requires { (length to.old ≡ length from.now) × (N ≤ length from.now) × (length from.now ≤ 2 * N) }
+    ensures { to.new ≡ from.now }
+{
+    // Both are read first, so that no test is made whether the texts overlap.
+    let first = *from.first_chunk::<N>().unwrap();
+    let last = *from.last_chunk::<N>().unwrap();
+    let rest = from.len() - N;
+    to[..N].copy_from_slice(&first);
+    to[rest..].copy_from_slice(&last);
 }

@@ -1,5 +1,6 @@
 pub mod ChangeParts
 pub mod Decimals
+pub mod FrontLemmas
 pub mod Splits
 pub mod PrintedLemmas
 pub mod PositionLemmas

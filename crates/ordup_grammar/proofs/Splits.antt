@@ -1,18 +1,19 @@
 -- The parts of a list, from the place of the first element at which it is cut.
 use Rattle.std.proofs.Common.{◌≡◌, ◌∙◌, ap, ℕ, suc, ◌+◌, ◌-◌, ◌<◌, ◌≤◌, refl}
 use Rattle.std.proofs.Common.{Bool, false, true, cond, nat_lt, List, [], ◌∷◌, ◌++◌, length}
-use Rattle.std.proofs.Common.{take, drop, get_or, Some, None, arith, add-one, position, not, subst, ◌==◌, if◌then◌else◌}
+use Rattle.std.proofs.Common.{take, drop, get_or, Some, None, arith, add-one, position, not, sym, inl, inr, ◌==◌}
 use Rattle.std.proofs.Math.Seq.{split_at}
-use Rattle.std.proofs.lemmas.Bool.{eqb-true}
+use Rattle.std.proofs.lemmas.Bool.{cases_lt, eqb-true}
 use Rattle.std.proofs.lemmas.Bool.Decides.{nat_tests}
-use Rattle.std.proofs.lemmas.List.{get_or-take, length-drop, length-take, take_all}
-use Rattle.std.proofs.lemmas.List.Elements.{All-from_get_or, All-head, filter_passes}
+use Rattle.std.proofs.lemmas.List.{drop_all, drop_more, get_or-take, length-drop, length-take, take_all}
+use Rattle.std.proofs.lemmas.List.Elements.{All-from_get_or}
+use Rattle.std.proofs.lemmas.List.Folds.{length-prefix_len}
 use Rattle.std.proofs.lemmas.List.Quantifiers.{position-Some}
-use Rattle.std.proofs.lemmas.List.Splits.{length-slice_split, slice_split_at, slice_split_none}
-use Rattle.std.proofs.lemmas.List.Sums.{count_by-le-length, fails_before_first, length-filter}
+use Rattle.std.proofs.lemmas.List.Splits.{length-slice_split, slice_split_at, slice_split_first, slice_split_none}
+use Rattle.std.proofs.lemmas.List.Sums.{count_by-le-length, fails_before_first, length-filter, passes_at_first, position_or_len_is}
 use Rattle.std.specs.List.{All, slice_split, position_or_len}
 use Rattle.memchr.specs.Find.{IsFirstByte}
-use Rattle.ordup_grammar.specs.Words.{only_word, words_of}
+use Rattle.ordup_grammar.specs.Words.{begins_with, words_of}
 
 -- what is not true is false
 is_false : (b : Bool) → ¬ (b ≡ true) → b ≡ false
@@ -46,6 +47,25 @@ pub fails-no_byte : (p : ℕ → Bool) (xs : List ℕ) → IsFirstByte p xs None
 fails-no_byte p xs nowhere =
     All-from_get_or (λ x. p x ≡ false) xs 0 (λ k below. is_false (p (get_or xs k 0)) (nowhere k (omega arith) below))
 
+-- a place is within the list
+pub place_within : (p : ℕ → Bool) (xs : List ℕ) → position_or_len p xs ≤ length xs
+place_within p xs = omega (arith, length-prefix_len (λ x. not (p x)) xs, length-take (position_or_len p xs) xs)
+
+-- the place of the first of these bytes
+pub place-first_byte : (b : ℕ) (xs : List ℕ) (i : ℕ) → IsFirstByte (λ x. x == b) xs (Some i) → position_or_len (λ x. x == b) xs ≡ i
+place-first_byte b xs i (first, passes) =
+    position_or_len_is (λ x. x == b) xs i 0 (omega (arith, first.high))
+    (λ k below. is_false (get_or xs k 0 == b) (first.before k (omega arith) below)) (λ inside. passes)
+
+pub place-no_byte : (b : ℕ) (xs : List ℕ) → IsFirstByte (λ x. x == b) xs None → position_or_len (λ x. x == b) xs ≡ length xs
+place-no_byte b xs nowhere =
+    position_or_len_is (λ x. x == b) xs (length xs) 0 (omega arith)
+    (λ k below. is_false (get_or xs k 0 == b) (nowhere k (omega arith) below)) (λ inside. absurd (omega (arith, inside)))
+
+-- a list that is cut nowhere is its one part
+pub slice_split-no_place : (p : ℕ → Bool) (xs : List ℕ) → length xs ≤ position_or_len p xs → slice_split p xs ≡ xs ∷ []
+slice_split-no_place p xs end = slice_split_none p xs (λ k d below. fails_before_first p xs k d (omega (arith, end, below)))
+
 -- the first place at which a list is cut ends its first part
 pub slice_split-position : (p : ℕ → Bool) (xs : List ℕ) (i : ℕ) → position p xs ≡ Some i
     → slice_split p xs ≡ take i xs ∷ slice_split p (take (length xs - (i + 1)) (drop (i + 1) xs))
@@ -57,9 +77,12 @@ slice_split-position p xs i h =
 
 -- with no such place a list is its one part
 pub slice_split-no_position : (p : ℕ → Bool) (xs : List ℕ) → position p xs ≡ None → slice_split p xs ≡ xs ∷ []
-slice_split-no_position p xs h =
-    let end = at_end (position_or_len p xs) (length xs) h in
-    slice_split_none p xs (λ k d below. fails_before_first p xs k d (omega arith))
+slice_split-no_position p xs h = slice_split-no_place p xs (at_end (position_or_len p xs) (length xs) h)
+
+-- the same, by the place or the length
+pub slice_split-place : (p : ℕ → Bool) (xs : List ℕ) (i : ℕ) → i ≡ position_or_len p xs → i < length xs
+    → slice_split p xs ≡ take i xs ∷ slice_split p (drop (i + 1) xs)
+slice_split-place p xs i is inside = rw is (slice_split_first p xs 0 (omega (arith, is, inside)))
 
 abbrev is_space : ℕ → Bool
 is_space byte = byte == 32
@@ -79,21 +102,40 @@ few_words line =
       count_by-le-length is_space line,
     )
 
-not_true : (b : Bool) → not b ≡ true → b ≡ false
-not_true false h = refl
-not_true true h = absurd cc
+-- without a space before them the words are the same
+pub words_without_space : (line : List ℕ) → begins_with 32 line ≡ true → words_of (drop 1 line) ≡ words_of line
+words_without_space [] begins = absurd cc
+words_without_space (x ∷ xs) begins = rw begins refl
 
--- a word of a line has a byte
-word_has_byte : (line word : List ℕ) (rest : List (List ℕ)) → words_of line ≡ word ∷ rest → (length word == 0) ≡ false
-word_has_byte line word rest is =
-    let has_byte : List ℕ → Type 0 = λ w. not (length w == 0) ≡ true in
-    let all = filter_passes (λ (w : List ℕ). not (length w == 0)) (slice_split (λ byte. byte == 32) line) in
-    not_true (length word == 0) (All-head has_byte word rest (subst (All has_byte) is all))
+-- a line that begins with a byte has one
+pub begins_some : (byte : ℕ) (line : List ℕ) → begins_with byte line ≡ true → 1 ≤ length line
+begins_some byte [] begins = absurd cc
+begins_some byte (x ∷ xs) begins = omega arith
 
--- what is left of a line with one word
-pub one_word : (line word : List ℕ) (rest : List (List ℕ)) → words_of line ≡ word ∷ rest → (length rest == 0) ≡ true
-    → only_word (words_of line) ≡ (if length word == 0 then None else Some word)
-one_word line word [] is none = rw (word_has_byte line word [] is, is) refl
-one_word line word (x ∷ xs) is none =
-    let empty : length (x ∷ xs) ≡ 0 = eqb-true _ 0 none in
-    absurd (omega arith)
+word_before_space : (line : List ℕ) (end : ℕ) → 0 < end → end ≡ position_or_len is_space line → end < length line
+    → words_of line ≡ take end line ∷ words_of (drop end line)
+word_before_space line end some is inside =
+    let byte = get_or line end 0 in
+    let rest = drop (end + 1) line in
+    let word : is_word (take end line) ≡ true = grind (arith, nat_tests, length-take end line) in
+    let space : is_space byte ≡ true = rw is (passes_at_first is_space line 0 (omega (arith, is, inside))) in
+    let behind : words_of (drop end line) ≡ words_of rest =
+    rw (drop_more line end 0 inside) (sym (words_without_space (byte ∷ rest) space)) in
+    rw (slice_split-place is_space line end is inside, behind, word) refl
+
+last_word : (line : List ℕ) (end : ℕ) → 0 < length line → end ≡ position_or_len is_space line → length line ≤ end
+    → words_of line ≡ take end line ∷ words_of (drop end line)
+last_word line end some is past =
+    let word : is_word line ≡ true = grind (arith, nat_tests) in
+    rw (slice_split-no_place is_space line (omega (arith, is, past)), take_all end line past, drop_all end line past, word) refl
+
+-- the first word of a line that begins with no space, and those after it
+pub first_word : (line : List ℕ) (end : ℕ) → begins_with 32 line ≡ false → 0 < length line → end ≡ position_or_len is_space line
+    → words_of line ≡ take end line ∷ words_of (drop end line)
+first_word [] end begins some is = absurd (omega (arith, some))
+first_word (x ∷ xs) end begins some is =
+    let after : position_or_len is_space (x ∷ xs) ≡ 1 + position_or_len is_space xs = rw begins refl in
+    elim (cases_lt end (length (x ∷ xs))) [
+      | inl inside ↦ word_before_space (x ∷ xs) end (omega (arith, after, is)) is inside
+      | inr past ↦ last_word (x ∷ xs) end some is past
+    ]

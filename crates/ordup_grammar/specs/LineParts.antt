@@ -6,4 +6,4 @@ use Rattle.ordup_grammar.specs.declared.line_buffer.LinePart.TheInside.{Inside}
 
 -- each byte is printed where that is known
 abbrev pub IsLinePart : Inside → Type 0
-IsLinePart p = p.is_printed ≡ true → list_all is_printed p.bytes.now ≡ true
+IsLinePart p = p.is_printed ≡ true → list_all is_printed p.bytes ≡ true

@@ -1,7 +1,12 @@
 -- The words of a line.
-use Rattle.std.specs.Prelude.{ℕ, ℤ, not, List, [], ◌∷◌, Option, Some, None, option_map, option_and_then, length, filter, ◌==◌}
+use Rattle.std.specs.Prelude.{ℕ, ℤ, Bool, false, not, List, [], ◌∷◌, Option, Some, None, option_map, option_and_then, length, filter, ◌==◌}
 use Rattle.std.specs.List.{slice_split}
 use Rattle.ordup_grammar.specs.Numbers.{number_of}
+
+-- whether the first byte of a text is this one
+abbrev pub begins_with : ℕ → List ℕ → Bool
+begins_with byte [] = false
+begins_with byte (first ∷ rest) = first == byte
 
 -- what stands between spaces, where there is a byte
 abbrev pub words_of : List ℕ → List (List ℕ)

@@ -7,18 +7,19 @@
 //!   printed is as a rule the line feed, so `split_line` finds both in one pass. Only where it is another byte does `memchr` look for
 //!   the line feed. Against `memchr` and a second pass over each line, that takes 5.6 percent of all instructions of the mixed load
 //!   away.
-//! - **Where a word ends** (`position_of`, eight or four bytes at a time): two comparisons, whatever the length of the word. On the
-//!   load `first` the processor foresees 2.2 branches more of each line, and the instructions are 3 percent fewer.
+//! - **Where a word ends** (`place_of`): one comparison of sixteen bytes, whatever the length of the word. The text goes on behind
+//!   a word, as a rule (`Front`), so there are sixteen. Only at the end of a piece, or in a longer word, `memchr` looks for the end.
 //! - **Whether a word is a keyword** (`is_spelled`, two comparisons of four bytes): a comparison of slices would be a call. That
 //!   takes 3 percent of all instructions of `first` and of the mixed load away.
 //!
 //! The loads are those of `bench/`.
-ghost use Rattle.std.specs.Prelude.{◌≡◌, ◌+◌, ◌≤◌, ◌==◌, length, not, position, take, drop};
+ghost use Rattle.std.specs.Prelude.{◌≡◌, ◌+◌, ◌≤◌, ◌==◌, length, not, take, drop};
 ghost use Rattle.std.specs.List.{position_or_len, prefix_len};
 ghost use Rattle.std.specs.Int.{w32, from_le_bytes};
 ghost use Rattle.std.specs.Str.{bytes_eq};
 ghost use Rattle.ordup_grammar.specs.Requests.{is_printed};
 
+use memchr::memchr;
 use std::simd::prelude::*;
 
 /// How many bytes `printed_prefix` looks at at once.
@@ -65,87 +66,45 @@ fn printed_in_block(bytes: &[u8], place: usize) -> usize
     unprinted.trailing_zeros() as usize
 }
 
-/// The place of the first of these bytes in a text.
+/// The place of the first of these bytes among the first `len` of a text, or `len` where there is none.
 #[inline(always)]
-pub(crate) fn position_of(text: &[u8], wanted: u8) -> Option<usize>
-    ensures { result ≡ position (λ byte. byte == wanted) text.now }
+pub(crate) fn place_of(text: &[u8], len: usize, wanted: u8) -> usize
+    requires { len ≤ length text.now }
+    ensures { result ≡ position_or_len (λ byte. byte == wanted) (take len text.now) }
 {
-    let place = position_or_len(text, wanted);
-    if place < text.len() {
-        Some(place)
-    } else {
-        None
+    if text.len() >= BLOCK {
+        let place = before_in_block(text, wanted);
+        if place < BLOCK || len <= BLOCK {
+            return place.min(len);
+        }
     }
+    place_in(&text[..len], wanted)
+}
+
+/// How many of the first sixteen bytes of a text stand before the first of these bytes.
+#[inline(always)]
+fn before_in_block(text: &[u8], wanted: u8) -> usize
+    requires { 16 ≤ length text.now }
+    ensures { result ≡ prefix_len (λ byte. not (byte == wanted)) (take 16 text.now) }
+{
+    let found = u8x16::from_slice(text)
+        .simd_eq(u8x16::splat(wanted))
+        .to_bitmask();
+    if found == 0 {
+        return BLOCK;
+    }
+    found.trailing_zeros() as usize
 }
 
 /// The place of the first of these bytes in a text, or the length of the text where there is none.
-#[inline(always)]
-fn position_or_len(text: &[u8], wanted: u8) -> usize
+#[inline(never)]
+fn place_in(text: &[u8], wanted: u8) -> usize
     ensures { result ≡ position_or_len (λ byte. byte == wanted) text.now }
 {
-    let len = text.len();
-    if len < 4 {
-        return position_in_few(text, wanted);
+    match memchr(wanted, text) {
+        Some(place) => place,
+        None => text.len(),
     }
-    if len < 8 {
-        let before = before_in_four(text, 0, wanted);
-        if before < 4 {
-            return before;
-        }
-        // The last four bytes, some of which were looked at.
-        return len - 4 + before_in_four(text, len - 4, wanted);
-    }
-    let mut place = 0;
-    while len - place >= 8 {
-        let before = before_in_eight(text, place, wanted);
-        if before < 8 {
-            return place + before;
-        }
-        place += 8;
-    }
-    len - 8 + before_in_eight(text, len - 8, wanted)
-}
-
-/// The same for fewer than four bytes, one by one.
-#[inline(always)]
-fn position_in_few(text: &[u8], wanted: u8) -> usize
-    ensures { result ≡ position_or_len (λ byte. byte == wanted) text.now }
-{
-    let mut place = 0;
-    while place < text.len() && text[place] != wanted {
-        place += 1;
-    }
-    place
-}
-
-/// How many of the eight bytes from a place on stand before the first of these bytes.
-#[inline(always)]
-fn before_in_eight(text: &[u8], place: usize, wanted: u8) -> usize
-    requires { place + 8 ≤ length text.now }
-    ensures { result ≡ prefix_len (λ byte. not (byte == wanted)) (take 8 (drop place text.now)) }
-{
-    let found = u8x8::from_slice(&text[place..])
-        .simd_eq(u8x8::splat(wanted))
-        .to_bitmask();
-    if found == 0 {
-        return 8;
-    }
-    found.trailing_zeros() as usize
-}
-
-/// How many of the four bytes from a place on stand before the first of these bytes.
-#[inline(always)]
-fn before_in_four(text: &[u8], place: usize, wanted: u8) -> usize
-    requires { place + 4 ≤ length text.now }
-    ensures { result ≡ prefix_len (λ byte. not (byte == wanted)) (take 4 (drop place text.now)) }
-{
-    let found = u8x4::from_slice(&text[place..])
-        .simd_eq(u8x4::splat(wanted))
-        .to_bitmask();
-    if found == 0 {
-        return 4;
-    }
-    found.trailing_zeros() as usize
 }
 
 /// Whether a word is spelled as this keyword.

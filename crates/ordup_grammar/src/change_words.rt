@@ -3,7 +3,7 @@ ghost use Rattle.ordup_grammar.specs.ChangeWords.{are_changes, change_of, change
 
 use crate::operation::Operation;
 use crate::word::Word;
-use crate::words::{Words, split_once};
+use crate::words::Words;
 use std::marker::Model;
 
 /// A change of one object, as a word such as `add:x:5` or `take:x:y` spells it.
@@ -22,14 +22,14 @@ impl<'a> ChangeWord<'a> {
     pub fn parse(word: &Word<'a>) -> Option<ChangeWord<'a>>
         ensures { result ≡ change_of word.now }
     {
-        let (kind, rest) = split_once(word.as_bytes(), b':')?;
-        let (object, operand) = split_once(rest, b':')?;
-        if object.is_empty() {
+        let (kind, rest) = word.front().split_once(b':')?;
+        let (object, operand) = rest.split_once(b':')?;
+        if object.len() == 0 {
             return None;
         }
-        let operation = Operation::parse(kind, operand)?;
+        let operation = Operation::parse(kind.as_bytes(), operand)?;
         Some(ChangeWord {
-            object: Word::new(object),
+            object: Word::of(object),
             operation,
         })
     }

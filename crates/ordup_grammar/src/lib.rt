@@ -6,6 +6,7 @@
 mod bytes;
 mod change_words;
 mod declaration;
+mod front;
 mod keyword;
 mod line_buffer;
 mod number;

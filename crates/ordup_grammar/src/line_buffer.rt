@@ -2,18 +2,21 @@
 ghost use Rattle.std.specs.Prelude.{◌≡◌, ℕ, List, [], ◌∷◌, ◌++◌, ◌<◌, MatchOption, true, false, length};
 ghost use Rattle.ordup_grammar.specs.Lines.{IsPart};
 ghost use Rattle.ordup_grammar.specs.Requests.{is_printed, request_of, asked};
+ghost use Rattle.ordup_grammar.specs.Words.{words_of};
 ghost use Rattle.std.specs.List.{list_all};
 
 use crate::bytes::printed_prefix;
+use crate::front::Front;
 use crate::script_line::ScriptLine;
 use crate::sizes::MOST_LINE_BYTES;
+use crate::words::Words;
 use memchr::memchr;
 use std::marker::Model;
 
 /// The part of a line that lies within one piece of a script, without the line feed.
 #[derive(Drop)]
 pub struct LinePart<'a> {
-    bytes: &'a [u8],
+    bytes: Front<'a>,
     /// Each of them is known to be printed.
     is_printed: bool,
 }
@@ -24,7 +27,7 @@ impl<'a> Model for LinePart<'a> {
 
     ghost Value = { List ℕ };
 
-    ghost view = { λ p. p.bytes.now };
+    ghost view = { λ p. p.bytes };
 
     ghost invariant = { IsLinePart };
 }
@@ -35,7 +38,7 @@ impl<'a> LinePart<'a> {
         ensures { result ≡ bytes.now }
     {
         LinePart {
-            bytes,
+            bytes: Front::whole(bytes),
             is_printed: false,
         }
     }
@@ -44,14 +47,22 @@ impl<'a> LinePart<'a> {
     pub fn as_bytes(&self) -> &'a [u8]
         ensures { result.now ≡ self.now }
     {
-        self.bytes
+        self.bytes.as_bytes()
+    }
+
+    /// Its words, where it is a line.
+    #[inline(always)]
+    pub(crate) fn words(&self) -> Words<'a>
+        ensures { result ≡ words_of self.now }
+    {
+        Words::in_line(self.bytes.copy())
     }
 
     /// Whether each byte is printed.
     pub(crate) fn is_printed(&self) -> bool
         ensures { result ≡ list_all is_printed self.now }
     {
-        self.is_printed || printed_prefix(self.bytes) == self.bytes.len()
+        self.is_printed || printed_prefix(self.as_bytes()) == self.bytes.len()
     }
 }
 
@@ -65,7 +76,7 @@ pub fn split_line(bytes: &[u8]) -> Option<(LinePart<'_>, &[u8])>
     let printed = printed_prefix(bytes);
     if printed < bytes.len() && bytes[printed] == b'\n' {
         let part = LinePart {
-            bytes: &bytes[..printed],
+            bytes: Front::new(bytes, printed),
             is_printed: true,
         };
         return Some((part, &bytes[printed + 1..]));

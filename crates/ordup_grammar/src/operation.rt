@@ -1,7 +1,7 @@
 ghost use Rattle.std.specs.Prelude.{◌≡◌, ◌==◌, None, is_some, position, if◌then◌else◌};
 ghost use Rattle.ordup_grammar.specs.Operations.{number_op_of, operation_of};
 
-use crate::bytes::position_of;
+use crate::front::Front;
 use crate::number::Number;
 use crate::word::Word;
 use ordup_objects::NumberOp;
@@ -18,18 +18,18 @@ pub enum Operation<'a> {
 impl<'a> Operation<'a> {
     /// The operation that the first part of a change word spells, with what stands behind the second colon. The operand is a single
     /// part where it has no colon itself. A number has none.
-    pub(crate) fn parse(kind: &[u8], operand: &'a [u8]) -> Option<Operation<'a>>
-        ensures { result ≡ (if is_some (position (λ byte. byte == 58) operand.now) then None else operation_of kind.now operand.now) }
+    pub(crate) fn parse(kind: &[u8], operand: Front<'a>) -> Option<Operation<'a>>
+        ensures { result ≡ (if is_some (position (λ byte. byte == 58) operand.entry) then None else operation_of kind.now operand.entry) }
     {
         if kind == b"take".as_slice() {
-            return if operand.is_empty() || position_of(operand, b':').is_some() {
+            return if operand.len() == 0 || operand.place_of(b':') < operand.len() {
                 None
             } else {
-                Some(Operation::Take(Word::new(operand)))
+                Some(Operation::Take(Word::of(operand)))
             };
         }
         let op = number_op(kind)?;
-        let number = Number::parse(operand)?;
+        let number = Number::parse(operand.as_bytes())?;
         Some(Operation::WithNumber(op, number))
     }
 }

@@ -36,7 +36,7 @@ impl<'a> ScriptLine<'a> {
         if !part.is_printed() {
             return ScriptLine::NoCommand;
         }
-        match Words::of(line).split_first() {
+        match part.words().split_first() {
             Some((first, rest)) => ScriptLine::Words(first, rest),
             None => ScriptLine::Nothing,
         }

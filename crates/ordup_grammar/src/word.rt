@@ -1,17 +1,18 @@
 ghost use Rattle.std.specs.Prelude.{◌≡◌, ℕ, List};
 
+use crate::front::Front;
 use std::marker::Model;
 
 /// A word of a line, or the part of one that is a name. It may name nothing.
 #[derive(Debug, Drop)]
 pub struct Word<'a> {
-    bytes: &'a [u8],
+    bytes: Front<'a>,
 }
 
 impl<'a> Model for Word<'a> {
     ghost Value = { List ℕ };
 
-    ghost view = { λ w. w.bytes.now };
+    ghost view = { λ w. w.bytes };
 }
 
 impl<'a> Word<'a> {
@@ -19,13 +20,30 @@ impl<'a> Word<'a> {
     pub fn new(bytes: &'a [u8]) -> Self
         ensures { result ≡ bytes.now }
     {
+        Word::of(Front::whole(bytes))
+    }
+
+    /// The word of these bytes, behind which their text goes on.
+    #[inline(always)]
+    pub(crate) fn of(bytes: Front<'a>) -> Self
+        ensures { result ≡ bytes.entry }
+    {
         Word { bytes }
     }
 
     /// Its bytes.
+    #[inline(always)]
     pub fn as_bytes(&self) -> &'a [u8]
         ensures { result.now ≡ self.now }
     {
-        self.bytes
+        self.bytes.as_bytes()
+    }
+
+    /// Its bytes, behind which their text goes on.
+    #[inline(always)]
+    pub(crate) fn front(&self) -> Front<'a>
+        ensures { result ≡ self.now }
+    {
+        self.bytes.copy()
     }
 }

@@ -7,18 +7,19 @@ use Rattle.ordup_grammar.proofs.Splits.{fails-no_byte, split-first_byte}
 use Rattle.ordup_grammar.proofs.line_buffer.split_line.Goals as goal
 
 pub invariant_of-part : goal.invariant_of-part
-invariant_of-part c = λ _. rw c.printed_prefix-printed.ensures (prefix_printed c.args.bytes.now)
+invariant_of-part c = λ _. rw (c.new.ensures, c.printed_prefix-printed.ensures) (prefix_printed c.args.bytes.now)
 
 pub returns-then-bytes-printed-eq10 : goal.returns-then-bytes-printed-eq10
 returns-then-bytes-printed-eq10 c =
     let place = c.printed_prefix-printed.result in
     let bytes = c.args.bytes.now in
-    split-first_byte 10 bytes place (subst (λ n. IsFirstByte (λ byte. byte == 10) bytes (Some n)) (sym c.printed_prefix-printed.ensures)
+    rw c.new.ensures
+    (split-first_byte 10 bytes place (subst (λ n. IsFirstByte (λ byte. byte == 10) bytes (Some n)) (sym c.printed_prefix-printed.ensures)
     (first_line_feed bytes (rw (← c.printed_prefix-printed.ensures) c.if-printed-bytes.true)
-    (rw (← c.printed_prefix-printed.ensures) c.if-bytes-printed-eq10.true)))
+    (rw (← c.printed_prefix-printed.ensures) c.if-bytes-printed-eq10.true))))
 
 pub returns : goal.returns
-returns c = rw c.new.ensures (split-first_byte 10 c.args.bytes.now c.in_ok-end.end c.in_ok-end.ensures)
+returns c = rw c.new-2.ensures (split-first_byte 10 c.args.bytes.now c.in_ok-end.end c.in_ok-end.ensures)
 
 pub returns-in_err-end : goal.returns-in_err-end
 returns-in_err-end c = rw c.from_residual.ensures (fails-no_byte is_line_feed c.args.bytes.now c.in_err-end.ensures)

@@ -8,7 +8,7 @@ returns-in_err-operation c =
     let kind = c.in_ok-kind in
     let object = c.in_ok-object in
     let behind =
-    change_of-behind c.as_bytes.result.now kind.kind.now kind.rest.now object.object.now object.operand.now kind.ensures object.ensures in
+    change_of-behind c.front.result kind.kind kind.rest object.object object.operand kind.ensures object.ensures in
     grind (arith, common_steps)
 
 pub returns : goal.returns
@@ -16,5 +16,5 @@ returns c =
     let kind = c.in_ok-kind in
     let object = c.in_ok-object in
     let behind =
-    change_of-behind c.as_bytes.result.now kind.kind.now kind.rest.now object.object.now object.operand.now kind.ensures object.ensures in
+    change_of-behind c.front.result kind.kind kind.rest object.object object.operand kind.ensures object.ensures in
     grind (arith, common_steps)

@@ -1,0 +1,63 @@
+-- The first bytes of a text: parts of them, and where a byte first stands among them.
+use Rattle.std.proofs.Common.{◌≡◌, ◌∙◌, ap, sym, refl, inl, inr, ℕ, zero, suc, ◌+◌, ◌-◌, ◌<◌, ◌≤◌, true, List, [], ◌∷◌}
+use Rattle.std.proofs.Common.{length, take, drop, get_or, length-take, arith}
+use Rattle.std.specs.Prelude.{◌⊎◌, not, nat_eq, ◌==◌}
+use Rattle.std.specs.List.{prefix_len, position_or_len}
+use Rattle.std.proofs.lemmas.Bool.{cases_lt}
+use Rattle.std.proofs.lemmas.List.{take-take, drop-take, take_rest, get_or-take}
+use Rattle.std.proofs.lemmas.List.Sums.{position_or_len_is}
+use Rattle.std.proofs.lemmas.Simd.{run_in_chunk_fails, run_in_chunk_stops}
+use Rattle.ordup_grammar.specs.Words.{begins_with}
+
+-- the front of a front
+pub front_of_front : (end len : ℕ) (text : List ℕ) → end ≤ len → take end text ≡ take end (take len text)
+front_of_front end len text within = sym (take-take end len text within)
+
+-- what is behind a place of a front is a front of what is behind it in the text
+pub back_of_front : (start len : ℕ) (text : List ℕ) → start ≤ len
+    → take (len - start) (take (length text - start) (drop start text)) ≡ drop start (take len text)
+back_of_front start len text within =
+    let whole : start + (len - start) ≡ len = omega arith in
+    rw (take_rest text start) (sym (drop-take start (len - start) text) ∙ ap (λ n. drop start (take n text)) whole)
+
+-- the first byte of a front
+pub front_begins : (byte len : ℕ) (text : List ℕ) → 0 < len → 0 < length text
+    → nat_eq (get_or text 0 0) byte ≡ begins_with byte (take len text)
+front_begins byte len [] some room = absurd (omega (arith, room))
+front_begins byte zero (x ∷ xs) some room = absurd (omega (arith, some))
+front_begins byte (suc n) (x ∷ xs) some room = refl
+
+-- the place of a byte in a front, by its place in the first sixteen bytes of the text
+module _ (wanted : ℕ) (text : List ℕ) (len r m : ℕ) (within : len ≤ length text) (room : 16 ≤ length text)
+    (counted : r ≡ prefix_len (λ byte. not (byte == wanted)) (take 16 text)) where
+  long : length (take len text) ≡ len
+  long = omega (arith, length-take len text)
+
+  start : 0 + r ≡ r
+  start = omega arith
+
+  stops : (r < 16) ⊎ (len ≤ 16) → r < len → ((get_or text r 0) == wanted) ≡ true
+  stops (inl some) inside = rw start at (run_in_chunk_stops (λ byte. byte == wanted) text 0 16 r 0 room counted some)
+  stops (inr few) inside =
+      rw start at (run_in_chunk_stops (λ byte. byte == wanted) text 0 16 r 0 room counted (omega (arith, few, inside)))
+
+  module _ (way : (r < 16) ⊎ (len ≤ 16)) (early : r ≤ len → m ≡ r) (late : len ≤ r → m ≡ len) where
+    least : (m ≤ r) × (m ≤ len)
+    least = elim (cases_lt r len) [
+      | inl below ↦ (omega (arith, early (omega (arith, below))), omega (arith, below, early (omega (arith, below))))
+      | inr past ↦ (omega (arith, past, late past), omega (arith, late past))
+    ]
+
+    stops_at : m < len → ((get_or (take len text) m 0) == wanted) ≡ true
+    stops_at inside = elim (cases_lt r len) [
+      | inl below ↦ (let is : m ≡ r = early (omega (arith, below)) in
+          rw (get_or-take len text m 0 inside, is) (stops way below))
+      | inr past ↦ absurd (omega (arith, inside, late past))
+    ]
+
+    pub place_in_front : position_or_len (λ byte. byte == wanted) (take len text) ≡ m
+    place_in_front =
+        position_or_len_is (λ byte. byte == wanted) (take len text) m 0 (omega (arith, long, least.1))
+        (λ k below. rw (get_or-take len text k 0 (omega (arith, below, least.1)))
+        (run_in_chunk_fails (λ byte. byte == wanted) text 0 16 r 0 room counted k (omega arith) (omega (arith, below, least.0))))
+        (λ inside. stops_at (omega (arith, long, inside)))

@@ -1,0 +1,130 @@
+ghost use Rattle.std.specs.Prelude.{◌≡◌, ◌≤◌, ◌∷◌, [], ◌==◌, ℕ, List, MatchOption, drop, false, length, take};
+ghost use Rattle.std.specs.List.{position_or_len, slice_split};
+ghost use Rattle.ordup_grammar.specs.Words.{begins_with, words_of};
+
+use crate::bytes::place_of;
+use std::marker::Model;
+
+/// The first bytes of a text.
+///
+/// The text goes on behind them, as a rule. So they are looked at sixteen at once, whatever their number: see `bytes`.
+#[derive(Debug, Drop)]
+pub(crate) struct Front<'a> {
+    text: &'a [u8],
+    len: usize,
+}
+
+impl<'a> Model for Front<'a> {
+    ghost Value = { List ℕ };
+
+    ghost view = { λ f. take f.len f.text.now };
+
+    ghost invariant = { λ f. f.len ≤ length f.text.now };
+}
+
+impl<'a> Front<'a> {
+    /// The first `len` bytes of a text.
+    #[inline(always)]
+    pub(crate) fn new(text: &'a [u8], len: usize) -> Self
+        requires { len ≤ length text.now }
+        ensures { result ≡ take len text.now }
+    {
+        Front { text, len }
+    }
+
+    /// All bytes of a text.
+    #[inline(always)]
+    pub(crate) fn whole(text: &'a [u8]) -> Self
+        ensures { result ≡ text.now }
+    {
+        Front::new(text, text.len())
+    }
+
+    /// The bytes.
+    #[inline(always)]
+    pub(crate) fn as_bytes(&self) -> &'a [u8]
+        ensures { result.now ≡ self.now }
+    {
+        &self.text[..self.len]
+    }
+
+    /// How many bytes there are.
+    #[inline(always)]
+    pub(crate) fn len(&self) -> usize
+        ensures len { result ≡ length self.now }
+        // No text has more bytes.
+        ensures few { length self.now ≤ 9223372036854775807 }
+    {
+        self.len
+    }
+
+    /// A copy of the front. Its bytes are not copied.
+    #[inline(always)]
+    pub(crate) fn copy(&self) -> Front<'a>
+        ensures { result ≡ self.now }
+    {
+        Front::new(self.text, self.len)
+    }
+
+    /// The bytes up to a place.
+    #[inline(always)]
+    pub(crate) fn up_to(&self, end: usize) -> Front<'a>
+        requires { end ≤ length self.now }
+        ensures { result ≡ take end self.now }
+    {
+        Front::new(self.text, end)
+    }
+
+    /// The bytes from a place on.
+    #[inline(always)]
+    pub(crate) fn from(&self, start: usize) -> Front<'a>
+        requires { start ≤ length self.now }
+        ensures { result ≡ drop start self.now }
+    {
+        Front::new(&self.text[start..], self.len - start)
+    }
+
+    /// The place of the first of these bytes, or the number of the bytes where there is none.
+    #[inline(always)]
+    pub(crate) fn place_of(&self, wanted: u8) -> usize
+        ensures { result ≡ position_or_len (λ byte. byte == wanted) self.now }
+    {
+        place_of(self.text, self.len, wanted)
+    }
+
+    /// Whether the first byte is this one.
+    #[inline(always)]
+    pub(crate) fn begins_with(&self, byte: u8) -> bool
+        ensures { result ≡ begins_with byte self.now }
+    {
+        self.len > 0 && self.text[0] == byte
+    }
+
+    /// The bytes without the spaces that they begin with.
+    #[tactic(auto, using(crate::proofs::Splits::words_without_space, crate::proofs::Splits::begins_some))]
+    #[inline(always)]
+    pub(crate) fn without_spaces(&self) -> Front<'a>
+        ensures words { words_of result ≡ words_of self.now }
+        ensures first { begins_with 32 result ≡ false }
+    {
+        let mut front = self.copy();
+        while front.begins_with(b' ') {
+            front = front.from(1);
+        }
+        front
+    }
+
+    /// What stands before the first separator, and what stands after it.
+    #[inline(always)]
+    pub(crate) fn split_once(&self, separator: u8) -> Option<(Front<'a>, Front<'a>)>
+        ensures { let parts = slice_split (λ byte. byte == separator) in
+            MatchOption result (parts self.now ≡ self.now ∷ []) (λ found.
+            parts self.now ≡ found.0 ∷ parts found.1) }
+    {
+        let end = self.place_of(separator);
+        if end == self.len {
+            return None;
+        }
+        Some((self.up_to(end), self.from(end + 1)))
+    }
+}

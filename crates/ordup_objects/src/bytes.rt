@@ -6,6 +6,7 @@
 //! does not foresee.
 //!
 //! - **Compare the ends** (`are_alike`): two names are equal where both parts are.
+//! - **Copy the ends** (`copy_short`): a copy of a length that the compiler does not know is a call, and these are two moves.
 //! - **Guess before hashing** (`Hints`): the same two parts, mixed, pick a slot that holds a guess of where the name stands.
 //!   `NameTable::find` compares the name that stands there, and hashes the bytes only where the guess was wrong. With the
 //!   comparison above, a lookup takes 36 instructions in place of 125: 8 percent of all instructions of the mixed load and of the
@@ -46,6 +47,40 @@ fn have_alike_ends<const N: usize>(a: &[u8], b: &[u8]) -> bool
 {
     (a.first_chunk::<N>().unwrap() == b.first_chunk::<N>().unwrap())
         & (a.last_chunk::<N>().unwrap() == b.last_chunk::<N>().unwrap())
+}
+
+/// Copies a text of another length each time, as a name is: up to 16 bytes by two moves.
+#[inline(always)]
+pub fn copy_short(to: &mut [u8], from: &[u8])
+    requires { length to.old ≡ length from.now }
+    ensures { to.new ≡ from.now }
+{
+    let len = from.len();
+    if len > 16 {
+        to.copy_from_slice(from);
+    } else if len >= 8 {
+        copy_ends::<8>(to, from);
+    } else if len >= 4 {
+        copy_ends::<4>(to, from);
+    } else if len >= 2 {
+        copy_ends::<2>(to, from);
+    } else {
+        to.copy_from_slice(from);
+    }
+}
+
+/// Copies the first and the last N bytes of a text, which are all of its bytes. They may overlap.
+#[inline(always)]
+fn copy_ends<const N: usize>(to: &mut [u8], from: &[u8])
+    requires { (length to.old ≡ length from.now) × (N ≤ length from.now) × (length from.now ≤ 2 * N) }
+    ensures { to.new ≡ from.now }
+{
+    // Both are read first, so that no test is made whether the texts overlap.
+    let first = *from.first_chunk::<N>().unwrap();
+    let last = *from.last_chunk::<N>().unwrap();
+    let rest = from.len() - N;
+    to[..N].copy_from_slice(&first);
+    to[rest..].copy_from_slice(&last);
 }
 
 /// How many guesses there are.

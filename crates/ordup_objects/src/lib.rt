@@ -16,7 +16,7 @@ mod results;
 pub mod sizes;
 mod values;
 
-pub use bytes::Hints;
+pub use bytes::{Hints, copy_short};
 pub use change::{Change, NumberOp, Op};
 pub use ids::{ObjectId, SiteId};
 pub use laws::{

@@ -5,7 +5,7 @@ ghost use Rattle.std.specs.Cmp.Rules.{comparing, hashing};
 ghost use Rattle.std.proofs.Common.{rules};
 ghost use Rattle.ordup_objects.specs.Names.{is_letter, is_name_byte, is_name};
 
-use crate::bytes::are_alike;
+use crate::bytes::{are_alike, copy_short};
 use crate::refusal::Refusal;
 use crate::sizes::MOST_NAME_BYTES;
 use indexmap::Equivalent;
@@ -56,7 +56,7 @@ impl Name {
         ensures { result ≡ bytes.now }
     {
         let mut padded = [0; MOST_NAME_BYTES];
-        padded[..bytes.len()].copy_from_slice(bytes);
+        copy_short(&mut padded[..bytes.len()], bytes);
         Name {
             bytes: padded,
             len: bytes.len(),

@@ -3,4 +3,4 @@ use Rattle.ordup_objects.proofs.NameLemmas.{IsPadded-over}
 use Rattle.ordup_objects.proofs.name.Name.padded.Goals as goal
 
 pub invariant_of-result : goal.invariant_of-result
-invariant_of-result c = rw c.copy_from_slice.ensures.after (IsPadded-over c.args.bytes.now (search rules))
+invariant_of-result c = rw c.copy_short.ensures (IsPadded-over c.args.bytes.now (search rules))

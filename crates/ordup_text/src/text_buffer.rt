@@ -2,11 +2,12 @@
 //!
 //! The buffer already has bytes behind its text, and a part that is added is copied over them. The compiler knows the length of most
 //! parts, and copies such a part by a move or two. That takes 4 to 8 percent off the instructions of a line of a script.
-ghost use Rattle.std.specs.Prelude.{◌≡◌, ◌+◌, ◌*◌, ◌≤◌, ◌++◌, [], OnOk, length};
+ghost use Rattle.std.specs.Prelude.{◌≡◌, ◌+◌, ◌≤◌, ◌++◌, [], OnOk, length};
 ghost use Rattle.std.specs.Fmt.{decimal, signed_decimal};
 ghost use Rattle.ordup_text.specs.declared.text_buffer.TheConstants.{MOST_DIGITS};
 
 use itoa::write_digits;
+use ordup_objects::copy_short;
 use std::alloc::{AllocError, Allocator, Global};
 use std::marker::Model;
 
@@ -180,40 +181,4 @@ fn digit_count(number: u64) -> usize
         Some(power) => power as usize + 1,
         None => 1,
     }
-}
-
-/// Copies a text of another length each time, as a name is: up to 16 bytes by two moves.
-// A copy of a length that the compiler does not know is a call. Without it, and with the lines that end with a number inlined, the
-// loads `first` and of queries take 4 percent fewer instructions, and the mixed load 2.5 percent.
-#[inline(always)]
-fn copy_short(to: &mut [u8], from: &[u8])
-    requires { length to.old ≡ length from.now }
-    ensures { to.new ≡ from.now }
-{
-    let len = from.len();
-    if len > 16 {
-        to.copy_from_slice(from);
-    } else if len >= 8 {
-        copy_ends::<8>(to, from);
-    } else if len >= 4 {
-        copy_ends::<4>(to, from);
-    } else if len >= 2 {
-        copy_ends::<2>(to, from);
-    } else {
-        to.copy_from_slice(from);
-    }
-}
-
-/// Copies the first and the last N bytes of a text, which are all of its bytes. They may overlap.
-#[inline(always)]
-fn copy_ends<const N: usize>(to: &mut [u8], from: &[u8])
-    requires { (length to.old ≡ length from.now) × (N ≤ length from.now) × (length from.now ≤ 2 * N) }
-    ensures { to.new ≡ from.now }
-{
-    // Both are read first, so that no test is made whether the texts overlap.
-    let first = *from.first_chunk::<N>().unwrap();
-    let last = *from.last_chunk::<N>().unwrap();
-    let rest = from.len() - N;
-    to[..N].copy_from_slice(&first);
-    to[rest..].copy_from_slice(&last);
 }

@@ -75,12 +75,8 @@ fn copy_ends<const N: usize>(to: &mut [u8], from: &[u8])
     requires { (length to.old ≡ length from.now) × (N ≤ length from.now) × (length from.now ≤ 2 * N) }
     ensures { to.new ≡ from.now }
 {
-    // Both are read first, so that no test is made whether the texts overlap.
-    let first = *from.first_chunk::<N>().unwrap();
-    let last = *from.last_chunk::<N>().unwrap();
-    let rest = from.len() - N;
-    to[..N].copy_from_slice(&first);
-    to[rest..].copy_from_slice(&last);
+    *to.first_chunk_mut::<N>().unwrap() = *from.first_chunk::<N>().unwrap();
+    *to.last_chunk_mut::<N>().unwrap() = *from.last_chunk::<N>().unwrap();
 }
 
 /// How many guesses there are.

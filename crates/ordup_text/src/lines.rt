@@ -74,8 +74,8 @@ pub fn push_numbered<A: Allocator + Copy, const N: usize>(
 ) -> Result<(), AllocError>
     ensures { OnOk result (out.new.text ≡ out.old.text ++ numbered_text done.now name.now number) }
 {
-    out.push(done)?;
-    out.reserve(name.len() + MOST_DIGITS + 2)?;
+    out.reserve(name.len().saturating_add(done.len() + MOST_DIGITS + 2))?;
+    out.put(done);
     out.put_name(name);
     out.put(b" ");
     out.put_number(number);

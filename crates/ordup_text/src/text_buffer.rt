@@ -75,6 +75,8 @@ impl<A: Allocator + Copy> TextBuffer<A> {
     pub fn reserve(&mut self, room: usize) -> Result<(), AllocError>
         ensures text { self.new.text ≡ self.old.text }
         ensures room { OnOk result (room ≤ self.new.room) }
+        // No list has more bytes.
+        ensures most { OnOk result (self.new.room ≤ 9223372036854775807) }
     {
         if room <= self.bytes.len() - self.len {
             return Ok(());
@@ -87,9 +89,13 @@ impl<A: Allocator + Copy> TextBuffer<A> {
     fn grow(&mut self, room: usize) -> Result<(), AllocError>
         ensures text { self.new.text ≡ self.old.text }
         ensures room { OnOk result (room ≤ self.new.room) }
+        ensures most { OnOk result (self.new.room ≤ 9223372036854775807) }
     {
         let more = room.max(self.len);
-        self.bytes.resize(self.len.saturating_add(more), 0)
+        self.bytes.resize(self.len.saturating_add(more), 0)?;
+        // For the proof: a list has few bytes.
+        let _len = self.bytes.len();
+        Ok(())
     }
 
     /// Adds a text. It must fit into the spare capacity.

@@ -6,7 +6,9 @@
 //! does not foresee.
 //!
 //! - **Compare the ends** (`are_alike`): two names are equal where both parts are.
-//! - **Copy the ends** (`copy_short`): a copy of a length that the compiler does not know is a call, and these are two moves.
+//! - **Copy the ends** (`copy_short`): a copy of a length that the compiler does not know is a call, and these are two moves. For
+//!   the names that words spell, and those that are printed, with the lines that print them inlined, that takes 5 percent of all
+//!   instructions of the load of queries away, 3 of `first` and 2 of the mixed load.
 //! - **Guess before hashing** (`Hints`): the same two parts, mixed, pick a slot that holds a guess of where the name stands.
 //!   `NameTable::find` compares the name that stands there, and hashes the bytes only where the guess was wrong. With the
 //!   comparison above, a lookup takes 36 instructions in place of 125: 8 percent of all instructions of the mixed load and of the

@@ -65,6 +65,7 @@ pub fn push_done<A: Allocator + Copy, const N: usize>(
 }
 
 /// Adds a line: what was done, a name and a number.
+// Inlined: a call for each length of what was done would save and load five registers.
 #[inline(always)]
 pub fn push_numbered<A: Allocator + Copy, const N: usize>(
     out: &mut TextBuffer<A>,

@@ -7,10 +7,10 @@
 //!   printed is as a rule the line feed, so `split_line` finds both in one pass. Only where it is another byte does `memchr` look for
 //!   the line feed. Against `memchr` and a second pass over each line, that takes 5.6 percent of all instructions of the mixed load
 //!   away.
-//! - **Where a word ends** (`place_of`): one comparison of sixteen bytes, whatever the length of the word. The text goes on behind
-//!   a word, as a rule (`Front`), so there are sixteen. Only at the end of a piece, or in a longer word, `memchr` looks for the end.
-//!   Against comparisons of eight and of four bytes within the word, and a call for a line's only word, that takes 3.5 percent of all
-//!   instructions of `first` away, 2.5 of the load of queries and 2 of the mixed load.
+//! - **Where a word ends** (`place_of`): one comparison of sixteen bytes, whatever the length of the word. The text goes on
+//!   behind a word, as a rule (`Front`), so there are sixteen. Only at the end of a piece, or in a longer word, `memchr` looks for
+//!   the end. Against comparisons of eight and of four bytes within the word, and a call for a line's only word, that takes 3.5
+//!   percent of all instructions of `first` away, 2.5 of the load of queries and 2 of the mixed load.
 //! - **Whether a word is a keyword** (`is_spelled`, two comparisons of four bytes): a comparison of slices would be a call. That
 //!   takes 3 percent of all instructions of `first` and of the mixed load away. The compiler makes one jump by the length of them.
 //!

@@ -1,8 +1,8 @@
 -- What lines ask for, worked out by hand: no definition can change its meaning unseen.
-use Rattle.std.proofs.Common.{◌≡◌, pos, refl}
-use Rattle.std.specs.Prelude.{neg_ℤ, Some, codes}
+use Rattle.std.proofs.Common.{◌≡◌, pos, refl, [], ◌∷◌}
+use Rattle.std.specs.Prelude.{neg_ℤ, None, Some, codes}
 use Prim.Native.String.{String}
-use Rattle.ordup_grammar.specs.Actions.{Relimit}
+use Rattle.ordup_grammar.specs.Actions.{Send, Apply, Report, Settle, Read, End, Abandon, Show, Relimit, action_of}
 use Rattle.ordup_grammar.specs.Commands.{Act, Declare}
 use Rattle.ordup_grammar.specs.Keywords.{keyword_of}
 use Rattle.ordup_grammar.specs.Requests.{Request, Command, NoCommand, request_of}
@@ -40,3 +40,17 @@ no_changes : (asked "relimit" ≡ NoCommand)
     × (asked "Relimit a all 5" ≡ NoCommand)
 unfolding request_of keyword_of
 no_changes = (refl, refl, refl, refl, refl, refl, refl, refl, refl, refl, refl)
+
+-- each keyword spells its own action
+actions : (action_of (codes "send") (codes "a" ∷ []) ≡ Some (Send (codes "a")))
+    × (action_of (codes "apply") (codes "a" ∷ []) ≡ Some (Apply (codes "a")))
+    × (action_of (codes "report") (codes "a" ∷ []) ≡ Some (Report (codes "a")))
+    × (action_of (codes "settle") [] ≡ Some Settle)
+    × (action_of (codes "read") (codes "q" ∷ codes "x" ∷ []) ≡ Some (Read (codes "q") (codes "x")))
+    × (action_of (codes "end") (codes "q" ∷ []) ≡ Some (End (codes "q")))
+    × (action_of (codes "abandon") (codes "q" ∷ []) ≡ Some (Abandon (codes "q")))
+    × (action_of (codes "show") (codes "a" ∷ []) ≡ Some (Show (codes "a")))
+    × (action_of (codes "start") [] ≡ None)
+    × (action_of (codes "certify") (codes "a" ∷ []) ≡ None)
+unfolding keyword_of
+actions = (refl, refl, refl, refl, refl, refl, refl, refl, refl, refl)

@@ -1,4 +1,4 @@
--- The first bytes of a text: parts of them, and where a byte first stands among them.
+-- Where a byte first stands among the first bytes of a text.
 use Rattle.std.proofs.Common.{◌≡◌, ◌∙◌, ap, sym, refl, inl, inr, ℕ, zero, suc, ◌+◌, ◌-◌, ◌<◌, ◌≤◌, true, List, [], ◌∷◌}
 use Rattle.std.proofs.Common.{length, take, drop, get_or, length-take, arith}
 use Rattle.std.specs.Prelude.{◌⊎◌, not, nat_eq, ◌==◌}
@@ -8,24 +8,6 @@ use Rattle.std.proofs.lemmas.List.{take-take, drop-take, take_rest, get_or-take}
 use Rattle.std.proofs.lemmas.List.Sums.{position_or_len_is}
 use Rattle.std.proofs.lemmas.Simd.{run_in_chunk_fails, run_in_chunk_stops}
 use Rattle.ordup_grammar.specs.Words.{begins_with}
-
--- the front of a front
-pub front_of_front : (end len : ℕ) (text : List ℕ) → end ≤ len → take end text ≡ take end (take len text)
-front_of_front end len text within = sym (take-take end len text within)
-
--- what is behind a place of a front is a front of what is behind it in the text
-pub back_of_front : (start len : ℕ) (text : List ℕ) → start ≤ len
-    → take (len - start) (take (length text - start) (drop start text)) ≡ drop start (take len text)
-back_of_front start len text within =
-    let whole : start + (len - start) ≡ len = omega arith in
-    rw (take_rest text start) (sym (drop-take start (len - start) text) ∙ ap (λ n. drop start (take n text)) whole)
-
--- the first byte of a front
-pub front_begins : (byte len : ℕ) (text : List ℕ) → 0 < len → 0 < length text
-    → nat_eq (get_or text 0 0) byte ≡ begins_with byte (take len text)
-front_begins byte len [] some room = absurd (omega (arith, room))
-front_begins byte zero (x ∷ xs) some room = absurd (omega (arith, some))
-front_begins byte (suc n) (x ∷ xs) some room = refl
 
 -- the place of a byte in a front, by its place in the first sixteen bytes of the text
 module _ (wanted : ℕ) (text : List ℕ) (len r m : ℕ) (within : len ≤ length text) (room : 16 ≤ length text)

@@ -1,8 +1,11 @@
 -- What a reply is, by the parts that answered it.
-use Rattle.std.proofs.Common.{◌≡◌, ℕ, List, [], ◌++◌, None}
+use Rattle.std.proofs.Common.{◌≡◌, ℕ, List, [], ◌++◌, Option, Some, None, true, false, refl}
 use Rattle.std.proofs.Common.{ap, subst, sym, ◌∙◌, inl, inr}
-use Rattle.std.specs.Prelude.{Ok}
-use Rattle.ordup_objects.specs.declared.refusal.Refusal.TheVariants.{NoMemory}
+use Rattle.std.specs.Prelude.{Result, Ok, Err}
+use Rattle.std.proofs.lemmas.Bool.{cases_Bool}
+use Rattle.ordup_objects.specs.declared.change.Change.{Change}
+use Rattle.ordup_objects.specs.declared.refusal.Refusal.{Refusal}
+use Rattle.ordup_objects.specs.declared.refusal.Refusal.TheVariants.{NoMemory, Syntax}
 use Rattle.ordup_primary.specs.Declarations.{Declared, start_refusal}
 use Rattle.ordup_world.specs.Events.{later, Past, IsAnswer}
 use Rattle.ordup_world.specs.Events.{reply as event_answer}
@@ -10,13 +13,17 @@ use Rattle.ordup_world.specs.Worlds.{WorldState, StandsFor}
 use Rattle.ordup_world.specs.declared.event.Event.{Event}
 use Rattle.ordup_world.specs.declared.event.Answer.{Answer}
 use Rattle.ordup_world.specs.declared.event.Answer.TheVariants.{Refused}
-use Rattle.ordup_grammar.specs.declared.action.Action.{Action}
-use Rattle.ordup_grammar.specs.declared.command.Command.TheVariants.{Act, Start}
+use Rattle.ordup_grammar.specs.Actions.{Action, Propose}
+use Rattle.ordup_grammar.specs.ChangeWords.{are_changes, changes_of}
+use Rattle.ordup_grammar.specs.Commands.{Command, Act, Start, command_by}
+use Rattle.ordup_grammar.specs.declared.keyword.Keyword.TheVariants as keyword
 use Rattle.ordup_answers.specs.ScriptStates.{ScriptState, declaring, running, Declares, IsWorldOf}
 use Rattle.ordup_answers.specs.Answers.{Leaves}
+use Rattle.ordup_answers.specs.Changes.{set_in}
 use Rattle.ordup_answers.specs.Events.{event_of, names_of}
-use Rattle.ordup_answers.specs.Replies.{event_reply, command_reply, reply_or_refusal}
-use Rattle.ordup_answers.specs.Texts.{answer_text, started_text}
+use Rattle.ordup_answers.specs.Refusals.{Gives}
+use Rattle.ordup_answers.specs.Replies.{event_reply, command_reply, reply_or_refusal, words_reply}
+use Rattle.ordup_answers.specs.Texts.{answer_text, refused_text, started_text}
 
 module _ {A : Type 0} where
   -- what holds of the state that declares so holds of each state that does
@@ -54,6 +61,48 @@ module _ {A : Type 0} where
   left_by_action v w a names e old new is named left (running d past) stands =
       let event : event_of d a ≡ Ok e = ap (λ d. event_of d a) (sym stands.store.declared) ∙ is in
       rw (event, sym named) (left d past stands)
+
+  -- what is left by the action that words spell
+  pub left_by_words : (v w : WorldState) (c : Option Command) (a : Action) (names : List ℕ × List ℕ) (e : Event A) (old new : List ℕ)
+      → c ≡ Some (Act a) → event_of v.primary.setup a ≡ Ok e → names ≡ names_of a
+      → ((d : Declared) (past : Past A) → StandsFor d v past → Leaves (IsWorldOf w) old new (event_reply d past names e))
+      → (s : ScriptState A) → IsWorldOf v s → Leaves (IsWorldOf w) old new (words_reply s c)
+  left_by_words v w c a names e old new spelled is named left s stands =
+      rw spelled (left_by_action v w a names e old new is named left s stands)
+
+  -- what is left by an action of words that is refused
+  pub left_by_refusal : (v : WorldState) (c : Option Command) (a : Action) (r : Refusal) (old new : List ℕ)
+      → c ≡ Some (Act a) → event_of {A = A} v.primary.setup a ≡ Err r → new ≡ old ++ refused_text r
+      → (s : ScriptState A) → IsWorldOf v s → Leaves (IsWorldOf v) old new (words_reply s c)
+  left_by_refusal v c a r old new spelled is text (declaring d) stands = absurd stands
+  left_by_refusal v c a r old new spelled is text (running d past) stands =
+      let refused : event_of {A = A} d a ≡ Err r = ap (λ d. event_of {A = A} d a) (sym stands.store.declared) ∙ is in
+      rw (spelled, refused) (stands, text)
+
+  -- what is left by words that spell no command
+  pub left_by_no_command : (IsState : ScriptState A → Type 0) (c : Option Command) (old new : List ℕ)
+      → c ≡ None → new ≡ old ++ refused_text Syntax
+      → (s : ScriptState A) → IsState s → Leaves IsState old new (words_reply s c)
+  left_by_no_command IsState c old new none text s is = rw none (is, text)
+
+  -- what is left by a proposal whose words give no set
+  pub left_by_no_set : (v : WorldState) (words : List (List ℕ)) (r : Result (List Change) Refusal) (e : Refusal) (old new : List ℕ)
+      → r ≡ Err e → (are_changes words ≡ false → r ≡ Err Syntax)
+      → (are_changes words ≡ true → Gives (set_in v.primary.setup.objects (changes_of words)) r)
+      → (e ≡ NoMemory → ⊥) → new ≡ old ++ refused_text e
+      → (s : ScriptState A) → IsWorldOf v s → Leaves (IsWorldOf v) old new (words_reply s (command_by keyword.Propose words))
+  left_by_no_set v words r e old new is syntax gives other text s stands = elim (cases_Bool (are_changes words)) [
+    | inl each ↦ elim (rw is at (gives each)) [
+      | inl refused ↦
+          left_by_refusal v (command_by keyword.Propose words) (Propose (changes_of words)) e old new (rw each refl) (rw refused refl)
+          text s stands
+      | inr no_memory ↦ absurd (other no_memory)
+    ]
+    | inr none ↦
+        let same : e ≡ Syntax = (let p = sym is ∙ syntax none in cc) in
+        left_by_no_command (IsWorldOf v) (command_by keyword.Propose words) old new (rw none refl)
+        (text ∙ ap (λ (e : Refusal). old ++ refused_text e) same) s stands
+  ]
 
   -- what is left by a start
   pub left_by_start : (d : Declared) (w : WorldState) (old new : List ℕ)

@@ -7,8 +7,8 @@ use Rattle.ordup_primary.specs.Declarations.{Declared}
 use Rattle.ordup_world.specs.declared.event.Event.{Event}
 use Rattle.ordup_world.specs.declared.event.Event.TheVariants as event
 use Rattle.ordup_grammar.specs.Numbers.{amount_of}
-use Rattle.ordup_grammar.specs.declared.action.Action.{Action}
-use Rattle.ordup_grammar.specs.declared.action.Action.TheVariants.{
+use Rattle.ordup_grammar.specs.Actions.{
+  Action,
   Propose,
   Send,
   Apply,

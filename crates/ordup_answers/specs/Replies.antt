@@ -1,5 +1,5 @@
 -- What a line is answered.
-use Rattle.std.specs.Prelude.{ℕ, List, [], length, nat_lt, if◌then◌else◌, Result, Ok, Err, codes}
+use Rattle.std.specs.Prelude.{ℕ, List, [], length, nat_lt, if◌then◌else◌, Option, Result, Ok, Err, codes}
 use Rattle.ordup_objects.specs.declared.refusal.Refusal.{Refusal}
 use Rattle.ordup_objects.specs.declared.refusal.Refusal.TheVariants.{Syntax, NotStarted, AlreadyStarted, UnknownSite}
 use Rattle.ordup_primary.specs.Declarations.{Declared, start_refusal}
@@ -7,14 +7,12 @@ use Rattle.ordup_world.specs.Events.{Past, later, rounds, windows}
 use Rattle.ordup_world.specs.Events.{reply as event_answer}
 use Rattle.ordup_world.specs.declared.event.Event.{Event}
 use Rattle.ordup_grammar.specs.Lines.{Line}
-use Rattle.ordup_grammar.specs.Requests.{request_of}
-use Rattle.ordup_grammar.specs.declared.action.Action.{Action}
-use Rattle.ordup_grammar.specs.declared.command.Command.{Command}
-use Rattle.ordup_grammar.specs.declared.command.Command.TheVariants.{Declare, Start, Certify, Act}
+use Rattle.ordup_grammar.specs.Requests.{Request, request_of, request_by}
+use Rattle.ordup_grammar.specs.Requests as request
+use Rattle.ordup_grammar.specs.Actions.{Action}
+use Rattle.ordup_grammar.specs.Commands.{Command, Declare, Start, Certify, Act}
 use Rattle.ordup_grammar.specs.declared.declaration.Declaration.{Declaration}
 use Rattle.ordup_grammar.specs.declared.declaration.Declaration.TheVariants.{Object, Group, Site, Limit}
-use Rattle.ordup_grammar.specs.declared.request.Request.{Request}
-use Rattle.ordup_grammar.specs.declared.request.Request.TheVariants as request
 use Rattle.ordup_answers.specs.Declarations.{with_declaration}
 use Rattle.ordup_answers.specs.Events.{event_of, names_of}
 use Rattle.ordup_answers.specs.Places.{index_among}
@@ -71,6 +69,10 @@ module _ {A : Type 0} where
   request_reply s request.Nothing = (s, [])
   request_reply s (request.Command c) = reply_or_refusal s (command_reply s c)
   request_reply s request.NoCommand = (s, refused_text Syntax)
+
+  -- the reply to words, by the command that they spell, if they spell one
+  abbrev pub words_reply : ScriptState A → Option Command → Reply A
+  words_reply s c = request_reply s (request_by c)
 
 -- the reply to a line
 unfoldable pub reply : {A : Type 0} → ScriptState A → Line → Reply A

@@ -1,80 +1,111 @@
 //! The answer to a line: what its command does to the setup or to the world, and the text that says so.
-ghost use Rattle.std.specs.Prelude.{◌≡◌, ◌++◌, [], None, Some, IfOk, IfErr, OnOk};
+ghost use Rattle.std.specs.Prelude.{◌≡◌, ◌++◌, [], None, Some, IfOk, IfErr, OnOk, option_map};
+ghost use Rattle.ordup_grammar.specs.Commands.{Certify, Declare, Start, command_by, command_of};
+ghost use Rattle.ordup_grammar.specs.Declarations.{declaration_of};
+ghost use Rattle.ordup_grammar.specs.Requests.{asked};
+ghost use Rattle.ordup_grammar.specs.declared.keyword.Keyword.{Keyword};
 ghost use Rattle.ordup_answers.specs.ScriptStates.{ScriptState, Declares, IsWorldOf, Stands};
-ghost use Rattle.ordup_answers.specs.Replies.{request_reply, command_reply, reply_or_refusal, declared_text};
+ghost use Rattle.ordup_answers.specs.Replies.{request_reply, words_reply, command_reply, reply_or_refusal, declared_text};
 ghost use Rattle.ordup_answers.specs.ScriptStates.{running};
 ghost use Rattle.ordup_primary.specs.Declarations.{Declared, start_refusal};
 ghost use Rattle.ordup_answers.specs.Answers.{Leaves};
 
 use crate::declarations::declare;
-use crate::events::answer_action;
+use crate::events::{
+    answer_abandon, answer_apply, answer_begin, answer_end, answer_propose, answer_read,
+    answer_relimit, answer_report, answer_send, answer_settle, answer_show,
+};
 use crate::places::find_site;
 use crate::script_end::ScriptEnd;
 use crate::text::{push_certified, push_refused, push_started};
-use ordup_grammar::{Command, Declaration, Request, Word};
+use ordup_grammar::{Declaration, Keyword, ScriptLine, Word, Words};
 use ordup_objects::Refusal;
 use ordup_text::{TextBuffer, push_named};
 use ordup_world::{Setup, World};
 use std::alloc::{AllocError, Allocator};
 use std::mem;
 
-/// Answers what a line asks for.
+/// Answers a line.
 ///
 /// Where it succeeds: if the script was in a state, it is afterwards in the state that the reply to the line leaves, and the text of
 /// the reply was added to `out`. It fails only where an allocation was refused, and then the run ends.
-// Inlined into the loop over lines, with the reading of a line before it. So what a line asks for is not moved from one to the
-// other, which takes 4 percent off the instructions of the mixed load.
+// Inlined into the loop over lines, with the reading of a line before it, so that the words of a line are not moved.
 #[inline(always)]
 pub fn answer<A: Allocator + Copy>(
     alloc: A,
     store: &mut ScriptEnd<A>,
-    request: &Request<'_>,
+    line: &ScriptLine<'_>,
     out: &mut TextBuffer<A>,
 ) -> Result<(), AllocError>
-    ensures { OnOk result ((s : ScriptState A) → Stands store.old s → Leaves (Stands store.new) out.old.text out.new.text (request_reply s request.now)) }
+    ensures { OnOk result ((s : ScriptState A) → Stands store.old s → Leaves (Stands store.new) out.old.text out.new.text (request_reply s (asked line.now))) }
 {
-    match request {
-        Request::Nothing => Ok(()),
-        Request::Command(command) => carry_out(alloc, store, command, out),
-        Request::NoCommand => push_refused(out, Refusal::Syntax),
+    match line {
+        ScriptLine::Nothing => Ok(()),
+        ScriptLine::NoCommand => push_refused(out, Refusal::Syntax),
+        ScriptLine::Words(first, rest) => answer_words(alloc, store, first, rest, out),
     }
 }
 
-/// Carries a command out and answers it. Before the start it refuses all but declarations and the start, and after it these.
+/// Answers what a first word and the words after it ask for.
+// Each keyword is answered where it is found, so that no command is made that has to be matched again. That takes 14 percent off
+// the instructions of the load `first`, and 9 percent off those of the mixed load.
 #[inline(always)]
-fn carry_out<A: Allocator + Copy>(
+fn answer_words<A: Allocator + Copy>(
     alloc: A,
     store: &mut ScriptEnd<A>,
-    command: &Command<'_>,
+    first: &Word<'_>,
+    rest: &Words<'_>,
     out: &mut TextBuffer<A>,
 ) -> Result<(), AllocError>
-    ensures { OnOk result ((s : ScriptState A) → Stands store.old s → Leaves (Stands store.new) out.old.text out.new.text (reply_or_refusal s (command_reply s command.now))) }
+    ensures { OnOk result ((s : ScriptState A) → Stands store.old s → Leaves (Stands store.new) out.old.text out.new.text (words_reply s (command_of first.now rest.now))) }
 {
-    match command {
-        Command::Declare(declaration) => match store {
-            ScriptEnd::Declared(setup) => answer_declaration(alloc, setup, declaration, out),
-            ScriptEnd::Running(_) => push_refused(out, Refusal::AlreadyStarted),
-        },
-        Command::Start => answer_start(alloc, store, out),
-        Command::Certify(site) => match store {
-            ScriptEnd::Declared(_) => push_refused(out, Refusal::NotStarted),
-            ScriptEnd::Running(world) => certify(world, site, out),
-        },
-        Command::Act(action) => match store {
-            ScriptEnd::Declared(_) => push_refused(out, Refusal::NotStarted),
-            ScriptEnd::Running(world) => answer_action(alloc, world, action, out),
-        },
+    let Some(keyword) = Keyword::of(first) else {
+        return answer_declaration(alloc, store, first, rest, out);
+    };
+    match keyword {
+        Keyword::Start => answer_start(alloc, store, rest, out),
+        Keyword::Certify => answer_certify(store, rest, out),
+        Keyword::Propose => answer_propose(alloc, store, rest, out),
+        Keyword::Send => answer_send(store, rest, out),
+        Keyword::Apply => answer_apply(store, rest, out),
+        Keyword::Report => answer_report(store, rest, out),
+        Keyword::Settle => answer_settle(store, rest, out),
+        Keyword::Begin => answer_begin(store, rest, out),
+        Keyword::Read => answer_read(store, rest, out),
+        Keyword::End => answer_end(store, rest, out),
+        Keyword::Abandon => answer_abandon(store, rest, out),
+        Keyword::Show => answer_show(store, rest, out),
+        Keyword::Relimit => answer_relimit(store, rest, out),
+    }
+}
+
+/// Declares what words say, and answers that.
+fn answer_declaration<A: Allocator + Copy>(
+    alloc: A,
+    store: &mut ScriptEnd<A>,
+    first: &Word<'_>,
+    rest: &Words<'_>,
+    out: &mut TextBuffer<A>,
+) -> Result<(), AllocError>
+    ensures { OnOk result ((s : ScriptState A) → Stands store.old s → Leaves (Stands store.new) out.old.text out.new.text (words_reply s (option_map (λ d. Declare d) (declaration_of first.now rest.now)))) }
+{
+    let Some(declaration) = Declaration::parse(first, rest) else {
+        return push_refused(out, Refusal::Syntax);
+    };
+    match store {
+        ScriptEnd::Declared(setup) => carry_out(alloc, setup, &declaration, out),
+        ScriptEnd::Running(_) => push_refused(out, Refusal::AlreadyStarted),
     }
 }
 
 /// Declares what a declaration says, and answers it.
-fn answer_declaration<A: Allocator + Copy>(
+fn carry_out<A: Allocator + Copy>(
     alloc: A,
     setup: &mut Setup<A>,
     declaration: &Declaration<'_>,
     out: &mut TextBuffer<A>,
 ) -> Result<(), AllocError>
-    ensures { OnOk result ((s : ScriptState A) → Declares setup.old s → Leaves (Declares setup.new) out.old.text out.new.text (reply_or_refusal s (command_reply s (Command.Declare declaration.now)))) }
+    ensures { OnOk result ((s : ScriptState A) → Declares setup.old s → Leaves (Declares setup.new) out.old.text out.new.text (reply_or_refusal s (command_reply s (Declare declaration.now)))) }
 {
     match declare(alloc, setup, declaration) {
         Ok(()) => push_declared(out, declaration),
@@ -97,13 +128,28 @@ fn push_declared<A: Allocator + Copy>(
     }
 }
 
-/// Starts the store with what is declared, where it is not started yet, and answers that.
+/// Answers `start`.
 fn answer_start<A: Allocator + Copy>(
+    alloc: A,
+    store: &mut ScriptEnd<A>,
+    rest: &Words<'_>,
+    out: &mut TextBuffer<A>,
+) -> Result<(), AllocError>
+    ensures { OnOk result ((s : ScriptState A) → Stands store.old s → Leaves (Stands store.new) out.old.text out.new.text (words_reply s (command_by Keyword.Start rest.now))) }
+{
+    if !rest.is_empty() {
+        return push_refused(out, Refusal::Syntax);
+    }
+    start_store(alloc, store, out)
+}
+
+/// Starts the store with what is declared, where it is not started yet, and answers that.
+fn start_store<A: Allocator + Copy>(
     alloc: A,
     store: &mut ScriptEnd<A>,
     out: &mut TextBuffer<A>,
 ) -> Result<(), AllocError>
-    ensures { OnOk result ((s : ScriptState A) → Stands store.old s → Leaves (Stands store.new) out.old.text out.new.text (reply_or_refusal s (command_reply s Command.Start))) }
+    ensures { OnOk result ((s : ScriptState A) → Stands store.old s → Leaves (Stands store.new) out.old.text out.new.text (reply_or_refusal s (command_reply s Start))) }
 {
     let ScriptEnd::Declared(setup) = store else {
         return push_refused(out, Refusal::AlreadyStarted);
@@ -131,6 +177,23 @@ fn start<A: Allocator + Copy>(alloc: A, setup: &mut Setup<A>) -> Result<World<A>
     World::start(alloc, mem::replace(setup, Setup::new(alloc)))
 }
 
+/// Answers `certify S`.
+fn answer_certify<A: Allocator + Copy>(
+    store: &mut ScriptEnd<A>,
+    rest: &Words<'_>,
+    out: &mut TextBuffer<A>,
+) -> Result<(), AllocError>
+    ensures { OnOk result ((s : ScriptState A) → Stands store.old s → Leaves (Stands store.new) out.old.text out.new.text (words_reply s (command_by Keyword.Certify rest.now))) }
+{
+    let Some(site) = rest.only_word() else {
+        return push_refused(out, Refusal::Syntax);
+    };
+    match store {
+        ScriptEnd::Declared(_) => push_refused(out, Refusal::NotStarted),
+        ScriptEnd::Running(world) => certify(world, &site, out),
+    }
+}
+
 /// Answers how many rounds a site has, which are the fewest, and the windows that show it.
 ///
 /// The check of the site's record would answer the same number, so no record is formed: each record of a primary is valid, and of a
@@ -140,7 +203,7 @@ fn certify<A: Allocator + Copy>(
     name: &Word<'_>,
     out: &mut TextBuffer<A>,
 ) -> Result<(), AllocError>
-    ensures { OnOk result ((s : ScriptState A) → IsWorldOf world.now s → Leaves (IsWorldOf world.now) out.old.text out.new.text (reply_or_refusal s (command_reply s (Command.Certify name.now)))) }
+    ensures { OnOk result ((s : ScriptState A) → IsWorldOf world.now s → Leaves (IsWorldOf world.now) out.old.text out.new.text (reply_or_refusal s (command_reply s (Certify name.now)))) }
 {
     let primary = world.primary();
     let setup = primary.setup();

@@ -1,14 +1,15 @@
 //! The message sets that words of changes spell. A number that 64 bits do not hold is taken as the nearest one that they hold,
 //! which is out of range too.
-ghost use Rattle.std.specs.Prelude.{◌≡◌, IfOk};
+ghost use Rattle.std.specs.Prelude.{◌≡◌, true, false, Err, IfOk, IfErr, length, if◌then◌else◌};
+ghost use Rattle.ordup_grammar.specs.ChangeWords.{are_changes, changes_of};
 ghost use Rattle.ordup_answers.specs.Changes.{op_in, change_in, changes_in, set_in};
 ghost use Rattle.ordup_answers.specs.NearestNumbers.{nearest_operation, nearest_change, nearest_changes};
 ghost use Rattle.ordup_answers.specs.Refusals.{Gives};
 
 use crate::places::find_object;
-use ordup_grammar::{ChangeWord, ChangeWords, Operation};
+use ordup_grammar::{ChangeWord, ChangeWords, Operation, Words};
 use ordup_objects::{Change, MessageSet, ObjectTable, Op, Refusal};
-use std::alloc::{AllocError, Allocator};
+use std::alloc::Allocator;
 
 /// The operation that is spelled.
 fn op_in<A: Allocator + Copy>(objects: &ObjectTable<A>, operation: &Operation<'_>) -> Op
@@ -30,39 +31,76 @@ fn change_in<A: Allocator + Copy>(objects: &ObjectTable<A>, word: &ChangeWord<'_
     }
 }
 
-/// The changes that words spell.
+/// The changes that the words of a proposal spell. It is refused `Syntax` where one of them spells no change, and else `NoMemory`.
 fn changes_in<A: Allocator + Copy>(
     alloc: A,
     objects: &ObjectTable<A>,
-    words: &ChangeWords<'_>,
-) -> Result<Vec<Change, A>, AllocError>
-    ensures { IfOk result (λ changes. changes.items ≡ changes_in objects.now (nearest_changes words.now)) }
+    words: &Words<'_>,
+) -> Result<Vec<Change, A>, Refusal>
+    ensures spelled { IfOk result (λ _. are_changes words.now ≡ true) }
+    ensures changes { IfOk result (λ changes. changes.items ≡ changes_in objects.now (nearest_changes (changes_of words.now))) }
+    ensures refused { IfErr result (λ e. e ≡ (if are_changes words.now then Refusal.NoMemory else Refusal.Syntax)) }
 {
-    let mut changes = Vec::with_capacity(alloc, words.len())?;
+    let Ok(mut changes) = Vec::with_capacity(alloc, count(words)) else {
+        return Err(syntax_or(words, Refusal::NoMemory));
+    };
     let mut rest = words.copy();
     while let Some((word, more)) = rest.split_first() {
-        changes.push(change_in(objects, &word))?;
+        let Some(change) = ChangeWord::parse(&word) else {
+            return Err(Refusal::Syntax);
+        };
+        changes.push_reserved(change_in(objects, &change));
         rest = more;
     }
     Ok(changes)
 }
 
+/// How many words there are.
+fn count(words: &Words<'_>) -> usize
+    ensures { result ≡ length words.now }
+{
+    let mut count = 0;
+    let mut rest = words.copy();
+    while let Some((_word, more)) = rest.split_first() {
+        count += 1;
+        rest = more;
+    }
+    count
+}
+
+/// Why a proposal of these words is refused, where it is for another reason unless one of them spells no change.
+pub(crate) fn syntax_or(words: &Words<'_>, other: Refusal) -> Refusal
+    ensures { result ≡ (if are_changes words.now then other else Refusal.Syntax) }
+{
+    if ChangeWords::parse(words).is_some() {
+        other
+    } else {
+        Refusal::Syntax
+    }
+}
+
 /// The message set that the words of a proposal spell.
 ///
-/// It is the set of the changes that the words spell, or it is refused as `MessageSet::new` refuses these, or with `NoMemory`.
+/// Where one of them spells no change, it is refused `Syntax`. Else it is the set of the changes that the words spell, or it is
+/// refused as `MessageSet::new` refuses these, or with `NoMemory`.
+// Each change is read once: `Syntax` comes before all else, since the set is made when the last word was read.
 pub fn set_in<A: Allocator + Copy>(
     alloc: A,
     objects: &ObjectTable<A>,
-    words: &ChangeWords<'_>,
+    words: &Words<'_>,
 ) -> Result<MessageSet<A>, Refusal>
-    ensures { Gives (set_in objects.now words.now) result }
+    ensures syntax { are_changes words.now ≡ false → result ≡ Err Refusal.Syntax }
+    ensures set { are_changes words.now ≡ true → Gives (set_in objects.now (changes_of words.now)) result }
 {
     // Most sets have a single change, and take no memory for a list.
-    if let Some(word) = words.only() {
-        return MessageSet::single(objects, change_in(objects, &word));
+    if let Some(word) = words.only_word() {
+        return match ChangeWord::parse(&word) {
+            Some(change) => MessageSet::single(objects, change_in(objects, &change)),
+            None => Err(Refusal::Syntax),
+        };
     }
-    let Ok(changes) = changes_in(alloc, objects, words) else {
-        return Err(Refusal::NoMemory);
-    };
-    MessageSet::new(objects, changes)
+    match changes_in(alloc, objects, words) {
+        Ok(changes) => MessageSet::new(objects, changes),
+        Err(refusal) => Err(refusal),
+    }
 }

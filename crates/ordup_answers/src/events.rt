@@ -1,99 +1,159 @@
-//! Answers the actions of a script: makes an event of each, and answers what the world does with it.
+//! Answers the actions of a script: each keyword has a function, which makes an event of the words after it, and answers what the
+//! world does with it. Words that spell no command are refused first, and then a command before the start.
+//!
+//! Each function is a call. The memory of a function's values is cleared where the function begins, so that of these values is
+//! cleared for the lines of one keyword alone.
 ghost use Rattle.std.specs.Prelude.{OnOk};
 ghost use Rattle.ordup_primary.specs.Declarations.{Declared};
 ghost use Rattle.ordup_world.specs.Events.{Past};
 ghost use Rattle.ordup_world.specs.Worlds.{StandsFor};
-ghost use Rattle.ordup_grammar.specs.declared.action.Action.{Action};
+ghost use Rattle.ordup_grammar.specs.Commands.{command_by};
+ghost use Rattle.ordup_grammar.specs.declared.keyword.Keyword.{Keyword};
 ghost use Rattle.ordup_answers.specs.Answers.{Leaves};
 ghost use Rattle.ordup_answers.specs.Events.{query_name, read_of};
 ghost use Rattle.ordup_answers.specs.Refusals.{Gives};
-ghost use Rattle.ordup_answers.specs.Replies.{action_reply, event_reply};
-ghost use Rattle.ordup_answers.specs.ScriptStates.{ScriptState, IsWorldOf};
+ghost use Rattle.ordup_answers.specs.Replies.{event_reply, words_reply};
+ghost use Rattle.ordup_answers.specs.ScriptStates.{ScriptState, IsWorldOf, Stands};
 
-use crate::changes::set_in;
+use crate::changes::{set_in, syntax_or};
 use crate::places::{find_object, find_scope, find_site};
+use crate::script_end::ScriptEnd;
 use crate::text::{push_answer, push_refused};
-use ordup_grammar::{Action, ChangeWords, Number, ScopeWord, Word};
+use ordup_grammar::{ScopeWord, Word, Words};
 use ordup_objects::{Name, ObjectId, Refusal};
 use ordup_text::TextBuffer;
 use ordup_world::{Event, Setup, World};
 use std::alloc::{AllocError, Allocator};
 
-/// Lets an action happen, and answers it.
-///
-/// Where it succeeds: for each session in which the world stands before, it stands after in the one that the reply to the action
-/// leaves, and the text of the reply was added.
-pub(crate) fn answer_action<A: Allocator + Copy>(
-    alloc: A,
-    world: &mut World<A>,
-    action: &Action<'_>,
+/// Answers `send S`.
+pub(crate) fn answer_send<A: Allocator + Copy>(
+    store: &mut ScriptEnd<A>,
+    rest: &Words<'_>,
     out: &mut TextBuffer<A>,
 ) -> Result<(), AllocError>
-    ensures { OnOk result ((s : ScriptState A) → IsWorldOf world.old s → Leaves (IsWorldOf world.new) out.old.text out.new.text (action_reply s action.now)) }
+    ensures { OnOk result ((s : ScriptState A) → Stands store.old s → Leaves (Stands store.new) out.old.text out.new.text (words_reply s (command_by Keyword.Send rest.now))) }
 {
-    let setup = world.primary().setup();
-    match action {
-        Action::Propose(words) => answer_proposal(alloc, world, words, out),
-        Action::Send(site) => {
-            let event = Event::Send(find_site(setup, site));
-            answer_event(world, event, site.as_bytes(), &[], out)
-        }
-        Action::Apply(site) => {
-            let event = Event::Apply(find_site(setup, site));
-            answer_event(world, event, site.as_bytes(), &[], out)
-        }
-        Action::Report(site) => {
-            let event = Event::Report(find_site(setup, site));
-            answer_event(world, event, site.as_bytes(), &[], out)
-        }
-        Action::Settle => answer_event(world, Event::Settle, &[], &[], out),
-        Action::Begin { query, site, limit } => answer_begin(world, query, site, limit, out),
-        Action::Read { query, object } => answer_read(world, query, object, out),
-        Action::End(query) => answer_end(world, query, out),
-        Action::Abandon(query) => answer_abandon(world, query, out),
-        Action::Show(site) => answer_show(world, site, out),
-        Action::Relimit {
-            site,
-            scope,
-            amount,
-        } => answer_relimit(world, site, scope, amount, out),
-    }
+    let Some(site) = rest.only_word() else {
+        return push_refused(out, Refusal::Syntax);
+    };
+    let ScriptEnd::Running(world) = store else {
+        return push_refused(out, Refusal::NotStarted);
+    };
+    let event = Event::Send(find_site(world.primary().setup(), &site));
+    answer_event(world, event, site.as_bytes(), &[], out)
 }
 
-/// Answers a proposal.
-// A function of its own, as the next ones are. The memory of a function's values is cleared where the function begins, so that of
-// these values is cleared for a proposal alone. That takes 3 percent off the instructions of a line.
-#[inline(always)]
-fn answer_proposal<A: Allocator + Copy>(
-    alloc: A,
-    world: &mut World<A>,
-    words: &ChangeWords<'_>,
+/// Answers `apply S`.
+pub(crate) fn answer_apply<A: Allocator + Copy>(
+    store: &mut ScriptEnd<A>,
+    rest: &Words<'_>,
     out: &mut TextBuffer<A>,
 ) -> Result<(), AllocError>
-    ensures { OnOk result ((s : ScriptState A) → IsWorldOf world.old s → Leaves (IsWorldOf world.new) out.old.text out.new.text (action_reply s (Action.Propose words.now))) }
+    ensures { OnOk result ((s : ScriptState A) → Stands store.old s → Leaves (Stands store.new) out.old.text out.new.text (words_reply s (command_by Keyword.Apply rest.now))) }
 {
-    match set_in(alloc, world.primary().setup().objects(), words) {
+    let Some(site) = rest.only_word() else {
+        return push_refused(out, Refusal::Syntax);
+    };
+    let ScriptEnd::Running(world) = store else {
+        return push_refused(out, Refusal::NotStarted);
+    };
+    let event = Event::Apply(find_site(world.primary().setup(), &site));
+    answer_event(world, event, site.as_bytes(), &[], out)
+}
+
+/// Answers `report S`.
+pub(crate) fn answer_report<A: Allocator + Copy>(
+    store: &mut ScriptEnd<A>,
+    rest: &Words<'_>,
+    out: &mut TextBuffer<A>,
+) -> Result<(), AllocError>
+    ensures { OnOk result ((s : ScriptState A) → Stands store.old s → Leaves (Stands store.new) out.old.text out.new.text (words_reply s (command_by Keyword.Report rest.now))) }
+{
+    let Some(site) = rest.only_word() else {
+        return push_refused(out, Refusal::Syntax);
+    };
+    let ScriptEnd::Running(world) = store else {
+        return push_refused(out, Refusal::NotStarted);
+    };
+    let event = Event::Report(find_site(world.primary().setup(), &site));
+    answer_event(world, event, site.as_bytes(), &[], out)
+}
+
+/// Answers `show S`.
+pub(crate) fn answer_show<A: Allocator + Copy>(
+    store: &mut ScriptEnd<A>,
+    rest: &Words<'_>,
+    out: &mut TextBuffer<A>,
+) -> Result<(), AllocError>
+    ensures { OnOk result ((s : ScriptState A) → Stands store.old s → Leaves (Stands store.new) out.old.text out.new.text (words_reply s (command_by Keyword.Show rest.now))) }
+{
+    let Some(site) = rest.only_word() else {
+        return push_refused(out, Refusal::Syntax);
+    };
+    let ScriptEnd::Running(world) = store else {
+        return push_refused(out, Refusal::NotStarted);
+    };
+    let event = Event::Show(find_site(world.primary().setup(), &site));
+    answer_event(world, event, site.as_bytes(), &[], out)
+}
+
+/// Answers `settle`.
+pub(crate) fn answer_settle<A: Allocator + Copy>(
+    store: &mut ScriptEnd<A>,
+    rest: &Words<'_>,
+    out: &mut TextBuffer<A>,
+) -> Result<(), AllocError>
+    ensures { OnOk result ((s : ScriptState A) → Stands store.old s → Leaves (Stands store.new) out.old.text out.new.text (words_reply s (command_by Keyword.Settle rest.now))) }
+{
+    if !rest.is_empty() {
+        return push_refused(out, Refusal::Syntax);
+    }
+    let ScriptEnd::Running(world) = store else {
+        return push_refused(out, Refusal::NotStarted);
+    };
+    answer_event(world, Event::Settle, &[], &[], out)
+}
+
+/// Answers `propose C..`.
+pub(crate) fn answer_propose<A: Allocator + Copy>(
+    alloc: A,
+    store: &mut ScriptEnd<A>,
+    rest: &Words<'_>,
+    out: &mut TextBuffer<A>,
+) -> Result<(), AllocError>
+    ensures { OnOk result ((s : ScriptState A) → Stands store.old s → Leaves (Stands store.new) out.old.text out.new.text (words_reply s (command_by Keyword.Propose rest.now))) }
+{
+    let ScriptEnd::Running(world) = store else {
+        return push_refused(out, syntax_or(rest, Refusal::NotStarted));
+    };
+    match set_in(alloc, world.primary().setup().objects(), rest) {
         Ok(set) => answer_event(world, Event::Propose(set), &[], &[], out),
         Err(refusal) => push_refused(out, refusal),
     }
 }
 
-/// Answers that a query begins.
-#[inline(always)]
-fn answer_begin<A: Allocator + Copy>(
-    world: &mut World<A>,
-    query: &Word<'_>,
-    site: &Word<'_>,
-    limit: &Number,
+/// Answers `begin Q S LIMIT`.
+pub(crate) fn answer_begin<A: Allocator + Copy>(
+    store: &mut ScriptEnd<A>,
+    rest: &Words<'_>,
     out: &mut TextBuffer<A>,
 ) -> Result<(), AllocError>
-    ensures { OnOk result ((s : ScriptState A) → IsWorldOf world.old s → Leaves (IsWorldOf world.new) out.old.text out.new.text (action_reply s (Action.Begin query.now site.now limit.now))) }
+    ensures { OnOk result ((s : ScriptState A) → Stands store.old s → Leaves (Stands store.new) out.old.text out.new.text (words_reply s (command_by Keyword.Begin rest.now))) }
 {
+    let Some((query, rest)) = rest.split_first() else {
+        return push_refused(out, Refusal::Syntax);
+    };
+    let Some((site, limit)) = rest.name_and_number() else {
+        return push_refused(out, Refusal::Syntax);
+    };
+    let ScriptEnd::Running(world) = store else {
+        return push_refused(out, Refusal::NotStarted);
+    };
     match Name::new(query.as_bytes()) {
         Ok(name) => {
             let event = Event::Begin {
                 query: name,
-                site: find_site(world.primary().setup(), site),
+                site: find_site(world.primary().setup(), &site),
                 limit: limit.amount(),
             };
             answer_event(world, event, query.as_bytes(), &[], out)
@@ -102,17 +162,21 @@ fn answer_begin<A: Allocator + Copy>(
     }
 }
 
-/// Answers a read of a query.
-#[inline(always)]
-fn answer_read<A: Allocator + Copy>(
-    world: &mut World<A>,
-    query: &Word<'_>,
-    object: &Word<'_>,
+/// Answers `read Q X`.
+pub(crate) fn answer_read<A: Allocator + Copy>(
+    store: &mut ScriptEnd<A>,
+    rest: &Words<'_>,
     out: &mut TextBuffer<A>,
 ) -> Result<(), AllocError>
-    ensures { OnOk result ((s : ScriptState A) → IsWorldOf world.old s → Leaves (IsWorldOf world.new) out.old.text out.new.text (action_reply s (Action.Read query.now object.now))) }
+    ensures { OnOk result ((s : ScriptState A) → Stands store.old s → Leaves (Stands store.new) out.old.text out.new.text (words_reply s (command_by Keyword.Read rest.now))) }
 {
-    match read_of(world.primary().setup(), query, object) {
+    let Some((query, object)) = rest.two_words() else {
+        return push_refused(out, Refusal::Syntax);
+    };
+    let ScriptEnd::Running(world) = store else {
+        return push_refused(out, Refusal::NotStarted);
+    };
+    match read_of(world.primary().setup(), &query, &object) {
         Ok((name, place)) => {
             let event = Event::Read {
                 query: name,
@@ -124,64 +188,64 @@ fn answer_read<A: Allocator + Copy>(
     }
 }
 
-/// Answers that a query ends.
-#[inline(always)]
-fn answer_end<A: Allocator + Copy>(
-    world: &mut World<A>,
-    query: &Word<'_>,
+/// Answers `end Q`.
+pub(crate) fn answer_end<A: Allocator + Copy>(
+    store: &mut ScriptEnd<A>,
+    rest: &Words<'_>,
     out: &mut TextBuffer<A>,
 ) -> Result<(), AllocError>
-    ensures { OnOk result ((s : ScriptState A) → IsWorldOf world.old s → Leaves (IsWorldOf world.new) out.old.text out.new.text (action_reply s (Action.End query.now))) }
+    ensures { OnOk result ((s : ScriptState A) → Stands store.old s → Leaves (Stands store.new) out.old.text out.new.text (words_reply s (command_by Keyword.End rest.now))) }
 {
-    match query_name(query) {
+    let Some(query) = rest.only_word() else {
+        return push_refused(out, Refusal::Syntax);
+    };
+    let ScriptEnd::Running(world) = store else {
+        return push_refused(out, Refusal::NotStarted);
+    };
+    match query_name(&query) {
         Ok(name) => answer_event(world, Event::End(name), query.as_bytes(), &[], out),
         Err(refusal) => push_refused(out, refusal),
     }
 }
 
-/// Answers that a query is given up.
-#[inline(always)]
-fn answer_abandon<A: Allocator + Copy>(
-    world: &mut World<A>,
-    query: &Word<'_>,
+/// Answers `abandon Q`.
+pub(crate) fn answer_abandon<A: Allocator + Copy>(
+    store: &mut ScriptEnd<A>,
+    rest: &Words<'_>,
     out: &mut TextBuffer<A>,
 ) -> Result<(), AllocError>
-    ensures { OnOk result ((s : ScriptState A) → IsWorldOf world.old s → Leaves (IsWorldOf world.new) out.old.text out.new.text (action_reply s (Action.Abandon query.now))) }
+    ensures { OnOk result ((s : ScriptState A) → Stands store.old s → Leaves (Stands store.new) out.old.text out.new.text (words_reply s (command_by Keyword.Abandon rest.now))) }
 {
-    match query_name(query) {
+    let Some(query) = rest.only_word() else {
+        return push_refused(out, Refusal::Syntax);
+    };
+    let ScriptEnd::Running(world) = store else {
+        return push_refused(out, Refusal::NotStarted);
+    };
+    match query_name(&query) {
         Ok(name) => answer_event(world, Event::Abandon(name), query.as_bytes(), &[], out),
         Err(refusal) => push_refused(out, refusal),
     }
 }
 
-/// Answers with what a site has.
-#[inline(always)]
-fn answer_show<A: Allocator + Copy>(
-    world: &mut World<A>,
-    site: &Word<'_>,
+/// Answers `relimit S .. N`.
+pub(crate) fn answer_relimit<A: Allocator + Copy>(
+    store: &mut ScriptEnd<A>,
+    rest: &Words<'_>,
     out: &mut TextBuffer<A>,
 ) -> Result<(), AllocError>
-    ensures { OnOk result ((s : ScriptState A) → IsWorldOf world.old s → Leaves (IsWorldOf world.new) out.old.text out.new.text (action_reply s (Action.Show site.now))) }
+    ensures { OnOk result ((s : ScriptState A) → Stands store.old s → Leaves (Stands store.new) out.old.text out.new.text (words_reply s (command_by Keyword.Relimit rest.now))) }
 {
-    let event = Event::Show(find_site(world.primary().setup(), site));
-    answer_event(world, event, site.as_bytes(), &[], out)
-}
-
-/// Answers that a limit changes.
-#[inline(always)]
-fn answer_relimit<A: Allocator + Copy>(
-    world: &mut World<A>,
-    site: &Word<'_>,
-    scope: &ScopeWord<'_>,
-    amount: &Number,
-    out: &mut TextBuffer<A>,
-) -> Result<(), AllocError>
-    ensures { OnOk result ((s : ScriptState A) → IsWorldOf world.old s → Leaves (IsWorldOf world.new) out.old.text out.new.text (action_reply s (Action.Relimit site.now scope.now amount.now))) }
-{
+    let Some((site, scope, amount)) = ScopeWord::parse_limit(rest) else {
+        return push_refused(out, Refusal::Syntax);
+    };
+    let ScriptEnd::Running(world) = store else {
+        return push_refused(out, Refusal::NotStarted);
+    };
     let setup = world.primary().setup();
     let event = Event::Relimit {
-        site: find_site(setup, site),
-        scope: find_scope(setup, scope),
+        site: find_site(setup, &site),
+        scope: find_scope(setup, &scope),
         amount: amount.amount(),
     };
     answer_event(world, event, site.as_bytes(), &[], out)

@@ -6,8 +6,7 @@ use Rattle.std.proofs.lemmas.List.{append-nil}
 use Rattle.ordup_answers.specs.Answers.{Leaves}
 use Rattle.ordup_answers.specs.Replies.{request_reply, reply}
 use Rattle.ordup_answers.specs.ScriptStates.{ScriptState, Stands}
-use Rattle.ordup_grammar.specs.Requests.{request_of}
-use Rattle.ordup_grammar.specs.declared.request.Request.{Request}
+use Rattle.ordup_grammar.specs.Requests.{Request, request_of}
 use Rattle.ordup_grammar.specs.Lines.{Line}
 use Rattle.ordup_script.specs.Answerers.{HasAnswered, HasStopped, IsLater}
 use Rattle.ordup_text.specs.Fronts.{AppendsFront}

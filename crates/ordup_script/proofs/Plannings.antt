@@ -1,12 +1,14 @@
 -- What each line adds to a plan.
-use Rattle.std.proofs.Common.{◌≡◌, ◌∙◌, refl, sym, ap, ℕ, List, [], ◌∷◌}
+use Rattle.std.proofs.Common.{◌≡◌, ◌∙◌, refl, sym, ap, ℕ, ◌+◌, Bool, Option, Some, None, List, [], ◌∷◌}
 use Rattle.std.proofs.Common.{true, ◌++◌, Result, Ok, Err, inl, inr}
-use Rattle.ordup_grammar.specs.Requests.{request_of}
-use Rattle.ordup_grammar.specs.declared.request.Request.{Request}
+use Rattle.ordup_objects.specs.declared.change.Change.{Change}
+use Rattle.ordup_primary.specs.Declarations.{Declared}
+use Rattle.ordup_grammar.specs.Commands.{Command}
+use Rattle.ordup_grammar.specs.Requests.{Request, request_by, request_of}
 use Rattle.ordup_grammar.specs.Lines.{Line}
 use Rattle.ordup_script.specs.Plannings.{HasPlanned, HasRefused, LeadsTo, Tells, plan_state}
 use Rattle.ordup_script.specs.PlanReadings.{ReadsInto, ReadsPlan}
-use Rattle.ordup_script.specs.Plans.{request_in, first_plan, malformed, plan_of, plan_result, planned}
+use Rattle.ordup_script.specs.Plans.{request_in, words_in, first_plan, malformed, plan_of, plan_result, planned, planning}
 use Rattle.ordup_script.specs.Readings.{Reads, Takes, TookOr}
 use Rattle.ordup_script.specs.declared.line_reader.Extent.TheVariants as extent
 use Rattle.ordup_script.specs.Scripts.{after_lines, lines_of}
@@ -16,6 +18,12 @@ use Rattle.ordup_script.specs.declared.plan.PlanFault.{PlanFault}
 use Rattle.ordup_script.specs.declared.plan.PlanFault.TheVariants as fault
 use Rattle.ordup_script.proofs.Output.{after_lines-append}
 use Rattle.ordup_script.proofs.Plans.{completes}
+
+-- the command of a line leads where what the line asks for does
+pub asked_words : (d : Declared) (started : Bool) (sets : List (List Change)) (k : ℕ) (c : Option Command)
+    → words_in d started sets (k + 1) c ≡ request_in (planning d started sets k) (request_by c)
+asked_words d started sets k None = refl
+asked_words d started sets k (Some c) = refl
 
 -- a plan in which a line does not belong stays so
 malformed-stays : (n : ℕ) (lines : List Line) → after_lines planned (malformed n) lines ≡ malformed n

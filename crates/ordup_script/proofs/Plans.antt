@@ -10,12 +10,10 @@ use Rattle.ordup_objects.specs.declared.refusal.Refusal.{Refusal}
 use Rattle.ordup_objects.specs.Sets.{AreKnown, IsSet, set_refusal}
 use Rattle.ordup_primary.specs.Declarations.{Declared, is_ready, start_refusal}
 use Rattle.ordup_grammar.specs.Lines.{Line}
-use Rattle.ordup_grammar.specs.Requests.{request_of}
-use Rattle.ordup_grammar.specs.declared.action.Action.TheVariants as action
-use Rattle.ordup_grammar.specs.declared.command.Command.{Command}
-use Rattle.ordup_grammar.specs.declared.command.Command.TheVariants.{Declare, Start, Certify, Act}
-use Rattle.ordup_grammar.specs.declared.request.Request.{Request}
-use Rattle.ordup_grammar.specs.declared.request.Request.TheVariants as request
+use Rattle.ordup_grammar.specs.Actions as action
+use Rattle.ordup_grammar.specs.Commands.{Command, Declare, Start, Certify, Act}
+use Rattle.ordup_grammar.specs.Requests.{Request, request_of}
+use Rattle.ordup_grammar.specs.Requests as request
 use Rattle.ordup_answers.specs.Changes.{changes_in}
 use Rattle.ordup_answers.specs.Declarations.{with_declaration}
 use Rattle.ordup_answers.specs.Refusals.{unless}

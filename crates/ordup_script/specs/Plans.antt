@@ -1,18 +1,16 @@
 -- Plans: declarations, the start, and then proposals alone.
 use Rattle.std.specs.Prelude.{◌≡◌, ℕ, ◌+◌, Bool, true, false, List, [], ◌∷◌}
-use Rattle.std.specs.Prelude.{◌++◌, All, length, Result, Ok, Err, if◌then◌else◌}
+use Rattle.std.specs.Prelude.{◌++◌, All, length, Option, Some, None, Result, Ok, Err, if◌then◌else◌}
 use Rattle.ordup_objects.specs.declared.change.Change.{Change}
 use Rattle.ordup_objects.specs.declared.refusal.Refusal.{Refusal}
 use Rattle.ordup_objects.specs.Sets.{AreKnown, IsSet}
 use Rattle.ordup_primary.specs.Declarations.{Declared, is_ready, start_refusal}
 use Rattle.ordup_grammar.specs.Lines.{Line}
 use Rattle.ordup_script.specs.Scripts.{after_lines, lines_of}
-use Rattle.ordup_grammar.specs.declared.action.Action.TheVariants.{Propose}
-use Rattle.ordup_grammar.specs.declared.command.Command.{Command}
-use Rattle.ordup_grammar.specs.declared.command.Command.TheVariants.{Declare, Start, Act}
-use Rattle.ordup_grammar.specs.Requests.{request_of}
-use Rattle.ordup_grammar.specs.declared.request.Request.{Request}
-use Rattle.ordup_grammar.specs.declared.request.Request.TheVariants as request
+use Rattle.ordup_grammar.specs.Actions.{Propose}
+use Rattle.ordup_grammar.specs.Commands.{Command, Declare, Start, Act}
+use Rattle.ordup_grammar.specs.Requests.{Request, request_of}
+use Rattle.ordup_grammar.specs.Requests as request
 use Rattle.ordup_answers.specs.Changes.{set_in}
 use Rattle.ordup_answers.specs.Declarations.{with_declaration}
 use Rattle.ordup_answers.specs.Refusals.{unless}
@@ -35,6 +33,11 @@ command_in d false sets k Start = belongs_as k (λ e. planning e true sets k) (u
 command_in d true sets k (Act (Propose changes)) =
     belongs_as k (λ set. planning d true (sets ++ set ∷ []) k) (set_in d.objects changes)
 command_in d started sets k _ = malformed k
+
+-- after line k, by the command that its words spell, if they spell one
+abbrev pub words_in : Declared → Bool → List (List Change) → ℕ → Option Command → PlanState
+words_in d started sets k None = malformed k
+words_in d started sets k (Some c) = command_in d started sets k c
 
 -- after one line more, by what it asks for
 abbrev pub request_in : PlanState → Request → PlanState

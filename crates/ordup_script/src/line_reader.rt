@@ -9,17 +9,17 @@
 //!   where one of them is not. That takes 6 percent off the instructions of a line.
 //! - **Only what a piece leaves unended is held.** It is copied into a `LineBuffer`, which has room for the 4,096 bytes that a line
 //!   may have. So a line that is too long takes no memory either.
-//! - **A taker is given a `Request`**: what the line asks for, and not its bytes. The taking is inlined into the loop, so that a
-//!   request is not moved. That takes 4 to 6 percent off.
+//! - **A taker is given a `ScriptLine`**: its words, and not its bytes. The taking is inlined into the loop, so that they are not
+//!   moved. That takes 4 to 6 percent off.
 //! - **A taker hands out once for each piece**, and before that where it has as many bytes to write as a piece has. So there is
 //!   about one write for each read.
 ghost use Rattle.std.specs.Prelude.{◌≡◌, ◌+◌, ◌<◌, ◌≤◌, ℕ, List, [], ◌∷◌, ◌++◌, OnOk, length};
 ghost use Rattle.ordup_grammar.specs.Lines.{IsPart, Line};
-ghost use Rattle.ordup_grammar.specs.Requests.{request_of};
+ghost use Rattle.ordup_grammar.specs.Requests.{request_of, asked};
 ghost use Rattle.ordup_script.specs.Readings.{EndsIn, Reads, ReadsOn, Takes};
 
 use crate::sizes::PIECE;
-use ordup_grammar::{LineBuffer, LinePart, Request, split_line};
+use ordup_grammar::{LineBuffer, LinePart, ScriptLine, split_line};
 use std::io::Read;
 
 /// What takes the lines of a script, one after another: it answers them, or makes a plan of them.
@@ -39,13 +39,13 @@ pub(crate) trait LineTaker {
     // How many more lines it can take.
     ghost room: { Self → ℕ };
 
-    /// Takes the next line, which asks for this.
+    /// Takes the next line.
     ///
     /// After whatever lines were taken before, this line was taken too, or the taker stopped at it. It can take at most one line
     /// fewer than before.
-    fn take(&mut self, request: &Request<'_>) -> Result<(), Self::Fault>
+    fn take(&mut self, line: &ScriptLine<'_>) -> Result<(), Self::Fault>
         requires { 0 < room self.old }
-        ensures lines { (line : Line) → request.now ≡ request_of line → Takes took stopped self.old self.new (line ∷ []) result }
+        ensures lines { (l : Line) → request_of l ≡ asked line.now → Takes took stopped self.old self.new (l ∷ []) result }
         ensures room { OnOk result (room self.old ≤ room self.new + 1) };
 
     /// Hands out what the lines gave so far.
@@ -76,7 +76,7 @@ fn take_held<T: LineTaker>(held: &mut LineBuffer, taker: &mut T) -> Result<(), T
     ensures lines { ReadsOn T.took T.stopped taker.old held.old taker.new held.new (10 ∷ []) result }
     ensures room { OnOk result (T.room taker.old ≤ T.room taker.new + 1) }
 {
-    taker.take(&held.request())?;
+    taker.take(&held.line())?;
     held.clear();
     Ok(())
 }
@@ -96,7 +96,7 @@ fn end_line<T: LineTaker>(
     ensures room { OnOk result (T.room taker.old ≤ T.room taker.new + 1) }
 {
     if held.is_empty() {
-        return taker.take(&Request::of(part));
+        return taker.take(&ScriptLine::of(part));
     }
     held.hold(part.as_bytes());
     take_held(held, taker)

@@ -1,13 +1,15 @@
-ghost use Rattle.std.specs.Prelude.{◌≡◌, ◌+◌, ◌-◌, ◌<◌, ◌≤◌, true, false, [], ◌∷◌, ◌++◌, OnOk};
-ghost use Rattle.ordup_grammar.specs.declared.action.Action.{Action};
-ghost use Rattle.ordup_grammar.specs.declared.command.Command.{Command};
-ghost use Rattle.ordup_script.specs.Plans.{request_in, command_in, plan_result, planning, malformed};
+ghost use Rattle.std.specs.Prelude.{◌≡◌, ◌+◌, ◌-◌, ◌<◌, ◌≤◌, true, false, [], ◌∷◌, ◌++◌, OnOk, option_map};
+ghost use Rattle.ordup_grammar.specs.Commands.{Declare, command_by, command_of};
+ghost use Rattle.ordup_grammar.specs.Declarations.{declaration_of};
+ghost use Rattle.ordup_grammar.specs.Requests.{asked};
+ghost use Rattle.ordup_grammar.specs.declared.keyword.Keyword.{Keyword};
+ghost use Rattle.ordup_script.specs.Plans.{request_in, words_in, plan_result, planning, malformed};
 ghost use Rattle.ordup_script.specs.Plannings.{Tells, HasPlanned, HasRefused, LeadsTo, plan_state};
 ghost use Rattle.ordup_script.specs.Scripts.{most_counted};
 
 use crate::line_reader::LineTaker;
 use ordup_answers::{declare, set_in};
-use ordup_grammar::{Action, ChangeWords, Command, Declaration, Request};
+use ordup_grammar::{Declaration, Keyword, ScriptLine, Word, Words};
 use ordup_objects::{MessageSet, Refusal};
 use ordup_world::Setup;
 use std::alloc::{Allocator, Global};
@@ -56,8 +58,8 @@ impl<A: Allocator + Copy> LineTaker for Planning<A> {
 
     ghost room = { λ planning. most_counted - planning.lines };
 
-    fn take(&mut self, request: &Request<'_>) -> Result<(), PlanFault> {
-        self.take_line(request)
+    fn take(&mut self, line: &ScriptLine<'_>) -> Result<(), PlanFault> {
+        self.take_line(line)
     }
 
     fn hand_out(&mut self) -> Result<(), PlanFault> {
@@ -83,19 +85,19 @@ impl<A: Allocator + Copy> Planning<A> {
         }
     }
 
-    /// Takes what the next line asks for.
+    /// Takes the next line.
     ///
     /// The plan stands as that leaves it, or the line is the first that does not belong. One line more is counted.
-    fn take_line(&mut self, request: &Request<'_>) -> Result<(), PlanFault>
+    fn take_line(&mut self, line: &ScriptLine<'_>) -> Result<(), PlanFault>
         requires { self.old.lines < most_counted }
-        ensures plan { LeadsTo self.new (request_in (plan_state self.old) request.now) result }
+        ensures plan { LeadsTo self.new (request_in (plan_state self.old) (asked line.now)) result }
         ensures lines { self.new.lines ≡ self.old.lines + 1 }
     {
         self.lines += 1;
-        match request {
-            Request::Nothing => Ok(()),
-            Request::NoCommand => self.refuse(),
-            Request::Command(command) => self.follow(command),
+        match line {
+            ScriptLine::Nothing => Ok(()),
+            ScriptLine::NoCommand => self.refuse(),
+            ScriptLine::Words(first, rest) => self.follow(first, rest),
         }
     }
 
@@ -119,28 +121,31 @@ impl<A: Allocator + Copy> Planning<A> {
         Err(PlanFault::Malformed { line: self.lines })
     }
 
-    /// Follows a command, where it belongs.
-    fn follow(&mut self, command: &Command<'_>) -> Result<(), PlanFault>
-        ensures plan { LeadsTo self.new (command_in self.old.plan.setup self.old.is_started self.old.plan.sets.items self.old.lines command.now) result }
+    /// Follows the command that a first word and the words after it spell, where it belongs.
+    fn follow(&mut self, first: &Word<'_>, rest: &Words<'_>) -> Result<(), PlanFault>
+        ensures plan { LeadsTo self.new (words_in self.old.plan.setup self.old.is_started self.old.plan.sets.items self.old.lines (command_of first.now rest.now)) result }
         ensures lines { self.new.lines ≡ self.old.lines }
     {
-        match command {
-            Command::Declare(declaration) => self.declare(declaration),
-            Command::Start => self.start(),
-            Command::Act(Action::Propose(words)) => self.propose(words),
-            _ => self.refuse(),
+        match Keyword::of(first) {
+            Some(Keyword::Propose) => self.propose(rest),
+            Some(Keyword::Start) => self.start(rest),
+            Some(_) => self.refuse(),
+            None => self.declare(first, rest),
         }
     }
 
     /// Follows a declaration, before the start.
-    fn declare(&mut self, declaration: &Declaration<'_>) -> Result<(), PlanFault>
-        ensures plan { LeadsTo self.new (command_in self.old.plan.setup self.old.is_started self.old.plan.sets.items self.old.lines (Command.Declare declaration.now)) result }
+    fn declare(&mut self, first: &Word<'_>, rest: &Words<'_>) -> Result<(), PlanFault>
+        ensures plan { LeadsTo self.new (words_in self.old.plan.setup self.old.is_started self.old.plan.sets.items self.old.lines (option_map (λ d. Declare d) (declaration_of first.now rest.now))) result }
         ensures lines { self.new.lines ≡ self.old.lines }
     {
+        let Some(declaration) = Declaration::parse(first, rest) else {
+            return self.refuse();
+        };
         if self.is_started {
             return self.refuse();
         }
-        match declare(self.alloc, &mut self.plan.setup, declaration) {
+        match declare(self.alloc, &mut self.plan.setup, &declaration) {
             Ok(()) => Ok(()),
             Err(Refusal::NoMemory) => Err(PlanFault::NoMemory),
             Err(_) => self.refuse(),
@@ -148,11 +153,11 @@ impl<A: Allocator + Copy> Planning<A> {
     }
 
     /// Follows the start, where there is none yet.
-    fn start(&mut self) -> Result<(), PlanFault>
-        ensures plan { LeadsTo self.new (command_in self.old.plan.setup self.old.is_started self.old.plan.sets.items self.old.lines Command.Start) result }
+    fn start(&mut self, rest: &Words<'_>) -> Result<(), PlanFault>
+        ensures plan { LeadsTo self.new (words_in self.old.plan.setup self.old.is_started self.old.plan.sets.items self.old.lines (command_by Keyword.Start rest.now)) result }
         ensures lines { self.new.lines ≡ self.old.lines }
     {
-        if self.is_started || !self.plan.setup.is_ready() {
+        if !rest.is_empty() || self.is_started || !self.plan.setup.is_ready() {
             return self.refuse();
         }
         self.is_started = true;
@@ -160,8 +165,8 @@ impl<A: Allocator + Copy> Planning<A> {
     }
 
     /// Follows a proposal, after the start.
-    fn propose(&mut self, words: &ChangeWords<'_>) -> Result<(), PlanFault>
-        ensures plan { LeadsTo self.new (command_in self.old.plan.setup self.old.is_started self.old.plan.sets.items self.old.lines (Command.Act (Action.Propose words.now))) result }
+    fn propose(&mut self, words: &Words<'_>) -> Result<(), PlanFault>
+        ensures plan { LeadsTo self.new (words_in self.old.plan.setup self.old.is_started self.old.plan.sets.items self.old.lines (command_by Keyword.Propose words.now)) result }
         ensures lines { self.new.lines ≡ self.old.lines }
     {
         if !self.is_started {

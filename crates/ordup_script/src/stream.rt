@@ -9,7 +9,7 @@ ghost use Rattle.ordup_script.specs.Scripts.{most_counted};
 use crate::line_reader::{Extent, LineTaker, read_lines};
 use crate::sizes::{MOST_SCRIPT_BYTES, PIECE};
 use ordup_answers::{ScriptEnd, answer};
-use ordup_grammar::Request;
+use ordup_grammar::ScriptLine;
 use ordup_text::{TextBuffer, send};
 use std::alloc::{Allocator, Global};
 use std::io::{Read, Write};
@@ -49,9 +49,9 @@ impl<W: Write, A: Allocator + Copy> LineTaker for Answerer<'_, W, A> {
     ghost room = { λ _. most_counted + 1 };
 
     #[inline(always)]
-    fn take(&mut self, request: &Request<'_>) -> Result<(), ScriptFault> {
+    fn take(&mut self, line: &ScriptLine<'_>) -> Result<(), ScriptFault> {
         let alloc = *self.answers.allocator();
-        match answer(alloc, self.store, request, self.answers) {
+        match answer(alloc, self.store, line, self.answers) {
             Ok(()) => self.hand_out_many(),
             Err(_) => Err(ScriptFault::NoMemory),
         }

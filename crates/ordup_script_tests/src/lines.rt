@@ -7,7 +7,7 @@ use crate::growths::TRANSCRIPTS;
 use crate::scarce::{Heap, Scarce};
 use ordup_answers::{ScriptEnd, answer};
 use ordup_audit::Record;
-use ordup_grammar::{LinePart, Request};
+use ordup_grammar::{LinePart, ScriptLine};
 use ordup_objects::SiteId;
 use ordup_record::record_of;
 use ordup_text::TextBuffer;
@@ -71,7 +71,7 @@ fn answer_line(session: &mut Session<'_>, line: &str) -> Result<(), AllocError> 
     answer(
         session.scarce,
         &mut session.store,
-        &Request::of(&LinePart::new(line.as_bytes())),
+        &ScriptLine::of(&LinePart::new(line.as_bytes())),
         &mut session.out,
     )
 }

@@ -1,15 +1,19 @@
-use Rattle.std.proofs.Common.{refl, []}
+use Rattle.std.proofs.Common.{◌≡◌, refl, [], rules, Some}
 use Rattle.std.proofs.lemmas.Result.{on_ok_weaker}
 use Rattle.ordup_world.specs.declared.event.Event.TheVariants as event
-use Rattle.ordup_grammar.specs.declared.action.Action.TheVariants.{Relimit}
-use Rattle.ordup_answers.proofs.AnsweringLemmas.{left_by_action}
+use Rattle.ordup_grammar.specs.Actions.{Relimit}
+use Rattle.ordup_grammar.specs.Commands.{Act, command_by}
+use Rattle.ordup_grammar.specs.declared.keyword.Keyword.TheVariants as keyword
+use Rattle.ordup_answers.proofs.AnsweringLemmas.{left_by_words}
 use Rattle.ordup_answers.proofs.events.answer_relimit.Goals as goal
 
 pub returns : goal.returns
 returns g c =
+    let action = Relimit c.in-Some.site c.in-Some.scope c.in-Some.amount in
+    let spelled : command_by keyword.Relimit c.args.rest.now ≡ Some (Act action) = search rules in
     on_ok_weaker c.answer_event.result (λ left s stands.
-    left_by_action c.args.world.now c.answer_event.new.world (Relimit c.args.site.now c.args.scope.now c.args.amount.now)
+    left_by_words c.in-Running.world c.answer_event.new.world (command_by keyword.Relimit c.args.rest.now) action
     (c.as_bytes.result.now, []) (event.Relimit c.find_site.result c.find_scope.result c.amount.result) c.args.out.now.text
-    c.answer_event.new.out.text
+    c.answer_event.new.out.text spelled
     (rw (c.find_site.ensures, c.find_scope.ensures, c.amount.ensures, c.setup-setup.ensures, c.primary.ensures.primary) refl)
-    (rw c.as_bytes.ensures refl) left s stands) c.answer_event.ensures
+    (rw c.as_bytes.ensures refl) left s (rw c.in-Running.is at stands)) c.answer_event.ensures

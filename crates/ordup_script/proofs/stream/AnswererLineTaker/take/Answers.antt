@@ -1,4 +1,4 @@
-use Rattle.std.proofs.Common.{[], ◌∷◌, ◌++◌, append_assoc, inr, refl}
+use Rattle.std.proofs.Common.{[], ◌∷◌, ◌++◌, append_assoc, inr, refl, sym}
 use Rattle.std.proofs.KnownBytes.{Appends-nil}
 use Rattle.std.proofs.lemmas.List.{append-nil}
 use Rattle.ordup_script.proofs.Answerers.{answers_line, sends_front}
@@ -7,7 +7,7 @@ use Rattle.ordup_script.proofs.stream.AnswererLineTaker.take.Goals as goal
 pub returns-in-Ok-clause-lines : goal.returns-in-Ok-clause-lines
 returns-in-Ok-clause-lines g c line is = record {
   goes_on = λ first earlier h.
-      let answered = answers_line g.W.Write.contents first c.args.self.now _ earlier _ line h is c.in-Ok.ensures
+      let answered = answers_line g.W.Write.contents first c.args.self.now _ earlier _ line h (sym is) c.in-Ok.ensures
       (record { store = refl; output = refl }) refl in
       rw (append-nil (earlier ++ line ∷ [])) at (c.hand_out_many.ensures.goes_on first (earlier ++ line ∷ []) answered);
 }

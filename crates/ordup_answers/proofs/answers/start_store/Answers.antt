@@ -1,6 +1,6 @@
 use Rattle.std.proofs.lemmas.Result.{on_ok_weaker}
 use Rattle.ordup_answers.proofs.AnsweringLemmas.{left_by_start}
-use Rattle.ordup_answers.proofs.answers.answer_start.Goals as goal
+use Rattle.ordup_answers.proofs.answers.start_store.Goals as goal
 
 pub returns-in-Ok : goal.returns-in-Ok
 returns-in-Ok g c =

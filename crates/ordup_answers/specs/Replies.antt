@@ -9,7 +9,6 @@ use Rattle.ordup_world.specs.declared.event.Event.{Event}
 use Rattle.ordup_grammar.specs.Lines.{Line}
 use Rattle.ordup_grammar.specs.Requests.{Request, request_of, request_by}
 use Rattle.ordup_grammar.specs.Requests as request
-use Rattle.ordup_grammar.specs.Actions.{Action}
 use Rattle.ordup_grammar.specs.Commands.{Command, Declare, Start, Certify, Act}
 use Rattle.ordup_grammar.specs.declared.declaration.Declaration.{Declaration}
 use Rattle.ordup_grammar.specs.declared.declaration.Declaration.TheVariants.{Object, Group, Site, Limit}
@@ -59,10 +58,6 @@ module _ {A : Type 0} where
   abbrev pub reply_or_refusal : ScriptState A → Result (Reply A) Refusal → Reply A
   reply_or_refusal s (Ok given) = given
   reply_or_refusal s (Err r) = (s, refused_text r)
-
-  -- the reply to an action
-  abbrev pub action_reply : ScriptState A → Action → Reply A
-  action_reply s a = reply_or_refusal s (command_reply s (Act a))
 
   -- the reply to what a line asks for
   abbrev pub request_reply : ScriptState A → Request → Reply A

@@ -39,10 +39,6 @@ stops a b c whole text rest (sent, is, grew) (front, back, cut, grew_more) = (
   Appends-trans a b c sent front grew grew_more,
 )
 
--- what was sent up to something is a front
-pub sent_front : (a b : Option (List ℕ)) (whole left : List ℕ) → SendsUpto a b whole left → AppendsFront a b whole
-sent_front a b whole left (sent, is, grew) = (sent, left, is, grew)
-
 -- rows were formed up to some rest of all, and sent up to those that are not sent yet
 abbrev pub IsUnderWay : {A : Type 0} → Option (List ℕ) → Option (List ℕ) → Writer (Vec ℕ A) → Writer (Vec ℕ A) → List Row → List Row
     → Type 0

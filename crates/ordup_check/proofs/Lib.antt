@@ -1,6 +1,6 @@
 mod ColumnLemmas
 mod RowLemmas
-mod Splitting
+mod UpdateLemmas
 mod ReadSteps
 mod LimitLemmas
 mod Cuts

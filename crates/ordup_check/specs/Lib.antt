@@ -1,7 +1,8 @@
 pub mod ColumnViews
 pub mod PartialRecords
 pub mod StageViews
-pub mod Splits
+pub mod PartialUpdates
+pub mod UpdatesInside
 pub mod Limits
 pub mod Reading
 pub mod Answers

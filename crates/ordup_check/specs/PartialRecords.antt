@@ -1,7 +1,6 @@
 -- A record as far as its rows were read.
-use Rattle.std.specs.Prelude.{◌≡◌, length, All, Bool, Option, Result, IfOk}
+use Rattle.std.specs.Prelude.{◌≡◌, Bool, Option, Result, IfOk}
 use Rattle.std.specs.Bool.{then_some}
-use Rattle.ordup_objects.specs.Sets.{AreKnown}
 use Rattle.ordup_audit.specs.Records.{RecordState}
 use Rattle.ordup_check.specs.declared.partial_record.PartialRecord.{PartialRecord}
 
@@ -9,18 +8,14 @@ use Rattle.ordup_check.specs.declared.partial_record.PartialRecord.{PartialRecor
 abbrev pub record_so_far : PartialRecord → RecordState
 record_so_far p = record {
   site = p.site;
-  objects = p.objects;
+  objects = p.updates.objects;
   groups = p.groups;
   limits = p.limits;
-  sets = p.sets.items;
+  sets = p.updates.sets;
   reports = p.reports.items;
   rounds = p.rounds.items;
   windows = p.windows.items;
 }
-
--- the objects of each update are there
-abbrev pub AreUpdatesKnown : RecordState → Type 0
-AreUpdatesKnown r = All (AreKnown (length r.objects)) r.sets
 
 -- after a row it is this record; there is none where the row was not taken
 abbrev pub Takes : {E : Type 0} → Result Bool E → PartialRecord → Option RecordState → Type 0

@@ -1,7 +1,6 @@
 -- How far a reading has come, as the code holds it.
-use Rattle.std.specs.Prelude.{⊤}
 use Rattle.ordup_rows.specs.Stages.{Stage, reading, unread}
-use Rattle.ordup_check.specs.PartialRecords.{AreUpdatesKnown, record_so_far}
+use Rattle.ordup_check.specs.PartialRecords.{record_so_far}
 use Rattle.ordup_check.specs.declared.stage.Stage as held
 use Rattle.ordup_check.specs.declared.stage.Stage.TheVariants as at
 
@@ -9,8 +8,3 @@ use Rattle.ordup_check.specs.declared.stage.Stage.TheVariants as at
 abbrev pub stage_of : held.Stage → Stage
 stage_of at.Unread = unread
 stage_of (at.Reading version decided so_far) = reading version decided (record_so_far so_far)
-
--- the objects of each update are there
-abbrev pub AreStageUpdatesKnown : Stage → Type 0
-AreStageUpdatesKnown unread = ⊤
-AreStageUpdatesKnown (reading version decided r) = AreUpdatesKnown r

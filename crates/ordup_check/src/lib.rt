@@ -6,6 +6,7 @@
 
 mod limited;
 mod partial_record;
+mod partial_updates;
 mod reading;
 mod row_columns;
 mod short_rows;

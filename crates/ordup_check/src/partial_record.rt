@@ -2,23 +2,23 @@
 ghost use Rattle.std.specs.Prelude.{◌≡◌, ◌≢◌, ◌<◌, ◌≤◌, ◌&&◌, ◌++◌, ◌∷◌, [], false, not, IfOk, length, map};
 ghost use Rattle.std.specs.Bool.{then_some};
 ghost use Rattle.std.specs.Option.{is_none};
-ghost use Rattle.ordup_objects.specs.Sets.{AreKnown};
 ghost use Rattle.ordup_limits.specs.Entries.{change_refusal, entry_of};
 ghost use Rattle.ordup_rows.specs.Stages.{has_entry, has_objects, has_updates, is_before_changes, is_before_limits, is_before_members};
 ghost use Rattle.ordup_rows.specs.Stages.{is_before_reports, is_before_rounds, is_before_windows, is_last_group, last_number, last_place};
-ghost use Rattle.ordup_rows.specs.Stages.{last_set, may_hold_from, may_report, may_round, with_any_change, with_change_row};
+ghost use Rattle.ordup_rows.specs.Stages.{may_hold_from, may_report, may_round, with_any_change, with_change_row};
 ghost use Rattle.ordup_rows.specs.Stages.{with_first_change};
 ghost use Rattle.ordup_rows.specs.Stages.{with_limit, with_member_row, with_next_change, with_object, with_report, with_round, with_row};
 ghost use Rattle.ordup_rows.specs.Stages.{with_value, with_window};
 ghost use Rattle.ordup_check.specs.ColumnViews.{columns_view};
-ghost use Rattle.ordup_check.specs.PartialRecords.{AreUpdatesKnown, Takes, record_so_far};
+ghost use Rattle.ordup_check.specs.PartialRecords.{Takes, record_so_far};
 
+use crate::partial_updates::PartialUpdates;
 use crate::row_columns::{RowColumns, amount, change, natural, scope, value, writes};
 use ordup_audit::sizes::MOST_WINDOWS;
 use ordup_audit::{ReportChange, member_count};
 use ordup_limits::{GroupId, Groups, LimitTable, Scope};
 use ordup_objects::sizes::MOST_UPDATES;
-use ordup_objects::{Change, MessageSet, Name, ObjectTable, Refusal};
+use ordup_objects::{Change, MessageSet, Name, Refusal};
 use ordup_rounds::Window;
 use ordup_rows::{RowKind, Version};
 use std::alloc::AllocError;
@@ -37,10 +37,9 @@ fn not_taken(refusal: Refusal) -> Result<bool, AllocError>
 #[derive(Drop)]
 pub struct PartialRecord {
     pub site: Name,
-    pub objects: ObjectTable,
+    pub updates: PartialUpdates,
     pub groups: Groups,
     pub limits: LimitTable,
-    pub sets: Vec<MessageSet>,
     pub reports: Vec<ReportChange>,
     pub rounds: Vec<u64>,
     pub windows: Vec<Window>,
@@ -72,7 +71,7 @@ impl PartialRecord {
     fn is_before_changes(&self) -> bool
         ensures { result ≡ is_before_changes (record_so_far self.now) }
     {
-        self.sets.is_empty() && self.is_before_reports()
+        self.updates.len() == 0 && self.is_before_reports()
     }
 
     /// Whether no limit is there yet, and nothing that comes after the limits.
@@ -93,24 +92,24 @@ impl PartialRecord {
     fn has_objects(&self) -> bool
         ensures { result ≡ has_objects (record_so_far self.now) }
     {
-        self.objects.len() > 0
+        self.updates.objects().len() > 0
     }
 
     /// Whether an object is there, and each decided update.
     pub fn has_updates(&self, decided: u64) -> bool
         ensures { result ≡ has_updates decided (record_so_far self.now) }
     {
-        self.has_objects() && self.sets.len() as u64 == decided
+        self.has_objects() && self.updates.len() == decided
     }
 
     /// Takes the object of a row, which has this value.
     fn add_value(&mut self, c: &RowColumns<'_>, value: i64) -> Result<bool, AllocError>
         ensures { Takes result self.new (with_value (record_so_far self.old) (columns_view c.now) value) }
     {
-        if !self.is_before_members() || !writes(c.first, self.objects.len() as u64 + 1) {
+        if !self.is_before_members() || !writes(c.first, self.updates.objects().len() as u64 + 1) {
             return Ok(false);
         }
-        match self.objects.declare(c.second, value) {
+        match self.updates.declare(c.second, value) {
             Ok(_) => Ok(true),
             Err(refusal) => not_taken(refusal),
         }
@@ -130,19 +129,22 @@ impl PartialRecord {
     fn add_member(&mut self, c: &RowColumns<'_>) -> Result<bool, AllocError>
         ensures { Takes result self.new (with_member_row (record_so_far self.old) (columns_view c.now)) }
     {
-        let Some(member) = self.objects.find(c.third) else {
+        let Some(member) = self.updates.objects().find(c.third) else {
             return Ok(false);
         };
         if !self.is_before_limits() || !writes(c.first, member_count(&self.groups) + 1) {
             return Ok(false);
         }
         if is_last_group(&self.groups, c.second) {
-            match self.groups.add_member(&self.objects, member) {
+            match self.groups.add_member(self.updates.objects(), member) {
                 Ok(()) => Ok(true),
                 Err(refusal) => not_taken(refusal),
             }
         } else {
-            match self.groups.declare(&self.objects, c.second, &[member]) {
+            match self
+                .groups
+                .declare(self.updates.objects(), c.second, &[member])
+            {
                 Ok(_) => Ok(true),
                 Err(refusal) => not_taken(refusal),
             }
@@ -172,14 +174,15 @@ impl PartialRecord {
         requires begun { 0 < place }
         requires later { last_place self.old.limits ≤ place }
         ensures { let e = entry_of scope amount place in Takes result self.new (then_some
-            (not (has_entry self.old.limits e) && is_none (change_refusal (length self.old.objects) self.old.groups self.old.limits e))
+            (not (has_entry self.old.limits e)
+            && is_none (change_refusal (length self.old.updates.objects) self.old.groups self.old.limits e))
             (record (record_so_far self.old) { limits = self.old.limits ++ e ∷ [] })) }
     {
         self.limits.keeps();
         let count = self.limits.entries().len();
         match self
             .limits
-            .change(&self.objects, &self.groups, scope, amount, place)
+            .change(self.updates.objects(), &self.groups, scope, amount, place)
         {
             // One of the scope and place was replaced where there are no more than before.
             Ok(()) => Ok(self.limits.entries().len() > count),
@@ -196,7 +199,7 @@ impl PartialRecord {
     ) -> Result<bool, AllocError>
         ensures { Takes result self.new (with_limit version decided (record_so_far self.old) (columns_view c.now)) }
     {
-        let Some(scope) = scope(&self.objects, &self.groups, c.second) else {
+        let Some(scope) = scope(self.updates.objects(), &self.groups, c.second) else {
             return Ok(false);
         };
         let Some((amount, place)) = amount(version, c.third) else {
@@ -221,32 +224,29 @@ impl PartialRecord {
     ) -> Result<bool, AllocError>
         ensures { Takes result self.new (with_first_change decided (record_so_far self.old) (columns_view c.now) change) }
     {
-        let place = self.sets.len() as u64;
+        let place = self.updates.len();
         if !self.is_before_reports() || place >= decided || !writes(c.first, place + 1) {
             return Ok(false);
         }
-        let Ok(set) = MessageSet::single(&self.objects, change) else {
+        let Ok(set) = MessageSet::single(self.updates.objects(), change) else {
             return Ok(false);
         };
-        self.sets.push(set)?;
+        self.updates.push(set)?;
         Ok(true)
     }
 
     /// Takes the next change of the last update.
     fn add_next_change(&mut self, c: &RowColumns<'_>, change: Change) -> Result<bool, AllocError>
-        requires some { 0 < length self.old.sets.items }
-        requires known { AreKnown (length self.old.objects) (last_set self.old.sets.items) }
+        requires { 0 < length (record_so_far self.old).sets }
         ensures { Takes result self.new (with_next_change (record_so_far self.old) (columns_view c.now) change) }
     {
-        let last = self.sets.len() - 1;
-        let count = self.sets[last].changes().len() as u64;
         if !self.is_before_reports()
-            || !writes(c.first, last as u64 + 1)
-            || !writes(c.second, count + 1)
+            || !writes(c.first, self.updates.len())
+            || !writes(c.second, self.updates.last_len() + 1)
         {
             return Ok(false);
         }
-        match self.sets[last].add(&self.objects, change) {
+        match self.updates.add_change(change) {
             Ok(()) => Ok(true),
             Err(refusal) => not_taken(refusal),
         }
@@ -259,12 +259,11 @@ impl PartialRecord {
         c: &RowColumns<'_>,
         change: Change,
     ) -> Result<bool, AllocError>
-        requires { AreUpdatesKnown (record_so_far self.old) }
         ensures { Takes result self.new (with_any_change decided (record_so_far self.old) (columns_view c.now) change) }
     {
         if writes(c.second, 1) {
             self.add_first_change(decided, c, change)
-        } else if self.sets.is_empty() {
+        } else if self.updates.len() == 0 {
             Ok(false)
         } else {
             self.add_next_change(c, change)
@@ -273,10 +272,9 @@ impl PartialRecord {
 
     /// Takes the change of a row.
     fn add_change(&mut self, decided: u64, c: &RowColumns<'_>) -> Result<bool, AllocError>
-        requires { AreUpdatesKnown (record_so_far self.old) }
         ensures { Takes result self.new (with_change_row decided (record_so_far self.old) (columns_view c.now)) }
     {
-        let Some(change) = change(&self.objects, c.third) else {
+        let Some(change) = change(self.updates.objects(), c.third) else {
             return Ok(false);
         };
         self.add_any_change(decided, c, change)
@@ -400,7 +398,6 @@ impl PartialRecord {
         kind: RowKind,
         c: &RowColumns<'_>,
     ) -> Result<bool, AllocError>
-        requires { AreUpdatesKnown (record_so_far self.old) }
         ensures { Takes result self.new (with_row version decided (record_so_far self.old) kind (columns_view c.now)) }
     {
         match kind {

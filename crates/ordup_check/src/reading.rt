@@ -3,8 +3,6 @@ ghost use Rattle.std.specs.Prelude.{All, ◌≡◌, ◌==◌, false, ◌≤◌, 
 ghost use Rattle.csv.specs.Reading.{source_of, strip_bom};
 ghost use Rattle.csv.specs.Records.{fields_of};
 ghost use Rattle.std.specs.List.{list_any};
-ghost use Rattle.ordup_objects.specs.Sets.{AreKnown};
-ghost use Rattle.ordup_objects.specs.Tables.{initial_state};
 ghost use Rattle.ordup_audit.specs.Records.{IsRecord, RecordState};
 ghost use Rattle.ordup_rows.specs.Rows.{rows_of, rows_text};
 ghost use Rattle.ordup_check.specs.Answers.{AnswersRecord};
@@ -13,7 +11,6 @@ ghost use Rattle.ordup_rows.specs.Sizes.{most_record_bytes};
 ghost use Rattle.ordup_check.specs.Reading.{HasBadRow, IsFresh, IsTaken, has_never};
 ghost use Rattle.ordup_rows.specs.Texts.{TextTells};
 ghost use Rattle.ordup_rows.specs.Stages.{closed};
-ghost use Rattle.ordup_check.specs.Splits.{BeginsIllegal};
 ghost use Rattle.ordup_check.specs.StageViews.{stage_of};
 ghost use Rattle.ordup_check.specs.PartialRecords.{record_so_far};
 
@@ -23,8 +20,6 @@ use crate::short_rows::ShortRows;
 use crate::stage::{Stage, take_row};
 use csv::{ByteRecord, Reader, ReaderBuilder};
 use ordup_audit::{Record, RecordParts};
-use ordup_log::Log;
-use ordup_objects::{MessageSet, ObjectTable, Values};
 use ordup_rows::sizes::MOST_RECORD_BYTES;
 use std::alloc::{AllocError, Global};
 use std::io::Read;
@@ -41,50 +36,21 @@ pub enum RecordReadFault {
     NoMemory,
 }
 
-/// Splits updates into a log of those before the first that is not legal, and the sets from that one on.
-fn split_sets(
-    alloc: Global,
-    objects: &ObjectTable,
-    sets: Vec<MessageSet>,
-) -> Result<(Log, Vec<MessageSet>), AllocError>
-    requires { All (AreKnown (length objects.now)) sets.items }
-    ensures sets { IfOk result (λ p. p.0.sets ++ p.1.items ≡ sets.items) }
-    ensures start { IfOk result (λ p. p.0.start ≡ initial_state objects.now) }
-    ensures rest { IfOk result (λ p. BeginsIllegal p.0 p.1.items) }
-{
-    let Ok(mut log) = Log::new(alloc, objects) else {
-        return Err(AllocError);
-    };
-    let Ok(mut values) = Values::initial(alloc, objects) else {
-        return Err(AllocError);
-    };
-    let mut rest = Vec::new(alloc);
-    for set in sets {
-        if !rest.is_empty() || values.apply(&set).is_err() {
-            rest.push(set)?;
-        } else if log.append(set).is_err() {
-            return Err(AllocError);
-        }
-    }
-    Ok((log, rest))
-}
-
 /// The record of which all rows were read.
-fn whole_record(alloc: Global, read: PartialRecord) -> Result<Record, AllocError>
+fn whole_record(read: PartialRecord) -> Result<Record, AllocError>
     requires { IsRecord (record_so_far read) }
     ensures { IfOk result (λ r. r ≡ record_so_far read) }
 {
     let PartialRecord {
         site,
-        objects,
+        updates,
         groups,
         limits,
-        sets,
         reports,
         rounds,
         windows,
     } = read;
-    let (log, rest) = split_sets(alloc, &objects, sets)?;
+    let (objects, log, rest) = updates.into_parts()?;
     Ok(Record::from_parts(RecordParts {
         site,
         objects,
@@ -99,7 +65,7 @@ fn whole_record(alloc: Global, read: PartialRecord) -> Result<Record, AllocError
 }
 
 /// The record, if no row is missing.
-fn close(alloc: Global, stage: Stage) -> Result<Option<Record>, AllocError>
+fn close(stage: Stage) -> Result<Option<Record>, AllocError>
     requires { IfSome (closed (stage_of stage)) IsRecord }
     ensures { IfOk result (λ r. r ≡ closed (stage_of stage)) }
 {
@@ -111,7 +77,7 @@ fn close(alloc: Global, stage: Stage) -> Result<Option<Record>, AllocError>
             so_far,
         } => {
             if so_far.has_updates(decided) {
-                Ok(Some(whole_record(alloc, so_far)?))
+                Ok(Some(whole_record(so_far)?))
             } else {
                 Ok(None)
             }
@@ -187,7 +153,7 @@ pub fn read_record_within<R: Read>(
         .flexible(true)
         .from_reader(alloc, ShortRows::new(Limited::new(input, limit)));
     let (stage, row) = read_rows(alloc, &mut rdr)?;
-    match close(alloc, stage) {
+    match close(stage) {
         Ok(Some(record)) => Ok(record),
         Ok(None) => Err(RecordReadFault::Malformed { row }),
         Err(_) => Err(RecordReadFault::NoMemory),

@@ -5,15 +5,16 @@ ghost use Rattle.csv.specs.Records.{fields_of};
 ghost use Rattle.ordup_check.specs.ColumnViews.{columns_view};
 ghost use Rattle.ordup_rows.specs.RowKinds.{kind_of};
 ghost use Rattle.ordup_rows.specs.Stages.{head_of, step, reading, with_row};
-ghost use Rattle.ordup_check.specs.PartialRecords.{AreUpdatesKnown, record_so_far};
-ghost use Rattle.ordup_check.specs.StageViews.{AreStageUpdatesKnown, stage_of};
+ghost use Rattle.ordup_check.specs.PartialRecords.{record_so_far};
+ghost use Rattle.ordup_check.specs.StageViews.{stage_of};
 
 use crate::partial_record::PartialRecord;
+use crate::partial_updates::PartialUpdates;
 use crate::row_columns::{RowColumns, natural};
 use csv::ByteRecord;
 use ordup_limits::{Groups, LimitTable};
+use ordup_objects::Name;
 use ordup_objects::sizes::MOST_UPDATES;
-use ordup_objects::{Name, ObjectTable};
 use ordup_rows::{RowKind, Version};
 use std::alloc::{AllocError, Global};
 
@@ -45,10 +46,9 @@ fn read_head(alloc: Global, c: &RowColumns<'_>) -> Option<Stage>
     }
     let so_far = PartialRecord {
         site,
-        objects: ObjectTable::new(alloc),
+        updates: PartialUpdates::new(alloc),
         groups: Groups::new(alloc),
         limits: LimitTable::new(alloc),
-        sets: Vec::new(alloc),
         reports: Vec::new(alloc),
         rounds: Vec::new(alloc),
         windows: Vec::new(alloc),
@@ -82,7 +82,6 @@ fn take_later_row(
     so_far: &mut PartialRecord,
     c: &RowColumns<'_>,
 ) -> Result<bool, AllocError>
-    requires { AreUpdatesKnown (record_so_far so_far.old) }
     ensures { IfOk result (λ is_taken. then_some is_taken (reading version decided (record_so_far so_far.new))
         ≡ option_and_then (λ kind. option_map (λ r. reading version decided r)
         (with_row version decided (record_so_far so_far.old) kind (columns_view c.now)))
@@ -97,7 +96,6 @@ fn take_later_row(
 /// Takes a row, where it may stand there, and answers whether it did.
 // In place, since a stage has tables: by value they would be moved a few times with each row.
 pub fn take_row(alloc: Global, stage: &mut Stage, row: &ByteRecord) -> Result<bool, AllocError>
-    requires { AreStageUpdatesKnown (stage_of stage.old) }
     ensures { IfOk result (λ is_taken. then_some is_taken (stage_of stage.new) ≡ step (stage_of stage.old) (fields_of row.now)) }
 {
     let Some(columns) = RowColumns::split(row) else {

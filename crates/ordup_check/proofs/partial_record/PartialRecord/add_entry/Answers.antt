@@ -10,8 +10,8 @@ returns-in-Ok c =
     let e = entry_of c.args.scope c.args.amount c.args.place in
     rw (c.entries.ensures, c.in-Ok.ensures.changed, c.entries-count.ensures)
     (entry_added r.limits e (length r.limits) (λ (limits : Entries). record (record_so_far r) { limits = limits }) _
-    c.in-Ok.ensures.allowed refl)
+    (rw c.objects.ensures at c.in-Ok.ensures.allowed) refl)
 
 pub returns-in-Err : goal.returns-in-Err
 returns-in-Err c =
-    refused_row c.not_taken.result _ c.in-Err.refusal _ _ _ c.not_taken.ensures c.in-Err.ensures.refused
+    refused_row c.not_taken.result _ c.in-Err.refusal _ _ _ c.not_taken.ensures (rw c.objects.ensures at c.in-Err.ensures.refused)

@@ -8,12 +8,14 @@ pub returns-in-Err : goal.returns-in-Err
 returns-in-Err c =
     ok_by c.not_taken.result _ _ _
     (refused_row c.not_taken.result _ c.in-Err.refusal _ _ _ c.not_taken.ensures
-    (refused_last _ _ c.args.c.now.second.now _ _ (search rules) c.in-Err.ensures.refused))
+    (refused_last _ _ c.args.c.now.second.now _ _ (search rules)
+    (rw c.objects-then-is_last_group.ensures at c.in-Err.ensures.refused)))
     (member_by (record_so_far c.args.self.now) (columns_view c.args.c.now) c.in-Some.member (search rules))
 
 pub returns-in-Err-declare : goal.returns-in-Err-declare
 returns-in-Err-declare c =
     ok_by c.not_taken-in-Err-declare.result _ _ _
     (refused_row c.not_taken-in-Err-declare.result _ c.in-Err-declare.refusal _ _ _ c.not_taken-in-Err-declare.ensures
-    (refused_new _ _ c.args.c.now.second.now _ _ (search rules) c.in-Err-declare.ensures.refused))
+    (refused_new _ _ c.args.c.now.second.now _ _ (search rules)
+    (rw c.objects-else-is_last_group.ensures at c.in-Err-declare.ensures.refused)))
     (member_by (record_so_far c.args.self.now) (columns_view c.args.c.now) c.in-Some.member (search rules))

@@ -1,13 +1,12 @@
 -- Where a byte first stands among the first bytes of a text.
-use Rattle.std.proofs.Common.{◌≡◌, ◌∙◌, ap, sym, refl, inl, inr, ℕ, zero, suc, ◌+◌, ◌-◌, ◌<◌, ◌≤◌, true, List, [], ◌∷◌}
-use Rattle.std.proofs.Common.{length, take, drop, get_or, length-take, arith}
-use Rattle.std.specs.Prelude.{◌⊎◌, not, nat_eq, ◌==◌}
+use Rattle.std.proofs.Common.{◌≡◌, inl, inr, ℕ, ◌+◌, ◌<◌, ◌≤◌, true, List}
+use Rattle.std.proofs.Common.{length, take, get_or, length-take, arith}
+use Rattle.std.specs.Prelude.{◌⊎◌, not, ◌==◌}
 use Rattle.std.specs.List.{prefix_len, position_or_len}
 use Rattle.std.proofs.lemmas.Bool.{cases_lt}
-use Rattle.std.proofs.lemmas.List.{take-take, drop-take, take_rest, get_or-take}
+use Rattle.std.proofs.lemmas.List.{get_or-take}
 use Rattle.std.proofs.lemmas.List.Sums.{position_or_len_is}
 use Rattle.std.proofs.lemmas.Simd.{run_in_chunk_fails, run_in_chunk_stops}
-use Rattle.ordup_grammar.specs.Words.{begins_with}
 
 -- the place of a byte in a front, by its place in the first sixteen bytes of the text
 module _ (wanted : ℕ) (text : List ℕ) (len r m : ℕ) (within : len ≤ length text) (room : 16 ≤ length text)

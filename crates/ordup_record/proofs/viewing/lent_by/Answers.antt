@@ -1,5 +1,5 @@
-use Rattle.ordup_audit.proofs.Common.{◌++◌, ◌<◌, ◌∙◌, ◌≡◌, ◌≤◌, [], ap, append-nil, arith, history_of, IsLegalHistory, IsRecord, length, map}
-use Rattle.ordup_audit.proofs.Common.{refl, take}
+use Rattle.ordup_audit.proofs.Common.{◌++◌, ◌<◌, ◌∙◌, ◌≡◌, [], ap, append-nil, history_of, IsLegalHistory, IsRecord, length, map}
+use Rattle.ordup_audit.proofs.Common.{take}
 use Rattle.ordup_audit.specs.RecordViews.{change_of_step}
 use Rattle.ordup_audit.proofs.SameLemmas.{first-at}
 use Rattle.ordup_primary.specs.Declarations.{Declared}

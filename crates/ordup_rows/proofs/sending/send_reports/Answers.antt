@@ -1,4 +1,3 @@
-use Rattle.std.proofs.Common.{◌+◌, arith}
 use Rattle.ordup_audit.specs.RecordViews.{changes_in}
 use Rattle.ordup_rows.proofs.FormLemmas.{reports-more}
 use Rattle.ordup_rows.proofs.SentLemmas.{formed, on_err, sends_on, stops}

@@ -7,12 +7,12 @@ ghost use Rattle.ordup_cli.specs.Jobs.{verdict_status, verdict_text};
 
 use crate::fault::{Fault, NOT_VALID};
 use crate::plans::run_plan;
-use ordup_audit::{Record, Verdict, check};
+use ordup_audit::{RecordView, Verdict, check};
 use ordup_check::read_record;
 use ordup_command_line::Job;
 use ordup_primary::Primary;
-use ordup_record::record_of;
-use ordup_rows::write_record;
+use ordup_record::view_of;
+use ordup_rows::write_view;
 use ordup_script::{ScriptEnd, run_script};
 use ordup_text::send;
 use std::alloc::{AllocError, Global};
@@ -106,24 +106,21 @@ fn print_record<R: Read, W: Write>(
 fn print_site<W: Write>(alloc: Global, site: &[u8], primary: &Primary, output: &mut W) -> Outcome
     ensures { PrintsSite primary.now (index_of site.now primary.now.setup.sites) (W.contents output.old) (W.contents output.new) result }
 {
+    primary.keeps();
     let Some(site) = primary.setup().find_site(site) else {
         return Err(Fault::UnknownSite);
     };
-    match record_of(alloc, primary, site) {
-        Ok(shown) => {
-            let printed = print_rows(alloc, &shown, output);
-            drop(shown);
-            printed
-        }
-        Err(_) => Err(Fault::NoMemory),
+    match view_of(primary, site) {
+        Ok(shown) => print_rows(alloc, &shown, output),
+        Err(_) => Err(Fault::UnknownSite),
     }
 }
 
 /// Prints a record: all of its rows, or a front of them where the writer fails, or nothing for want of memory.
-fn print_rows<W: Write>(alloc: Global, shown: &Record, output: &mut W) -> Outcome
+fn print_rows<W: Write>(alloc: Global, shown: &RecordView<'_>, output: &mut W) -> Outcome
     ensures { PrintsRecord shown.now (W.contents output.old) (W.contents output.new) result }
 {
-    if let Err(fault) = write_record(alloc, shown, output) {
+    if let Err(fault) = write_view(alloc, shown, output) {
         return Err(Fault::of_writing(fault));
     }
     flush(output)?;

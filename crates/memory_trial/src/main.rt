@@ -1,6 +1,6 @@
-//! The program `memory_trial` makes the calls of a feed and of a cluster that may be refused memory, on one thread, and prints how each
-//! ended. A call that is refused memory is made a second time. Where it is refused again, the trial ends with what stands then.
-//! `checks/allocations` refuses it one allocation after the other.
+//! The program `memory_trial` makes the calls of a feed and of a cluster that may be refused memory, on one thread, and prints how
+//! each ended. A call that is refused memory is made a second time. Where it is refused again, the trial ends with what stands
+//! then. `checks/allocations` refuses it one allocation after the other.
 #![tactic(auto)]
 
 mod asking;

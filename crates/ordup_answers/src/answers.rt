@@ -27,8 +27,8 @@ use std::mem;
 
 /// Answers a line.
 ///
-/// Where it succeeds: if the script was in a state, it is afterwards in the state that the reply to the line leaves, and the text of
-/// the reply was added to `out`. It fails only where an allocation was refused, and then the run ends.
+/// Where it succeeds: if the script was in a state, it is afterwards in the state that the reply to the line leaves, and the text
+/// of the reply was added to `out`. It fails only where an allocation was refused, and then the run ends.
 // Inlined into the loop over lines, with the reading of a line before it, so that the words of a line are not moved.
 #[inline(always)]
 pub fn answer<A: Allocator + Copy>(

@@ -112,7 +112,8 @@ without_window = (passes _ 2 refl, passes _ 2 refl, passes _ 0 refl, passes _ 0 
 abbrev grouped : List (List Change) → List ℕ → List Window → RecordState
 grouped sets rounds windows = record (record_with 0 sets [] rounds windows) { groups = (codes "g", 0 ∷ 1 ∷ []) ∷ (codes "h", 1 ∷ []) ∷ [] }
 
--- after an update of two changes the next is out of range, in row 10: the head, two objects, three members, the limit, two changes, and it
+-- after an update of two changes the next is out of range, in row 10: the head, two objects, three members, the limit, two changes,
+-- and it
 out_of_range_later : IsVerdict (grouped ((change 1 1 ∷ change 0 1 ∷ []) ∷ adds 1000000000 ∷ []) [] []) (No 10 NotLegal)
 out_of_range_later = (1, 0, fails _ 2 1 (omega arith) refl refl, fails _ 1 0 (omega arith) refl refl, refl)
 
@@ -134,7 +135,8 @@ from amount place = record { limit = record { scope = Object 0; amount = amount 
 abbrev limited : List LimitEntry → RecordState → RecordState
 limited limits r = record r { limits = limits }
 
--- 3, 1 and 1 with a limit of 5, of 3 from place 2 on, and of 0 from place 3 on: two rounds, each with a window over the limit at its end
+-- 3, 1 and 1 with a limit of 5, of 3 from place 2 on, and of 0 from place 3 on: two rounds, each with a window over the limit at
+-- its end
 abbrev lowered : List LimitEntry → List ℕ → List Window → RecordState
 lowered limits rounds windows = limited limits (record_with 0 (adds 3 ∷ adds 1 ∷ adds 1 ∷ []) (reports 3 2) rounds windows)
 

@@ -59,7 +59,8 @@ last_never fields field =
     (list_any-append (λ b. b == never) field (never ∷ []) ∙ or-true (list_any (λ b. b == never) field))
     ∙ or-true (list_any (list_any (λ c. c == never)) fields)
 
--- What is read next before the byte that never came: a row that has it; or a row before it, which is read too however the text goes on.
+-- What is read next before the byte that never came: a row that has it; or a row before it, which is read too however the text goes
+-- on.
 abbrev GoesOn : Option Read → (List ℕ → Option Read) → Type 0
 GoesOn None on = ⊥
 GoesOn (Some p) on =
@@ -154,8 +155,8 @@ lost_ab : (a b : ℕ) → a ≡ 239 → b ≡ 187 → BeginsLost (a ∷ b ∷ ne
 unfolding next_record
 lost_ab a b is is2 = rw (is, is2) ((((239 ∷ 187 ∷ never ∷ []) ∷ []), st.StartRecord, []), refl, refl, refl)
 
--- The first bytes of a text are a mark and others, or others alone, however the text goes on; or there are too few to tell, and then
--- no row came.
+-- The first bytes of a text are a mark and others, or others alone, however the text goes on; or there are too few to tell, and
+-- then no row came.
 abbrev pub Begins : List ℕ → List ℕ → Type 0
 Begins bytes left = ((more : List ℕ) → strip_bom (bytes ++ more) ≡ left ++ more) ⊎ BeginsLost (left ++ never ∷ [])
 

@@ -161,8 +161,8 @@ impl PartialRecord {
         }
     }
 
-    /// Whether the next limit may hold from a place: one from 1 to the place after the last decided one, and no earlier than that of
-    /// the limit before it.
+    /// Whether the next limit may hold from a place: one from 1 to the place after the last decided one, and no earlier than that
+    /// of the limit before it.
     fn may_hold_from(&self, decided: u64, place: u64) -> bool
         ensures { result ≡ may_hold_from decided self.now.limits place }
     {

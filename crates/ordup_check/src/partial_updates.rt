@@ -15,8 +15,8 @@ use std::alloc::{AllocError, Global};
 use std::marker::Model;
 use std::mem::replace;
 
-/// The objects of a record, and its updates as far as their rows were read. The log of the record is formed meanwhile, so that there is
-/// one list of updates alone.
+/// The objects of a record, and its updates as far as their rows were read. The log of the record is formed meanwhile, so that
+/// there is one list of updates alone.
 #[derive(Drop)]
 pub struct PartialUpdates {
     alloc: Global,

@@ -97,8 +97,8 @@ fn see_row(row: &ByteRecord)
     see_bytes(row.as_slice());
 }
 
-/// Reads rows to the end, or to the first that may not stand where it stands. It answers the stage after them, and the number of the
-/// row that would be next.
+/// Reads rows to the end, or to the first that may not stand where it stands. It answers the stage after them, and the number of
+/// the row that would be next.
 fn read_rows<R: Read>(alloc: Global, rdr: &mut Reader<R>) -> Result<(Stage, u64), RecordReadFault>
     requires { IsFresh rdr.old }
     ensures taken { IfOk result (λ p. IfSome (source_of R.remaining rdr.old) (λ text. IsTaken text (stage_of p.0) p.1)) }
@@ -128,8 +128,8 @@ fn read_rows<R: Read>(alloc: Global, rdr: &mut Reader<R>) -> Result<(Stage, u64)
     Err(RecordReadFault::Read)
 }
 
-/// Reads a record of at most `limit` bytes. A byte order mark at the start is passed over. It promises, clause by clause, of a reader
-/// whose bytes are known:
+/// Reads a record of at most `limit` bytes. A byte order mark at the start is passed over. It promises, clause by clause, of a
+/// reader whose bytes are known:
 ///
 /// - `read`: the record is the one that the text tells.
 /// - `limited`: it is read from a text within the limit alone.

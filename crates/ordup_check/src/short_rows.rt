@@ -103,7 +103,8 @@ impl RowState {
     }
 }
 
-/// A reader that passes on the bytes of another, and ends with the first byte that is too many of a row. So a row takes little memory.
+/// A reader that passes on the bytes of another, and ends with the first byte that is too many of a row. So a row takes little
+/// memory.
 #[derive(Drop)]
 pub struct ShortRows<R> {
     input: R,
@@ -177,8 +178,8 @@ fn go_over(start: RowState, room: u64, bytes: &[u8]) -> Passed
     }
 }
 
-/// How many of the bytes are whole rows, which are passed on together: at the start of a row, those that end among as many bytes as a
-/// row may have. It is 0 where one of these bytes is a quote.
+/// How many of the bytes are whole rows, which are passed on together: at the start of a row, those that end among as many bytes as
+/// a row may have. It is 0 where one of these bytes is a quote.
 // So most bytes are not looked at one by one: that takes a third of all instructions of a check away.
 fn whole_rows(state: RowState, left: u64, bytes: &[u8]) -> usize
     ensures few { result ≤ length bytes.now }

@@ -79,9 +79,9 @@ const WINDOWS: &str = "\
 = no 12 WindowsMeet
 ";
 
-/// Updates of 5, 1, 3 and 1 under a limit of 5, which is raised to 9 for the third one and lowered to 0 for the fourth. By the limits at
-/// their ends the spans from 0 to 2 and all that end at 4 are over it, and no others. So at 3 the span from 0 passes no limit, which
-/// the one up to 2 does.
+/// Updates of 5, 1, 3 and 1 under a limit of 5, which is raised to 9 for the third one and lowered to 0 for the fourth. By the
+/// limits at their ends the spans from 0 to 2 and all that end at 4 are over it, and no others. So at 3 the span from 0 passes no
+/// limit, which the one up to 2 does.
 const RAISED: &str = "\
 ordup,2,a,4
 object,1,x,0

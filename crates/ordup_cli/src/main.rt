@@ -1,5 +1,5 @@
-//! The program `ordup`: it does the job that the words on the command line ask for, from standard input to standard output, and ends
-//! with an exit status.
+//! The program `ordup`: it does the job that the words on the command line ask for, from standard input to standard output, and
+//! ends with an exit status.
 #![tactic(auto)]
 
 mod act;

@@ -4,8 +4,8 @@
 //! of its theme, and count it in the test there.
 //!
 //! The rows of a theme are one text, since the prover takes minutes over a table of them. An empty line stands between two rows. A
-//! row begins with a line `# ` that names it, and then has its transcript. A line that begins with `> ` is a line of the script, any
-//! other is the answer that must come there. Each transcript is a script of its own.
+//! row begins with a line `# ` that names it, and then has its transcript. A line that begins with `> ` is a line of the script,
+//! any other is the answer that must come there. Each transcript is a script of its own.
 //!
 //! Lines that begin with `| ` are the record of a site after the lines of the script up to there, and the line after them, which
 //! begins with `= `, is what the check says of that record.
@@ -27,7 +27,8 @@ use std::sync::Wait;
 use std::test::Fail;
 use std::thread::Threads;
 
-/// Sees that a theme has this count of rows, and that each script is answered, and each record printed and checked, as its row says.
+/// Sees that a theme has this count of rows, and that each script is answered, and each record printed and checked, as its row
+/// says.
 fn expect_rows<T: Threads + Wait + Sync + AllocGlobal + Abort>(
     rt: &T,
     count: usize,

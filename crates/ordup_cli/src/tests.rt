@@ -72,8 +72,8 @@ fn push_times(
     Ok(())
 }
 
-/// The last line of a script is one too many for a size, and has this refusal. The part of the script in brackets stands there `count`
-/// times, each with its number, from 0 on, in place of `#`.
+/// The last line of a script is one too many for a size, and has this refusal. The part of the script in brackets stands there
+/// `count` times, each with its number, from 0 on, in place of `#`.
 fn assert_refused<T: Threads + Wait + Sync + AllocGlobal + Abort>(
     rt: &T,
     script: &str,

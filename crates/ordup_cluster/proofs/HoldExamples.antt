@@ -33,8 +33,8 @@ sends-none x first room is = elim is.out [
   | inr full ↦ absurd (let le : 4 ≤ 0 = rw (room, first) at full in omega arith)
 ]
 
--- A primary of the object x and the sites a and b, whose limits on x are 5. Its one update adds 3 to x; it is acknowledged, and no site
--- has reported it.
+-- A primary of the object x and the sites a and b, whose limits on x are 5. Its one update adds 3 to x; it is acknowledged, and no
+-- site has reported it.
 abbrev lagging : PrimaryState
 lagging = record {
   setup = record {

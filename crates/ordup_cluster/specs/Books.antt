@@ -12,8 +12,8 @@ pub record BookState : Type 0 where
   pub primary : PrimaryState
   pub ends : List Sending
 
--- The end belongs to site s of the primary: its feed has the site's capacity; what was pushed are the first updates of the log, as many
--- as were sent to the site; and the site reported no more than the end knows.
+-- The end belongs to site s of the primary: its feed has the site's capacity; what was pushed are the first updates of the log, as
+-- many as were sent to the site; and the site reported no more than the end knows.
 pub record IsTied (p : PrimaryState) (s : ℕ) (e : Sending) : Type 0 where
   pub capacity : e.feed.capacity ≡ capacity_of p.setup s
   pub pushed : history_of e.start e.pushed ≡ prefix_of p.log (progress_at p s).sent

@@ -25,8 +25,8 @@ pub record IsFirstMixed (p : PrimaryState) (sites : List SiteState) (s : ℕ) : 
   pub before : AgreeBelow s p sites
   pub mixed : (x : SiteState) → slice_get sites s ≡ Some x → Agrees p s x → ⊥
 
--- There are the sites of the primary. Each agrees with it, and the acknowledged updates that a site has not applied keep its limits, as
--- they are at the end.
+-- There are the sites of the primary. Each agrees with it, and the acknowledged updates that a site has not applied keep its
+-- limits, as they are at the end.
 pub record IsClosed (c : ClosedState) : Type 0 where
   pub sound : IsPrimary c.primary
   pub count : length c.sites ≡ length c.primary.sites

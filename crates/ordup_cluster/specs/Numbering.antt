@@ -11,7 +11,8 @@ use Rattle.ordup_cluster.specs.Turning.{Turned, TurnedInPart}
 abbrev pub with_numbered : BookState → List Change → BookState
 with_numbered b set = record b { primary = record b.primary { log = with_update b.primary.log set } }
 
--- a turn of book b, which answers how many updates are acknowledged then; or the part of one that was made before a growth was refused
+-- a turn of book b, which answers how many updates are acknowledged then; or the part of one that was made before a growth was
+-- refused
 abbrev pub IsTurn : BookState → BookState → Result ℕ Refusal → Type 0
 IsTurn b c (Ok acked) = (acked ≡ c.primary.acked) × Turned b c
 IsTurn b c (Err e) = (e ≡ NoMemory) × TurnedInPart b c

@@ -7,8 +7,8 @@ use Rattle.ordup_feed.specs.Ends.{Sending, AreNewEnds}
 use Rattle.ordup_cluster.specs.Books.{BookState}
 use Rattle.ordup_cluster.specs.Cells.{CellState}
 
--- The ends of the feeds of the first n sites, and their cells: each end has its cell, in which the taker's end of the same feed lies. The
--- feed has the site's capacity, begins at the initial values, and nothing went through it.
+-- The ends of the feeds of the first n sites, and their cells: each end has its cell, in which the taker's end of the same feed
+-- lies. The feed has the site's capacity, begins at the initial values, and nothing went through it.
 pub record AreFirstFeeds (d : Declared) (n : ℕ) (ends : List Sending) (cells : List CellState) : Type 0 where
   pub end_count : length ends ≡ n
   pub cell_count : length cells ≡ n

@@ -36,8 +36,8 @@ IsProposalRefusal e = IsNumberingRefusal e ⊎ ((number : ℕ) × (e ≡ NotYet 
 abbrev pub IsSettlementRefusal : ℕ → Refusal → Type 0
 IsSettlementRefusal number e = (e ≡ OutOfRange) ⊎ ((e ≡ NoMemory) × IsNumber number) ⊎ ((e ≡ NotYet number) × IsNumber number)
 
--- the place from which a changed limit of a site holds: that of the head of a primary which allows the change. It is the primary under the
--- lock, which no contract sees.
+-- the place from which a changed limit of a site holds: that of the head of a primary which allows the change. It is the primary
+-- under the lock, which no contract sees.
 abbrev pub IsLimitPlace : ℕ → Scope → ℕ → ℕ → Type 0
 IsLimitPlace site scope amount place =
     (p : PrimaryState) × IsPrimary p × (place ≡ p.acked + 1) × (limit_change_refusal (site_view p site) scope amount ≡ None)
@@ -56,8 +56,8 @@ pub record ReadRequest : Type 0 where
 abbrev pub HasBoth : ClusterState → ReadRequest → Type 0
 HasBoth c r = (r.object < length c.objects) × (r.site < c.sites)
 
--- Of a read. An unknown object comes before an unknown site, and only a site that applied fewer updates than the session has seen is
--- behind it. The last case is what the cell says under its lock, which no contract sees.
+-- Of a read. An unknown object comes before an unknown site, and only a site that applied fewer updates than the session has seen
+-- is behind it. The last case is what the cell says under its lock, which no contract sees.
 abbrev pub IsReadRefusal : ClusterState → ReadRequest → Refusal → Type 0
 IsReadRefusal c r e =
     ((e ≡ UnknownObject) × (length c.objects ≤ r.object)) ⊎ ((e ≡ UnknownSite) × (r.object < length c.objects) × (c.sites ≤ r.site))

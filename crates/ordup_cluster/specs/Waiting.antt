@@ -13,8 +13,8 @@ pub record TurnsMade : Type 0 where
 abbrev pub IsLeft : ℕ → ℕ → TurnsMade → Type 0
 IsLeft number turns at_end = (at_end.acked < number) × (at_end.made ≡ turns)
 
--- How a wait for an update is refused, by the turns at its end, of which there are at most as many as this. Where the last was refused
--- a growth, there was no memory; else the update is left.
+-- How a wait for an update is refused, by the turns at its end, of which there are at most as many as this. Where the last was
+-- refused a growth, there was no memory; else the update is left.
 abbrev pub EndsUnmet : ℕ → ℕ → TurnsMade → Refusal → Type 0
 EndsUnmet number turns at_end e =
     ((at_end.refused ≡ true) × (e ≡ NoMemory)) ⊎ ((at_end.refused ≡ false) × (e ≡ NotYet number) × IsLeft number turns at_end)

@@ -102,14 +102,14 @@ impl Cluster {
         self.cells.len()
     }
 
-    /// Numbers a message set as the next update, and waits until it is acknowledged, for at most `turns` turns of the book, which are
-    /// 1 or more. The first turn is made in the hold that numbers the update.
+    /// Numbers a message set as the next update, and waits until it is acknowledged, for at most `turns` turns of the book, which
+    /// are 1 or more. The first turn is made in the hold that numbers the update.
     ///
     /// - The session has seen the update, and no less than before.
     /// - The answer is the number of the update, from 1 to 1,000,000.
-    /// - It is refused `Stopped` after `stop`, `UnknownObject`, `LogFull` after 1,000,000 updates, `OutOfRange` where a result is out of
-    ///   range, and `NoMemory`: then nothing was numbered. It is refused `NotYet` with the number of the update where that is not
-    ///   acknowledged after the last turn, or a turn is refused a growth: the update stands, and `settle` waits for it.
+    /// - It is refused `Stopped` after `stop`, `UnknownObject`, `LogFull` after 1,000,000 updates, `OutOfRange` where a result is
+    ///   out of range, and `NoMemory`: then nothing was numbered. It is refused `NotYet` with the number of the update where that
+    ///   is not acknowledged after the last turn, or a turn is refused a growth: the update stands, and `settle` waits for it.
     /// - Where it is refused, the session stays as it was.
     pub fn propose<R: Wait>(
         &self,
@@ -162,13 +162,13 @@ impl Cluster {
         }
     }
 
-    /// Waits until the update with this number is acknowledged, for at most `turns` turns of the book, which are 1 or more. It makes no
-    /// turn where the update is acknowledged already.
+    /// Waits until the update with this number is acknowledged, for at most `turns` turns of the book, which are 1 or more. It
+    /// makes no turn where the update is acknowledged already.
     ///
     /// - The session has seen the update, and no less than before.
     /// - The number is one that an update may have, from 1 to 1,000,000.
-    /// - It is refused `OutOfRange` where no update has this number, `NoMemory` as soon as a turn is refused a growth, and `NotYet` where
-    ///   the update is not acknowledged after the last turn. The last two come only for a number that an update may have.
+    /// - It is refused `OutOfRange` where no update has this number, `NoMemory` as soon as a turn is refused a growth, and `NotYet`
+    ///   where the update is not acknowledged after the last turn. The last two come only for a number that an update may have.
     /// - Where it is refused, the session stays as it was.
     pub fn settle<R: Wait>(
         &self,
@@ -201,8 +201,8 @@ impl Cluster {
     /// - The site had applied no fewer than the session had seen.
     /// - The session has now seen what the site had applied.
     /// - The object and the site are there.
-    /// - It is refused `UnknownObject`, `UnknownSite`, and `Behind` where the site applied fewer updates than the session has seen, with
-    ///   how many it applied, in this order.
+    /// - It is refused `UnknownObject`, `UnknownSite`, and `Behind` where the site applied fewer updates than the session has seen,
+    ///   with how many it applied, in this order.
     /// - Where it is refused, the session stays as it was.
     pub fn read<R: Wait>(
         &self,
@@ -256,15 +256,16 @@ impl Cluster {
         })
     }
 
-    /// Changes the limit of a site on a scope from the head on, or begins one there. The amount lies from 0 to 10^18. The updates that are
-    /// decided keep the limits by which they were decided.
+    /// Changes the limit of a site on a scope from the head on, or begins one there. The amount lies from 0 to 10^18. The updates
+    /// that are decided keep the limits by which they were decided.
     ///
     /// It makes no turn and looks at no feed: what the site reported is what the turns have found. It may be called after `stop`.
     ///
     /// - The answer is the place of the head of a primary that allows the change.
-    /// - It is refused `UnknownObject` or `UnknownGroup` where the scope's is not there, `UnknownSite`, `OutOfRange` for the amount,
-    ///   `TooMany` for a 65th scope or a 1,089th entry of the site, `HeadPending` where the head is decided and not acknowledged,
-    ///   `LagOver` where the acknowledged updates that the site has not reported weigh more than the amount, and `NoMemory`, in this order.
+    /// - It is refused `UnknownObject` or `UnknownGroup` where the scope's is not there, `UnknownSite`, `OutOfRange` for the
+    ///   amount, `TooMany` for a 65th scope or a 1,089th entry of the site, `HeadPending` where the head is decided and not
+    ///   acknowledged, `LagOver` where the acknowledged updates that the site has not reported weigh more than the amount, and
+    ///   `NoMemory`, in this order.
     pub fn relimit<R: Wait>(
         &self,
         rt: &R,
@@ -280,8 +281,8 @@ impl Cluster {
         relimit(&mut book, site, scope, amount)
     }
 
-    /// Applies what comes to a site, and ends with a turn that began after `stop` and found the feed empty. It answers how many updates
-    /// it applied. It runs in a thread of its own.
+    /// Applies what comes to a site, and ends with a turn that began after `stop` and found the feed empty. It answers how many
+    /// updates it applied. It runs in a thread of its own.
     pub fn applier<G: Gate, R: Wait>(&self, rt: &R, site: SiteId, gate: &G) -> u64
         requires { site < self.now.sites }
     {
@@ -309,10 +310,11 @@ impl Cluster {
         self.stopped.store(true, Ordering::SeqCst);
     }
 
-    /// Takes the store apart, once all threads are joined: it applies the log again, and compares each site with it. It takes no memory,
-    /// and waits for nobody.
+    /// Takes the store apart, once all threads are joined: it applies the log again, and compares each site with it. It takes no
+    /// memory, and waits for nobody.
     ///
-    /// - The primary is sound, each site agrees with its log, and the acknowledged updates that a site has not applied keep its limits.
+    /// - The primary is sound, each site agrees with its log, and the acknowledged updates that a site has not applied keep its
+    ///   limits.
     /// - There are as many sites as before.
     /// - It is refused `Mixed` alone, for a site of the store: the first that does not agree with the log.
     pub fn close(self) -> Result<Closed, Refusal>
@@ -342,8 +344,8 @@ impl Cluster {
 
 /// The hold in which a set is numbered, with the book that it lends: the set is numbered, and the first turn is made.
 ///
-/// It is refused `Stopped` where the store was stopped, and else `UnknownObject`, `LogFull`, `OutOfRange` and `NoMemory`, in this order;
-/// then nothing was numbered.
+/// It is refused `Stopped` where the store was stopped, and else `UnknownObject`, `LogFull`, `OutOfRange` and `NoMemory`, in this
+/// order; then nothing was numbered.
 fn number_unless_stopped<R: Wait>(
     rt: &R,
     book: &mut Book,

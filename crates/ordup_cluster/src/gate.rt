@@ -6,7 +6,8 @@ pub trait Gate {
     /// The first call of a turn, with the number of the update that the site applies next. The applier holds no lock then.
     fn before_apply<R: Wait>(&self, rt: &R, site: SiteId, number: u64);
 
-    /// The second call of a turn, with the number of the update that the site applies next. The applier holds the lock of the site then.
+    /// The second call of a turn, with the number of the update that the site applies next. The applier holds the lock of the site
+    /// then.
     fn at_apply<R: Wait>(&self, rt: &R, site: SiteId, number: u64);
 }
 

@@ -3,18 +3,18 @@
 //! 1. Declare the objects, groups, sites and limits in a `Setup`, and open the store: `Cluster::new`. That takes no lock.
 //! 2. Run `Cluster::applier` for each site, in a thread of its own. It applies what comes to the site, under the lock of the site.
 //! 3. Let callers work, each with a `Session` of its own. They make their message sets of `Cluster::objects`, which takes no lock.
-//!    - `propose` numbers a set and waits until it is acknowledged; `settle` waits on after a `NotYet`; `relimit` changes a limit of a
-//!      site; `begin` begins a query at one. Each of them takes the lock of the book.
+//!    - `propose` numbers a set and waits until it is acknowledged; `settle` waits on after a `NotYet`; `relimit` changes a limit
+//!      of a site; `begin` begins a query at one. Each of them takes the lock of the book.
 //!    - `read` reads an object at a site, and `SiteQuery::read` does so for a query. Each of them takes the lock of the site.
 //! 4. Once all callers are done, call `Cluster::stop`, and join the appliers. A caller that still waits may wait in vain.
-//! 5. Close the store: `Cluster::close` compares each site with the log, and leaves the primary and the sites in a `Closed`; or it is
-//!    refused `Mixed` for a site that does not agree. That takes no lock.
+//! 5. Close the store: `Cluster::close` compares each site with the log, and leaves the primary and the sites in a `Closed`; or it
+//!    is refused `Mixed` for a site that does not agree. That takes no lock.
 //!
-//! The book is the primary with the sending ends of the feeds. Each site lies in a cell with the taking end of its feed. No call takes
-//! a lock while it holds another. `holds` has the work of one hold of a lock.
+//! The book is the primary with the sending ends of the feeds. Each site lies in a cell with the taking end of its feed. No call
+//! takes a lock while it holds another. `holds` has the work of one hold of a lock.
 //!
-//! The one contract above this layer: a book and a cell keep their facts whenever their lock is free, and a session sees no less than
-//! it has seen.
+//! The one contract above this layer: a book and a cell keep their facts whenever their lock is free, and a session sees no less
+//! than it has seen.
 #![tactic(auto)]
 
 mod book_turns;

@@ -32,8 +32,8 @@ impl SiteQuery<'_> {
     /// - Whatever answers the query had, it has this one after them.
     /// - The object has a mark.
     /// - The read is allowed by its import and by what was read before.
-    /// - It is refused `UnknownObject` where there is no such object, `TooMany` after 256 accepted reads, and `OverImport` where the
-    ///   total would pass the limit.
+    /// - It is refused `UnknownObject` where there is no such object, `TooMany` after 256 accepted reads, and `OverImport` where
+    ///   the total would pass the limit.
     /// - Where it is refused, the query stays as it was.
     pub fn read<R: Wait>(&mut self, rt: &R, object: ObjectId) -> Result<ReadAnswer, Refusal>
         ensures total { IfOk result (λ a. a.total ≡ self.old.total + a.import) }

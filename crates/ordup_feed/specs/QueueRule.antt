@@ -1,5 +1,5 @@
--- The rule of a feed's queue. The sender's view is the initial state and what was pushed, the taker's the initial state and what was
--- taken. It speaks of parcels as plain values, each a number and a list of changes.
+-- The rule of a feed's queue. The sender's view is the initial state and what was pushed, the taker's the initial state and what
+-- was taken. It speaks of parcels as plain values, each a number and a list of changes.
 use Rattle.std.specs.Prelude.{◌≡◌, List, [], ◌∷◌, ◌++◌}
 use Rattle.ordup_objects.specs.States.{State}
 use Rattle.ordup_feed.specs.declared.queue.View.{View}

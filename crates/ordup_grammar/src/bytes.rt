@@ -3,10 +3,10 @@
 //! Words and lines are short and differ in length, so the end of a loop over their bytes is a branch that the processor does not
 //! foresee. The functions here look at a block of bytes at once instead. The last block may overlap the one before.
 //!
-//! - **Where a line ends, and whether all of it is printed** (`printed_prefix`, sixteen bytes at a time): the first byte that is not
-//!   printed is as a rule the line feed, so `split_line` finds both in one pass. Only where it is another byte does `memchr` look for
-//!   the line feed. Against `memchr` and a second pass over each line, that takes 5.6 percent of all instructions of the mixed load
-//!   away.
+//! - **Where a line ends, and whether all of it is printed** (`printed_prefix`, sixteen bytes at a time): the first byte that is
+//!   not printed is as a rule the line feed, so `split_line` finds both in one pass. Only where it is another byte does `memchr`
+//!   look for the line feed. Against `memchr` and a second pass over each line, that takes 5.6 percent of all instructions of the
+//!   mixed load away.
 //! - **Where a word ends** (`place_of`): one comparison of sixteen bytes, whatever the length of the word. The text goes on
 //!   behind a word, as a rule (`Front`), so there are sixteen. Only at the end of a piece, or in a longer word, `memchr` looks for
 //!   the end. Against comparisons of eight and of four bytes within the word, and a call for a line's only word, that takes 3.5

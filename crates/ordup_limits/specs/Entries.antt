@@ -71,8 +71,8 @@ change_refusal n groups entries e = option_or (scope_refusal n groups e.limit.sc
 abbrev pub HoldFrom : ℕ → Entries → Type 0
 HoldFrom k entries = All (λ e. e.place ≤ k) entries
 
--- What each table keeps: at most 64 scopes and 1,088 entries, in the order of their places, which begin at 1, with amounts from 0 to
--- 10^18. No two entries are of one scope and one place.
+-- What each table keeps: at most 64 scopes and 1,088 entries, in the order of their places, which begin at 1, with amounts from 0
+-- to 10^18. No two entries are of one scope and one place.
 pub record AreEntries (entries : Entries) : Type 0 where
   pub scopes : length (latest entries) ≤ most_limits
   pub few : length entries ≤ most_entries

@@ -17,7 +17,8 @@ module _ {A : Type 0} where
     has_masks = l.has_masks;
   }
 
-  -- what the fields keep: a ledger, with the limit on the count and a mask of the other limits that the span between its places passes
+  -- what the fields keep: a ledger, with the limit on the count and a mask of the other limits that the span between its places
+  -- passes
   pub record KeepsLedger (l : Inside A) : Type 0 where
     pub ledger : IsLedger (ledger_of l)
     pub count : l.count ≡ least_count l.limits

@@ -9,7 +9,8 @@ use crate::sizes::MOST_LIMITS;
 use ordup_log::Scope;
 use ordup_objects::sizes::MOST_UPDATES;
 
-/// The least amount of these limits that is on the count of updates. Without one it is the most updates of a log, which none passes.
+/// The least amount of these limits that is on the count of updates. Without one it is the most updates of a log, which none
+/// passes.
 pub(crate) fn least_count(limits: &[Limit]) -> u64
     ensures { result ≡ least_count limits.now }
 {

@@ -153,7 +153,8 @@ fn total_of<A: Allocator + Copy>(
     weighed(log, groups, *scope, place)
 }
 
-/// Adds the updates after a place, up to a later one, to the totals. It answers the mask of the totals that are above what is allowed.
+/// Adds the updates after a place, up to a later one, to the totals. It answers the mask of the totals that are above what is
+/// allowed.
 pub(crate) fn extend_to<A: Allocator + Copy>(
     added: &mut Vec<u64, A>,
     allowed: &[u64],

@@ -3,7 +3,8 @@ use Rattle.std.specs.Prelude.{ℕ, zero, suc, ◌+◌, ◌-◌, ◌<◌, ◌==�
 use Rattle.std.specs.Prelude.{length, slice_index_or, Vec, vec_len, vec_capacity}
 use Rattle.ordup_objects.specs.Sums.{sum_from}
 
--- the places from 1 to n with a weight above 0, each with the weight of the span from 0 to it, by what the update after the first j weighs
+-- the places from 1 to n with a weight above 0, each with the weight of the span from 0 to it, by what the update after the first j
+-- weighs
 abbrev pub postings_of : (ℕ → ℕ) → ℕ → List (ℕ × ℕ)
 postings_of weight zero = []
 postings_of weight (suc n) =

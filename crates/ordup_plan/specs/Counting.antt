@@ -4,8 +4,8 @@ use Rattle.ordup_objects.specs.declared.refusal.Refusal.{Refusal}
 use Rattle.ordup_objects.specs.declared.refusal.Refusal.TheVariants.{NotYet, NoMemory, Stopped}
 use Rattle.ordup_plan.specs.declared.tally.Tally.{Tally}
 
--- What the counts of a caller are after an answer, if it goes on: an update that is numbered and not acknowledged counts as pending, and
--- any other refusal as refused. It does not go on once there was no memory, or the cluster was stopped.
+-- What the counts of a caller are after an answer, if it goes on: an update that is numbered and not acknowledged counts as
+-- pending, and any other refusal as refused. It does not go on once there was no memory, or the cluster was stopped.
 abbrev pub counted_by : Tally → Result ℕ Refusal → Option Tally
 counted_by t (Ok number) = Some t
 counted_by t (Err (NotYet number)) = Some (record t { pending = t.pending + 1 })

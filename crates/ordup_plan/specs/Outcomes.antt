@@ -31,8 +31,8 @@ abbrev pub texts_below : (ℕ → List ℕ) → ℕ → List ℕ
 texts_below f zero = []
 texts_below f (suc n) = texts_below f n ++ f n
 
--- The length of the log, the proposals that were refused and those that were left pending, what each site applied and holds, and how
--- many rounds it is shown to need.
+-- The length of the log, the proposals that were refused and those that were left pending, what each site applied and holds, and
+-- how many rounds it is shown to need.
 abbrev pub outcome_text : ClosedState → ℕ → ℕ → List ℕ
 outcome_text c refused pending =
     done_text (codes "log ") (length c.primary.log.sets) ++ done_text (codes "refused ") refused

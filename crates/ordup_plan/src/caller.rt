@@ -12,8 +12,8 @@ const TURNS: u64 = 1_000_000;
 
 /// Proposes sets one after another, in a session of its own, and answers how many were refused or are pending.
 ///
-/// It calls the plan off, and has no tally, once memory is refused before a set is numbered. It ends without a tally, too, where another
-/// caller has called the plan off.
+/// It calls the plan off, and has no tally, once memory is refused before a set is numbered. It ends without a tally, too, where
+/// another caller has called the plan off.
 pub(crate) fn propose_all<R: Wait>(
     rt: &R,
     cluster: &Cluster,

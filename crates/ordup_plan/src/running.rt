@@ -34,9 +34,10 @@ impl Promise<Option<Tally>> for Proposes {
 /// Set i goes to caller `(i - 1) mod callers + 1`, which proposes its sets one after another, with 1,000,000 turns each. Each site
 /// has its applier in a thread of its own. All threads have ended when it returns.
 ///
-/// It is refused `NoMemory`, also where a thread cannot be started, and `Mixed` for the first site that does not agree with the log.
-/// Once a caller is refused memory before its set is numbered, or cannot be started, the plan is called off. Each of the others then
-/// ends after the proposal that it is in. It waits for that one as ever, since the appliers are stopped only once all callers have ended.
+/// It is refused `NoMemory`, also where a thread cannot be started, and `Mixed` for the first site that does not agree with the
+/// log. Once a caller is refused memory before its set is numbered, or cannot be started, the plan is called off. Each of the
+/// others then ends after the proposal that it is in. It waits for that one as ever, since the appliers are stopped only once all
+/// callers have ended.
 pub fn run_threads<R: Threads + Wait + Sync>(
     rt: &R,
     alloc: Global,
@@ -101,8 +102,8 @@ fn with_appliers<R: Threads + Wait + Sync>(
     )
 }
 
-/// Lets each caller propose its hand in a thread of its own, and waits for all of them. Where one cannot be started, those that were
-/// end after the proposal that they are in.
+/// Lets each caller propose its hand in a thread of its own, and waits for all of them. Where one cannot be started, those that
+/// were end after the proposal that they are in.
 fn propose_in_threads<R: Threads + Wait + Sync>(
     rt: &R,
     alloc: Global,

@@ -19,8 +19,8 @@ pub(crate) const NONE: Tally = Tally {
 };
 
 impl Tally {
-    /// Counts the answer to one more proposal. There is no tally where the caller has to end: memory was refused before an update was
-    /// numbered, or the cluster was stopped.
+    /// Counts the answer to one more proposal. There is no tally where the caller has to end: memory was refused before an update
+    /// was numbered, or the cluster was stopped.
     pub(crate) fn with(self, answer: Result<u64, Refusal>) -> Option<Tally>
         requires { counted self + 1 < 2 ^ 64 }
         ensures counts { result ≡ counted_by self answer }

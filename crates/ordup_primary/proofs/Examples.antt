@@ -26,7 +26,8 @@ forced : (forced_sites lags (λ s. 0) 3 3 ≡ 0 ∷ 1 ∷ [])
     × (forced_sites lags (λ s. 3) 3 3 ≡ [])
 forced = (refl, refl, refl)
 
--- Of those two the one that has since reported 2 is still waited for, and the one that has reported 3 is not; site 2 was not forced.
+-- Of those two the one that has since reported 2 is still waited for, and the one that has reported 3 is not; site 2 was not
+-- forced.
 waiting : (waiting_sites lags (λ s. 0) (slice_index (2 ∷ 3 ∷ 0 ∷ [])) 3 3 ≡ 0 ∷ [])
     × (waiting_sites lags (λ s. 0) (λ s. 2) 3 3 ≡ 0 ∷ 1 ∷ [])
     × (waiting_sites lags (λ s. 0) (λ s. 3) 3 3 ≡ [])
@@ -97,8 +98,8 @@ settled : (settled_as (primary 0 0 (site 0 [] [])) ≡ Acked 1)
     × (settled_as (primary 1 2 (site 2 (0 ∷ 0 ∷ []) (2 ∷ []))) ≡ Acked 2)
 settled = (refl, refl, refl, refl, refl)
 
--- a decided head waits for a site that it forced until the site has reported it, and not for one that had reported enough; a head that
--- is not decided waits for none
+-- a decided head waits for a site that it forced until the site has reported it, and not for one that had reported enough; a head
+-- that is not decided waits for none
 waits : (waits_for (primary 1 2 (site 1 (0 ∷ 0 ∷ []) (2 ∷ []))) 0 ≡ true)
     × (waits_for (primary 1 2 (site 2 (0 ∷ 0 ∷ []) (2 ∷ []))) 0 ≡ false)
     × (waits_for (primary 1 2 (site 1 (0 ∷ 1 ∷ []) [])) 0 ≡ false)

@@ -10,8 +10,8 @@ use Rattle.ordup_limits.specs.Limits.{scope_refusal}
 use Rattle.ordup_limits.specs.Entries.{Entries, entry_of, change_refusal}
 use Rattle.ordup_primary.specs.Declarations.{Declared}
 
--- what a change of a limit of a site is judged by: the site, the declarations, the log, how many updates are acknowledged and how many
--- are decided, the limits of the site, and how many updates it has reported
+-- what a change of a limit of a site is judged by: the site, the declarations, the log, how many updates are acknowledged and how
+-- many are decided, the limits of the site, and how many updates it has reported
 pub record SiteView : Type 0 where
   pub site : ℕ
   pub setup : Declared
@@ -21,8 +21,8 @@ pub record SiteView : Type 0 where
   pub limits : Entries
   pub reported : ℕ
 
--- why it is refused, if it is, where the site is declared: while the head is decided and not acknowledged there is none; and the amount
--- is no less than what the acknowledged updates weigh that the site has not reported
+-- why it is refused, if it is, where the site is declared: while the head is decided and not acknowledged there is none; and the
+-- amount is no less than what the acknowledged updates weigh that the site has not reported
 abbrev pub site_change_refusal : SiteView → Scope → ℕ → Option Refusal
 site_change_refusal v scope amount =
     option_or (change_refusal (length v.setup.objects) v.setup.groups v.limits (entry_of scope amount (v.acked + 1))) (

@@ -19,8 +19,8 @@ use Rattle.ordup_primary.specs.LimitChanges.{SiteView, site_change_refusal}
 use Rattle.ordup_primary.specs.declared.settled.Settled.{Settled}
 use Rattle.ordup_primary.specs.declared.settled.Settled.TheVariants.{Acked, Round, Waiting}
 
--- what the primary knows of a site: how many updates were sent to it, how many it last reported, what it had reported at the decision
--- of each place, its rounds, and a window for each of them
+-- what the primary knows of a site: how many updates were sent to it, how many it last reported, what it had reported at the
+-- decision of each place, its rounds, and a window for each of them
 pub record SiteProgress : Type 0 where
   pub sent : ℕ
   pub reported : ℕ
@@ -28,8 +28,8 @@ pub record SiteProgress : Type 0 where
   pub rounds : List ℕ
   pub windows : List Window
 
--- the declarations, the log, how many updates are acknowledged and how many are decided, the sites in order of declaration, and the limits
--- of each
+-- the declarations, the log, how many updates are acknowledged and how many are decided, the sites in order of declaration, and the
+-- limits of each
 pub record PrimaryState : Type 0 where
   pub setup : Declared
   pub log : History
@@ -146,8 +146,8 @@ pub record Decides (p q : PrimaryState) : Type 0 where
       → slice_index_or q.sites s d
       ≡ decided_at (is_within p s (progress_at p s).reported (p.acked + 1)) (p.acked + 1) (slice_index_or p.sites s d)
 
--- What a primary keeps of a site, where `keeps a b` says whether the span from a to b passes no limit of the site: each acknowledged round
--- was reported.
+-- What a primary keeps of a site, where `keeps a b` says whether the span from a to b passes no limit of the site: each
+-- acknowledged round was reported.
 pub record IsSiteSound (keeps : ℕ → ℕ → Bool) (updates acked decided : ℕ) (site : SiteProgress) : Type 0 where
   pub reported : site.reported ≤ site.sent
   pub sent : site.sent ≤ updates
@@ -159,8 +159,8 @@ pub record IsSiteSound (keeps : ℕ → ℕ → Bool) (updates acked decided : �
   pub rising : (j k : ℕ) → j ≤ k → k < decided → slice_index_or site.reports j 0 ≤ slice_index_or site.reports k 0
   pub before : AreRoundsReported keeps (reported_at site) decided
 
--- What each primary keeps. The limits of a site hold from the head or before; what is acknowledged and the site has not reported passes
--- none of them.
+-- What each primary keeps. The limits of a site hold from the head or before; what is acknowledged and the site has not reported
+-- passes none of them.
 pub record IsPrimary (p : PrimaryState) : Type 0 where
   pub ready : is_ready p.setup ≡ true
   pub start : p.log.start ≡ initial_state p.setup.objects

@@ -16,7 +16,8 @@ add n = record { object = 0; op = Add n } ∷ []
 abbrev log : History
 log = record { start = pos 0 ∷ []; sets = add (pos 3) ∷ add (neg_ℤ (pos 3)) ∷ add (pos 2) ∷ [] }
 
--- the path between the two places, 3 and 2, whether the site is behind the reference or ahead of it; nothing at the reference itself
+-- the path between the two places, 3 and 2, whether the site is behind the reference or ahead of it; nothing at the reference
+-- itself
 imports : (import_of log 0 1 3 ≡ 5) × (import_of log 0 3 1 ≡ 5) × (import_of log 0 0 2 ≡ 6) × (import_of log 0 2 2 ≡ 0)
 imports = (refl, refl, refl, refl)
 

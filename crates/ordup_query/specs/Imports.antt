@@ -6,7 +6,8 @@ use Rattle.ordup_objects.specs.Weights.{object_span}
 use Rattle.ordup_objects.specs.Marks.{mark_at, AreMarks}
 use Rattle.ordup_site.specs.Sites.{SiteState, travelled_at, HasApplied}
 
--- what a read of an object imports at a site that applied j updates, by the reference p: the weight on the object of the span between
+-- what a read of an object imports at a site that applied j updates, by the reference p: the weight on the object of the span
+-- between
 abbrev pub import_of : History → ℕ → ℕ → ℕ → ℕ
 import_of h x j p = object_span h x (min j p) (max j p)
 

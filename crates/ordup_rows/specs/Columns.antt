@@ -80,8 +80,8 @@ amount_and_place (amount ∷ place ∷ []) = do
   Some (n, k)
 amount_and_place _ = None
 
--- the amount of a limit and the place from which it holds, as a column tells them: by an amount alone, which holds from place 1 on, or
--- in the second version by an amount and a place, with one `@` between them
+-- the amount of a limit and the place from which it holds, as a column tells them: by an amount alone, which holds from place 1 on,
+-- or in the second version by an amount and a place, with one `@` between them
 abbrev pub amount_by : Version → List ℕ → Option (ℕ × ℕ)
 amount_by First column = option_map (λ n. (n, 1)) (natural_of column)
 amount_by Second column = amount_and_place (slice_split (λ byte. byte == 64) column)

@@ -15,8 +15,8 @@ WhatIsReadIsTold = (rows : List Row) (r : RecordState) → record_read rows ≡ 
 abbrev pub WhatIsToldIsRead : Type 0
 WhatIsToldIsRead = (rows : List Row) (r : RecordState) → Tells rows r → record_read rows ≡ Some r
 
--- The rows of a record are read as it in each version that can tell its limits. So rows of both versions are read as the same record
--- where all its limits hold from place 1 on.
+-- The rows of a record are read as it in each version that can tell its limits. So rows of both versions are read as the same
+-- record where all its limits hold from place 1 on.
 abbrev pub RowsOfEachVersionAreRead : Type 0
 RowsOfEachVersionAreRead =
     (version : Version) (r : RecordState) → IsRecord r → CanTell version r.limits → record_read (rows_in version r) ≡ Some r

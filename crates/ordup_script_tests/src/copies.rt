@@ -19,9 +19,9 @@ use std::process::Abort;
 
 /// A call that copies or makes something of what a primary holds.
 ///
-/// Growths that were met, in the order of the calls: 4, 5, 1, 1, 1, 12, 1, 1, 3, 3, 2, 1, 1, 25 and 2. So the record's 25 are those of
-/// the objects, the groups, the limits and the log, and 3 lists. The copy of a set of a single change, which stands in its place,
-/// meets none.
+/// Growths that were met, in the order of the calls: 4, 5, 1, 1, 1, 12, 1, 1, 3, 3, 2, 1, 1, 25 and 2. So the record's 25 are those
+/// of the objects, the groups, the limits and the log, and 3 lists. The copy of a set of a single change, which stands in its
+/// place, meets none.
 #[derive(Clone, Copy, Debug)]
 enum Call {
     CopyObjects,

@@ -195,7 +195,8 @@ fn are_same<'a>(rt: &impl Abort, ample: Heap<'a>, before: &Shown<'a>, after: &Sh
     same
 }
 
-/// Answers a line with this count of growths allowed. Where one is refused, there is no answer, and the store shows what it did before.
+/// Answers a line with this count of growths allowed. Where one is refused, there is no answer, and the store shows what it did
+/// before.
 fn is_refused(rt: &impl Abort, session: &mut Session<'_>, step: Step<'_>, allowed: u64) -> bool {
     let before = show(rt, session);
     session.scarce.allow(allowed);
@@ -220,8 +221,8 @@ fn is_refused(rt: &impl Abort, session: &mut Session<'_>, step: Step<'_>, allowe
     refused
 }
 
-/// Answers a script whose line at this place has this count of growths allowed, and where one is refused is answered again: whether one
-/// was refused.
+/// Answers a script whose line at this place has this count of growths allowed, and where one is refused is answered again: whether
+/// one was refused.
 fn is_refused_at(
     rt: &impl Abort,
     session: &mut Session<'_>,

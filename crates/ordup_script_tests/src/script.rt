@@ -1,4 +1,5 @@
-//! Readers and writers that fail, and scripts that are too long: over the first run, and over lines that each session answers alike.
+//! Readers and writers that fail, and scripts that are too long: over the first run, and over lines that each session answers
+//! alike.
 use crate::readers::{CommentReader, PieceReader};
 use crate::transcripts::{FIRST_RUN, parts};
 use ordup_script::{ScriptFault, run_script, run_script_within};

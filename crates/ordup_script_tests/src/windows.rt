@@ -6,8 +6,8 @@ use ordup_world::Primary;
 use std::alloc::{AllocError, Global};
 use std::test::Fail;
 
-/// Scripts, and what is shown of their sites at the end, in the last line: each site, with each of its windows as the places between
-/// which it lies.
+/// Scripts, and what is shown of their sites at the end, in the last line: each site, with each of its windows as the places
+/// between which it lies.
 const SHOWN: [&str; 10] = [
     // Equal is not over.
     "\

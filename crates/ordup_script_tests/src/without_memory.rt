@@ -52,7 +52,8 @@ fn over_as_it_reports<'a>(
     over
 }
 
-/// What the values and a site come to that apply the first update, and what a query reads at the site whose reference is the second.
+/// What the values and a site come to that apply the first update, and what a query reads at the site whose reference is the
+/// second.
 fn expect_reads<'a>(rt: &impl Abort, heap: Heap<'a>, primary: &Primary<Heap<'a>>) {
     heap.allow_all();
     let (objects, log) = (primary.setup().objects(), primary.log());

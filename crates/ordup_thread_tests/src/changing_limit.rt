@@ -1,8 +1,8 @@
-//! Four callers and a reader, while the limit of a site goes down and up again and again. Each update adds 1 to x, so after k updates
-//! x is k.
+//! Four callers and a reader, while the limit of a site goes down and up again and again. Each update adds 1 to x, so after k
+//! updates x is k.
 //!
-//! An update is acknowledged only where the site lags by no more than its limit in force then. So once a proposal is answered, the site
-//! has applied all updates up to it but those of its limit; a read there tells how many it has applied.
+//! An update is acknowledged only where the site lags by no more than its limit in force then. So once a proposal is answered, the
+//! site has applied all updates up to it but those of its limit; a read there tells how many it has applied.
 use crate::fixtures::{
     Site, TRIES, a, adding, apply_at, closed, expect_fewest, opened, propose, set_of, x, x_and_y,
 };
@@ -38,12 +38,13 @@ const SITES: [Site; 2] = [("a", 128, Some((Scope::Count, HIGH))), ("b", 64, None
 /// What the threads tell each other.
 #[derive(Drop)]
 struct Shared {
-    /// How many changes there were: after an odd number the limit is low. It is counted when it has gone down, and before it goes up.
+    /// How many changes there were: after an odd number the limit is low. It is counted when it has gone down, and before it goes
+    /// up.
     changes: AtomicU64,
     /// How many acknowledgements were compared with the limit, which did not change from the proposal on.
     compared: AtomicU64,
-    /// Whether the limit is to change. Each caller then waits until a has applied its update: so a lags by no more than the low limit,
-    /// and no update waits for a.
+    /// Whether the limit is to change. Each caller then waits until a has applied its update: so a lags by no more than the low
+    /// limit, and no update waits for a.
     wanted: AtomicBool,
     /// Whether all changes are made.
     changed: AtomicBool,

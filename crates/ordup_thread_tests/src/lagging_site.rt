@@ -1,4 +1,5 @@
-//! A site with a capacity of one update that is held before its first update and may lag by three: the fourth proposal waits for it.
+//! A site with a capacity of one update that is held before its first update and may lag by three: the fourth proposal waits for
+//! it.
 use crate::fixtures::{TRIES, a, adding, apply_at, closed, opened, set_of, x, x_and_y};
 use crate::holding_gate::{Held, HoldingGate};
 use ordup_cluster::{Cluster, SeenValue, Session};

@@ -1,4 +1,5 @@
-//! Four callers, four sites and two readers. Each update adds 1 to x and takes 2 from y, so after k updates x is k and y is 10 - 2k.
+//! Four callers, four sites and two readers. Each update adds 1 to x and takes 2 from y, so after k updates x is k and y is 10 -
+//! 2k.
 use crate::fixtures::{
     Site, TRIES, a, adding, apply_at, b, closed, opened, propose, set_of, x, x_and_y, y,
 };
@@ -37,7 +38,8 @@ fn value_after(object: ObjectId, updates: u64) -> i64 {
     }
 }
 
-/// Reads an object at a site. The value is that after the updates that the site applied, which are no fewer than the session has seen.
+/// Reads an object at a site. The value is that after the updates that the site applied, which are no fewer than the session has
+/// seen.
 fn read<R: Wait + Abort>(
     rt: &R,
     cluster: &Cluster,

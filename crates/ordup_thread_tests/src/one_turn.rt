@@ -1,7 +1,7 @@
 //! Proposals and settlements that have one turn, while the site that they wait for applies.
 //!
-//! An update that waits for the site a is sent to it by the turn that decides it, so only a later turn acknowledges it. A call that has
-//! one turn is refused then, whatever the site does meanwhile. One that made a turn more would succeed where the site is quick.
+//! An update that waits for the site a is sent to it by the turn that decides it, so only a later turn acknowledges it. A call that
+//! has one turn is refused then, whatever the site does meanwhile. One that made a turn more would succeed where the site is quick.
 ghost use Rattle.std.specs.Prelude.{◌≤◌};
 
 use crate::fixtures::{

@@ -70,8 +70,8 @@ in_time : IsTold [] (
     (Show 0, Shown 1 1 1 0 (pos 5 ∷ pos 10 ∷ [])) ∷ [])
 in_time = refl
 
--- The limit on x is lowered while 3 is acknowledged and not reported, from the head on: to 3, and not to 2. So 3 and 1 are over it, and
--- nothing is changed while that is pending, also once it is reported.
+-- The limit on x is lowered while 3 is acknowledged and not reported, from the head on: to 3, and not to 2. So 3 and 1 are over it,
+-- and nothing is changed while that is pending, also once it is reported.
 lowered : IsTold [] (
     (add_to_x 3, Proposed 1) ∷ (Settle, Settlement (Acked 1)) ∷ (Relimit 0 (Object 0) 2, Refused LagOver) ∷
     (Relimit 0 (Object 0) 3, Relimited 0 2) ∷ (add_to_x 1, Proposed 2) ∷ (Settle, Settlement (Round 2 (0 ∷ []))) ∷
@@ -81,8 +81,8 @@ lowered : IsTold [] (
     (add_to_x 1, Proposed 3) ∷ (Settle, Settlement (Round 3 (0 ∷ []))) ∷ (Show 0, Shown 2 2 2 2 (pos 4 ∷ pos 10 ∷ [])) ∷ [])
 lowered = refl
 
--- What is applied and not reported counts, and what is proposed and not acknowledged does not. A scope without a limit gets one that sees
--- what the site lags.
+-- What is applied and not reported counts, and what is proposed and not acknowledged does not. A scope without a limit gets one
+-- that sees what the site lags.
 begun : IsTold [] (
     (add_to_x 3, Proposed 1) ∷ (Settle, Settlement (Acked 1)) ∷ (Send 0, Sent 0 1) ∷ (Apply 0, Applied 0 1) ∷
     (add_to_x 9, Proposed 2) ∷ (Relimit 0 Count 0, Refused LagOver) ∷ (Relimit 0 Count 1, Relimited 0 2) ∷

@@ -38,8 +38,8 @@ use Rattle.ordup_world.specs.declared.event.Answer.TheVariants.{ReadOut, Ended, 
 abbrev pub Past : Type 0 → Type 0
 Past A = List (Event A)
 
--- how many updates are acknowledged, how many are decided, what each site had reported at the decision of each place, and the limits of
--- each site, each with the place from which it holds
+-- how many updates are acknowledged, how many are decided, what each site had reported at the decision of each place, and the
+-- limits of each site, each with the place from which it holds
 pub record Decisions : Type 0 where
   pub acked : ℕ
   pub decided : ℕ
@@ -107,8 +107,8 @@ module _ {A : Type 0} where
     reports = λ s. ds.reports s ++ reported s past ∷ [];
   }) else (record ds { acked = acked_after ds.acked (waiting_after setup past ds) })
 
-  -- the decisions of the settlements among the accepted events, and the limits, which begin as those that were declared and are changed
-  -- by the Relimit events
+  -- the decisions of the settlements among the accepted events, and the limits, which begin as those that were declared and are
+  -- changed by the Relimit events
   abbrev pub decisions : Declared → Past A → Decisions
   decisions setup [] = record { acked = 0; decided = 0; reports = λ s. []; limits = setup.limits }
   decisions setup (Settle ∷ past) = settled setup past (decisions setup past)
@@ -275,7 +275,8 @@ module _ {A : Type 0} where
   takes_memory (Abandon q) = false
   takes_memory (Show s) = true
 
-  -- an event after the past may be answered so: by the reply, or by NoMemory where the event takes memory and the reply is no refusal
+  -- an event after the past may be answered so: by the reply, or by NoMemory where the event takes memory and the reply is no
+  -- refusal
   abbrev pub IsAnswer : Declared → Past A → Event A → Answer A → Type 0
   IsAnswer setup past e answer =
       (answer ≡ reply setup past e)

@@ -21,7 +21,8 @@ use std::alloc::{Allocator, Global};
 /// - `setup`: the world's setup is the one that was given.
 /// - `sound`: each site holds the serial result of a prefix of the log, and the world's other conditions hold.
 /// - `limits`: at the end, the acknowledged updates that a site has not applied weigh at most each of its limits.
-/// - `rounds`: at the end, each site's forced rounds are the fewest of any schedule that keeps its limits, shown by as many windows.
+/// - `rounds`: at the end, each site's forced rounds are the fewest of any schedule that keeps its limits, shown by as many
+///   windows.
 /// - `imports`: after each event, each open query keeps its import limit.
 /// - `along`: after each event, each site keeps its limits. It has applied what it reported, and no more than was sent to it, and
 ///   its feed holds no more than its capacity.

@@ -10,7 +10,8 @@ use ordup_primary::{Primary, Settled, next_updates_may_follow};
 use std::sync::Wait;
 
 /// One turn of a book: for each site a look at its feed, whose number the site then reports; settlements while they acknowledge the
-/// head; and for each site the updates that it may be sent, while its feed is not full. It answers how many updates are acknowledged.
+/// head; and for each site the updates that it may be sent, while its feed is not full. It answers how many updates are
+/// acknowledged.
 ///
 /// It is refused `NoMemory` as soon as a growth is refused. What was made before it stands.
 pub fn turn<R: Wait>(rt: &R, book: &mut Book) -> Result<u64, Refusal>

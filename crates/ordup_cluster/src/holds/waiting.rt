@@ -62,7 +62,8 @@ pub fn until<R: Wait, T: Turns>(
 /// Makes turns until an update is acknowledged that was numbered in the hold of the first of these turns, with a pause before each
 /// further one, and at most `turns` in all.
 ///
-/// The error is the number of the update, which stands: all turns are made and it is not acknowledged, or a turn was refused a growth.
+/// The error is the number of the update, which stands: all turns are made and it is not acknowledged, or a turn was refused a
+/// growth.
 pub fn until_acknowledged<R: Wait, T: Turns>(
     rt: &R,
     store: &mut T,

@@ -94,7 +94,8 @@ fn expect_order<R: Wait + Abort>(rt: &R, cluster: &Cluster) {
     expect_changed(rt, cluster, a(), Scope::All, past, Err(Refusal::OutOfRange));
 }
 
-/// After the stop a limit may change. A change makes no look: a has applied the update that adds 3 to x, and no turn has learnt of it.
+/// After the stop a limit may change. A change makes no look: a has applied the update that adds 3 to x, and no turn has learnt of
+/// it.
 fn change_after_the_stop<R: Wait + Abort>(rt: &R, cluster: &Cluster, set: MessageSet) {
     expect_proposed(rt, cluster, &mut Session::new(), set, 1, Ok(1));
     expect_order(rt, cluster);

@@ -1,4 +1,5 @@
-//! Rounds that stay open until the site a has applied what they wait for. Its feed has a capacity of one update, and it may not lag.
+//! Rounds that stay open until the site a has applied what they wait for. Its feed has a capacity of one update, and it may not
+//! lag.
 use super::fixtures::{add, apply_at, expect_closed, expect_proposed, expect_settled};
 use crate::fixtures::{a, declared, seen, x};
 use ordup_cluster::{Cluster, Session};

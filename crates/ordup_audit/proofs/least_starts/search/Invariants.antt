@@ -4,7 +4,8 @@ use Rattle.ordup_limits.specs.Limits.{within}
 use Rattle.ordup_audit.specs.LeastStarts.{PassesBefore}
 use Rattle.ordup_audit.proofs.least_starts.search.Given as goal
 
--- the span from the higher place passes no limit, and each that begins before the lower one passes one; the ledger is of the same limits
+-- the span from the higher place passes no limit, and each that begins before the lower one passes one; the ledger is of the same
+-- limits
 abbrev pub invariant-loop-low : goal.invariant-loop-low
 invariant-loop-low g l = record {
   order : l.low ≤ l.high;

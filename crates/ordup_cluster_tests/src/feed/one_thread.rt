@@ -29,14 +29,17 @@ fn a_full_feed_hands_the_parcel_back(rt: HostRuntime) -> Result<(), Fail> {
     let alloc = rt.alloc();
     let objects = x_y_and_z(&rt, alloc);
     let (mut sender, mut taker) = Feed::new(alloc, &objects, 1)?;
+    assert!(rt; !sender.is_full());
     let Ok(()) = sender.push(&rt, parcel(&rt, &objects, 1)) else {
         panic!(rt; "the feed has no room for a parcel")
     };
+    assert!(rt; sender.is_full());
     let Err(back) = sender.push(&rt, parcel(&rt, &objects, 2)) else {
         panic!(rt; "the feed has room for a second parcel")
     };
     assert_eq!(rt; (back.refusal.number(), back.parcel.number), (15, 2));
     assert_eq!(rt; taker.pop(&rt).map(|p| p.number), Some(1));
+    assert!(rt; !sender.is_full());
     assert_eq!(rt; taker.pop(&rt).map(|p| p.number), None);
     assert_eq!(rt; sender.look(&rt), 0);
     taker.tell(&rt);

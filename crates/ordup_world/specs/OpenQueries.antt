@@ -1,5 +1,5 @@
 -- Queries that begin, and reads by open ones.
-use Rattle.std.specs.Prelude.{◌≡◌, ℕ, pos, ◌+◌, ◌+ℤ◌, cond, Option, Some, None, List, [], length, slice_index_or}
+use Rattle.std.specs.Prelude.{◌≡◌, ℕ, pos, ◌+◌, ◌+ℤ◌, cond, Option, Some, None, List, [], length, slice_get, slice_index_or}
 use Rattle.ordup_objects.specs.declared.refusal.Refusal.{Refusal}
 use Rattle.ordup_objects.specs.declared.refusal.Refusal.TheVariants.{UnknownQuery}
 use Rattle.ordup_objects.specs.States.{value_at}
@@ -22,6 +22,12 @@ pub record IsBegun (p : PrimaryState) (s most : ℕ) (o : OpenState) : Type 0 wh
   pub reads : o.query.reads ≡ 0
   pub count : length o.query.marks ≡ length p.log.start
   pub marks : AreMarks p.log p.acked o.query.marks
+
+-- the open query of a name stands at index i
+pub record IsOpenAt (queries : Queries) (name : List ℕ) (i : ℕ) : Type 0 where
+  pub held : OpenState
+  pub entry : slice_get queries i ≡ Some (name, held)
+  pub found : find_query name queries ≡ Some held
 
 -- the site at a place
 abbrev pub site_at : List SiteState → ℕ → SiteState

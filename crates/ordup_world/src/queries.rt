@@ -1,15 +1,15 @@
-ghost use Rattle.std.specs.Prelude.{◌≡◌, ℕ, ◌+◌, ◌<◌, ◌≤◌, None, Some, List, [], cond, length, option_map, slice_index_or, IfOk, IfErr, IfSome, OnErr, IsSome, is_some};
+ghost use Rattle.std.specs.Prelude.{◌≡◌, ℕ, ◌+◌, ◌<◌, ◌≤◌, None, Some, List, [], cond, length, option_map, slice_index_or, IfOk, IfErr, IfSome, IfNone, OnErr, IsSome, is_some};
 ghost use Rattle.ordup_site.specs.Sites.{SiteState};
 ghost use Rattle.ordup_query.specs.Sizes.{greatest_import_limit};
 ghost use Rattle.ordup_world.specs.Events.{is_same};
 ghost use Rattle.ordup_world.specs.Worlds.{find_query};
-ghost use Rattle.ordup_world.specs.OpenQueries.{refusal_of, IsRead, IsBegun};
+ghost use Rattle.ordup_world.specs.OpenQueries.{refusal_of, IsRead, IsBegun, IsOpenAt};
 
 use crate::event::Answer;
 use crate::sizes::MOST_QUERIES;
 use crate::store::Store;
 use indexmap::IndexMap;
-use ordup_objects::{Name, ObjectId, Refusal, SiteId};
+use ordup_objects::{Hints, Name, ObjectId, Refusal, SiteId};
 use ordup_primary::Primary;
 use ordup_query::sizes::GREATEST_IMPORT_LIMIT;
 use ordup_query::{Query, ReadAnswer};
@@ -56,6 +56,7 @@ impl<A: Allocator + Copy> OpenQuery<A> {
 #[derive(Drop)]
 pub(crate) struct OpenQueries<A: Allocator + Copy = Global> {
     entries: IndexMap<Name, OpenQuery<A>, BuildHasherDefault<FoldHasher>, A>,
+    hints: Hints,
 }
 
 impl<A: Allocator + Copy> Model for OpenQueries<A> {
@@ -78,6 +79,7 @@ impl<A: Allocator + Copy> OpenQueries<A> {
     {
         OpenQueries {
             entries: IndexMap::new(alloc),
+            hints: Hints::new(),
         }
     }
 
@@ -165,7 +167,33 @@ impl<A: Allocator + Copy> OpenQueries<A> {
     fn contains(&self, name: Name) -> bool
         ensures { result ≡ is_some (find_query name self.now) }
     {
-        self.entries.contains_key(&name)
+        self.index_of(&name).is_some()
+    }
+
+    /// The index of the open query of this name, if there is one.
+    // The guess is tried before the name is hashed: 5 percent of all instructions of the load of queries.
+    #[inline(always)]
+    fn index_of(&self, name: &Name) -> Option<usize>
+        ensures at { IfSome result (λ i. IsOpenAt self.now name.now i) }
+        ensures none { IfNone result (find_query name.now self.now ≡ None) }
+    {
+        let guess = self.hints.place(name.as_bytes());
+        if let Some((key, _)) = self.entries.get_index(guess) {
+            if key == name {
+                return Some(guess);
+            }
+        }
+        self.index_by_hash(name)
+    }
+
+    /// The index of the open query of this name, if there is one, by its hash.
+    // Not inlined, so that what calls `index_of` stays small.
+    #[inline(never)]
+    fn index_by_hash(&self, name: &Name) -> Option<usize>
+        ensures at { IfSome result (λ i. IsOpenAt self.now name.now i) }
+        ensures none { IfNone result (find_query name.now self.now ≡ None) }
+    {
+        self.entries.get_index_of(name)
     }
 
     /// A query begins, whose name is that of no open query.
@@ -175,8 +203,9 @@ impl<A: Allocator + Copy> OpenQueries<A> {
         ensures len { IfOk result (λ _. length self.new ≡ length self.old + 1) }
         ensures err { OnErr result (self.new ≡ self.old) }
     {
-        name.keeps();
+        let place = self.entries.len();
         self.entries.insert(name, query)?;
+        self.hints.note(name.as_bytes(), place);
         Ok(())
     }
 
@@ -195,8 +224,12 @@ impl<A: Allocator + Copy> OpenQueries<A> {
         ensures refused { IfErr result (λ e. refusal_of (find_query name self.old) sites.now object ≡ Some e) }
         ensures err { OnErr result (self.new ≡ self.old) }
     {
-        match self.entries.get_mut(&name) {
-            Some(open) => open.read(sites, object),
+        match self.index_of(&name) {
+            Some(index) => self
+                .entries
+                .get_index_mut(index)
+                .unwrap()
+                .read(sites, object),
             None => Err(Refusal::UnknownQuery),
         }
     }
@@ -208,7 +241,13 @@ impl<A: Allocator + Copy> OpenQueries<A> {
         ensures len { IsSome result → length self.new + 1 ≡ length self.old }
         ensures none { result ≡ None → self.new ≡ self.old }
     {
-        self.entries.swap_remove(&name)
+        let index = self.index_of(&name)?;
+        let (_, open) = self.entries.swap_remove_index(index).unwrap();
+        // The last query stands at this index now.
+        if let Some((moved, _)) = self.entries.get_index(index) {
+            self.hints.note(moved.as_bytes(), index);
+        }
+        Some(open)
     }
 }
 

@@ -127,12 +127,13 @@ fn push_read<A: Allocator + Copy>(
 ) -> Result<(), AllocError>
     ensures { OnOk result (out.new.text ≡ out.old.text ++ read_text query.now object.now answer) }
 {
-    out.push(b"ok read ")?;
-    out.push(query)?;
-    // Room for all that follows, made once.
-    out.reserve(object.len() + 3 * MOST_DIGITS + 25)?;
+    let names = query.len() + object.len();
+    // Room for the whole line, made once.
+    out.reserve(names.saturating_add(3 * MOST_DIGITS + 33))?;
+    out.put(b"ok read ");
+    out.put_name(query);
     out.put(b" ");
-    out.put(object);
+    out.put_name(object);
     out.put(b" value ");
     out.put_value(answer.value);
     out.put(b" import ");

@@ -13,11 +13,11 @@ returns g c =
       c.put-4.ensures.text,
       c.put_value.ensures.text,
       c.put-3.ensures.text,
+      c.put_name-2.ensures.text,
       c.put-2.ensures.text,
+      c.put_name.ensures.text,
       c.put.ensures.text,
       c.reserve.ensures.text,
-      c.in_ok-push-2.ensures,
-      c.in_ok-push.ensures,
       to_z-of_z w64 c.args.answer.value (search rules),
     )
     (read_parts c.args.out.now.text c.args.query.now c.args.object.now c.args.answer)

@@ -1,7 +1,5 @@
 //! Objects, and updates over them as far as their rows were read.
-ghost use Rattle.std.specs.Prelude.{◌≡◌, ◌==◌, ◌&&◌, ◌<◌, ◌≤◌, ◌++◌, ◌∷◌, [], None, IfErr, IfOk, length};
-ghost use Rattle.ordup_objects.specs.Serial.{serial};
-ghost use Rattle.ordup_objects.specs.States.{is_legal};
+ghost use Rattle.std.specs.Prelude.{◌≡◌, ◌<◌, ◌≤◌, ◌++◌, ◌∷◌, [], None, IfErr, IfOk, length};
 ghost use Rattle.ordup_objects.specs.Refusals.{IsRefusal};
 ghost use Rattle.ordup_objects.specs.Sets.{AreKnown, set_refusal};
 ghost use Rattle.ordup_objects.specs.Sizes.{most_changes};
@@ -10,7 +8,7 @@ ghost use Rattle.ordup_rows.specs.Stages.{last_set, with_change};
 ghost use Rattle.ordup_check.specs.PartialUpdates.{BeginsIllegal};
 
 use ordup_log::Log;
-use ordup_objects::{Change, MessageSet, ObjectTable, Refusal, Results};
+use ordup_objects::{Change, MessageSet, ObjectTable, Refusal};
 use std::alloc::{AllocError, Global};
 use std::marker::Model;
 use std::mem::replace;
@@ -33,8 +31,6 @@ struct BegunUpdates {
     rest: Vec<MessageSet>,
     /// The last one, which is in neither: it may get more changes.
     last: MessageSet,
-    // Kept from one update to the next, since new memory is zeroed.
-    results: Results,
 }
 
 impl Model for PartialUpdates {
@@ -107,7 +103,7 @@ impl PartialUpdates {
         match &mut self.begun {
             Some(begun) => {
                 let before = replace(&mut begun.last, set);
-                put(&mut begun.log, &mut begun.rest, &mut begun.results, before)
+                put(&mut begun.log, &mut begun.rest, before)
             }
             None => self.begin(set),
         }
@@ -128,7 +124,6 @@ impl PartialUpdates {
             log,
             rest: Vec::new(self.alloc),
             last: set,
-            results: Results::new(),
         });
         Ok(())
     }
@@ -164,9 +159,8 @@ impl PartialUpdates {
                     mut log,
                     mut rest,
                     last,
-                    mut results,
                 } = begun;
-                put(&mut log, &mut rest, &mut results, last)?;
+                put(&mut log, &mut rest, last)?;
                 Ok((objects, log, rest))
             }
             None => match Log::new(alloc, &objects) {
@@ -178,32 +172,23 @@ impl PartialUpdates {
 }
 
 /// Puts an update behind others: into the log, where it and all before it are legal, and else behind the rest.
-fn put(
-    log: &mut Log,
-    rest: &mut Vec<MessageSet>,
-    results: &mut Results,
-    set: MessageSet,
-) -> Result<(), AllocError>
+fn put(log: &mut Log, rest: &mut Vec<MessageSet>, set: MessageSet) -> Result<(), AllocError>
     requires known { AreKnown (length log.old.start) set }
     requires apart { BeginsIllegal log.old rest.old.items }
     ensures sets { IfOk result (λ _. log.new.sets ++ rest.new.items ≡ (log.old.sets ++ rest.old.items) ++ set ∷ []) }
     ensures start { log.new.start ≡ log.old.start }
     ensures apart { BeginsIllegal log.new rest.new.items }
 {
-    if !is_legal_next(log, rest, results, &set) {
+    if !rest.is_empty() {
         rest.push(set)?;
         return Ok(());
     }
-    match log.append(set) {
+    match log.append_or_return(set) {
         Ok(_) => Ok(()),
+        Err((Refusal::OutOfRange, set)) => {
+            rest.push(set)?;
+            Ok(())
+        }
         Err(_) => Err(AllocError),
     }
-}
-
-/// Whether an update is legal after the log, and none is apart from it.
-fn is_legal_next(log: &Log, rest: &[MessageSet], results: &mut Results, set: &MessageSet) -> bool
-    requires { AreKnown (length log.now.start) set.now }
-    ensures { result ≡ ((length rest.now == 0) && is_legal set.now (serial log.now (length log.now.sets))) }
-{
-    rest.is_empty() && log.end().results(set, results).is_ok()
 }

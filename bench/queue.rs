@@ -45,6 +45,13 @@ impl<T> Queue<T> {
         }
     }
 
+    /// Whether a push would find it full. Plans alone ask.
+    #[allow(dead_code)]
+    pub fn is_full(&self) -> bool {
+        let tail = self.tail.0.load(Ordering::Relaxed);
+        self.head.0.load(Ordering::Relaxed).wrapping_add(self.lap) == tail
+    }
+
     pub fn push(&self, value: T) -> Result<(), T> {
         let mut tail = self.tail.0.load(Ordering::Relaxed);
         loop {

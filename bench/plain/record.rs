@@ -4,9 +4,8 @@ use std::io::{self, Write};
 
 use crate::answers::{put, Out};
 use crate::lag::Scope;
-use crate::rows::Record;
 use crate::store::Store;
-use crate::updates::{Change, Log};
+use crate::updates::Change;
 use crate::words::Kind;
 
 impl Kind {
@@ -24,23 +23,6 @@ impl Kind {
 }
 
 impl Store {
-    /// A copy of the record of a site.
-    pub fn record_of(&self, site: usize) -> Record {
-        let (site, decided) = (&self.sites[site], self.decided);
-        let changes = self.log.changes[..self.log.ends[decided] as usize].to_vec();
-        Record {
-            decided,
-            objects: self.objects.clone(),
-            values: self.first_values.clone(),
-            members: self.members.clone(),
-            limits: site.limits.clone(),
-            log: Log { changes, ends: self.log.ends[..=decided].to_vec() },
-            reports: site.reports.clone(),
-            rounds: site.rounds.iter().map(|round| round.to as u32).collect(),
-            windows: site.rounds.clone(),
-        }
-    }
-
     /// Prints the record of a site. The buffer is written whenever it has so many bytes.
     pub fn record(&self, site: usize, most: usize, out: &mut Out, output: &mut impl Write) -> io::Result<()> {
         let site = &self.sites[site];

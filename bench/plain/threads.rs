@@ -105,7 +105,8 @@ impl Cluster {
         for (place, feed) in self.feeds.iter().enumerate() {
             let last = if waited_for >> place & 1 == 1 { head } else { book.log.len() };
             let site = &mut book.sites[place];
-            while site.sent < last && feed.queue.push(Parcel::of(book.log.after(site.sent))).is_ok() {
+            // A copy for a full queue would be made in vain.
+            while site.sent < last && !feed.queue.is_full() && feed.queue.push(Parcel::of(book.log.after(site.sent))).is_ok() {
                 site.sent += 1;
             }
         }

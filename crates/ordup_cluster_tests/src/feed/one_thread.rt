@@ -29,23 +29,36 @@ fn a_full_feed_hands_the_parcel_back(rt: HostRuntime) -> Result<(), Fail> {
     let alloc = rt.alloc();
     let objects = x_y_and_z(&rt, alloc);
     let (mut sender, mut taker) = Feed::new(alloc, &objects, 1)?;
-    assert!(rt; !sender.is_full());
     let Ok(()) = sender.push(&rt, parcel(&rt, &objects, 1)) else {
         panic!(rt; "the feed has no room for a parcel")
     };
-    assert!(rt; sender.is_full());
     let Err(back) = sender.push(&rt, parcel(&rt, &objects, 2)) else {
         panic!(rt; "the feed has room for a second parcel")
     };
     assert_eq!(rt; (back.refusal.number(), back.parcel.number), (15, 2));
     assert_eq!(rt; taker.pop(&rt).map(|p| p.number), Some(1));
-    assert!(rt; !sender.is_full());
     assert_eq!(rt; taker.pop(&rt).map(|p| p.number), None);
     assert_eq!(rt; sender.look(&rt), 0);
     taker.tell(&rt);
     assert_eq!(rt; sender.look(&rt), 1);
     assert!(rt; sender.push(&rt, back.parcel).is_ok());
     assert_eq!(rt; taker.pop(&rt).map(|p| p.number), Some(2));
+    drop(taker);
+    drop(sender);
+    drop(objects);
+    Ok(())
+}
+
+/// Asks a feed with a capacity of one whether it is full.
+#[test]
+fn a_feed_with_a_parcel_in_its_only_slot_is_full(rt: HostRuntime) -> Result<(), Fail> {
+    let alloc = rt.alloc();
+    let objects = x_y_and_z(&rt, alloc);
+    let (mut sender, mut taker) = Feed::new(alloc, &objects, 1)?;
+    assert!(rt; sender.push(&rt, parcel(&rt, &objects, 1)).is_ok());
+    assert!(rt; sender.is_full());
+    assert_eq!(rt; taker.pop(&rt).map(|p| p.number), Some(1));
+    assert!(rt; !sender.is_full());
     drop(taker);
     drop(sender);
     drop(objects);

@@ -1,5 +1,5 @@
 //! The text of answers.
-ghost use Rattle.std.specs.Prelude.{◌≡◌, ◌++◌, ◌∷◌, [], OnOk, length, slice_index_or};
+ghost use Rattle.std.specs.Prelude.{◌≡◌, ◌++◌, ◌∷◌, [], OnOk, codes, length, slice_index_or};
 ghost use Rattle.std.specs.Fmt.{decimal, signed_decimal};
 ghost use Rattle.ordup_text.specs.Lines.{named_text, done_text, numbered_text};
 ghost use Rattle.ordup_answers.specs.Texts.{refused_text, started_text, shown_text, sites_text, listed_text, settled_text, read_text, ended_text, window_text, windows_text, certified_text, answer_text};
@@ -87,15 +87,13 @@ pub fn push_answer<A: Allocator + Copy>(
     ensures { OnOk result ((answer.now ≡ Answer.Refused Refusal.NoMemory → ⊥) × (out.new.text ≡ out.old.text ++ answer_text setup.now subject.now object.now answer.now)) }
 {
     match answer {
-        Answer::Proposed(number) => push_done(out, b"ok proposed ", *number),
-        Answer::Sent { number, .. } => push_numbered(out, b"ok sent ", subject, *number),
-        Answer::Applied { number, .. } => push_numbered(out, b"ok applied ", subject, *number),
-        Answer::Reported { place, .. } => push_numbered(out, b"ok reported ", subject, *place),
+        Answer::Proposed(number) => push_proposed(out, *number),
+        Answer::Sent { number, .. } => push_place(out, b"ok sent ", subject, *number),
+        Answer::Applied { number, .. } => push_place(out, b"ok applied ", subject, *number),
+        Answer::Reported { place, .. } => push_place(out, b"ok reported ", subject, *place),
         Answer::Settlement(settled) => push_settled(out, setup, settled),
-        Answer::Relimited { place, .. } => push_numbered(out, b"ok relimit ", subject, *place),
-        Answer::Begun { query, place } => {
-            push_numbered(out, b"ok begun ", query.as_bytes(), *place)
-        }
+        Answer::Relimited { place, .. } => push_place(out, b"ok relimit ", subject, *place),
+        Answer::Begun { query, place } => push_place(out, b"ok begun ", query.as_bytes(), *place),
         Answer::ReadOut(answer) => push_read(out, subject, object, *answer),
         Answer::Ended(answer) => push_ended(out, subject, *answer),
         Answer::Abandoned(query) => push_named(out, b"ok abandoned ", query.as_bytes()),
@@ -116,6 +114,32 @@ pub fn push_answer<A: Allocator + Copy>(
         }
         Answer::Refused(refusal) => push_refused(out, *refusal),
     }
+}
+
+/// Adds the answer to a proposal.
+// A call, as the next one is. With their text inlined `push_answer` would be so large that the compiler would leave it a call, and
+// the step of an event with it.
+#[inline(never)]
+fn push_proposed<A: Allocator + Copy>(
+    out: &mut TextBuffer<A>,
+    number: u64,
+) -> Result<(), AllocError>
+    ensures { OnOk result (out.new.text ≡ out.old.text ++ done_text (codes "ok proposed ") number) }
+{
+    push_done(out, b"ok proposed ", number)
+}
+
+/// Adds an answer of a name and a place.
+#[inline(never)]
+fn push_place<A: Allocator + Copy, const N: usize>(
+    out: &mut TextBuffer<A>,
+    done: &[u8; N],
+    name: &[u8],
+    place: u64,
+) -> Result<(), AllocError>
+    ensures { OnOk result (out.new.text ≡ out.old.text ++ numbered_text done.now name.now place) }
+{
+    push_numbered(out, done, name, place)
 }
 
 /// Adds the answer to a read.

@@ -8,4 +8,4 @@ returns-in-Abandoned g c =
 
 pub returns-in-Reported : goal.returns-in-Reported
 returns-in-Reported g c =
-    on_ok_weaker c.push_numbered-in-Reported.result (λ h. rw c.in-Reported.is ((λ e. absurd cc), h)) c.push_numbered-in-Reported.ensures
+    on_ok_weaker c.push_place-in-Reported.result (λ h. rw c.in-Reported.is ((λ e. absurd cc), h)) c.push_place-in-Reported.ensures

@@ -1,0 +1,445 @@
+#!/usr/bin/env python3
+"""Tests the module on the built program: clients/python/test_ordup.py PROGRAM [TEST..]
+
+The transcripts of the pages are run through it too, and so are its own examples and those of docs/CLIENTS.md.
+"""
+
+import doctest
+import faulthandler
+import os
+import re
+import signal
+import sys
+import tempfile
+import threading
+import unittest
+from pathlib import Path
+from unittest import mock
+
+sys.dont_write_bytecode = True
+
+import ordup
+from ordup import (
+    Abandoned, Acked, Applied, BadAnswer, BadLine, Begun, Certified, Declared, Ended, ProgramEnded, Proposed, Read, Refused,
+    Relimited, Reported, Round, Sent, Shown, Started, Store, Waiting, line,
+)
+
+TOP = Path(__file__).resolve().parent.parent.parent
+PAGE = str(TOP / "docs/CLIENTS.md")
+PROGRAM = ""  # the path of the built program, from the command line
+BILLION = 1_000_000_000
+
+
+def text_of(outcome):
+    """The line of FORMATS that an outcome stands for."""
+    if isinstance(outcome, Refused):
+        return f"refused {outcome.number} {outcome.name}"
+    kind, it = type(outcome), outcome
+    if kind is Shown:
+        values = "".join(f" {name}={value}" for name, value in it.values.items())
+        return f"ok show {it.site} sent {it.sent} applied {it.applied} reported {it.reported} rounds {it.rounds}{values}"
+    if kind is Certified:
+        return f"ok certified {it.site} {it.rounds}" + "".join(f" {a}-{b}" for a, b in it.windows)
+    if kind is Read:
+        return f"ok read {it.query} {it.object} value {it.value} import {it.imported} total {it.total}"
+    if kind is Ended:
+        return f"ok end {it.query} place {it.place} sum {it.sum} total {it.total} reads {it.reads}"
+    if kind in (Round, Waiting):
+        return " ".join([f"ok {kind.__name__.lower()} {it.place}", *it.sites])
+    return {
+        Declared: lambda: f"ok {it.kind} {it.name}",
+        Started: lambda: "ok start",
+        Proposed: lambda: f"ok proposed {it.place}",
+        Sent: lambda: f"ok sent {it.site} {it.place}",
+        Applied: lambda: f"ok applied {it.site} {it.place}",
+        Reported: lambda: f"ok reported {it.site} {it.applied}",
+        Acked: lambda: f"ok acked {it.place}",
+        Begun: lambda: f"ok begun {it.query} {it.place}",
+        Abandoned: lambda: f"ok abandoned {it.query}",
+        Relimited: lambda: f"ok relimit {it.site} {it.place}",
+    }[kind]()
+
+
+def transcripts(page):
+    """The blocks `transcript` of a page: pairs of a line and the answer below it, or None where there is no answer."""
+    for block in re.findall(r"^```transcript\n(.*?)^```$", (TOP / page).read_text(encoding="utf-8"), re.M | re.S):
+        pairs = []
+        for text in block.split("\n")[:-1]:
+            if text.startswith("> "):
+                pairs.append((text[2:], None))
+            else:
+                pairs[-1] = (pairs[-1][0], text)
+        yield pairs
+
+
+class TestCase(unittest.TestCase):
+    def store(self, *words, **options):
+        store = Store(*(words or [PROGRAM]), **options)
+        self.addCleanup(store.close)
+        return store
+
+    def shop(self):
+        """A store that is started: x is 0, y is 10, and the site a has a feed of 2, and may lag by 5 on x."""
+        store = self.store()
+        store.object("x", 0)
+        store.object("y", 10)
+        store.site("a", 2)
+        store.limit("a", ("object", "x"), 5)
+        store.start()
+        return store
+
+    def stand_in(self, text):
+        """A program that is a script of the shell."""
+        folder = tempfile.TemporaryDirectory()
+        self.addCleanup(folder.cleanup)
+        path = Path(folder.name, "program")
+        path.write_text("#!/bin/sh\n" + text, encoding="utf-8")
+        path.chmod(0o755)
+        return path
+
+    def refused(self, number, name, call, *words):
+        with self.assertRaises(Refused) as caught:
+            call(*words)
+        self.assertEqual((caught.exception.number, caught.exception.name), (number, name))
+
+    def ended(self, call, *words):
+        with self.assertRaises(ProgramEnded) as caught:
+            call(*words)
+        return caught.exception
+
+
+class Commands(TestCase):
+    def test_each_command(self):
+        store = self.store()
+        self.assertEqual(store.object("tea", 40), Declared("object", "tea"))
+        self.assertEqual(store.object("till", 7), Declared("object", "till"))
+        self.assertEqual(store.group("all_tea", ["tea"]), Declared("group", "all_tea"))
+        self.assertEqual(store.site("south", 2), Declared("site", "south"))
+        self.assertEqual(store.site("north", 4), Declared("site", "north"))
+        self.assertEqual(store.limit("south", ("object", "tea"), 6), Declared("limit", "south"))
+        self.assertEqual(store.limit("south", ("group", "all_tea"), 100), Declared("limit", "south"))
+        self.assertEqual(store.limit("south", "all", 100), Declared("limit", "south"))
+        self.assertEqual(store.limit("south", "count", 100), Declared("limit", "south"))
+        self.assertEqual(store.start(), Started())
+        self.assertEqual(store.propose({"tea": ("add", -5)}), Proposed(1))
+        self.assertEqual(store.settle(), Acked(1))
+        self.assertEqual(store.begin("look", "south", 5), Begun("look", 1))
+        self.assertEqual(store.read("look", "tea"), Read("look", "tea", 40, 5, 5))
+        self.assertEqual(store.read("look", "till"), Read("look", "till", 7, 0, 5))
+        self.assertEqual(store.end("look"), Ended("look", 1, 47, 5, 2))
+        self.assertEqual(store.begin("look", "south", 0), Begun("look", 1))
+        self.assertEqual(store.abandon("look"), Abandoned("look"))
+        # 5 + 2 is over 6 on tea, so this update waits for the south.
+        self.assertEqual(store.propose({"tea": ("add", 2)}), Proposed(2))
+        self.assertEqual(store.settle(), Round(2, ("south",)))
+        self.assertEqual(store.send("south"), Sent("south", 1))
+        self.assertEqual(store.send("south"), Sent("south", 2))
+        self.assertEqual(store.apply("south"), Applied("south", 1))
+        self.assertEqual(store.settle(), Waiting(2, ("south",)))
+        self.assertEqual(store.apply("south"), Applied("south", 2))
+        self.assertEqual(store.report("south"), Reported("south", 2))
+        self.assertEqual(store.settle(), Acked(2))
+        self.assertEqual(store.show("south"), Shown("south", 2, 2, 2, 1, {"tea": 37, "till": 7}))
+        self.assertEqual(store.show("north"), Shown("north", 0, 0, 0, 0, {"tea": 40, "till": 7}))
+        self.assertEqual(store.certify("south"), Certified("south", 1, ((0, 2),)))
+        self.assertEqual(store.certify("north"), Certified("north", 0, ()))
+        self.assertEqual(store.relimit("south", ("object", "tea"), 3), Relimited("south", 3))
+        self.assertEqual(store.relimit("north", ("group", "all_tea"), 7), Relimited("north", 3))
+        self.assertEqual(store.relimit("north", "all", 7), Relimited("north", 3))
+        self.assertEqual(store.relimit("north", "count", 2), Relimited("north", 3))
+
+    def test_each_change(self):
+        store = self.store()
+        for name, value in {"a": 3, "b": 7, "c": 7, "d": 7, "e": 7, "f": 7}.items():
+            store.object(name, value)
+        store.site("s", 2)
+        store.start()
+        store.propose({
+            "a": ("add", -2), "b": ("set", -2), "c": ("mul", -2), "d": ("max", 8), "e": ("min", -2), "f": ("take", "a"),
+        })
+        store.send("s")
+        store.apply("s")
+        self.assertEqual(store.show("s").values, {"a": 1, "b": -2, "c": -14, "d": 8, "e": -2, "f": 3})
+
+    def test_settled_is_the_kind_of_all_three(self):
+        for answer in (Acked(1), Round(1, ("a",)), Waiting(1, ("a",))):
+            self.assertIsInstance(answer, ordup.Settled)
+        self.assertNotEqual(Round(1, ("a",)), Waiting(1, ("a",)))
+
+    def test_transcripts_of_the_pages(self):
+        seen = 0
+        for page in ("README.md", "docs/FORMATS.md", "docs/LIMITS.md", "docs/MODEL.md"):
+            for pairs in transcripts(page):
+                store = self.store()
+                for text, wanted in pairs:
+                    if wanted is None or not text.isascii():
+                        self.assertRaises(BadLine, store.command, text)
+                        continue
+                    with self.subTest(page=page, line=text):
+                        self.assertEqual(text_of(store.commands([text])[0]), wanted)
+                        seen += 1
+        self.assertGreater(seen, 200)
+
+
+class Refusals(TestCase):
+    def test_before_the_start(self):
+        store = self.store()
+        self.refused(1, "Syntax", store.command, "Object x 1")
+        self.refused(2, "NotStarted", store.settle)
+        self.refused(11, "Empty", store.start)
+        self.refused(4, "BadName", store.command, "object 9x 1")
+        store.object("x", 0)
+        self.refused(5, "NameTaken", store.object, "x", 0)
+        self.refused(9, "OutOfRange", store.object, "y", BILLION + 1)
+        self.refused(9, "OutOfRange", store.object, "y", 10**19 - 1)
+        self.refused(6, "UnknownObject", store.group, "g", ["z"])
+        self.refused(11, "Empty", store.group, "g", [])
+        self.refused(12, "Repeated", store.group, "g", ["x", "x"])
+        self.refused(9, "OutOfRange", store.site, "a", 1025)
+        store.site("a", 1024)
+        self.refused(7, "UnknownGroup", store.limit, "a", ("group", "g"), 1)
+        self.refused(8, "UnknownSite", store.limit, "b", "all", 1)
+        self.refused(9, "OutOfRange", store.limit, "a", "count", -1)
+        store.limit("a", "all", 10**18)
+        self.refused(12, "Repeated", store.limit, "a", "all", 1)
+
+    def test_after_the_start(self):
+        store = self.shop()
+        self.refused(3, "AlreadyStarted", store.start)
+        self.refused(3, "AlreadyStarted", store.object, "z", 0)
+        self.refused(6, "UnknownObject", store.propose, {"z": ("add", 1)})
+        self.refused(9, "OutOfRange", store.propose, {"x": ("set", BILLION + 1)})
+        self.refused(11, "Empty", store.propose, {})
+        self.refused(12, "Repeated", store.command, "propose add:x:1 add:x:1")
+        self.refused(8, "UnknownSite", store.show, "b")
+        self.refused(14, "NothingToSend", store.send, "a")
+        self.refused(16, "NothingToApply", store.apply, "a")
+        self.refused(17, "NothingToSettle", store.settle)
+        store.commands([line("propose", ("add", "y", 1))] * 3)
+        store.commands(["send a"] * 2)
+        self.refused(15, "FeedFull", store.send, "a")
+        self.refused(18, "UnknownQuery", store.read, "q", "x")
+        self.refused(18, "UnknownQuery", store.end, "q")
+        self.refused(18, "UnknownQuery", store.abandon, "q")
+        store.commands(["settle"] * 3)
+        store.begin("q", "a", 2)
+        self.refused(19, "QueryOpen", store.begin, "q", "a", 2)
+        self.refused(20, "OverImport", store.read, "q", "y")
+        self.refused(25, "LagOver", store.relimit, "a", "count", 2)
+        store.propose({"x": ("add", 6)})
+        self.assertEqual(store.settle(), Round(4, ("a",)))
+        self.refused(24, "HeadPending", store.relimit, "a", "count", 9)
+
+    def test_too_many(self):
+        store = self.store()
+        names = [f"x{number}" for number in range(257)]
+        for name in names[:256]:
+            store.object(name, 0)
+        self.refused(10, "TooMany", store.object, names[256], 0)
+        self.refused(10, "TooMany", store.group, "g", names[:65])
+        self.assertEqual(store.group("g", names[:64]), Declared("group", "g"))
+        for number in range(31):
+            store.group(f"g{number}", ["x0"])
+        self.refused(10, "TooMany", store.group, "h", ["x0"])
+        for number in range(16):
+            store.site(f"s{number}", 1)
+        self.refused(10, "TooMany", store.site, "t", 1)
+        for name in names[:64]:
+            store.limit("s0", ("object", name), 1)
+        self.refused(10, "TooMany", store.limit, "s0", "all", 1)
+        store.start()
+        self.refused(10, "TooMany", store.relimit, "s0", "all", 1)
+        self.refused(10, "TooMany", store.propose, {name: ("add", 1) for name in names[:65]})
+        self.assertEqual(store.propose({name: ("add", 1) for name in names[:64]}), Proposed(1))
+        for number in range(64):
+            store.begin(f"q{number}", "s1", 0)
+        self.refused(10, "TooMany", store.begin, "q", "s1", 0)
+        store.commands([line("read", "q0", "x0")] * 256)
+        self.refused(10, "TooMany", store.read, "q0", "x0")
+
+    def test_a_refusal_says_what_was_asked(self):
+        with self.assertRaises(Refused) as caught:
+            self.shop().send("a")
+        self.assertEqual(caught.exception.line, "send a")
+        self.assertEqual(str(caught.exception), "send a: refused 14 NothingToSend")
+
+
+class BadLines(TestCase):
+    def test_a_bad_line_is_not_sent(self):
+        store = self.shop()
+        for text in ("", "   ", "# a comment", "settle\n", "propose add:x:1\nsettle", "settle\r", "settle\t", "été", "x" * 4097):
+            with self.subTest(text=text[:20]):
+                self.assertRaises(BadLine, store.command, text)
+                self.assertRaises(BadLine, store.commands, ["propose add:x:1", text])
+        # No line was sent: not even those before it.
+        self.refused(17, "NothingToSettle", store.settle)
+
+    def test_what_is_a_line_is_sent(self):
+        store = self.shop()
+        self.assertEqual(store.command("  propose   add:x:1  "), Proposed(1))
+        self.assertEqual(store.command("settle" + " " * 4090), Acked(1))
+        self.refused(1, "Syntax", store.command, " # no comment")
+        self.assertEqual(store.commands([]), [])
+
+    def test_bad_words(self):
+        store = self.shop()
+        for name in ("", "X", "9x", "a b", "a\n", "été", "a" * 17, "add:x"):
+            with self.subTest(name=name):
+                self.assertRaises(BadLine, store.show, name)
+                self.assertRaises(BadLine, store.propose, {name: ("add", 1)})
+                self.assertRaises(BadLine, store.propose, {"x": ("take", name)})
+                self.assertRaises(BadLine, store.relimit, "a", ("object", name), 1)
+        self.assertRaises(BadLine, store.propose, {"x": ("set", 10**19)})
+        self.assertRaises(BadLine, store.propose, {"x": ("set", -(10**19))})
+        self.assertRaises(ValueError, store.propose, {"x": ("set", 1.5)})
+        self.refused(17, "NothingToSettle", store.settle)
+        self.refused(8, "UnknownSite", store.show, "a" * 16)
+        self.refused(9, "OutOfRange", store.propose, {"x": ("set", 1 - 10**19)})
+
+    def test_lines(self):
+        self.assertEqual(line("settle"), "settle")
+        self.assertEqual(line("limit", "a", "object", "x", 5), "limit a object x 5")
+        self.assertEqual(line("propose", ("add", "x", -5), ("take", "y", "x")), "propose add:x:-5 take:y:x")
+        self.assertEqual(line("site", "a", True), "site a 1")
+
+
+class ManyLines(TestCase):
+    def test_a_hundred_thousand(self):
+        store = self.shop()
+        outcomes = store.commands([line("propose", ("add", "x", 1))] * 100_000)
+        self.assertEqual(outcomes, [Proposed(place) for place in range(1, 100_001)])
+        self.assertEqual(store.settle(), Acked(1))
+
+    def test_a_log_that_is_full(self):
+        store = self.shop()
+        text = line("propose", ("set", "y", 0))
+        for place in range(100_000, 1_000_001, 100_000):
+            self.assertEqual(store.commands([text] * 100_000)[-1], Proposed(place))
+        self.refused(13, "LogFull", store.propose, {"y": ("set", 0)})
+
+    def test_answers_that_are_longer_than_their_lines(self):
+        store = self.store()
+        for number in range(256):
+            store.object(f"object_{number}", -BILLION)
+        store.site("a", 1)
+        store.start()
+        wanted = Shown("a", 0, 0, 0, 0, {f"object_{number}": -BILLION for number in range(256)})
+        for outcome in store.commands(["show a"] * 500):
+            self.assertEqual(outcome, wanted)
+
+    def test_refusals_come_in_order(self):
+        outcomes = self.shop().commands(["propose add:x:1", "send b", "send a", "apply a", "nothing"])
+        self.assertEqual(
+            [text_of(outcome) for outcome in outcomes],
+            ["ok proposed 1", "refused 8 UnknownSite", "ok sent a 1", "ok applied a 1", "refused 1 Syntax"],
+        )
+        self.assertEqual(outcomes[1].line, "send b")
+
+    def test_threads_share_a_store(self):
+        store = self.shop()
+        places = []
+        threads = [
+            threading.Thread(target=lambda: places.extend(store.propose({"y": ("add", 1)}).place for _ in range(250)))
+            for _ in range(4)
+        ]
+        for thread in threads:
+            thread.start()
+        for thread in threads:
+            thread.join()
+        self.assertEqual(sorted(places), list(range(1, 1001)))
+
+
+class Process(TestCase):
+    def test_it_ends(self):
+        store = self.shop()
+        self.assertIsNone(store.process.poll())
+        self.assertEqual(store.close(), 0)
+        self.assertEqual(store.process.returncode, 0)
+        self.assertEqual(store.close(), 0)
+        error = self.ended(store.commands, ["settle", "show a"])
+        self.assertEqual((error.status, error.answered, error.unanswered), (0, [], ["settle", "show a"]))
+
+    def test_a_block_ends_it(self):
+        with self.assertRaises(ZeroDivisionError):
+            with Store(PROGRAM) as store:
+                raise ZeroDivisionError
+        self.assertEqual(store.process.returncode, 0)
+
+    def test_one_that_does_not_end_is_killed(self):
+        store = self.store(self.stand_in("exec sleep 60\n"), time_limit=0.1)
+        self.assertEqual(store.close(), -signal.SIGKILL)
+
+    def test_a_killed_program(self):
+        store = self.shop()
+        self.assertEqual(store.propose({"x": ("add", 1)}), Proposed(1))
+        store.process.kill()
+        error = self.ended(store.settle)
+        self.assertEqual((error.status, error.answered, error.unanswered), (-signal.SIGKILL, [], ["settle"]))
+        self.assertEqual(str(error), "status -9: 0 lines were answered, and 1 were not, from 'settle' on")
+        self.assertEqual(self.ended(store.settle).status, -signal.SIGKILL)
+        self.assertEqual(store.close(), -signal.SIGKILL)
+
+    def test_a_pipe_that_breaks(self):
+        # The program is given the first 16,000 bytes, which are 1,000 lines. Then the pipe breaks.
+        for end, status in (("exit 3", 3), ("kill -KILL $$", -signal.SIGKILL)):
+            with self.subTest(end=end):
+                path = self.stand_in(f"head -c 16000 | '{PROGRAM}' run\n{end}\n")
+                error = self.ended(self.store(path).commands, ["object xyz 1000"] * 100_000)
+                self.assertEqual(error.status, status)
+                self.assertEqual([text_of(outcome) for outcome in error.answered], ["ok object xyz"] + ["refused 5 NameTaken"] * 999)
+                self.assertEqual(len(error.unanswered), 99_000)
+
+    def test_an_answer_that_is_cut(self):
+        path = self.stand_in("read line\nprintf 'ok object x\\nok objec'\nexit 4\n")
+        error = self.ended(self.store(path).commands, ["object x 0", "object y 0", "start"])
+        self.assertEqual((error.status, error.answered), (4, [Declared("object", "x")]))
+        self.assertEqual(error.unanswered, ["object y 0", "start"])
+
+    def test_a_program_that_is_another_one(self):
+        for text in ("exec cat\n", "read line\necho ok nothing\n", "read line\necho ok sent a\n", "yes ok start\n"):
+            with self.subTest(text=text):
+                store = self.store(self.stand_in(text))
+                self.assertRaises(BadAnswer, store.command, "start")
+                self.assertIsNotNone(store.process.returncode)
+                self.ended(store.command, "start")
+        store = self.store(self.stand_in("read line\necho ok sent a 1\n"))
+        self.assertRaises(BadAnswer, store.start)
+
+    def test_a_program_that_is_not_there(self):
+        self.assertRaises(FileNotFoundError, Store, "/no/such/program")
+        self.assertRaises(PermissionError, Store, TOP / "README.md")
+        self.assertEqual(self.ended(self.store("false").start).status, 1)
+
+    def test_an_interrupt_ends_it(self):
+        def interrupt(number, frame):
+            raise KeyboardInterrupt
+
+        store = self.store(self.stand_in("exec sleep 60\n"))
+        self.addCleanup(signal.signal, signal.SIGALRM, signal.signal(signal.SIGALRM, interrupt))
+        signal.setitimer(signal.ITIMER_REAL, 0.1)
+        self.assertRaises(KeyboardInterrupt, store.settle)
+        self.assertEqual(self.ended(store.settle).status, -signal.SIGKILL)
+
+    def test_the_program_on_the_path(self):
+        with tempfile.TemporaryDirectory() as folder:
+            Path(folder, "ordup").symlink_to(PROGRAM)
+            with mock.patch.dict(os.environ, {"PATH": folder}):
+                self.assertEqual(self.store().process.args[0], PROGRAM)
+                with Store() as store:
+                    self.assertEqual(store.process.args[0], str(Path(folder, "ordup")))
+                    self.assertEqual(store.object("x", 0), Declared("object", "x"))
+
+
+def load_tests(loader, tests, pattern):
+    examples = {"program": PROGRAM}
+    tests.addTest(doctest.DocTestSuite(ordup, extraglobs=examples))
+    tests.addTest(doctest.DocFileSuite(PAGE, module_relative=False, globs=examples))
+    return tests
+
+
+if __name__ == "__main__":
+    if len(sys.argv) < 2 or not Path(sys.argv[1]).is_file():
+        sys.exit("usage: clients/python/test_ordup.py PROGRAM [TEST..]")
+    PROGRAM = str(Path(sys.argv.pop(1)).resolve())
+    faulthandler.dump_traceback_later(120, exit=True)  # a test that waits for ever has failed
+    unittest.main()

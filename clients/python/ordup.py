@@ -86,7 +86,7 @@ class Refused(Error):
 
 
 class BadAnswer(Error):
-    """The program said what is no answer of a store. It was killed."""
+    """The program said what is no answer to the line. So it is another program."""
 
 
 class ProgramEnded(Error):
@@ -309,6 +309,9 @@ class Store:
         assert self.process.stdin and self.process.stdout
         self._input, self._output = self.process.stdin, self.process.stdout
         os.set_blocking(self._input.fileno(), False)
+        self._pipes = select.poll()
+        self._pipes.register(self._input, select.POLLOUT)
+        self._pipes.register(self._output, select.POLLIN)
         self._time_limit = time_limit
         self._lock = threading.Lock()
 
@@ -355,25 +358,21 @@ class Store:
     def _exchange(self, lines: List[str]) -> List[Outcome]:
         """Writes the lines and reads their answers, both at once, so that no pipe stays full. There are fewer answers where
         the output ended."""
+        to, back = self._input.fileno(), self._output.fileno()
         unsent = memoryview("".join(line + "\n" for line in lines).encode("ascii"))
         pieces: List[bytes] = []
         missing = len(lines)
-        ready = select.poll()
-        ready.register(self._output, select.POLLIN)
-        ready.register(self._input, select.POLLOUT)
         while missing > 0:
-            for stream, _ in ready.poll():
-                if stream == self._output.fileno():
-                    piece = os.read(stream, 65536)
-                    pieces.append(piece)
-                    missing = missing - piece.count(b"\n") if piece else 0
-                    continue
+            ready = [stream for stream, _ in self._pipes.poll()] if unsent else [back]
+            if to in ready:
                 try:
-                    unsent = unsent[os.write(stream, unsent) :]
+                    unsent = unsent[os.write(to, unsent) :]
                 except BrokenPipeError:  # the answers that came before are still read
                     unsent = unsent[:0]
-                if not unsent:
-                    ready.unregister(stream)
+            if back in ready:
+                piece = os.read(back, 65536)
+                pieces.append(piece)
+                missing = missing - piece.count(b"\n") if piece else 0
         texts = b"".join(pieces).decode("ascii", "replace").split("\n")[:-1]
         if len(texts) > len(lines):
             raise BadAnswer(f"{texts[len(lines)]!r} is an answer to no line")

@@ -1,0 +1,92 @@
+#!/usr/bin/env python3
+"""Measures the module on a built program, and prints a table in Markdown: clients/python/measure.py PROGRAM [RUNS]
+
+The load is one update after another, of five lines each: it is proposed, settled, sent, applied and reported. What it
+prints of each row is the best of RUNS runs, 10 where nothing else is said. bench/README.md has the last table.
+"""
+
+import os
+import statistics
+import subprocess
+import sys
+import time
+
+sys.dont_write_bytecode = True
+
+from ordup import Refused, Store, line
+
+SETUP = ["object x 0", "site a 1024", "limit a object x 100", "start"]
+UPDATE = [line("propose", ("add", "x", 1)), "settle", "send a", "apply a", "report a"]
+ONE_BY_ONE = 20_000  # lines of a run
+MANY = 100_000
+
+
+def by_bare_pipe(program):
+    """Seconds of each line, where Python only writes and reads bytes."""
+    lines = [text.encode() + b"\n" for text in UPDATE]
+    with subprocess.Popen([program, "run"], bufsize=0, stdin=subprocess.PIPE, stdout=subprocess.PIPE) as process:
+        to, back = process.stdin.fileno(), process.stdout.fileno()
+        for text in SETUP:
+            os.write(to, text.encode() + b"\n")
+            os.read(back, 65536)
+        times = []
+        for place in range(ONE_BY_ONE):
+            start = time.perf_counter()
+            os.write(to, lines[place % len(lines)])
+            os.read(back, 65536)
+            times.append(time.perf_counter() - start)
+        process.stdin.close()
+    return times
+
+
+def by_methods(program):
+    """Seconds of each call of a method."""
+    with Store(program) as store:
+        store.commands(SETUP)
+        calls = [lambda: store.propose({"x": ("add", 1)}), store.settle]
+        calls += [lambda: store.send("a"), lambda: store.apply("a"), lambda: store.report("a")]
+        times = []
+        for place in range(ONE_BY_ONE):
+            call = calls[place % len(calls)]
+            start = time.perf_counter()
+            call()
+            times.append(time.perf_counter() - start)
+    return times
+
+
+def by_lines(program, at_once):
+    """Seconds of each line, where so many go out by one call."""
+    with Store(program) as store:
+        store.commands(SETUP)
+        lines = UPDATE * (at_once // len(UPDATE))
+        times = []
+        for _ in range(MANY // at_once):
+            start = time.perf_counter()
+            outcomes = store.commands(lines)
+            times.append((time.perf_counter() - start) / at_once)
+            assert not any(isinstance(outcome, Refused) for outcome in outcomes)
+    return times
+
+
+def row(name, runs):
+    """The most lines a second of a run, and of one line the least median and 99th percentile, in microseconds."""
+    most = max(len(times) / sum(times) for times in runs)
+    median = min(statistics.median(times) for times in runs) * 1e6
+    late = min(sorted(times)[len(times) * 99 // 100] for times in runs) * 1e6
+    ended = f"{median:.1f} | {late:.1f}" if len(runs[0]) >= 1000 else "- | -"
+    print(f"| {name} | {most:.0f} | {ended} |")
+
+
+def main():
+    if not 2 <= len(sys.argv) <= 3 or not os.path.isfile(sys.argv[1]):
+        sys.exit("usage: clients/python/measure.py PROGRAM [RUNS]")
+    program = os.path.abspath(sys.argv[1])
+    runs = range(int(sys.argv[2]) if len(sys.argv) == 3 else 10)
+    print("| how | lines/s | median µs | 99 % µs |\n|---|--:|--:|--:|")
+    row("one by one, without the module", [by_bare_pipe(program) for _ in runs])
+    row("one by one, by methods", [by_methods(program) for _ in runs])
+    for at_once in (10, 100, 1000, MANY):
+        row(f"{at_once} lines at once", [by_lines(program, at_once) for _ in runs])
+
+
+main()

@@ -295,6 +295,10 @@ def _word(word: Word) -> str:
     return f"{word:d}"
 
 
+def _scope_words(scope: Scope) -> Tuple[str, ...]:
+    return (scope,) if isinstance(scope, str) else scope
+
+
 class Store:
     """A store in a process of its own. `process` is that process."""
 
@@ -461,7 +465,3 @@ class Store:
     def relimit(self, site: str, scope: Scope, amount: int) -> Relimited:
         """Changes a limit of a site while the store runs, or gives it one."""
         return self._ask(Relimited, "relimit", site, *_scope_words(scope), amount)
-
-
-def _scope_words(scope: Scope) -> Tuple[str, ...]:
-    return (scope,) if isinstance(scope, str) else scope

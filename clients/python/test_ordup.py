@@ -386,7 +386,8 @@ class Process(TestCase):
                 path = self.stand_in(f"head -c 16000 | '{PROGRAM}' run\n{end}\n")
                 error = self.ended(self.store(path).commands, ["object xyz 1000"] * 100_000)
                 self.assertEqual(error.status, status)
-                self.assertEqual([text_of(outcome) for outcome in error.answered], ["ok object xyz"] + ["refused 5 NameTaken"] * 999)
+                texts = [text_of(outcome) for outcome in error.answered]
+                self.assertEqual(texts, ["ok object xyz"] + ["refused 5 NameTaken"] * 999)
                 self.assertEqual(len(error.unanswered), 99_000)
 
     def test_an_answer_that_is_cut(self):
@@ -428,6 +429,11 @@ class Process(TestCase):
                 with Store() as store:
                     self.assertEqual(store.process.args[0], str(Path(folder, "ordup")))
                     self.assertEqual(store.object("x", 0), Declared("object", "x"))
+
+    def test_the_launcher_where_the_path_has_no_program(self):
+        with mock.patch.dict(os.environ, {"PATH": ""}), mock.patch("subprocess.Popen", side_effect=OSError) as start:
+            self.assertRaises(OSError, Store)
+        self.assertEqual(start.call_args[0][0], [TOP / "ordup", "run"])
 
 
 def load_tests(loader, tests, pattern):

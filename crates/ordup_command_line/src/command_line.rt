@@ -1,4 +1,4 @@
-use clap::{Arg, Command, Error, value_parser};
+use clap::{Arg, ArgMatches, Command, Error, value_parser};
 use std::alloc::{AllocError, Global};
 use std::num::NonZeroU8;
 
@@ -26,6 +26,13 @@ pub enum Job {
 /// It is an error where the words are wrong, where they ask for the help or the version, and where an allocation was refused.
 pub fn job_of(alloc: Global, words: &[&str]) -> Result<Option<Job>, Error> {
     let matches = command(alloc)?.try_get_matches_from(words)?;
+    let job = job_in(alloc, &matches);
+    drop(matches);
+    job
+}
+
+/// The job that the words name, which were found to be right. None where they name no job.
+fn job_in(alloc: Global, matches: &ArgMatches<'_>) -> Result<Option<Job>, Error> {
     match matches.subcommand() {
         Some(("run", _)) => Ok(Some(Job::Run)),
         Some(("record", words)) => match words.get_str("SITE") {
@@ -48,21 +55,60 @@ fn callers_of(callers: Option<u8>) -> Option<Job> {
 
 /// The words that the program takes, with their help.
 fn command<'a>(alloc: Global) -> Result<Command<'a>, AllocError> {
-    let run = Command::new(alloc, "run")
+    let ordup = Command::new(alloc, "ordup")
+        .about("A replicated store of whole numbers: every site applies the updates in one order")
+        .version(VERSION)
+        .after_help(HELP)
+        .subcommand_required(true);
+    let ordup = ordup.subcommand(run(alloc))?;
+    let ordup = with_job(ordup, record(alloc))?;
+    let ordup = ordup.subcommand(check(alloc))?;
+    with_job(ordup, threads(alloc))
+}
+
+/// The words of a program with those of one job more.
+fn with_job<'a>(
+    program: Command<'a>,
+    job: Result<Command<'a>, AllocError>,
+) -> Result<Command<'a>, AllocError> {
+    match job {
+        Ok(job) => program.subcommand(job),
+        Err(error) => {
+            drop(program);
+            Err(error)
+        }
+    }
+}
+
+/// The words of `ordup run`.
+fn run<'a>(alloc: Global) -> Command<'a> {
+    Command::new(alloc, "run")
         .about("Runs a script: answers each command that it reads")
-        .after_help(RUN_HELP);
-    let record = Command::new(alloc, "record")
+        .after_help(RUN_HELP)
+}
+
+/// The words of `ordup record`.
+fn record<'a>(alloc: Global) -> Result<Command<'a>, AllocError> {
+    Command::new(alloc, "record")
         .about("Runs a script and prints the record of a site: what an auditor checks")
         .after_help(RECORD_HELP)
         .arg(
             Arg::new(alloc, "SITE")
                 .required(true)
                 .help("The site's name"),
-        )?;
-    let check = Command::new(alloc, "check")
+        )
+}
+
+/// The words of `ordup check`.
+fn check<'a>(alloc: Global) -> Command<'a> {
+    Command::new(alloc, "check")
         .about("Checks whether a record shows that the site's forced rounds are the fewest")
-        .after_help(CHECK_HELP);
-    let threads = Command::new(alloc, "threads")
+        .after_help(CHECK_HELP)
+}
+
+/// The words of `ordup threads`.
+fn threads<'a>(alloc: Global) -> Result<Command<'a>, AllocError> {
+    Command::new(alloc, "threads")
         .about("Runs a plan by callers in threads, and prints what came of it")
         .after_help(THREADS_HELP)
         .arg(
@@ -70,16 +116,7 @@ fn command<'a>(alloc: Global) -> Result<Command<'a>, AllocError> {
                 .required(true)
                 .value_parser(value_parser!(u8).range(1..=16))
                 .help("How many callers there are, 1 to 16"),
-        )?;
-    Command::new(alloc, "ordup")
-        .about("A replicated store of whole numbers: every site applies the updates in one order")
-        .version(VERSION)
-        .after_help(HELP)
-        .subcommand_required(true)
-        .subcommand(run)?
-        .subcommand(record)?
-        .subcommand(check)?
-        .subcommand(threads)
+        )
 }
 
 /// What `ordup --version` shows after the program's name.

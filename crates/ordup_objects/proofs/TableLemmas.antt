@@ -4,8 +4,8 @@ use Rattle.std.proofs.Common.{List, [], ◌∷◌, ◌++◌, length, take, get_o
 use Rattle.std.proofs.Common.{ap, ◌∙◌, sym, inl, inr, arith, nat_eq, length-take}
 use Rattle.std.proofs.lemmas.Bool.{cases_Bool, cases_lt, lt-ltb, le-ltb}
 use Rattle.std.proofs.lemmas.Cmp.{nat_list_eq_equiv}
-use Rattle.std.proofs.lemmas.List.{get_or-map, get_or-take, length-map, take-map, take_more}
-use Rattle.std.proofs.lemmas.List.Elements.{All-set}
+use Rattle.std.proofs.lemmas.List.{get_or-map, get_or-take, length-map, length_push, map-append, take-map, take_more}
+use Rattle.std.proofs.lemmas.List.Elements.{All-push, All-set}
 use Rattle.std.proofs.lemmas.List.Sums.{passes_at_first, position_or_len_is}
 use Rattle.std.proofs.lemmas.Map.Keys.{apart_from_distinct}
 use Rattle.std.proofs.lemmas.Option.{get_or_from_slice_get, slice_get_cases}
@@ -14,8 +14,9 @@ use Rattle.std.specs.Prelude.{ℤ, slice_get}
 use Rattle.std.specs.Cmp.Lexicographic.{pointwise, bytes_decides}
 use Rattle.indexmap.specs.IndexMap.{insert_entry, set_value_at}
 use Rattle.ordup_objects.specs.Names.{is_name}
-use Rattle.ordup_objects.specs.Tables.{names_of, index_of, with_entry, initial_state, AreNames, AreDistinct}
-use Rattle.ordup_objects.specs.States.{value_at}
+use Rattle.ordup_objects.specs.Sizes.{most_objects}
+use Rattle.ordup_objects.specs.Tables.{Objects, names_of, index_of, with_entry, initial_state, AreNames, AreDistinct}
+use Rattle.ordup_objects.specs.States.{value_at, IsInRange, IsState}
 
 -- what is at no place is not before the end
 pub absent : {X : Type 0} (p : X → Bool) (xs : List X) → position p xs ≡ None → length xs ≤ position_or_len p xs
@@ -125,3 +126,14 @@ pub AreNames-with_entry : {V : Type 0} (table : List (List ℕ × V)) (i : ℕ) 
     → AreNames (with_entry table i entry)
 AreNames-with_entry {V} table i entry lt are =
     All-set (λ (e : List ℕ × V). is_name e.0 ≡ true) table i ((get_or table i ([], entry)).0, entry) (are i ([], entry) lt) are
+
+-- objects stay few and with values in range by one more that there is room for
+pub objects-longer : (objects more : Objects) (name : List ℕ) (initial : ℤ) → more ≡ objects ++ (name, initial) ∷ []
+    → length objects < most_objects → IsInRange initial → IsState (initial_state objects)
+    → (length more ≤ most_objects) × IsState (initial_state more)
+objects-longer objects more name initial e room range state =
+    let count : length more ≡ length objects + 1 = ap length e ∙ length_push objects (name, initial) in (
+      omega arith,
+      rw (e, map-append (λ (o : List ℕ × ℤ). o.1) objects ((name, initial) ∷ []))
+          (All-push IsInRange (initial_state objects) initial state range),
+    )

@@ -76,21 +76,7 @@ impl<A: Allocator + Copy> MessageSet<A> {
         if let [change] = changes.as_slice() {
             return MessageSet::single(objects, *change);
         }
-        if !are_known(objects.len(), &changes) {
-            return Err(Refusal::UnknownObject);
-        }
-        if !are_in_range(&changes) {
-            return Err(Refusal::OutOfRange);
-        }
-        if changes.len() > MOST_CHANGES {
-            return Err(Refusal::TooMany);
-        }
-        if changes.is_empty() {
-            return Err(Refusal::Empty);
-        }
-        if has_repeat(&changes) {
-            return Err(Refusal::Repeated);
-        }
+        check_changes(objects.len(), &changes)?;
         Ok(MessageSet {
             changes: Changes::Many(changes),
         })
@@ -140,19 +126,7 @@ impl<A: Allocator + Copy> MessageSet<A> {
         ensures refused { IfErr result (λ e. IsRefusal (set_refusal (length objects.now) (self.old ++ change ∷ [])) e) }
         ensures err { IfErr result (λ _. self.new ≡ self.old) }
     {
-        let changes = self.changes();
-        if !is_known(objects.len(), &change) {
-            return Err(Refusal::UnknownObject);
-        }
-        if !has_number_in_range(&change) {
-            return Err(Refusal::OutOfRange);
-        }
-        if changes.len() == MOST_CHANGES {
-            return Err(Refusal::TooMany);
-        }
-        if is_changed(change.object, changes) {
-            return Err(Refusal::Repeated);
-        }
+        check_one_more(objects.len(), self.changes(), &change)?;
         self.changes.push(objects.allocator(), change)
     }
 
@@ -183,6 +157,55 @@ impl<A: Allocator + Copy> MessageSet<A> {
     {
         are_known(objects, self.changes())
     }
+}
+
+/// Whether changes are a message set over this many objects. They are refused for the first reason that applies.
+fn check_changes(objects: usize, changes: &[Change]) -> Result<(), Refusal>
+    ensures set { IfOk result (λ _. IsSet changes.now) }
+    ensures known { IfOk result (λ _. AreKnown objects changes.now) }
+    ensures allowed { IfOk result (λ _. set_refusal objects changes.now ≡ None) }
+    ensures refused { IfErr result (λ e. set_refusal objects changes.now ≡ Some e) }
+{
+    if !are_known(objects, changes) {
+        return Err(Refusal::UnknownObject);
+    }
+    if !are_in_range(changes) {
+        return Err(Refusal::OutOfRange);
+    }
+    if changes.len() > MOST_CHANGES {
+        return Err(Refusal::TooMany);
+    }
+    if changes.is_empty() {
+        return Err(Refusal::Empty);
+    }
+    if has_repeat(changes) {
+        return Err(Refusal::Repeated);
+    }
+    Ok(())
+}
+
+/// Whether a message set stays one with a change more. The change is refused for the first reason that applies.
+fn check_one_more(objects: usize, changes: &[Change], change: &Change) -> Result<(), Refusal>
+    requires known { AreKnown objects changes.now }
+    requires set { IsSet changes.now }
+    ensures set { IfOk result (λ _. IsSet (changes.now ++ change.now ∷ [])) }
+    ensures known { IfOk result (λ _. AreKnown objects (changes.now ++ change.now ∷ [])) }
+    ensures allowed { IfOk result (λ _. set_refusal objects (changes.now ++ change.now ∷ []) ≡ None) }
+    ensures refused { IfErr result (λ e. set_refusal objects (changes.now ++ change.now ∷ []) ≡ Some e) }
+{
+    if !is_known(objects, change) {
+        return Err(Refusal::UnknownObject);
+    }
+    if !has_number_in_range(change) {
+        return Err(Refusal::OutOfRange);
+    }
+    if changes.len() == MOST_CHANGES {
+        return Err(Refusal::TooMany);
+    }
+    if is_changed(change.object, changes) {
+        return Err(Refusal::Repeated);
+    }
+    Ok(())
 }
 
 fn has_known_source(objects: usize, op: Op) -> bool

@@ -2,7 +2,7 @@ ghost use Rattle.std.specs.Prelude.{◌≡◌, ℕ, ◌<◌, ◌≤◌, None, So
 ghost use Rattle.ordup_objects.specs.Sizes.{most_objects};
 ghost use Rattle.ordup_objects.specs.Tables.{index_of, object_refusal, initial_state, AreNames, AreDistinct};
 ghost use Rattle.ordup_objects.specs.Refusals.{IsRefusal};
-ghost use Rattle.ordup_objects.specs.States.{value_at, IsState};
+ghost use Rattle.ordup_objects.specs.States.{value_at, IsInRange, IsState};
 
 use crate::ids::ObjectId;
 use crate::name::Name;
@@ -10,7 +10,7 @@ use crate::name_table::NameTable;
 use crate::refusal::Refusal;
 use crate::sizes::MOST_OBJECTS;
 use crate::values::is_in_range;
-use std::alloc::{Allocator, Global};
+use std::alloc::{AllocError, Allocator, Global};
 use std::marker::Model;
 
 /// The objects of a store in order of declaration: at most 256, each with its name and its initial value.
@@ -52,12 +52,27 @@ impl<A: Allocator + Copy> ObjectTable<A> {
         ensures copied { IfOk result (λ table. table ≡ self.now) }
         ensures refused { IfErr result (λ e. e ≡ Refusal.NoMemory) }
     {
+        self.keeps();
         let mut objects = NameTable::new(alloc);
+        match self.copy_to(&mut objects) {
+            Ok(()) => Ok(ObjectTable { objects }),
+            Err(error) => {
+                drop(objects);
+                Err(error.into())
+            }
+        }
+    }
+
+    /// Adds all objects, in their order, to a table without names.
+    fn copy_to(&self, objects: &mut NameTable<i64, A>) -> Result<(), AllocError>
+        requires { objects.old ≡ [] }
+        ensures { IfOk result (λ _. objects.new ≡ self.now) }
+    {
         for place in 0..self.objects.len() {
             let (name, initial) = self.objects.at(place);
             objects.push(*name, *initial)?;
         }
-        Ok(ObjectTable { objects })
+        Ok(())
     }
 
     /// Declares an object with its initial value, which lies from -1,000,000,000 to 1,000,000,000.
@@ -70,6 +85,21 @@ impl<A: Allocator + Copy> ObjectTable<A> {
         ensures refused { IfErr result (λ e. IsRefusal (object_refusal self.old name.now initial) e) }
         ensures err { IfErr result (λ _. self.new ≡ self.old) }
     {
+        let name = self.check_object(name, initial)?;
+        let place = self.objects.len();
+        self.objects.push(name, initial)?;
+        Ok(ObjectId::new(place as u16))
+    }
+
+    /// The name of an object that may be declared. Any other is refused for the first reason that applies.
+    fn check_object(&self, name: &[u8], initial: i64) -> Result<Name, Refusal>
+        ensures name { IfOk result (λ n. n ≡ name.now) }
+        ensures not_taken { IfOk result (λ _. index_of name.now self.now ≡ None) }
+        ensures range { IfOk result (λ _. IsInRange initial) }
+        ensures room { IfOk result (λ _. length self.now < most_objects) }
+        ensures allowed { IfOk result (λ _. object_refusal self.now name.now initial ≡ None) }
+        ensures refused { IfErr result (λ e. object_refusal self.now name.now initial ≡ Some e) }
+    {
         let name = Name::new(name)?;
         if self.objects.find(name.as_bytes()).is_some() {
             return Err(Refusal::NameTaken);
@@ -77,12 +107,10 @@ impl<A: Allocator + Copy> ObjectTable<A> {
         if !is_in_range(initial) {
             return Err(Refusal::OutOfRange);
         }
-        let place = self.objects.len();
-        if place == MOST_OBJECTS {
+        if self.objects.len() == MOST_OBJECTS {
             return Err(Refusal::TooMany);
         }
-        self.objects.push(name, initial)?;
-        Ok(ObjectId::new(place as u16))
+        Ok(name)
     }
 
     /// The object of this name, if there is one.

@@ -2,95 +2,84 @@ ghost use Rattle.std.specs.Prelude.{◌≡◌};
 
 use crate::ids::SiteId;
 use std::alloc::{AllocError, AllocFailed};
-use thiserror::Error;
+use std::error::Error;
+use std::fmt;
 
 /// Why a call was refused. A refused call leaves everything as it was.
 ///
 /// Answers show a refusal by its number and its name.
-#[derive(Clone, Copy, Debug, PartialEq, Eq, Error)]
+#[derive(Clone, Copy, Debug, PartialEq, Eq)]
 pub enum Refusal {
     /// The line is no command.
-    #[error("Syntax")]
     Syntax,
     /// The store has not been started.
-    #[error("NotStarted")]
     NotStarted,
     /// The store was started before.
-    #[error("AlreadyStarted")]
     AlreadyStarted,
     /// A name is not 1 to 16 bytes of a to z, 0 to 9 and `_` that begin with a letter.
-    #[error("BadName")]
     BadName,
     /// The name is declared already.
-    #[error("NameTaken")]
     NameTaken,
     /// There is no such object.
-    #[error("UnknownObject")]
     UnknownObject,
     /// There is no such group.
-    #[error("UnknownGroup")]
     UnknownGroup,
     /// There is no such site.
-    #[error("UnknownSite")]
     UnknownSite,
     /// A number, or the result of a change, is out of range.
-    #[error("OutOfRange")]
     OutOfRange,
     /// A size would be exceeded.
-    #[error("TooMany")]
     TooMany,
     /// Something that must have a member has none.
-    #[error("Empty")]
     Empty,
     /// Something is given twice.
-    #[error("Repeated")]
     Repeated,
     /// The log has all the updates that it may have.
-    #[error("LogFull")]
     LogFull,
     /// All updates were sent to the site.
-    #[error("NothingToSend")]
     NothingToSend,
     /// The site's feed is full.
-    #[error("FeedFull")]
     FeedFull,
     /// The site's feed is empty.
-    #[error("NothingToApply")]
     NothingToApply,
     /// All updates are acknowledged.
-    #[error("NothingToSettle")]
     NothingToSettle,
     /// There is no open query of this name.
-    #[error("UnknownQuery")]
     UnknownQuery,
     /// A query of this name is open.
-    #[error("QueryOpen")]
     QueryOpen,
     /// The read would bring the query over its import limit.
-    #[error("OverImport")]
     OverImport,
     /// The site has applied only this many updates, fewer than the session has seen.
-    #[error("Behind {applied}")]
     Behind { applied: u64 },
     /// The update with this number is not acknowledged yet.
-    #[error("NotYet {number}")]
     NotYet { number: u64 },
     /// The store was stopped.
-    #[error("Stopped")]
     Stopped,
     /// The head is decided and not acknowledged.
-    #[error("HeadPending")]
     HeadPending,
     /// The site lags by more than the new limit.
-    #[error("LagOver")]
     LagOver,
     /// Memory was refused.
-    #[error("NoMemory")]
     NoMemory,
     /// The site does not hold what its log says.
-    #[error("Mixed {}", site.index())]
     Mixed { site: SiteId },
 }
+
+/// The name of the refusal, and what it tells.
+impl fmt::Display for Refusal {
+    fn fmt<W: fmt::Write>(&self, f: &mut fmt::Formatter<W>) -> fmt::Result {
+        f.write_str(self.name())?;
+        match self {
+            Refusal::Behind { applied } => write!(f, " {applied}"),
+            Refusal::NotYet { number } => write!(f, " {number}"),
+            Refusal::Mixed { site } => write!(f, " {}", site.index()),
+            _ => Ok(()),
+        }
+    }
+}
+
+impl Error for Refusal {}
 
 impl From<AllocError> for Refusal {
     ghost use Rattle.ordup_objects.specs.declared.refusal.Refusal.TheVariants.{NoMemory};

@@ -1,5 +1,5 @@
 use Rattle.std.proofs.Common.{◌≡◌, take}
-use Rattle.ordup_objects.proofs.object_table.ObjectTable.copy.Given as goal
+use Rattle.ordup_objects.proofs.object_table.ObjectTable.copy_to.Given as goal
 
 -- the objects so far
 abbrev pub invariant-loop-place : goal.invariant-loop-place

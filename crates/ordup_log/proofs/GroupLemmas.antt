@@ -1,5 +1,5 @@
 -- Groups and their names.
-use Rattle.std.proofs.Common.{◌≡◌, ℕ, zero, suc, ◌+◌, ◌-◌, ◌<◌, ◌≤◌}
+use Rattle.std.proofs.Common.{◌≡◌, ℕ, zero, suc, ◌+◌, ◌-◌, ◌≤◌}
 use Rattle.std.proofs.Common.{false, List, [], ◌∷◌, ◌++◌, length, map, get_or}
 use Rattle.std.proofs.Common.{arith, refl, sym, ap, ◌∙◌, nat_eq, Vec}
 use Rattle.std.specs.Prelude.{true, Option, Some, None, is_some, option_map, slice_get, take, All}
@@ -8,14 +8,13 @@ use Rattle.std.specs.Cmp.Lexicographic.{pointwise}
 use Rattle.ordup_objects.specs.Sizes.{most_groups, most_members}
 use Rattle.ordup_objects.specs.Names.{is_name}
 use Rattle.std.proofs.Math.ListN.{length-set}
-use Rattle.std.proofs.lemmas.Bool.{lt-ltb, ne_eqb}
 use Rattle.std.proofs.lemmas.Cmp.{nat_eq_equiv}
 use Rattle.std.proofs.lemmas.List.{length_push, length-map, get_or-map, map-append}
 use Rattle.std.proofs.lemmas.List.Elements.{All-map, All-set}
 use Rattle.ordup_objects.specs.Tables.{names_of, index_of, with_entry, AreNames, AreDistinct}
 use Rattle.ordup_objects.proofs.TableLemmas.{take-next}
 use Rattle.ordup_objects.proofs.RepeatLemmas.{repeats-push, list_any-alike}
-use Rattle.ordup_log.specs.Groups.{IsGroup, members_at, last_members, with_member, member_refusal}
+use Rattle.ordup_log.specs.Groups.{IsGroup, members_at, last_members, with_member}
 
 -- what is beside the names does not change them
 names_of-map : {V W : Type 0} (f : V → W) (table : List (List ℕ × V)) → names_of (map (λ e. (e.0, f e.1)) table) ≡ names_of table
@@ -201,18 +200,3 @@ IsGroup-push members member is room none =
       distinct = repeats-push nat_eq members member is.distinct
           (list_any-alike (λ x. nat_eq x member) (nat_eq member) (λ x. nat_eq_equiv.symm x member) members ∙ none);
     }
-
--- a member that is known, has room and is not there is not refused
-pub member_refusal-none : {Z : Type 0} (groups : List (List ℕ × Vec ℕ Z)) (view : List (List ℕ × List ℕ)) (last : ℕ)
-    (name : List ℕ)
-    (members : Vec ℕ Z) (seen : List ℕ) (n member : ℕ) → groups_of groups ≡ view → last ≡ length groups - 1
-    → slice_get groups last ≡ Some (name, members) → seen ≡ members.items → member < n → (length seen ≡ most_members → ⊥)
-    → list_any (nat_eq member) seen ≡ false → member_refusal n (last_members view) member ≡ None
-member_refusal-none groups view last name members seen n member e is at same known room none =
-    rw (
-      last_members-is groups view last name members e is at,
-      ← same,
-      lt-ltb member n known,
-      ne_eqb (length seen) most_members room,
-      none,
-    ) refl

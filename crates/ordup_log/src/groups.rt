@@ -1,4 +1,4 @@
-ghost use Rattle.std.specs.Prelude.{◌≡◌, ◌≤◌, ℕ, ◌<◌, None, Some, IfSome, IfOk, IfErr, List, [], ◌∷◌, ◌++◌, length, slice_get, option_map, All, nat_eq, nat_lt};
+ghost use Rattle.std.specs.Prelude.{◌≡◌, ◌≤◌, ℕ, ◌<◌, None, Some, IfSome, IfOk, IfErr, List, [], ◌∷◌, ◌++◌, length, map, slice_get, option_map, All, nat_eq, nat_lt};
 ghost use Rattle.std.specs.List.{list_all, list_any};
 ghost use Rattle.ordup_objects.specs.Sizes.{most_groups};
 ghost use Rattle.ordup_objects.specs.Tables.{index_of, AreNames, AreDistinct};
@@ -9,7 +9,7 @@ ghost use Rattle.ordup_log.specs.Groups.{group_refusal, member_refusal, members_
 use crate::ids::GroupId;
 use ordup_objects::sizes::{MOST_GROUPS, MOST_MEMBERS};
 use ordup_objects::{Name, NameTable, ObjectId, ObjectTable, Refusal};
-use std::alloc::{Allocator, Global};
+use std::alloc::{AllocError, Allocator, Global};
 use std::marker::Model;
 
 /// Groups of objects in order of declaration: at most 32, each with 1 to 64 distinct members.
@@ -46,12 +46,13 @@ impl<A: Allocator + Copy> Groups<A> {
         ensures refused { IfErr result (λ e. e ≡ Refusal.NoMemory) }
     {
         let mut groups = NameTable::new(alloc);
-        for place in 0..self.groups.len() {
-            let (name, members) = self.groups.at(place);
-            let members = Vec::from_slice(alloc, members.as_slice())?;
-            groups.push(*name, members)?;
+        match copy_all(alloc, &self.groups, &mut groups) {
+            Ok(()) => Ok(Groups { groups }),
+            Err(error) => {
+                drop(groups);
+                Err(error.into())
+            }
         }
-        Ok(Groups { groups })
     }
 
     /// Declares a group of objects.
@@ -71,15 +72,36 @@ impl<A: Allocator + Copy> Groups<A> {
         ensures refused { IfErr result (λ e. IsRefusal (group_refusal (length objects.now) self.old name.now members.now) e) }
         ensures err { IfErr result (λ _. self.new ≡ self.old) }
     {
+        let name = self.check_group(objects.len(), name, members)?;
+        let place = self.len();
+        let members = Vec::from_slice(*self.groups.allocator(), members)?;
+        self.groups.push(name, members)?;
+        Ok(GroupId::new(place as u8))
+    }
+
+    /// The name of a group that may be declared over this many objects. Any other is refused for the first reason that applies.
+    fn check_group(
+        &self,
+        objects: usize,
+        name: &[u8],
+        members: &[ObjectId],
+    ) -> Result<Name, Refusal>
+        ensures name { IfOk result (λ n. n ≡ name.now) }
+        ensures not_taken { IfOk result (λ n. index_of n self.now ≡ None) }
+        ensures known { IfOk result (λ _. AreMembersKnown objects members.now) }
+        ensures group { IfOk result (λ _. IsGroup members.now) }
+        ensures room { IfOk result (λ _. length self.now < most_groups) }
+        ensures allowed { IfOk result (λ _. group_refusal objects self.now name.now members.now ≡ None) }
+        ensures refused { IfErr result (λ e. group_refusal objects self.now name.now members.now ≡ Some e) }
+    {
         let name = Name::new(name)?;
         if self.find(name.as_bytes()).is_some() {
             return Err(Refusal::NameTaken);
         }
-        if !are_known(objects.len(), members) {
+        if !are_known(objects, members) {
             return Err(Refusal::UnknownObject);
         }
-        let place = self.len();
-        if place == MOST_GROUPS || members.len() > MOST_MEMBERS {
+        if self.len() == MOST_GROUPS || members.len() > MOST_MEMBERS {
             return Err(Refusal::TooMany);
         }
         if members.is_empty() {
@@ -88,9 +110,7 @@ impl<A: Allocator + Copy> Groups<A> {
         if has_repeat(members) {
             return Err(Refusal::Repeated);
         }
-        let members = Vec::from_slice(*self.groups.allocator(), members)?;
-        self.groups.push(name, members)?;
-        Ok(GroupId::new(place as u8))
+        Ok(name)
     }
 
     /// Adds a member to the last group.
@@ -107,15 +127,7 @@ impl<A: Allocator + Copy> Groups<A> {
     {
         let last = self.groups.len() - 1;
         let members = self.groups.at(last).1.as_slice();
-        if member.index() >= objects.len() {
-            return Err(Refusal::UnknownObject);
-        }
-        if members.len() == MOST_MEMBERS {
-            return Err(Refusal::TooMany);
-        }
-        if is_member(member, members) {
-            return Err(Refusal::Repeated);
-        }
+        check_member(objects.len(), members, member)?;
         // An empty list takes no memory: it holds the place while the members grow.
         let alloc = *self.groups.allocator();
         let mut members = self.groups.replace(last, Vec::new(alloc));
@@ -174,6 +186,43 @@ impl<A: Allocator + Copy> Groups<A> {
     {
         self.groups.at(group.index()).1.as_slice()
     }
+}
+
+/// Adds all groups, in their order, to a table without names.
+fn copy_all<A: Allocator + Copy>(
+    alloc: A,
+    groups: &NameTable<Vec<ObjectId, A>, A>,
+    copy: &mut NameTable<Vec<ObjectId, A>, A>,
+) -> Result<(), AllocError>
+    requires { copy.old ≡ [] }
+    ensures { IfOk result (λ _. map {B = List ℕ × List ℕ} (λ g. (g.0, g.1.items)) copy.new ≡ map (λ g. (g.0, g.1.items)) groups.now) }
+{
+    for place in 0..groups.len() {
+        let (name, members) = groups.at(place);
+        let members = Vec::from_slice(alloc, members.as_slice())?;
+        copy.push(*name, members)?;
+    }
+    Ok(())
+}
+
+/// Whether a group stays one with a member more. The member is refused for the first reason that applies.
+fn check_member(objects: usize, members: &[ObjectId], member: ObjectId) -> Result<(), Refusal>
+    requires { IsGroup members.now }
+    ensures known { IfOk result (λ _. member < objects) }
+    ensures group { IfOk result (λ _. IsGroup (members.now ++ member ∷ [])) }
+    ensures allowed { IfOk result (λ _. member_refusal objects members.now member ≡ None) }
+    ensures refused { IfErr result (λ e. member_refusal objects members.now member ≡ Some e) }
+{
+    if member.index() >= objects {
+        return Err(Refusal::UnknownObject);
+    }
+    if members.len() == MOST_MEMBERS {
+        return Err(Refusal::TooMany);
+    }
+    if is_member(member, members) {
+        return Err(Refusal::Repeated);
+    }
+    Ok(())
 }
 
 fn are_known(objects: usize, members: &[ObjectId]) -> bool

@@ -70,13 +70,29 @@ impl<A: Allocator + Copy> Log<A> {
         ensures copied { IfOk result (λ log. log ≡ prefix_of self.now count) }
         ensures refused { IfErr result (λ e. e ≡ Refusal.NoMemory) }
     {
-        self.keeps();
         let mut log = Log::over(alloc, self.start.copy(alloc)?)?;
+        match self.copy_updates(alloc, count, &mut log) {
+            Ok(()) => Ok(log),
+            Err(refusal) => {
+                drop(log);
+                Err(refusal)
+            }
+        }
+    }
+
+    /// Adds the first `count` updates to a log over the same values that has none. The only refusal is `NoMemory`.
+    fn copy_updates(&self, alloc: A, count: u64, log: &mut Log<A>) -> Result<(), Refusal>
+        requires last { count ≤ length self.now.sets }
+        requires empty { log.old ≡ prefix_of self.now 0 }
+        ensures copied { IfOk result (λ _. log.new ≡ prefix_of self.now count) }
+        ensures refused { IfErr result (λ e. e ≡ Refusal.NoMemory) }
+    {
+        self.keeps();
         for place in 0..count {
             let set = self.set(place + 1).copy(alloc)?;
             log.append(set)?;
         }
-        Ok(log)
+        Ok(())
     }
 
     /// A log without updates, over these values. The only refusal is `NoMemory`.

@@ -18,7 +18,7 @@ pub(crate) fn no_postings<A: Allocator + Copy>(
 {
     let mut postings = Vec::with_capacity(alloc, count)?;
     for _object in 0..count {
-        postings.push(Vec::new(alloc))?;
+        postings.push_reserved(Vec::new(alloc));
     }
     Ok(postings)
 }

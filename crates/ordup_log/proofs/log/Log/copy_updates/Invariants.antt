@@ -1,6 +1,6 @@
 use Rattle.std.proofs.Common.{◌≡◌}
 use Rattle.ordup_objects.specs.Serial.{prefix_of}
-use Rattle.ordup_log.proofs.log.Log.copy_prefix.Given as goal
+use Rattle.ordup_log.proofs.log.Log.copy_updates.Given as goal
 
 -- the updates so far
 abbrev pub invariant-loop-place : goal.invariant-loop-place

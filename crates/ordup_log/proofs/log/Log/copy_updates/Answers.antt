@@ -1,7 +1,7 @@
 use Rattle.std.proofs.Common.{arith, ◌∙◌}
 use Rattle.std.proofs.lemmas.Result.{err_from_is_err_and}
 use Rattle.ordup_log.proofs.LogLemmas.{append_refusal-prefix, prefix-longer}
-use Rattle.ordup_log.proofs.log.Log.copy_prefix.Goals as goal
+use Rattle.ordup_log.proofs.log.Log.copy_updates.Goals as goal
 
 pub returns-in_err-append-clause-refused : goal.returns-in_err-append-clause-refused
 returns-in_err-append-clause-refused g c =

@@ -70,6 +70,11 @@ fn start<A: Allocator + Copy>(
     ensures refused { IfErr result (λ e. IsRefusal (start_refusal setup) e) }
 {
     let world = World::start(alloc, setup)?;
-    let answers = Vec::with_capacity(alloc, count)?;
-    Ok((world, answers))
+    match Vec::with_capacity(alloc, count) {
+        Ok(answers) => Ok((world, answers)),
+        Err(_) => {
+            drop(world);
+            Err(Refusal::NoMemory)
+        }
+    }
 }

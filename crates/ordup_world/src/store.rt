@@ -29,9 +29,14 @@ impl<A: Allocator + Copy> Store<A> {
         ensures sound { IfOk result (λ store. IsStore (state_of store)) }
         ensures refused { IfErr result (λ e. e ≡ Refusal.NoMemory) }
     {
-        let sites = first_sites(alloc, &setup)?;
         let primary = Primary::new(alloc, setup)?;
-        Ok(Store { primary, sites })
+        match first_sites(alloc, primary.setup()) {
+            Ok(sites) => Ok(Store { primary, sites }),
+            Err(refusal) => {
+                drop(primary);
+                Err(refusal)
+            }
+        }
     }
 
     /// The primary numbers a message set as the next update.
@@ -166,11 +171,29 @@ fn first_sites<A: Allocator + Copy>(alloc: A, setup: &Setup<A>) -> Result<Vec<Si
     ensures sites { IfOk result (λ sites. sites.items ≡ replicate (length setup.now.sites) (first_site setup.now)) }
     ensures refused { IfErr result (λ e. e ≡ Refusal.NoMemory) }
 {
-    let count = setup.sites();
-    let mut sites = Vec::with_capacity(alloc, count)?;
-    for _site in 0..count {
+    let mut sites = Vec::with_capacity(alloc, setup.sites())?;
+    match add_first_sites(alloc, setup, &mut sites) {
+        Ok(()) => Ok(sites),
+        Err(refusal) => {
+            drop(sites);
+            Err(refusal)
+        }
+    }
+}
+
+/// Adds the sites at the start to a list that has none.
+fn add_first_sites<A: Allocator + Copy>(
+    alloc: A,
+    setup: &Setup<A>,
+    sites: &mut Vec<Site<A>, A>,
+) -> Result<(), Refusal>
+    requires { sites.old.items ≡ [] }
+    ensures sites { IfOk result (λ _. sites.new.items ≡ replicate (length setup.now.sites) (first_site setup.now)) }
+    ensures refused { IfErr result (λ e. e ≡ Refusal.NoMemory) }
+{
+    for _site in 0..setup.sites() {
         let site = Site::new(alloc, setup.objects())?;
         sites.push(site)?;
     }
-    Ok(sites)
+    Ok(())
 }

@@ -49,6 +49,7 @@ impl<A: Allocator + Copy> World<A> {
         ensures refused { IfErr result (λ e. IsRefusal (start_refusal setup) e) }
     {
         if !setup.is_ready() {
+            drop(setup);
             return Err(Refusal::Empty);
         }
         let store = Store::start(alloc, setup)?;

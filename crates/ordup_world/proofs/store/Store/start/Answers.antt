@@ -3,20 +3,19 @@ use Rattle.ordup_world.proofs.StoreLemmas.{IsStore-start}
 use Rattle.ordup_world.proofs.AfterLemmas.{IsStoreAfter-start}
 use Rattle.ordup_world.proofs.store.Store.start.Goals as goal
 
-pub returns-clause-state : goal.returns-clause-state
-returns-clause-state g c =
+pub returns-in-Ok-clause-state : goal.returns-in-Ok-clause-state
+returns-in-Ok-clause-state g c =
     let made = c.in_ok-primary.ensures in
     let log = rw (← made.setup) at made.log in
     let known = rw (← made.setup) at made.sites in
     let limits = rw (← made.setup) at made.limits in
-    let sites = rw (← made.setup) at c.in_ok-sites.ensures.sites in
-    let w = state_of (record { primary = c.in_ok-primary.primary; sites = c.in_ok-sites.sites }) in
+    let sites = rw c.setup.ensures at c.in-Ok.ensures.sites in
+    let w = state_of (record { primary = c.in_ok-primary.primary; sites = c.in-Ok.sites }) in
     rw (← made.setup) (IsStoreAfter-start w (IsStore-start w made.sound log known sites) log made.numbers.0 made.numbers.1 known limits
     sites)
 
-pub returns-clause-sound : goal.returns-clause-sound
-returns-clause-sound g c =
+pub returns-in-Ok-clause-sound : goal.returns-in-Ok-clause-sound
+returns-in-Ok-clause-sound g c =
     let made = c.in_ok-primary.ensures in
-    IsStore-start (state_of (record { primary = c.in_ok-primary.primary; sites = c.in_ok-sites.sites })) made.sound
-    (rw (← made.setup) at made.log) (rw (← made.setup) at made.sites)
-    (rw (← made.setup) at c.in_ok-sites.ensures.sites)
+    IsStore-start (state_of (record { primary = c.in_ok-primary.primary; sites = c.in-Ok.sites })) made.sound
+    (rw (← made.setup) at made.log) (rw (← made.setup) at made.sites) (rw c.setup.ensures at c.in-Ok.ensures.sites)

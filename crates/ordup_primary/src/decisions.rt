@@ -1,4 +1,4 @@
-ghost use Rattle.std.specs.Prelude.{◌≡◌, ◌<◌, ◌+◌, ◌==◌, ℕ, not, All, OnOk, IfErr, length, map, replicate, slice_index_or, IfOk};
+ghost use Rattle.std.specs.Prelude.{◌≡◌, ◌<◌, ◌+◌, ◌==◌, ℕ, [], not, All, OnOk, IfErr, length, map, replicate, slice_index_or};
 ghost use Rattle.std.specs.List.{list_any};
 ghost use Rattle.ordup_primary.specs.Primaries.{first_progress, decided_at};
 ghost use Rattle.ordup_primary.specs.PrimaryInside.{progress_of, HasRoom};
@@ -11,15 +11,17 @@ use ordup_objects::{Refusal, SiteId};
 use ordup_rounds::Window;
 use std::alloc::Allocator;
 
-/// The sites at the start: nothing was sent to them, and nothing is decided.
-pub(crate) fn first_sites<A: Allocator + Copy>(
+/// Adds the sites at the start: nothing was sent to them, and nothing is decided.
+pub(crate) fn add_sites<A: Allocator + Copy>(
+    sites: &mut Vec<Progress<A>, A>,
     alloc: A,
     count: usize,
-) -> Result<Vec<Progress<A>, A>, Refusal>
-    ensures sites { IfOk result (λ sites. map progress_of sites.items ≡ replicate count first_progress) }
+) -> Result<(), Refusal>
+    requires { sites.old.items ≡ [] }
+    ensures sites { OnOk result (map progress_of sites.new.items ≡ replicate count first_progress) }
     ensures refused { IfErr result (λ e. e ≡ Refusal.NoMemory) }
 {
-    let mut sites = Vec::with_capacity(alloc, count)?;
+    sites.reserve(count)?;
     for _site in 0..count {
         let site = Progress {
             sent: 0,
@@ -30,7 +32,7 @@ pub(crate) fn first_sites<A: Allocator + Copy>(
         };
         sites.push(site)?;
     }
-    Ok(sites)
+    Ok(())
 }
 
 /// Reserves the memory in which a decision is put down.

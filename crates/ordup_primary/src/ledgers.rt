@@ -1,4 +1,4 @@
-ghost use Rattle.std.specs.Prelude.{◌≡◌, ◌<◌, ◌≤◌, ℕ, All, length, slice_index_or, IfOk, IfErr};
+ghost use Rattle.std.specs.Prelude.{◌≡◌, ◌<◌, ◌≤◌, ℕ, [], All, length, slice_index_or, OnOk, IfErr};
 ghost use Rattle.ordup_objects.specs.Serial.{History};
 ghost use Rattle.ordup_objects.specs.Sizes.{most_sites};
 ghost use Rattle.ordup_log.specs.Groups.{GroupList};
@@ -13,21 +13,22 @@ use ordup_log::{Groups, Log};
 use ordup_objects::{Refusal, SiteId};
 use std::alloc::Allocator;
 
-/// The ledgers of the sites at the start.
-pub(crate) fn first_ledgers<A: Allocator + Copy>(
+/// Adds the ledgers of the sites at the start.
+pub(crate) fn add_ledgers<A: Allocator + Copy>(
+    ledgers: &mut Vec<LagLedger<A>, A>,
     alloc: A,
     setup: &Setup<A>,
-) -> Result<Vec<LagLedger<A>, A>, Refusal>
-    ensures ledgers { IfOk result (λ ledgers. AreLedgers (first_state setup.now) ledgers.items) }
+) -> Result<(), Refusal>
+    requires { ledgers.old.items ≡ [] }
+    ensures ledgers { OnOk result (AreLedgers (first_state setup.now) ledgers.new.items) }
     ensures refused { IfErr result (λ e. e ≡ Refusal.NoMemory) }
 {
     setup.objects().keeps();
-    let mut ledgers = Vec::new(alloc);
     for site in 0..setup.sites() {
         let ledger = LagLedger::new(alloc, setup.limits(SiteId::new(site as u8)))?;
         ledgers.push(ledger)?;
     }
-    Ok(ledgers)
+    Ok(())
 }
 
 /// Adds the updates up to a place to each ledger.

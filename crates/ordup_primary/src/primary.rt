@@ -5,14 +5,14 @@ ghost use Rattle.ordup_primary.specs.Declarations.{Declared, start_refusal};
 ghost use Rattle.ordup_primary.specs.Primaries.{first_progress};
 
 use crate::decisions::{last_place, put_down, reserve_decision};
-use crate::ledgers::{extend_to, first_ledgers, sites_over};
+use crate::ledgers::{extend_to, sites_over};
 use crate::marks::marks_of;
 use crate::parcel::Parcel;
 use crate::progress::Progress;
 use crate::settled::Settled;
 use crate::setup::Setup;
 use crate::site_list::SiteList;
-use crate::starting::{first_limits, first_parts};
+use crate::starting::begin;
 use ordup_limits::{LagLedger, LimitTable, Scope};
 use ordup_log::Log;
 use ordup_objects::{MessageSet, Refusal, SiteId};
@@ -73,18 +73,29 @@ impl<A: Allocator + Copy> Primary<A> {
         ensures sound { IfOk result (λ p. IsPrimary p) }
         ensures refused { IfErr result (λ e. e ≡ Refusal.NoMemory) }
     {
-        let (log, sites) = first_parts(alloc, &setup)?;
-        let limits = first_limits(alloc, &setup)?;
-        let ledgers = first_ledgers(alloc, &setup)?;
-        Ok(Primary {
-            setup,
-            log,
-            acked: 0,
-            decided: 0,
-            sites,
-            limits,
-            ledgers,
-        })
+        setup.keeps();
+        let mut sites = Vec::new(alloc);
+        let mut limits = Vec::new(alloc);
+        let mut ledgers = Vec::new(alloc);
+        match begin(alloc, &setup, &mut sites, &mut limits, &mut ledgers) {
+            Ok(log) => Ok(Primary {
+                setup,
+                log,
+                acked: 0,
+                decided: 0,
+                sites,
+                limits,
+                ledgers,
+            }),
+            Err(refusal) => {
+                // By calls: where these go out of scope, the proof takes them apart.
+                drop(setup);
+                drop(sites);
+                drop(limits);
+                drop(ledgers);
+                Err(refusal)
+            }
+        }
     }
 
     /// Numbers a message set as the next update.

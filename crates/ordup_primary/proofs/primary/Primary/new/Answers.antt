@@ -12,32 +12,32 @@ invariant_of-result g c =
           IsPrimary-new
           (state_of (record {
             setup = c.args.setup;
-            log = c.in_ok-log.log;
+            log = c.in-Ok.log;
             acked = 0;
             decided = 0;
-            sites = c.in_ok-log.sites;
-            limits = c.in_ok-limits.limits;
-            ledgers = c.in_ok-ledgers.ledgers;
+            sites = c.begin.new.sites;
+            limits = c.begin.new.limits;
+            ledgers = c.begin.new.ledgers;
           }))
-          (rw c.setup.view_is at c.setup.invariant) c.requires c.in_ok-log.ensures.log c.in_ok-log.ensures.legal
-          refl refl c.in_ok-log.ensures.sites c.in_ok-limits.ensures.limits;
-      ledgers = AreLedgers-kept (first_state c.args.setup) _ c.in_ok-ledgers.ledgers.items c.in_ok-ledgers.ensures.ledgers refl
-          c.in_ok-log.ensures.log c.in_ok-limits.ensures.limits (omega arith) (ap length c.in_ok-log.ensures.sites)
-          (λ s lt. ap (λ (sites : List SiteProgress). (get_or sites s first_progress).reported) c.in_ok-log.ensures.sites);
+          c.keeps.ensures c.requires c.in-Ok.ensures.log c.in-Ok.ensures.legal
+          refl refl c.in-Ok.ensures.sites c.in-Ok.ensures.limits;
+      ledgers = AreLedgers-kept (first_state c.args.setup) _ c.begin.new.ledgers.items c.in-Ok.ensures.ledgers refl
+          c.in-Ok.ensures.log c.in-Ok.ensures.limits (omega arith) (ap length c.in-Ok.ensures.sites)
+          (λ s lt. ap (λ (sites : List SiteProgress). (get_or sites s first_progress).reported) c.in-Ok.ensures.sites);
     }
 
-pub returns-clause-sound : goal.returns-clause-sound
-returns-clause-sound g c =
+pub returns-in-Ok-clause-sound : goal.returns-in-Ok-clause-sound
+returns-in-Ok-clause-sound g c =
     IsPrimary-new
     (state_of
     (record {
       setup = c.args.setup;
-      log = c.in_ok-log.log;
+      log = c.in-Ok.log;
       acked = 0;
       decided = 0;
-      sites = c.in_ok-log.sites;
-      limits = c.in_ok-limits.limits;
-      ledgers = c.in_ok-ledgers.ledgers;
+      sites = c.begin.new.sites;
+      limits = c.begin.new.limits;
+      ledgers = c.begin.new.ledgers;
     }))
-    (rw c.setup.view_is at c.setup.invariant) c.requires c.in_ok-log.ensures.log c.in_ok-log.ensures.legal
-    refl refl c.in_ok-log.ensures.sites c.in_ok-limits.ensures.limits
+    c.keeps.ensures c.requires c.in-Ok.ensures.log c.in-Ok.ensures.legal
+    refl refl c.in-Ok.ensures.sites c.in-Ok.ensures.limits

@@ -1,7 +1,7 @@
 use Rattle.std.proofs.Common.{◌≡◌, map, replicate}
 use Rattle.ordup_primary.specs.Primaries.{first_progress}
 use Rattle.ordup_primary.specs.PrimaryInside.{progress_of}
-use Rattle.ordup_primary.proofs.decisions.first_sites.Given as goal
+use Rattle.ordup_primary.proofs.decisions.add_sites.Given as goal
 
 -- the sites so far
 abbrev pub invariant-loop-site : goal.invariant-loop-site

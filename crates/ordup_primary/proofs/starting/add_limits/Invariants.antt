@@ -1,5 +1,5 @@
 use Rattle.std.proofs.Common.{◌≡◌, take}
-use Rattle.ordup_primary.proofs.starting.first_limits.Given as goal
+use Rattle.ordup_primary.proofs.starting.add_limits.Given as goal
 
 -- the limits of the sites so far
 abbrev pub invariant-loop-site : goal.invariant-loop-site

@@ -4,7 +4,7 @@ use Rattle.ordup_limits.specs.Entries.{latest}
 use Rattle.ordup_primary.specs.Primaries.{first_progress}
 use Rattle.ordup_primary.specs.PrimaryInside.{first_state}
 use Rattle.ordup_primary.proofs.LedgerLemmas.{IsLedgerOf-first, each-pushed}
-use Rattle.ordup_primary.proofs.ledgers.first_ledgers.Goals as goal
+use Rattle.ordup_primary.proofs.ledgers.add_ledgers.Goals as goal
 
 pub loop-site-preserved : goal.loop-site-preserved
 loop-site-preserved g c =

@@ -125,6 +125,10 @@ impl<A: Allocator + Copy> LagLedger<A> {
         ensures places { (self.new.reported ≡ to) × (self.new.extended ≡ self.old.extended) }
         ensures stands { StandsFor self.new log.now groups.now }
     {
+        // A turn between threads reports for each site, also where there is nothing new.
+        if to == self.reported {
+            return;
+        }
         log.keeps();
         groups.keeps();
         self.prepare(groups);

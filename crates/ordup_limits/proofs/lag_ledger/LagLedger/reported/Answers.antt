@@ -8,16 +8,16 @@ use Rattle.ordup_limits.proofs.lag_ledger.LagLedger.reported.Goals as goal
 
 pub returns-clause-stands : goal.returns-clause-stands
 returns-clause-stands g c =
-    let masks = rw (← c.self.view_is) at c.prepare.ensures.masks in
-    let rest = rw (← c.self.view_is) at c.prepare.ensures.rest in
-    let now = StandsFor-prepared (ledger_of c.self.inside) c.requires.stands rest masks in
+    let masks = rw (← c.self-2.view_is) at c.prepare.ensures.masks in
+    let rest = rw (← c.self-2.view_is) at c.prepare.ensures.rest in
+    let now = StandsFor-prepared (ledger_of c.self-2.inside) c.requires.stands rest masks in
     record {
       objects = now.objects;
       known = now.known;
       reported = c.requires.last;
       extended = now.extended;
-      allowed = AreAllowed-raised c.self.inside.masks.items c.keeps.ensures.legal c.keeps-2.ensures.groups now.known now.objects
-          c.self.invariant.ledger.few masks (omega (arith, c.requires.forward, ap (λ (k : LedgerState). k.reported) rest)) c.requires.last
+      allowed = AreAllowed-raised c.self-2.inside.masks.items c.keeps.ensures.legal c.keeps-2.ensures.groups now.known now.objects
+          c.self-2.invariant.ledger.few masks (omega (arith, c.requires.forward, ap (λ (k : LedgerState). k.reported) rest)) c.requires.last
           now.allowed c.raise_to.ensures.few (rw c.as_slice-masks.ensures.value at c.raise_to.ensures.totals);
       added = now.added;
       masks = now.masks;
@@ -25,14 +25,14 @@ returns-clause-stands g c =
 
 pub passed_among-self-inside-requires-clause-others : goal.passed_among-self-inside-requires-clause-others
 passed_among-self-inside-requires-clause-others g c =
-    let before = c.self.invariant in
+    let before = c.self-2.invariant in
     rw (c.as_slice-added.ensures.value, c.as_slice-allowed.ensures.value)
-    (kept-allowed c.self.inside.passed c.self.inside.added.items c.self.inside.allowed.items c.raise_to.new.allowed.items before.passed
+    (kept-allowed c.self-2.inside.passed c.self-2.inside.added.items c.self-2.inside.allowed.items c.raise_to.new.allowed.items before.passed
     (λ i few. omega (arith, c.raise_to.ensures.totals i few)))
 
 pub invariant_of-self : goal.invariant_of-self
 invariant_of-self g c =
-    let before = c.self.invariant in
+    let before = c.self-2.invariant in
     record {
       ledger = record {
         few = before.ledger.few;

@@ -1,8 +1,9 @@
 -- Masks, and the bits that are put into them.
-use Rattle.std.proofs.Common.{◌≡◌, ℕ, ◌+◌, ◌*◌, ◌<◌, ◌≤◌, ◌^◌, ◌%◌, Bool, true, false, List, length, get_or, arith, sym, refl, ap, ◌∙◌, inl}
-use Rattle.std.proofs.Common.{inr, w64}
+use Rattle.std.proofs.Common.{◌≡◌, ℕ, ◌+◌, ◌*◌, ◌<◌, ◌≤◌, ◌^◌, ◌%◌, Bool, true, false, List, length, get_or, take, arith, sym, refl}
+use Rattle.std.proofs.Common.{ap, ◌∙◌, inl, inr, w64}
 use Rattle.std.specs.Prelude.{◌==◌, ◌&&◌, ◌||◌, if◌then◌else◌, nat_lt, bit_and}
 use Rattle.std.specs.Int.{bit_at, bit_not}
+use Rattle.std.specs.List.{list_any}
 use mir.Val.{bits}
 use Rattle.std.proofs.lemmas.Nat.{and_le_l}
 use Rattle.std.specs.Int.RustNames.{bit_or}
@@ -12,6 +13,7 @@ use Rattle.std.proofs.Math.Pow.{pow-lt}
 use Rattle.std.proofs.lemmas.Bool.{cases_eq, cases_lt, eq-eqb, ne_eqb, lt-ltb, le-ltb}
 use Rattle.std.proofs.lemmas.Grind.{get_or-set_at, get_or_default_zero}
 use Rattle.std.proofs.lemmas.List.{get_or-set_other}
+use Rattle.std.proofs.lemmas.List.Folds.{list_any_more}
 use Rattle.std.proofs.lemmas.Nat.Bits.{bit_at_or, bit_at-lt, bit_at-pow_same, bit_at-pow_other}
 use Rattle.std.proofs.lemmas.Nat.Bits.{bit_at_clear_same, bit_at_clear_other}
 use Rattle.ordup_limits.specs.Totals.{has_bit, share}
@@ -76,6 +78,40 @@ bits-next counts old new i place put before = elim (cases_lt i place) [
         put ∙ rw (before, ne_eqb i place other, le-ltb i place le, le-ltb i (place + 1) (omega arith), and-false (counts place)) refl
   ]
 ]
+
+or-parts : (a b c d : Bool) → ((b && c) || ((a && c) || d)) ≡ (((a || b) && c) || d)
+or-parts true true true d = refl
+or-parts true true false d = refl
+or-parts true false true d = refl
+or-parts true false false d = refl
+or-parts false true true d = refl
+or-parts false true false d = refl
+or-parts false false true d = refl
+or-parts false false false d = refl
+
+lt-next : (x k : ℕ) → nat_lt x (k + 1) ≡ (nat_lt x k || (k == x))
+lt-next x k = elim (cases_lt x k) [
+  | inl lt ↦ rw (lt-ltb x k lt, lt-ltb x (k + 1) (omega arith)) refl
+  | inr le ↦ elim (cases_eq k x) [
+    | inl same ↦ rw (le-ltb x k le, eq-eqb k x same, lt-ltb x (k + 1) (omega arith)) refl
+    | inr other ↦ rw (le-ltb x k le, ne_eqb k x other, le-ltb x (k + 1) (omega arith)) refl
+  ]
+]
+
+-- with one member more a bit is put down for the members so far
+pub members-more : (members : List ℕ) (k member x : ℕ) (here old new first : Bool) → k < length members → member ≡ get_or members k member
+    → new ≡ (((member == x) && here) || old) → old ≡ ((list_any (λ y. y == x) (take k members) && here) || first)
+    → new ≡ ((list_any (λ y. y == x) (take (k + 1) members) && here) || first)
+members-more members k member x here old new first lt is put before =
+    put ∙ rw (before, list_any_more (λ y. y == x) members k member lt, ← is)
+    (or-parts (list_any (λ y. y == x) (take k members)) (member == x) here first)
+
+-- with one object more a bit is put down for the objects so far
+pub objects-more : (k object x : ℕ) (here old new first : Bool) → object ≡ k → new ≡ (((object == x) && here) || old)
+    → old ≡ ((nat_lt x k && here) || first)
+    → new ≡ ((nat_lt x (k + 1) && here) || first)
+objects-more k object x here old new first is put before =
+    put ∙ rw (before, is, lt-next x k) (or-parts (nat_lt x k) (k == x) here first)
 
 -- ---- the lowest bit that is left
 

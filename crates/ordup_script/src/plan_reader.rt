@@ -54,8 +54,13 @@ pub fn read_plan_within<A: Allocator + Copy, R: Read>(
     }) result }
 {
     let mut planning = Planning::new(alloc);
-    read_into(&mut planning, input, limit)?;
-    Ok(planning.plan)
+    match read_into(&mut planning, input, limit) {
+        Ok(()) => Ok(planning.plan),
+        Err(fault) => {
+            drop(planning);
+            Err(fault)
+        }
+    }
 }
 
 /// Reads a plan: declarations, `start`, and then proposals alone. It answers as `read_plan_within` does with the limit

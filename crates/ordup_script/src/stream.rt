@@ -137,8 +137,15 @@ pub fn run_script_within<A: Allocator + Copy, R: Read, W: Write>(
 {
     let mut store = ScriptEnd::new(alloc);
     let mut answers = TextBuffer::new(alloc);
-    run_in(&mut store, &mut answers, input, output, limit)?;
-    Ok(store)
+    let ran = run_in(&mut store, &mut answers, input, output, limit);
+    drop(answers);
+    match ran {
+        Ok(()) => Ok(store),
+        Err(fault) => {
+            drop(store);
+            Err(fault)
+        }
+    }
 }
 
 /// Runs a script. It answers as `run_script_within` does with the limit `MOST_SCRIPT_BYTES`.

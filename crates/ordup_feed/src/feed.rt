@@ -1,4 +1,5 @@
 ghost use Rattle.std.specs.Prelude.{◌≡◌, ◌<◌, [], IfOk, IfErr};
+ghost use Rattle.std.specs.Arc.{arc_value};
 ghost use Rattle.ordup_objects.specs.Refusals.{IsRefusal};
 ghost use Rattle.ordup_objects.specs.States.{IsState};
 ghost use Rattle.ordup_objects.specs.Tables.{initial_state};
@@ -52,12 +53,10 @@ fn open<J: Start>(
 {
     let (queue, mut pass) = Queue::ruled(alloc, capacity)?;
     let taker_pass = queue.another::<Ends<J>>(&mut pass);
-    let queue = Arc::new(alloc, queue)?;
-    let taker_queue = Arc::try_clone(&queue)?;
+    let (queue, taker_queue) = shared(alloc, queue)?;
     let (counter, mut counter_pass) = Counter::ruled(alloc, [0])?;
     let taker_counter_pass = counter.split_pass::<Halves>(&mut counter_pass);
-    let counter = Arc::new(alloc, counter)?;
-    let taker_counter = Arc::try_clone(&counter)?;
+    let (counter, taker_counter) = shared(alloc, counter)?;
     let sender = SendEnd {
         queue,
         pass,
@@ -73,4 +72,13 @@ fn open<J: Start>(
         count: 0,
     };
     Ok((sender, taker))
+}
+
+/// A value with two owners.
+fn shared<T: Drop>(alloc: Global, value: T) -> Result<(Arc<T, Global>, Arc<T, Global>), AllocError>
+    ensures { IfOk result (λ two. (arc_value two.0 ≡ value) × (arc_value two.1 ≡ value)) }
+{
+    let one = Arc::new(alloc, value)?;
+    let other = Arc::try_clone(&one)?;
+    Ok((one, other))
 }

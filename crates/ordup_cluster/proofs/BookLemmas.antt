@@ -219,6 +219,11 @@ tied-sent p q s e x tied inside unsent number set is =
       reported = rw at tied.reported;
     }
 
+-- nothing else of an end changed
+pub pushed-alone : (e f : Sending) (parcels : List PlainParcel) → f ≡ record e { pushed = parcels } → f ≡ record e { pushed = f.pushed }
+pushed-alone e f parcels is =
+    let more : f.pushed ≡ parcels = ap (λ (s : Sending). s.pushed) is in is ∙ (λ i. record e { pushed = sym more i })
+
 -- as many parcels were pushed for a site as were sent to it
 pub pushed-count : (p : PrimaryState) (s : ℕ) (e : Sending) → IsPrimary p → s < length p.sites → IsTied p s e
     → length e.pushed ≡ (progress_at p s).sent

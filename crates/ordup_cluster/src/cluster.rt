@@ -1,4 +1,5 @@
 ghost use Rattle.std.specs.Prelude.{◌≡◌, ◌≢◌, ◌<◌, ◌≤◌, ◌⊎◌, ℕ, None, Some, pos, length, max, slice_get, vec_len, IfOk, OnOk, IfErr, OnErr, IfSome, IfNone};
+ghost use Rattle.std.specs.Vec.{vec_capacity};
 ghost use Rattle.ordup_objects.specs.Refusals.{IsRefusal};
 ghost use Rattle.ordup_primary.specs.Declarations.{start_refusal};
 ghost use Rattle.ordup_site.specs.Sites.{SiteState};
@@ -15,6 +16,7 @@ use crate::holds::{
     Book, Numbered, SeenValue, SiteCell, agree, begin, number_and_turn, open, relimit, take, until,
     until_acknowledged, view,
 };
+use crate::room::{Room, locked, sites_of};
 use crate::session::Session;
 use crate::site_query::SiteQuery;
 use ordup_log::Scope;
@@ -67,25 +69,36 @@ impl Cluster {
         ensures refused { IfErr result (λ e. IsRefusal (start_refusal setup) e) }
     {
         let (book, cells) = open(alloc, setup)?;
-        Cluster::under_locks(alloc, book, cells)
+        match Room::new(alloc, &book, cells.len()) {
+            Ok(room) => Ok(Cluster::under_locks(book, cells, room)),
+            Err(refusal) => {
+                // By calls: where it goes out of scope, the proof takes it apart.
+                drop(book);
+                drop(cells);
+                Err(refusal)
+            }
+        }
     }
 
     /// The store of a book and of the cells of its sites, each of them under a lock of its own.
-    fn under_locks(alloc: Global, book: Book, cells: Vec<SiteCell>) -> Result<Cluster, Refusal>
-        requires { 0 < length cells.items }
-        ensures cluster { IfOk result (λ c. c ≡ record { objects = book.primary.setup.objects; sites = length cells.items }) }
-        ensures refused { IfErr result (λ e. e ≡ Refusal.NoMemory) }
+    fn under_locks(book: Book, cells: Vec<SiteCell>, room: Room) -> Cluster
+        requires some { 0 < length cells.items }
+        requires locks { (vec_len room.locks ≡ 0) × (length cells.items ≤ vec_capacity room.locks) }
+        requires sites { (vec_len room.sites ≡ 0) × (length cells.items ≤ vec_capacity room.sites) }
+        ensures { result ≡ record { objects = room.objects; sites = length cells.items } }
     {
-        let cells = locked(alloc, cells)?;
-        let room = Vec::with_capacity(alloc, cells.len())?;
-        let objects = book.primary().setup().objects().copy(alloc)?;
-        Ok(Cluster {
-            book: Mutex::new(book),
-            cells,
+        let Room {
             objects,
-            room,
+            locks,
+            sites,
+        } = room;
+        Cluster {
+            book: Mutex::new(book),
+            cells: locked(cells, locks),
+            objects,
+            room: sites,
             stopped: AtomicBool::new(false),
-        })
+        }
     }
 
     /// The objects as they were declared, of which callers make their message sets. It takes no lock.
@@ -325,18 +338,22 @@ impl Cluster {
         let Cluster {
             book,
             cells,
-            objects: _,
+            objects,
             room,
             stopped: _,
         } = self;
-        let mut sites = room;
-        for cell in cells {
-            sites.push_reserved(cell.into_inner().into_site());
-        }
-        let book = book.into_inner();
-        let (primary, spare_values) = book.into_parts();
-        match first_mixed(&primary, &sites, spare_values) {
-            Some(site) => Err(Refusal::Mixed { site }),
+        // What is large is dropped by a call: where it goes out of scope, the proof takes it apart.
+        drop(objects);
+        let sites = sites_of(cells, room);
+        let (primary, mut spare_values) = book.into_inner().into_parts();
+        let mixed = first_mixed(&primary, &sites, &mut spare_values);
+        drop(spare_values);
+        match mixed {
+            Some(site) => {
+                drop(primary);
+                drop(sites);
+                Err(Refusal::Mixed { site })
+            }
             None => Ok(Closed { primary, sites }),
         }
     }
@@ -367,25 +384,13 @@ fn number_unless_stopped<R: Wait>(
     number_and_turn(rt, book, set)
 }
 
-/// Each cell under a lock of its own.
-fn locked(alloc: Global, cells: Vec<SiteCell>) -> Result<Vec<Mutex<SiteCell>>, Refusal>
-    ensures count { IfOk result (λ locked. vec_len locked ≡ length cells.items) }
-    ensures refused { IfErr result (λ e. e ≡ Refusal.NoMemory) }
-{
-    let mut locked = Vec::with_capacity(alloc, cells.len())?;
-    for cell in cells {
-        locked.push_reserved(Mutex::new(cell));
-    }
-    Ok(locked)
-}
-
 /// The first site that does not agree with the primary, given the initial values once for each site.
 fn first_mixed(
     primary: &Primary,
     sites: &Vec<Site>,
-    mut spare_values: Vec<Values>,
+    spare_values: &mut Vec<Values>,
 ) -> Option<SiteId>
-    requires { AreSpareValues primary.now spare_values.items }
+    requires { AreSpareValues primary.now spare_values.old.items }
     ensures mixed { IfSome result (λ s. ((length sites.now.items ≢ length primary.now.sites) × (s ≡ 0)) ⊎ IsFirstMixed primary.now sites.now.items s) }
     ensures count { IfNone result (length sites.now.items ≡ length primary.now.sites) }
     ensures agree { IfNone result ((s : ℕ) (x : SiteState) → slice_get sites.now.items s ≡ Some x → Agrees primary.now s x) }

@@ -22,6 +22,7 @@ mod closed;
 mod cluster;
 mod gate;
 pub mod holds;
+mod room;
 mod session;
 mod site_query;
 

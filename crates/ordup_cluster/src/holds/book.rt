@@ -70,9 +70,11 @@ impl Book {
         self.primary.keeps();
         let Book {
             primary,
-            ends: _,
+            ends,
             spare_values,
         } = self;
+        // By a call: where they go out of scope, the proof takes them apart.
+        drop(ends);
         (primary, spare_values)
     }
 }

@@ -1,4 +1,4 @@
-ghost use Rattle.std.specs.Prelude.{◌≡◌, ◌+◌, ◌<◌, None, All, length, IfOk, OnOk, IfErr};
+ghost use Rattle.std.specs.Prelude.{◌≡◌, ◌+◌, ◌<◌, None, [], All, length, IfOk, OnOk, IfErr};
 ghost use Rattle.ordup_objects.specs.Refusals.{IsRefusal};
 ghost use Rattle.ordup_objects.specs.Tables.{initial_state};
 ghost use Rattle.ordup_primary.specs.Declarations.{start_refusal};
@@ -20,12 +20,21 @@ pub fn open(alloc: Global, setup: Setup) -> Result<(Book, Vec<SiteCell>), Refusa
     ensures allowed { IfOk result (λ _. start_refusal setup ≡ None) }
     ensures refused { IfErr result (λ e. IsRefusal (start_refusal setup) e) }
 {
+    // What is large is dropped by a call: where it goes out of scope, the proof takes it apart.
     if !setup.is_ready() {
+        drop(setup);
         return Err(Refusal::Empty);
     }
-    let (ends, cells) = first_feeds(alloc, &setup)?;
-    let spare_values = first_spare_values(alloc, &setup)?;
     let primary = Primary::new(alloc, setup)?;
+    let Ok(spare_values) = first_spare_values(alloc, primary.setup()) else {
+        drop(primary);
+        return Err(Refusal::NoMemory);
+    };
+    let Ok((ends, cells)) = first_feeds(alloc, primary.setup()) else {
+        drop(spare_values);
+        drop(primary);
+        return Err(Refusal::NoMemory);
+    };
     Ok((Book::new(primary, ends, spare_values), cells))
 }
 
@@ -36,11 +45,32 @@ fn first_feeds(alloc: Global, setup: &Setup) -> Result<(Vec<SendEnd>, Vec<SiteCe
 {
     let mut ends = Vec::new(alloc);
     let mut cells = Vec::new(alloc);
+    match add_feeds(alloc, setup, &mut ends, &mut cells) {
+        Ok(()) => Ok((ends, cells)),
+        Err(refusal) => {
+            drop(ends);
+            drop(cells);
+            Err(refusal)
+        }
+    }
+}
+
+/// Adds the feed of each site.
+fn add_feeds(
+    alloc: Global,
+    setup: &Setup,
+    ends: &mut Vec<SendEnd>,
+    cells: &mut Vec<SiteCell>,
+) -> Result<(), Refusal>
+    requires none { AreFirstFeeds setup.now 0 ends.old.items cells.old.items }
+    ensures feeds { OnOk result (AreFirstFeeds setup.now (length setup.now.sites) ends.new.items cells.new.items) }
+    ensures refused { IfErr result (λ e. e ≡ Refusal.NoMemory) }
+{
     for place in 0..setup.sites() {
         let site = SiteId::new(place as u8);
-        add_feed(alloc, setup, site, &mut ends, &mut cells)?;
+        add_feed(alloc, setup, site, ends, cells)?;
     }
-    Ok((ends, cells))
+    Ok(())
 }
 
 /// Adds the feed of one more site.
@@ -56,11 +86,15 @@ fn add_feed(
     ensures feeds { OnOk result (AreFirstFeeds setup.now (site + 1) ends.new.items cells.new.items) }
     ensures refused { IfErr result (λ e. e ≡ Refusal.NoMemory) }
 {
-    let (end, taker) = Feed::new(alloc, setup.objects(), setup.capacity(site))?;
+    ends.reserve(1)?;
+    cells.reserve(1)?;
     let replica = Site::new(alloc, setup.objects())?;
-    let cell = SiteCell::new(replica, taker);
-    ends.push(end)?;
-    cells.push(cell)?;
+    let Ok((end, taker)) = Feed::new(alloc, setup.objects(), setup.capacity(site)) else {
+        drop(replica);
+        return Err(Refusal::NoMemory);
+    };
+    ends.push_reserved(end);
+    cells.push_reserved(SiteCell::new(replica, taker));
     Ok(())
 }
 
@@ -71,8 +105,29 @@ fn first_spare_values(alloc: Global, setup: &Setup) -> Result<Vec<Values>, Refus
     ensures refused { IfErr result (λ e. e ≡ Refusal.NoMemory) }
 {
     let mut spare_values = Vec::new(alloc);
-    for _ in 0..setup.sites() {
-        spare_values.push(Values::initial(alloc, setup.objects())?)?;
+    match add_spare_values(alloc, setup, &mut spare_values) {
+        Ok(()) => Ok(spare_values),
+        Err(refusal) => {
+            drop(spare_values);
+            Err(refusal)
+        }
     }
-    Ok(spare_values)
+}
+
+/// Adds the initial values of the objects, once for each site.
+fn add_spare_values(
+    alloc: Global,
+    setup: &Setup,
+    spare_values: &mut Vec<Values>,
+) -> Result<(), Refusal>
+    requires none { spare_values.old.items ≡ [] }
+    ensures count { OnOk result (length spare_values.new.items ≡ length setup.now.sites) }
+    ensures values { OnOk result (All (λ v. v ≡ initial_state setup.now.objects) spare_values.new.items) }
+    ensures refused { IfErr result (λ e. e ≡ Refusal.NoMemory) }
+{
+    for _ in 0..setup.sites() {
+        spare_values.reserve(1)?;
+        spare_values.push_reserved(Values::initial(alloc, setup.objects())?);
+    }
+    Ok(())
 }

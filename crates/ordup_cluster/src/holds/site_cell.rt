@@ -68,7 +68,9 @@ impl SiteCell {
         ensures site { result ≡ self.site }
         ensures held { HoldsTaken self }
     {
-        let SiteCell { site, end: _ } = self;
+        let SiteCell { site, end } = self;
+        // By a call: where it goes out of scope, the proof takes it apart.
+        drop(end);
         site
     }
 }

@@ -5,22 +5,25 @@ use Rattle.ordup_cluster.proofs.cluster.Cluster.close.Goals as goal
 pub invariant_of-result : goal.invariant_of-result
 invariant_of-result c =
     let parts = c.into_parts-primary.ensures in
-    let same = c.in-None-first_mixed.ensures in
-    is-closed c.into_parts-primary.result.0 c.loop-cell.sites.items parts.sound same.count same.agree parts.within
+    let count = rw c.in-None.is at c.first_mixed-mixed.ensures.count in
+    let agree = rw c.in-None.is at c.first_mixed-mixed.ensures.agree in
+    is-closed c.into_parts-primary.result.0 c.sites_of-sites.result.items parts.sound count agree parts.within
 
 pub returns-clause-closed : goal.returns-clause-closed
 returns-clause-closed c =
     let parts = c.into_parts-primary.ensures in
-    let same = c.in-None-first_mixed.ensures in
-    is-closed c.into_parts-primary.result.0 c.loop-cell.sites.items parts.sound same.count same.agree parts.within
+    let count = rw c.in-None.is at c.first_mixed-mixed.ensures.count in
+    let agree = rw c.in-None.is at c.first_mixed-mixed.ensures.agree in
+    is-closed c.into_parts-primary.result.0 c.sites_of-sites.result.items parts.sound count agree parts.within
 
-pub returns-in-Some-first_mixed-clause-refused : goal.returns-in-Some-first_mixed-clause-refused
-returns-in-Some-first_mixed-clause-refused c =
+pub returns-in-Some-clause-refused : goal.returns-in-Some-clause-refused
+returns-in-Some-clause-refused c =
     let some : 0 < c.args.self.sites = search rules in
-    let all : length c.loop-cell.sites.items ≡ c.args.self.sites = search rules in (
-      c.in-Some-first_mixed.site,
+    let all : length c.sites_of-sites.result.items ≡ c.args.self.sites = search rules in
+    let mixed = rw c.in-Some.is at c.first_mixed-mixed.ensures.mixed in (
+      c.in-Some.site,
       refl,
       ⊎_elim (λ differ. let first = differ.1 in omega arith)
           (λ is. let there = is.there in omega arith)
-          c.in-Some-first_mixed.ensures.mixed,
+          mixed,
     )

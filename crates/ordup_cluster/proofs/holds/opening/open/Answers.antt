@@ -7,19 +7,22 @@ use Rattle.ordup_cluster.proofs.holds.opening.open.Goals as goal
 pub new-requires-2-clause-ends : goal.new-requires-2-clause-ends
 new-requires-2-clause-ends c =
     let made = c.in_ok-primary.ensures in
-    keeps-first c.args.setup _ _ c.in_ok-ends.cells.items (first-is _ _ made.setup made.log made.numbers made.sites made.limits)
-    c.in_ok-ends.ensures.feeds
+    let feeds = rw (c.setup-2.ensures, made.setup) at c.in-Ok-first_feeds.ensures.feeds in
+    keeps-first c.args.setup _ _ c.in-Ok-first_feeds.cells.items
+    (first-is _ _ made.setup made.log made.numbers made.sites made.limits) feeds
 
 pub new-requires-2-clause-rooms : goal.new-requires-2-clause-rooms
 new-requires-2-clause-rooms c =
     let made = c.in_ok-primary.ensures in
-    let spare_values = c.in_ok-spare_values.ensures in (
-      rw made.sites (spare_values.count ∙ sym (length-replicate (length c.args.setup.sites) first_progress)),
-      rw made.log spare_values.values,
+    let count = rw (c.setup.ensures, made.setup) at c.in-Ok.ensures.count in
+    let values = rw (c.setup.ensures, made.setup) at c.in-Ok.ensures.values in (
+      rw made.sites (count ∙ sym (length-replicate (length c.args.setup.sites) first_progress)),
+      rw made.log values,
     )
 
 pub returns-clause-opened : goal.returns-clause-opened
 returns-clause-opened c =
     let made = c.in_ok-primary.ensures in
+    let feeds = rw (c.setup-2.ensures, made.setup) at c.in-Ok-first_feeds.ensures.feeds in
     rw c.new-2.ensures
-    (record { primary = first-is _ _ made.setup made.log made.numbers made.sites made.limits; feeds = c.in_ok-ends.ensures.feeds })
+    (record { primary = first-is _ _ made.setup made.log made.numbers made.sites made.limits; feeds = feeds })

@@ -1,8 +1,7 @@
-use Rattle.std.proofs.Common.{◌<◌, sym, ap, ◌∙◌, length, arith, inr}
+use Rattle.std.proofs.Common.{◌<◌, ap, length, arith, inr}
 use Rattle.ordup_primary.specs.Primaries.{PrimaryState, progress_at}
-use Rattle.ordup_feed.specs.Ends.{Sending}
 use Rattle.ordup_cluster.specs.Turning.{kept_at}
-use Rattle.ordup_cluster.proofs.BookLemmas.{tied-sent, progress-twice, progress-same, sites-count, sent-more, pushed-count}
+use Rattle.ordup_cluster.proofs.BookLemmas.{tied-sent, progress-twice, progress-same, sites-count, sent-more, pushed-alone, pushed-count}
 use Rattle.ordup_cluster.proofs.holds.turning.send.Goals as goal
 
 pub loop-site-preserved : goal.loop-site-preserved
@@ -25,7 +24,7 @@ loop-site-preserved g c =
       site = progress-twice _ p _ s _ _ before.site marked before.inside;
       sent =
           sent-more _ s _ (kept_at p s c.loop-site.end) _ before.sent at
-          (pushed ∙ (let more = ap (λ (e : Sending). e.pushed) pushed in λ i. record c.loop-site.end { pushed = sym more i }))
+          (pushed-alone c.loop-site.end _ _ pushed)
           (omega (arith, last.bound, c.loop-site-test.true, c.sent.ensures));
       inside = rw (sites-count p _ s _ marked) before.inside;
     }

@@ -1,7 +1,7 @@
 use Rattle.std.proofs.Common.{◌≡◌, ◌+◌, ◌≤◌, length, vec_len}
 use Rattle.std.specs.Vec.{vec_capacity}
 use Rattle.std.specs.Vec.Iter.{into_iter_len}
-use Rattle.ordup_cluster.proofs.cluster.locked.Given as goal
+use Rattle.ordup_cluster.proofs.room.locked.Given as goal
 
 -- each cell is locked or left, and there is a place for those that are left
 abbrev pub invariant-loop-cell : goal.invariant-loop-cell

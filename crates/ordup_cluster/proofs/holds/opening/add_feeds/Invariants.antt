@@ -1,5 +1,5 @@
 use Rattle.ordup_cluster.specs.Opening.{AreFirstFeeds}
-use Rattle.ordup_cluster.proofs.holds.opening.first_feeds.Given as goal
+use Rattle.ordup_cluster.proofs.holds.opening.add_feeds.Given as goal
 
 -- the feeds of the sites so far
 abbrev pub invariant-loop-place : goal.invariant-loop-place

@@ -1,7 +1,7 @@
 use Rattle.std.proofs.Common.{◌≡◌, length}
 use Rattle.std.specs.Prelude.{All}
 use Rattle.ordup_objects.specs.Tables.{initial_state}
-use Rattle.ordup_cluster.proofs.holds.opening.first_spare_values.Given as goal
+use Rattle.ordup_cluster.proofs.holds.opening.add_spare_values.Given as goal
 
 -- the values of the sites so far
 abbrev pub invariant-loop : goal.invariant-loop

@@ -1,6 +1,6 @@
 //! The least place from which the span up to a decided place passes no limit.
 
-ghost use Rattle.std.specs.Prelude.{◌≡◌, ◌≤◌, ◌+◌, IfSome, length, not, false};
+ghost use Rattle.std.specs.Prelude.{◌≡◌, ◌≤◌, ◌+◌, [], IfSome, length, not, false};
 ghost use Rattle.ordup_objects.specs.Serial.{IsLegalHistory};
 ghost use Rattle.ordup_limits.specs.Limits.{within};
 ghost use Rattle.ordup_limits.specs.Ledgers.{StandsFor};
@@ -56,14 +56,39 @@ fn find_starts<A: Allocator + Copy>(audited: &Record<A>) -> Option<Vec<u64, A>>
     requires { IsLegalHistory (history_of audited.now) }
     ensures { IfSome result (λ starts. AreLeastStarts (is_within audited.now) (length audited.now.sets + 1) starts.items) }
 {
+    let mut ledger = first_ledger(audited)?;
+    let starts = starts_by(audited, &mut ledger);
+    drop(ledger);
+    starts
+}
+
+/// A ledger without limits, at the empty span from 0; none where it is refused memory.
+fn first_ledger<A: Allocator + Copy>(audited: &Record<A>) -> Option<LagLedger<A>>
+    ensures { IfSome result (λ ledger. StandsAt (history_of audited.now) audited.now.groups [] 0 0 ledger) }
+{
+    audited.keeps();
+    let no_limits = LimitTable::new(audited.allocator());
+    let made = LagLedger::new(audited.allocator(), &no_limits);
+    drop(no_limits);
+    match made {
+        Ok(ledger) => Some(ledger),
+        Err(_) => None,
+    }
+}
+
+/// The least starts of 0 and of each decided place, by a first ledger; none where they are refused memory.
+fn starts_by<A: Allocator + Copy>(
+    audited: &Record<A>,
+    ledger: &mut LagLedger<A>,
+) -> Option<Vec<u64, A>>
+    requires legal { IsLegalHistory (history_of audited.now) }
+    requires first { StandsAt (history_of audited.now) audited.now.groups [] 0 0 ledger.old }
+    ensures { IfSome result (λ starts. AreLeastStarts (is_within audited.now) (length audited.now.sets + 1) starts.items) }
+{
     let decided = audited.decided();
     let (log, groups) = (audited.log(), audited.groups());
     audited.limits().keeps();
     let entries = audited.limits().entries();
-    let no_limits = LimitTable::new(audited.allocator());
-    let Ok(mut ledger) = LagLedger::new(audited.allocator(), &no_limits) else {
-        return None;
-    };
     let Ok(mut starts) = Vec::with_capacity(audited.allocator(), decided as usize + 1) else {
         return None;
     };
@@ -73,8 +98,8 @@ fn find_starts<A: Allocator + Copy>(audited: &Record<A>) -> Option<Vec<u64, A>>
     for place in 0..decided {
         ledger.extend(log, groups, place + 1);
         let before = begun;
-        begun = begin(&mut ledger, log, groups, entries, before, place + 1);
-        start = next_start(&mut ledger, log, groups, begun != before, start, place + 1);
+        begun = begin(ledger, log, groups, entries, before, place + 1);
+        start = next_start(ledger, log, groups, begun != before, start, place + 1);
         starts.push_reserved(start);
     }
     Some(starts)

@@ -4,7 +4,7 @@ use Rattle.ordup_limits.specs.Limits.{within}
 use Rattle.ordup_audit.specs.Records.{history_of, is_within}
 use Rattle.ordup_audit.specs.Beginning.{HaveBegun}
 use Rattle.ordup_audit.specs.LeastStarts.{AreLeastStarts, PassesBefore, StandsAt}
-use Rattle.ordup_audit.proofs.least_starts.find_starts.Given as goal
+use Rattle.ordup_audit.proofs.least_starts.starts_by.Given as goal
 
 -- the starts of the places so far, with room for the others; how many limits have begun; and a ledger of these at the span from the
 -- last of the starts

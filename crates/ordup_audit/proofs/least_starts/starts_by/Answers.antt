@@ -5,21 +5,20 @@ use Rattle.ordup_limits.specs.Entries.{latest}
 use Rattle.ordup_limits.proofs.EntryLemmas.{in_force-test}
 use Rattle.ordup_audit.specs.Beginning.{HaveBegun}
 use Rattle.ordup_audit.specs.LeastStarts.{IsLeastStart}
-use Rattle.ordup_audit.proofs.LeastStartLemmas.{begins, least-in_force, passes-longer, starts-first, starts-more}
-use Rattle.ordup_audit.proofs.least_starts.find_starts.Goals as goal
+use Rattle.ordup_audit.proofs.LeastStartLemmas.{least-in_force, passes-longer, starts-first, starts-more}
+use Rattle.ordup_audit.proofs.least_starts.starts_by.Goals as goal
 
 pub loop-place-init : goal.loop-place-init
 loop-place-init g c =
     let r = c.args.audited.now in
     let is = c.decided-decided.ensures.sound in
     record {
-      room = omega (arith, c.in-Ok-with_capacity.ensures.capacity, c.push_reserved.ensures.capacity);
-      starts = rw (c.push_reserved.ensures.items, c.in-Ok-with_capacity.ensures.items) (starts-first (is_within r)
+      room = omega (arith, c.in-Ok.ensures.capacity, c.push_reserved.ensures.capacity);
+      starts = rw (c.push_reserved.ensures.items, c.in-Ok.ensures.items) (starts-first (is_within r)
           (in_force-test (history_of r) r.groups r.limits));
       begun = record { upto = λ i d lt. absurd (omega arith); later = is.limits.begun };
       before = λ k lt. absurd (omega arith);
-      stands = begins r c.in-Ok.ledger is (rw c.new-no_limits.ensures at c.in-Ok.ensures.limits) c.in-Ok.ensures.places
-          (rw c.new-no_limits.ensures at c.in-Ok.ensures.stands);
+      stands = c.requires.first;
     }
 
 pub next_start-start-requires-clause-before : goal.next_start-start-requires-clause-before
@@ -30,7 +29,7 @@ next_start-start-requires-clause-before g c = λ same.
     let count : c.begin-begun.result ≡ c.loop-place.begun = eqb-true _ _ (not-false _ same) in
     let limits : c.begin-begun.new.ledger.limits ≡ latest (take c.loop-place.begun r.limits) =
     rw (count, entries) at c.begin-begun.ensures.limits in
-    rw (c.log-log.ensures.whole c.requires, c.groups-groups.ensures, limits)
+    rw (c.log-log.ensures.whole c.requires.legal, c.groups-groups.ensures, limits)
     (passes-longer (history_of r) r.groups (latest (take c.loop-place.begun r.limits)) c.loop-place.start c.loop-place.place
     (c.loop-place.place + 1) (omega arith) inside.before))
 
@@ -40,7 +39,7 @@ loop-place-preserved g c =
     let inside = c.loop-place.invariant in
     let n = c.begin-begun.result in
     let start = c.next_start-start.result in
-    let log = c.log-log.ensures.whole c.requires in
+    let log = c.log-log.ensures.whole c.requires.legal in
     let entries = c.entries-entries.ensures ∙ c.limits-2.ensures in
     let begun : HaveBegun (c.loop-place.place + 1) r.limits n = rw entries at c.begin-begun.ensures.begun in
     let limits : c.begin-begun.new.ledger.limits ≡ latest (take n r.limits) = rw entries at c.begin-begun.ensures.limits in

@@ -1,6 +1,7 @@
 ghost use Rattle.std.specs.Prelude.{◌≡◌, IfNone, IfSome, length};
 ghost use Rattle.ordup_audit.specs.Validity.{IsValid};
-ghost use Rattle.ordup_audit.specs.Verdicts.{IsVerdict, IfFewest, NoFewerRounds};
+ghost use Rattle.ordup_audit.specs.LeastStarts.{AreStartsOf};
+ghost use Rattle.ordup_audit.specs.Verdicts.{AreUpdatesLegal, IsVerdict, IfFewest, NoFewerRounds};
 
 use crate::least_starts::LeastStarts;
 use crate::legality::first_illegal;
@@ -44,10 +45,26 @@ fn first_reason<A: Allocator + Copy>(audited: &Record<A>) -> Option<(u64, Reason
         return Some((row, Reason::NotLegal));
     }
     let starts = LeastStarts::of(audited);
-    if let Some(row) = first_broken(audited, &starts) {
+    let found = first_reason_by(audited, &starts);
+    drop(starts);
+    found
+}
+
+/// The first reason against a record whose updates are legal, and its row; none for a valid record.
+fn first_reason_by<A: Allocator + Copy>(
+    audited: &Record<A>,
+    starts: &LeastStarts<A>,
+) -> Option<(u64, Reason)>
+    requires legal { AreUpdatesLegal audited.now }
+    requires starts { AreStartsOf audited.now starts.now }
+    ensures none { IfNone result (IsVerdict audited.now (Verdict.Fewest (length audited.now.rounds))) }
+    ensures some { IfSome result (λ found. IsVerdict audited.now (Verdict.No found.0 found.1)) }
+{
+    audited.keeps();
+    if let Some(row) = first_broken(audited, starts) {
         return Some((row, Reason::LimitsBroken));
     }
-    if let Some(row) = first_light(audited, &starts) {
+    if let Some(row) = first_light(audited, starts) {
         return Some((row, Reason::WindowLight));
     }
     if let Some(row) = first_meeting(audited) {

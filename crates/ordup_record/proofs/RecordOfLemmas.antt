@@ -95,14 +95,13 @@ module _ (p : PrimaryState) (s : ℕ) (is : IsPrimary p) (there : s < length p.s
     windows = rw updates-decided (λ j d lt. (let w = certificate.disjoint.each j d lt in (omega (arith, w.forward, w.last), w.last)));
   }
 
--- parts with what the primary has are those of the record
-pub parts-content : {A : Type 0} (p : PrimaryState) (s : ℕ) (q : RecordParts A) → q.site ≡ (record_of p s).site
-    → q.objects ≡ p.setup.objects → q.groups ≡ p.setup.groups → q.limits ≡ limits_at p s
-    → q.log.sets ≡ take p.decided p.log.sets → q.rest.items ≡ [] → q.reports.items ≡ (record_of p s).reports
-    → q.rounds.items ≡ (record_of p s).rounds → q.windows.items ≡ (record_of p s).windows
-    → state_of q ≡ record_of p s
-parts-content p s q site objects groups limits log rest reports rounds windows =
-    rw (site, objects, groups, limits, log, rest, reports, rounds, windows, append-nil (take p.decided p.log.sets)) refl
+-- parts with what a record has stand for it
+pub parts-content : {A : Type 0} (r : RecordState) (q : RecordParts A) → q.site ≡ r.site → q.objects ≡ r.objects → q.groups ≡ r.groups
+    → q.limits ≡ r.limits → q.log.sets ≡ r.sets → q.rest.items ≡ [] → q.reports.items ≡ r.reports → q.rounds.items ≡ r.rounds
+    → q.windows.items ≡ r.windows
+    → state_of q ≡ r
+parts-content r q site objects groups limits log rest reports rounds windows =
+    rw (site, objects, groups, limits, log, rest, reports, rounds, windows, append-nil r.sets) refl
 
 pub parts-are : {A : Type 0} (r : RecordState) (q : RecordParts A) → IsRecord r → state_of q ≡ r
     → q.log.start ≡ initial_state q.objects → q.rest.items ≡ []

@@ -1,12 +1,15 @@
-ghost use Rattle.std.specs.Prelude.{◌≡◌, ◌<◌, None, IfOk, IfErr, length};
+ghost use Rattle.std.specs.Prelude.{◌≡◌, ◌<◌, [], None, IfOk, IfErr, OnOk, length};
 ghost use Rattle.ordup_objects.specs.Refusals.{IsRefusal};
-ghost use Rattle.ordup_primary.specs.Primaries.{progress_at, reported_at};
+ghost use Rattle.ordup_audit.specs.Records.{history_of};
 ghost use Rattle.ordup_audit.specs.RecordInside.{state_of, AreParts};
-ghost use Rattle.ordup_record.specs.RecordsOf.{record_of, record_refusal, report_changes};
+ghost use Rattle.ordup_audit.specs.RecordViews.{changes_in};
 ghost use Rattle.ordup_audit.specs.Validity.{IsValid};
+ghost use Rattle.ordup_record.specs.RecordsOf.{record_of, record_refusal};
 
-use ordup_audit::{Record, RecordParts, ReportChange};
-use ordup_objects::{Refusal, SiteId};
+use crate::viewing::lent_by;
+use ordup_audit::{Record, RecordParts, RecordView, ReportChange, ReportChanges};
+use ordup_limits::{Groups, LimitTable};
+use ordup_objects::{ObjectTable, Refusal, SiteId};
 use ordup_primary::Primary;
 use std::alloc::Allocator;
 
@@ -31,71 +34,84 @@ pub fn record_of<A: Allocator + Copy>(
     if site.index() >= primary.setup().sites() {
         return Err(Refusal::UnknownSite);
     }
-    let parts = parts_of(alloc, primary, site)?;
-    Ok(Record::from_parts(parts))
+    let mut parts = first_parts(alloc, primary, site)?;
+    match copy_parts(alloc, &lent_by(primary, site), &mut parts) {
+        Ok(()) => Ok(Record::from_parts(parts)),
+        Err(refusal) => {
+            drop(parts);
+            Err(refusal)
+        }
+    }
 }
 
-/// The parts of the record of a site. It is refused `NoMemory` alone.
-fn parts_of<A: Allocator + Copy>(
+/// The site's name and the decided updates, and nothing else of the record of a site. It is refused `NoMemory` alone.
+fn first_parts<A: Allocator + Copy>(
     alloc: A,
     primary: &Primary<A>,
     site: SiteId,
 ) -> Result<RecordParts<A>, Refusal>
     requires { site < length primary.now.sites }
-    ensures parts { IfOk result (λ parts. AreParts parts) }
-    ensures content { IfOk result (λ parts. state_of parts ≡ record_of primary.now site) }
-    ensures valid { IfOk result (λ parts. IsValid (state_of parts)) }
+    ensures site { IfOk result (λ parts. parts.site ≡ (record_of primary.now site).site) }
+    ensures log { IfOk result (λ parts. parts.log ≡ history_of (record_of primary.now site)) }
+    ensures rest { IfOk result (λ parts. parts.rest.items ≡ []) }
     ensures refused { IfErr result (λ e. e ≡ Refusal.NoMemory) }
 {
     primary.keeps();
-    let setup = primary.setup();
-    let name = *setup.site_name(site);
-    let objects = setup.objects().copy(alloc)?;
-    let groups = setup.groups().copy(alloc)?;
-    let limits = primary.limits(site).copy(alloc)?;
     let log = primary.log().copy_prefix(alloc, primary.decided())?;
-    let reports = report_changes(alloc, primary, site)?;
-    let Ok(rounds) = Vec::from_slice(alloc, primary.rounds(site)) else {
-        return Err(Refusal::NoMemory);
-    };
-    let Ok(windows) = Vec::from_slice(alloc, primary.windows(site)) else {
-        return Err(Refusal::NoMemory);
-    };
-    name.keeps();
-    objects.keeps();
-    groups.keeps();
-    limits.keeps();
-    log.keeps();
     Ok(RecordParts {
-        site: name,
-        objects,
-        groups,
-        limits,
+        site: *primary.setup().site_name(site),
+        objects: ObjectTable::new(alloc),
+        groups: Groups::new(alloc),
+        limits: LimitTable::new(alloc),
         log,
         rest: Vec::new(alloc),
-        reports,
-        rounds,
-        windows,
+        reports: Vec::new(alloc),
+        rounds: Vec::new(alloc),
+        windows: Vec::new(alloc),
     })
 }
 
-/// The decisions at which a site had reported more than at the one before. It is refused `NoMemory` alone.
-fn report_changes<A: Allocator + Copy>(
+/// Copies what is lent of a record into the first parts of it. It is refused `NoMemory` alone.
+// It owns no part, so that the proof takes none apart where memory is refused.
+fn copy_parts<A: Allocator + Copy>(
     alloc: A,
-    primary: &Primary<A>,
-    site: SiteId,
-) -> Result<Vec<ReportChange, A>, Refusal>
-    requires { site < length primary.now.sites }
-    ensures changes { IfOk result (λ changes. changes.items ≡ report_changes (reported_at (progress_at primary.now site)) primary.now.decided) }
+    lent: &RecordView<'_, A>,
+    parts: &mut RecordParts<A>,
+) -> Result<(), Refusal>
+    requires site { parts.old.site ≡ lent.now.site }
+    requires log { parts.old.log ≡ history_of lent.now }
+    requires rest { parts.old.rest.items ≡ [] }
+    ensures parts { OnOk result (AreParts parts.new) }
+    ensures content { OnOk result (state_of parts.new ≡ lent.now) }
     ensures refused { IfErr result (λ e. e ≡ Refusal.NoMemory) }
 {
-    let steps = primary.report_changes(site);
-    let mut changes = Vec::with_capacity(alloc, steps.len())?;
-    for step in steps {
-        changes.push_reserved(ReportChange {
-            place: step.0,
-            reported: step.1,
-        });
+    lent.keeps();
+    parts.objects = lent.objects().copy(alloc)?;
+    parts.groups = lent.groups().copy(alloc)?;
+    parts.limits = lent.limits().copy(alloc)?;
+    parts.reports = copy_changes(alloc, lent.reports())?;
+    let Ok(rounds) = Vec::from_slice(alloc, lent.rounds()) else {
+        return Err(Refusal::NoMemory);
+    };
+    parts.rounds = rounds;
+    let Ok(windows) = Vec::from_slice(alloc, lent.windows()) else {
+        return Err(Refusal::NoMemory);
+    };
+    parts.windows = windows;
+    Ok(())
+}
+
+/// The report changes that are lent, copied. It is refused `NoMemory` alone.
+fn copy_changes<A: Allocator + Copy>(
+    alloc: A,
+    lent: ReportChanges<'_>,
+) -> Result<Vec<ReportChange, A>, Refusal>
+    ensures copied { IfOk result (λ changes. changes.items ≡ changes_in lent.entry) }
+    ensures refused { IfErr result (λ e. e ≡ Refusal.NoMemory) }
+{
+    let mut changes = Vec::with_capacity(alloc, lent.len())?;
+    for i in 0..lent.len() {
+        changes.push_reserved(lent.at(i));
     }
     Ok(changes)
 }

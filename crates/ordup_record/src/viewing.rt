@@ -30,7 +30,7 @@ pub fn view_of<A: Allocator + Copy>(
 }
 
 /// What a primary has of a site, as a record.
-fn lent_by<A: Allocator + Copy>(primary: &Primary<A>, site: SiteId) -> RecordView<'_, A>
+pub(crate) fn lent_by<A: Allocator + Copy>(primary: &Primary<A>, site: SiteId) -> RecordView<'_, A>
     requires { site < length primary.now.sites }
     ensures content { result ≡ record_of primary.now site }
     ensures valid { IsValid result }

@@ -1,0 +1,24 @@
+use Rattle.ordup_audit.proofs.Common.{◌++◌, ◌+◌, ◌∙◌, ◌∷◌, ◌≡◌, [], ap, arith, List, slice_get, Some, sym, take, take_all, ℕ}
+use Rattle.ordup_objects.proofs.TableLemmas.{take-next}
+use Rattle.ordup_audit.specs.RecordViews.{changes_in}
+use Rattle.ordup_audit.specs.declared.report_change.ReportChange.{ReportChange}
+use Rattle.ordup_record.proofs.recording.copy_changes.Goals as goal
+
+-- one change more
+copied-more : (changes copied more : List ReportChange) (i : ℕ) (change : ReportChange) → more ≡ copied ++ change ∷ []
+    → copied ≡ take i changes → slice_get changes i ≡ Some change
+    → more ≡ take (i + 1) changes
+copied-more changes copied more i change pushed before at =
+    pushed ∙ ap (λ cs. cs ++ change ∷ []) before ∙ sym (take-next changes i change at)
+
+pub loop-i-preserved : goal.loop-i-preserved
+loop-i-preserved g c =
+    let inside = c.loop-i.invariant in
+    record {
+      changes = copied-more (changes_in c.args.lent) c.loop-i.changes.items c.push_reserved.new.self.items c.loop-i.i c.at.result
+          c.push_reserved.ensures.items inside.changes c.at.ensures;
+      room = omega (arith, inside.room, c.push_reserved.ensures.capacity);
+    }
+
+pub returns-clause-copied : goal.returns-clause-copied
+returns-clause-copied g c = c.loop-i.invariant.changes ∙ take_all c.loop-i.i (changes_in c.args.lent) (omega arith)

@@ -151,24 +151,43 @@ fn add_record<'a>(
     assert!(rt; records.push(record).is_ok());
 }
 
-/// What a store shows. Its readers are asked with nothing allowed.
-fn show<'a>(rt: &impl Abort, session: &mut Session<'a>) -> Shown<'a> {
+/// What the sites of a store hold, and their records.
+fn add_sites<'a>(
+    rt: &impl Abort,
+    sites: &mut Digest,
+    records: &mut Vec<Record<Heap<'a>>, Heap<'a>>,
+    ample: Heap<'a>,
+    world: &mut World<Heap<'a>>,
+) {
+    for place in 0..world.primary().setup().sites() as u8 {
+        let site = SiteId::new(place);
+        add_held(rt, sites, world, site);
+        add_record(rt, records, ample, world, site);
+    }
+}
+
+/// What the readers of a store answer, with nothing allowed.
+fn digest_without_memory(rt: &impl Abort, session: &Session<'_>) -> Digest {
     session.scarce.allow(0);
-    let mut shown = Shown {
-        digest: digest_of(&session.store),
-        sites: Digest::new(),
-        records: Vec::new(session.ample),
-    };
+    let digest = digest_of(&session.store);
     assert!(rt; !session.scarce.has_refused());
     session.scarce.allow_all();
+    digest
+}
+
+/// What a store shows.
+fn show<'a>(rt: &impl Abort, session: &mut Session<'a>) -> Shown<'a> {
+    let digest = digest_without_memory(rt, session);
+    let mut sites = Digest::new();
+    let mut records = Vec::new(session.ample);
     if let ScriptEnd::Running(world) = &mut session.store {
-        for place in 0..world.primary().setup().sites() as u8 {
-            let site = SiteId::new(place);
-            add_held(rt, &mut shown.sites, world, site);
-            add_record(rt, &mut shown.records, session.ample, world, site);
-        }
+        add_sites(rt, &mut sites, &mut records, session.ample, world);
     }
-    shown
+    Shown {
+        digest,
+        sites,
+        records,
+    }
 }
 
 /// Whether two lists have the same records.
@@ -195,28 +214,49 @@ fn are_same<'a>(rt: &impl Abort, ample: Heap<'a>, before: &Shown<'a>, after: &Sh
     same
 }
 
-/// Answers a line with this count of growths allowed. Where one is refused, there is no answer, and the store shows what it did
-/// before.
-fn is_refused(rt: &impl Abort, session: &mut Session<'_>, step: Step<'_>, allowed: u64) -> bool {
-    let before = show(rt, session);
+/// Whether a store shows the same as before.
+fn is_same<'a>(rt: &impl Abort, session: &mut Session<'a>, before: &Shown<'a>) -> bool {
+    let after = show(rt, session);
+    let same = are_same(rt, session.ample, before, &after);
+    drop(after);
+    same
+}
+
+/// Answers a line with this count of growths allowed: whether one was refused.
+fn answer_within(rt: &impl Abort, session: &mut Session<'_>, step: Step<'_>, allowed: u64) -> bool {
     session.scarce.allow(allowed);
     let answered = answer_line(session, step.line);
     let refused = session.scarce.has_refused();
-    let (line, ample) = (step.line, session.ample);
+    assert!(rt; answered.is_err() == refused, "{} at {allowed}", step.line);
+    refused
+}
+
+/// Answers a line with this count of growths allowed: whether one was refused. Then there is no answer, and the store shows what it
+/// did before.
+fn is_refused_since<'a>(
+    rt: &impl Abort,
+    session: &mut Session<'a>,
+    step: Step<'_>,
+    allowed: u64,
+    before: &Shown<'a>,
+) -> bool {
+    let line = step.line;
+    let refused = answer_within(rt, session, step, allowed);
     if refused {
-        assert!(rt; answered.is_err(), "{line} at {allowed}");
         assert!(rt; session.out.as_slice().is_empty(), "{line} at {allowed}");
-        let after = show(rt, session);
-        let same = are_same(rt, ample, &before, &after);
         // What a refused start took is given up: nothing is declared any more.
+        let same = is_same(rt, session, before);
         assert!(rt; same == (line != "start"), "{line} at {allowed}");
-        drop(after);
     } else {
-        assert!(rt;
-            answered.is_ok() && is_answered(session, step),
-            "{line} at {allowed}"
-        );
+        assert!(rt; is_answered(session, step), "{line} at {allowed}");
     }
+    refused
+}
+
+/// Answers a line with this count of growths allowed, and compares what the store shows: whether one was refused.
+fn is_refused(rt: &impl Abort, session: &mut Session<'_>, step: Step<'_>, allowed: u64) -> bool {
+    let before = show(rt, session);
+    let refused = is_refused_since(rt, session, step, allowed, &before);
     drop(before);
     refused
 }

@@ -160,16 +160,16 @@ plan of 1 sets
 ];
 
 /// What a plan comes to.
-fn outcome_of(alloc: Global, text: &[u8]) -> Result<String, Fail> {
+fn outcome_of(alloc: Global, text: &[u8]) -> Result<String, AllocError> {
     let mut input = text;
     match read_plan(alloc, &mut input) {
         Ok(plan) => {
             let sets = plan.sets.len();
             drop(plan);
-            Ok(format!(in alloc; "plan of {sets} sets")?)
+            format!(in alloc; "plan of {sets} sets")
         }
-        Err(PlanFault::Malformed { line }) => Ok(format!(in alloc; "Malformed{{{line}}}")?),
-        Err(_) => Err(Fail::new("another fault")),
+        Err(PlanFault::Malformed { line }) => format!(in alloc; "Malformed{{{line}}}"),
+        Err(_) => format!(in alloc; "another fault"),
     }
 }
 
@@ -187,35 +187,39 @@ fn a_plan_has_its_sets_or_its_first_wrong_line(rt: HostRuntime) -> Result<(), Fa
     Ok(())
 }
 
-/// Two objects, two sites with a limit of 0 each, and 50 updates, the last without a line feed.
-fn fifty(alloc: Global) -> Result<Vec<u8>, AllocError> {
-    let mut text = Vec::new(alloc);
+/// Adds two objects, two sites with a limit of 0 each, and 50 updates, the last without a line feed.
+fn push_fifty(text: &mut Vec<u8>) -> Result<(), AllocError> {
     text.extend_from_slice(b"object x 0\nobject y 10\nsite a 4\nsite b 4\n")?;
     text.extend_from_slice(b"limit a all 0\nlimit b all 0\nstart\n")?;
     for _line in 0..49u8 {
         text.extend_from_slice(b"propose add:x:1\n")?;
     }
-    text.extend_from_slice(b"propose add:x:1")?;
-    Ok(text)
+    text.extend_from_slice(b"propose add:x:1")
 }
 
 /// Reads a plan of 50 sets.
 #[test]
 fn a_plan_of_50_sets(rt: HostRuntime) -> Result<(), Fail> {
-    let text = fifty(rt.alloc())?;
+    let mut text = Vec::new(rt.alloc());
+    push_fifty(&mut text)?;
     assert_eq!(rt; outcome_of(rt.alloc(), &text)?.as_str(), "plan of 50 sets");
     Ok(())
+}
+
+/// Adds an object, and comments of 4,096 and 4,097 bytes.
+fn push_comments(text: &mut Vec<u8>) -> Result<(), AllocError> {
+    text.extend_from_slice(b"object x 0\n#")?;
+    text.resize(12 + 4095, b'a')?;
+    text.extend_from_slice(b"\n#")?;
+    text.resize(12 + 4097 + 4096, b'a')?;
+    text.extend_from_slice(b"\n")
 }
 
 /// Reads comments of 4,096 and 4,097 bytes.
 #[test]
 fn a_comment_that_is_too_long_does_not_belong(rt: HostRuntime) -> Result<(), Fail> {
     let mut text: Vec<u8> = Vec::new(rt.alloc());
-    text.extend_from_slice(b"object x 0\n#")?;
-    text.resize(12 + 4095, b'a')?;
-    text.extend_from_slice(b"\n#")?;
-    text.resize(12 + 4097 + 4096, b'a')?;
-    text.push(b'\n')?;
+    push_comments(&mut text)?;
     assert_eq!(rt; outcome_of(rt.alloc(), &text)?.as_str(), "Malformed{3}");
     Ok(())
 }

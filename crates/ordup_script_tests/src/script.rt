@@ -47,15 +47,20 @@ impl Write for FullWriter {
     }
 }
 
-/// A comment, an ended line that is too long, one that may just be as long, and one that is too long and not ended.
-fn script(alloc: Global) -> Result<Vec<u8>, AllocError> {
-    let mut script = Vec::new(alloc);
+/// Adds a comment, an ended line that is too long, one that may just be as long, and one that is too long and not ended.
+fn push_script(script: &mut Vec<u8>) -> Result<(), AllocError> {
     script.extend_from_slice(b"# a comment\n")?;
     script.resize(12 + 4097, b'a')?;
     script.extend_from_slice(b"\n#")?;
     script.resize(12 + 4098 + 4096, b'b')?;
-    script.push(b'\n')?;
-    script.resize(12 + 4098 + 4097 + 9000, b'c')?;
+    script.extend_from_slice(b"\n")?;
+    script.resize(12 + 4098 + 4097 + 9000, b'c')
+}
+
+/// The script of these lines.
+fn script(alloc: Global) -> Result<Vec<u8>, AllocError> {
+    let mut script = Vec::new(alloc);
+    push_script(&mut script)?;
     Ok(script)
 }
 

@@ -22,8 +22,7 @@ ok show a sent 1 applied 1 reported 0 rounds 0 x=5
 /// Adds a line to a text.
 fn push_line(text: &mut Vec<u8>, line: &str) -> Result<(), AllocError> {
     text.extend_from_slice(line.as_bytes())?;
-    text.push(b'\n')?;
-    Ok(())
+    text.extend_from_slice(b"\n")
 }
 
 /// The script of a transcript, and the answers to it.

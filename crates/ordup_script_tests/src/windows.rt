@@ -1,6 +1,7 @@
 //! The windows that show how many rounds each site has to have, by `Primary::windows`.
 use crate::transcripts::parts;
 use ordup_objects::SiteId;
+use ordup_primary::Window;
 use ordup_script::{ScriptEnd, ScriptFault, run_script};
 use ordup_world::Primary;
 use std::alloc::{AllocError, Global};
@@ -176,23 +177,40 @@ a 0-2 b 0-2 2-4 c
 ",
 ];
 
-/// The sites of a primary, each with its windows.
-fn shown(alloc: Global, primary: &Primary) -> Result<Vec<u8>, AllocError> {
+/// Adds the places between which a window lies.
+fn push_window(alloc: Global, text: &mut Vec<u8>, window: Window) -> Result<(), AllocError> {
+    let places = format!(in alloc; " {}-{}", window.from, window.to)?;
+    text.extend_from_slice(places.as_bytes())
+}
+
+/// Adds the windows of a site.
+fn push_windows(alloc: Global, text: &mut Vec<u8>, windows: &[Window]) -> Result<(), AllocError> {
+    for window in windows {
+        push_window(alloc, text, *window)?;
+    }
+    Ok(())
+}
+
+/// Adds the sites of a primary, each with its windows.
+fn push_sites(alloc: Global, text: &mut Vec<u8>, primary: &Primary) -> Result<(), AllocError> {
     // For the proof: there are as many windows as sites have.
     let _acked = primary.acked();
     let setup = primary.setup();
-    let mut text = Vec::new(alloc);
     for place in 0..setup.sites() as u8 {
         let site = SiteId::new(place);
         if place > 0 {
-            text.push(b' ')?;
+            text.extend_from_slice(b" ")?;
         }
         text.extend_from_slice(setup.site_name(site).as_bytes())?;
-        for window in primary.windows(site) {
-            let places = format!(in alloc; " {}-{}", window.from, window.to)?;
-            text.extend_from_slice(places.as_bytes())?;
-        }
+        push_windows(alloc, text, primary.windows(site))?;
     }
+    Ok(())
+}
+
+/// The sites of a primary, each with its windows.
+fn shown(alloc: Global, primary: &Primary) -> Result<Vec<u8>, AllocError> {
+    let mut text = Vec::new(alloc);
+    push_sites(alloc, &mut text, primary)?;
     Ok(text)
 }
 

@@ -1,6 +1,7 @@
 //! Plans that are run in threads: what is printed, and faults.
 
 use crate::streams::{SOUND, Streams, run_on, run_over};
+use crate::tests::parts;
 use std::alloc::Global;
 use std::test::Fail;
 
@@ -80,39 +81,76 @@ fn each_of_fifty_updates_waits_for_the_one_site_whoever_proposes_it(
     Ok(())
 }
 
-/// What one caller proposes, and what comes of it.
-const ONE_CALLER: [(&str, &str, &str); 4] = [
-    (
-        "object x 0\nsite a 1\nlimit a object x 0\nstart\n",
-        "",
-        "log 0\nrefused 0\npending 0\nsite a applied 0 rounds 0 x=0\ncertified a 0\n",
-    ),
-    // The second product is out of range. What follows it is numbered after the first.
-    (
-        "object x 500000000\nsite a 1\nlimit a all 0\nstart\n",
-        "propose mul:x:2\npropose mul:x:2\npropose set:x:-7\n",
-        "log 2\nrefused 1\npending 0\nsite a applied 2 rounds 2 x=-7\ncertified a 2\n",
-    ),
-    // Nothing moves, so nothing waits. The last update waits for the one site that has a limit.
-    (
-        "object x 5\nobject y 0\nsite a 1\nlimit a object y 2\nstart\n",
-        "propose set:x:5\npropose set:x:5\npropose add:y:3\n",
-        "log 3\nrefused 0\npending 0\nsite a applied 3 rounds 1 x=5 y=3\ncertified a 1\n",
-    ),
-    // Comments and blank lines stand between the lines of a plan.
-    (
-        "# one\nobject x 0\n\nsite a 1\nlimit a count 0\n# two\nstart\n\n",
-        "# three\npropose add:x:2\n\npropose take:x:x\n",
-        "log 2\nrefused 0\npending 0\nsite a applied 2 rounds 2 x=2\ncertified a 2\n",
-    ),
-];
+/// Plans of one caller, and what comes of each. A line `# ` names the row, a line that begins with `> ` is one of the plan, and the
+/// others are printed. An empty line stands between two rows.
+const ONE_CALLER: &str = "\
+# Nothing is proposed
+> object x 0
+> site a 1
+> limit a object x 0
+> start
+log 0
+refused 0
+pending 0
+site a applied 0 rounds 0 x=0
+certified a 0
+
+# The second product is out of range. What follows it is numbered after the first
+> object x 500000000
+> site a 1
+> limit a all 0
+> start
+> propose mul:x:2
+> propose mul:x:2
+> propose set:x:-7
+log 2
+refused 1
+pending 0
+site a applied 2 rounds 2 x=-7
+certified a 2
+
+# Nothing moves, so nothing waits. The last update waits for the one site that has a limit
+> object x 5
+> object y 0
+> site a 1
+> limit a object y 2
+> start
+> propose set:x:5
+> propose set:x:5
+> propose add:y:3
+log 3
+refused 0
+pending 0
+site a applied 3 rounds 1 x=5 y=3
+certified a 1
+
+# Comments and blank lines stand between the lines of a plan
+> # one
+> object x 0
+> 
+> site a 1
+> limit a count 0
+> # two
+> start
+> 
+> # three
+> propose add:x:2
+> 
+> propose take:x:x
+log 2
+refused 0
+pending 0
+site a applied 2 rounds 2 x=2
+certified a 2
+";
 
 #[test]
 fn one_caller_proposes_in_the_order_of_the_plan(rt: HostRuntime) -> Result<(), Fail> {
-    for (declarations, proposals, outcome) in ONE_CALLER {
-        let given = plan(rt.alloc(), declarations, proposals, 1)?;
+    assert_eq!(rt; ONE_CALLER.split("\n\n").count(), 4);
+    for row in ONE_CALLER.split("\n\n") {
+        let (given, outcome) = parts(rt.alloc(), row)?;
         let ended = run_on(&rt, &["ordup", "threads", "1"], &given);
-        assert!(rt; ended.is(0, outcome.as_bytes(), b""), "{proposals}");
+        assert!(rt; ended.is(0, &outcome, b""), "{row}");
     }
     Ok(())
 }

@@ -1,6 +1,9 @@
 //! Records from the outside: samples with what the check says of them, and faults.
 use crate::streams::{Ended, SOUND, Streams, run_on, run_over};
+use std::process::Abort;
+use std::sync::Wait;
 use std::test::Fail;
+use std::thread::Threads;
 
 /// Whether a run of the check ended with this: a verdict on the output, or the line of a fault.
 pub(crate) fn says(ended: &Ended, said: &[u8]) -> bool {
@@ -23,8 +26,79 @@ round,1,2,-
 window,1,0,2
 ";
 
-/// Two windows that share update 2.
-const SHARED: &str = "\
+/// Records, and what the check says of each: behind a line `# ` that names it stands a record, and behind that, after `= `, what is
+/// said of it. An empty line stands between two records.
+const SAMPLES: &str = "\
+# A site with a limit of 5 on x, forced at update 2
+ordup,1,a,2
+object,1,x,0
+object,2,y,10
+limit,1,object:x,5
+change,1,1,add:x:5
+change,2,1,add:x:1
+round,1,2,-
+window,1,0,2
+= yes 1
+
+# A limit of 6, which is not passed
+ordup,1,a,2
+object,1,x,0
+object,2,y,10
+limit,1,object:x,6
+change,1,1,add:x:5
+change,2,1,add:x:1
+round,1,2,-
+window,1,0,2
+= no 8 WindowLight
+
+# Without its round
+ordup,1,a,2
+object,1,x,0
+object,2,y,10
+limit,1,object:x,5
+change,1,1,add:x:5
+change,2,1,add:x:1
+window,1,0,2
+= no 6 LimitsBroken
+
+# Without its window
+ordup,1,a,2
+object,1,x,0
+object,2,y,10
+limit,1,object:x,5
+change,1,1,add:x:5
+change,2,1,add:x:1
+round,1,2,-
+= no 7 CountDiffers
+
+# With a window of the second update alone
+ordup,1,a,2
+object,1,x,0
+object,2,y,10
+limit,1,object:x,5
+change,1,1,add:x:5
+change,2,1,add:x:1
+round,1,2,-
+window,1,1,2
+= no 8 WindowLight
+
+# Without the second update
+ordup,1,a,2
+object,1,x,0
+object,2,y,10
+limit,1,object:x,5
+change,1,1,add:x:5
+= malformed 6
+
+# Cut off within the second update
+ordup,1,a,2
+object,1,x,0
+object,2,y,10
+limit,1,object:x,5
+change,1,1,add:x:5
+change,2,1= malformed 6
+
+# Two windows that share update 2
 ordup,1,a,3
 object,1,x,0
 limit,1,object:x,5
@@ -35,10 +109,9 @@ round,1,2,-
 round,2,3,-
 window,1,0,2
 window,2,1,3
-";
+= no 10 WindowsMeet
 
-/// A site that had reported update 1 at the decision of update 2, with a round and a window that it did not have.
-const REPORTED: &str = "\
+# A site that had reported update 1 at the decision of update 2, with a round and a window that it did not have
 ordup,1,a,2
 object,1,x,0
 object,2,y,10
@@ -48,61 +121,54 @@ change,2,1,add:x:1
 report,2,1,-
 round,1,2,-
 window,1,0,2
-";
+= no 9 WindowBeforeReport
 
-/// An update whose result is out of range.
-const OUT_OF_RANGE: &str = "\
+# Without that round and that window
+ordup,1,a,2
+object,1,x,0
+object,2,y,10
+limit,1,object:x,5
+change,1,1,add:x:5
+change,2,1,add:x:1
+report,2,1,-
+= yes 0
+
+# An update whose result is out of range
 ordup,1,a,1
 object,1,x,1000000000
 change,1,1,add:x:1
-";
+= no 3 NotLegal
 
-/// Records, a text in them and what stands in its place, and what the check then says.
-const SAMPLES: [(&str, &str, &str, &[u8]); 13] = [
-    (FORCED_ONCE, "ordup", "ordup", b"yes 1\n"),
-    (
-        FORCED_ONCE,
-        "object:x,5",
-        "object:x,6",
-        b"no 8 WindowLight\n",
-    ),
-    (FORCED_ONCE, "round,1,2,-\n", "", b"no 6 LimitsBroken\n"),
-    (FORCED_ONCE, "window,1,0,2\n", "", b"no 7 CountDiffers\n"),
-    (
-        FORCED_ONCE,
-        "window,1,0,2\n",
-        "window,1,1,2\n",
-        b"no 8 WindowLight\n",
-    ),
-    (
-        FORCED_ONCE,
-        "change,2,1,add:x:1\nround,1,2,-\nwindow,1,0,2\n",
-        "",
-        b"malformed 6\n",
-    ),
-    (
-        FORCED_ONCE,
-        ",add:x:1\nround,1,2,-\nwindow,1,0,2\n",
-        "",
-        b"malformed 6\n",
-    ),
-    (SHARED, "ordup", "ordup", b"no 10 WindowsMeet\n"),
-    (REPORTED, "ordup", "ordup", b"no 9 WindowBeforeReport\n"),
-    (REPORTED, "round,1,2,-\nwindow,1,0,2\n", "", b"yes 0\n"),
-    (OUT_OF_RANGE, "ordup", "ordup", b"no 3 NotLegal\n"),
-    (OUT_OF_RANGE, OUT_OF_RANGE, "", b"malformed 1\n"),
-    (OUT_OF_RANGE, "add:x:1\n", "add:x:1", b"no 3 NotLegal\n"),
-];
+# No row
+= malformed 1
+
+# An update whose result is out of range, without a line feed at the end
+ordup,1,a,1
+object,1,x,1000000000
+change,1,1,add:x:1= no 3 NotLegal";
+
+/// Sees that the check says of the record of a row what the row says, whole and in short reads.
+fn expect_said<T: Threads + Wait + Sync + AllocGlobal + Abort>(
+    rt: &T,
+    row: &str,
+) -> Result<(), Fail> {
+    let (_, row) = row.split_once('\n').ok_or("no name")?;
+    let (record, verdict) = row.split_once("= ").ok_or("no verdict")?;
+    let mut said = Vec::from_slice(rt.alloc(), verdict.as_bytes())?;
+    said.push(b'\n')?;
+    for at_once in [SOUND.at_once, 1, 2, 3] {
+        let streams = Streams { at_once, ..SOUND };
+        let ended = run_over(rt, &["ordup", "check"], record.as_bytes(), streams);
+        assert!(rt; says(&ended, &said), "by {at_once}: {row}");
+    }
+    Ok(())
+}
 
 #[test]
 fn sample_records_are_judged(rt: HostRuntime) -> Result<(), Fail> {
-    for (record, part, other, said) in SAMPLES {
-        let record = record.replace(rt.alloc(), part, other)?;
-        for at_once in [SOUND.at_once, 1, 2, 3] {
-            let streams = Streams { at_once, ..SOUND };
-            let ended = run_over(&rt, &["ordup", "check"], record.as_bytes(), streams);
-            assert!(rt; says(&ended, said), "{other} for {part}, by {at_once}");
-        }
+    assert_eq!(rt; SAMPLES.split("\n\n").count(), 13);
+    for row in SAMPLES.split("\n\n") {
+        expect_said(&rt, row)?;
     }
     Ok(())
 }

@@ -72,114 +72,169 @@ fn push_times(
     Ok(())
 }
 
-/// The last line of a script is one too many for a size, and has this refusal. The part of the script in brackets stands there
-/// `count` times, each with its number, from 0 on, in place of `#`.
+/// Scripts whose last line is one too many for a size. The first line of each row has how often the part in brackets stands there,
+/// and the refusal of the last line. An empty line stands between two rows.
+///
+/// The last two change a limit where a site has all that it may: where the head is settled, and where it waits for the site.
+const TOO_MANY: &str = "\
+256 10 TooMany
+[object o# 0
+]object more 0
+
+32 10 TooMany
+object x 0
+[group g# x
+]group more
+
+65 10 TooMany
+object x 0
+group g[ x]
+
+65 6 UnknownObject
+object x 0
+group g[ x] z
+
+16 10 TooMany
+[site s# 4
+]site more 4
+
+16 9 OutOfRange
+[site s# 4
+]site more 0
+
+64 10 TooMany
+site a 4
+[object o# 0
+limit a object o# 5
+]limit a object o0 5
+
+64 9 OutOfRange
+site a 4
+[object o# 0
+limit a object o# 5
+]limit a all 1000000000000000001
+
+65 10 TooMany
+object x 0
+site a 4
+start
+propose[ add:x:1]
+
+65 9 OutOfRange
+object x 0
+site a 4
+start
+propose[ add:x:1] add:x:1000000001
+
+65 6 UnknownObject
+object x 0
+site a 4
+start
+propose[ add:x:1] add:z:1
+
+64 10 TooMany
+object x 0
+site a 4
+start
+[begin q# a 0
+]begin q0 a 0
+
+64 9 OutOfRange
+object x 0
+site a 4
+start
+[begin q# a 0
+]begin more a 1000000000000000001
+
+256 10 TooMany
+object x 5
+site a 4
+start
+begin q a 0
+[read q x
+]read q x
+
+256 10 TooMany
+object x 5
+site a 4
+start
+begin q a 0
+[read q x
+]propose add:x:1
+send a
+apply a
+read q x
+
+64 10 TooMany
+site a 4
+[object o# 0
+limit a object o# 5
+]start
+relimit a all 5
+
+1088 10 TooMany
+object x 0
+site a 4
+start
+[relimit a all #
+propose set:x:0
+settle
+]relimit a all 5
+
+1088 10 TooMany
+object x 0
+site a 4
+start
+[relimit a all #
+propose set:x:0
+settle
+]propose add:x:2000
+settle
+relimit a all 5
+";
+
+/// Adds the script of a row, in which the part in brackets stands `count` times. Each has its number, from 0 on, in place of `#`.
+fn push_script(alloc: Global, text: &mut String, script: &str, count: usize) -> Result<(), Fail> {
+    let (before, rest) = script.split_once('[').ok_or("no part")?;
+    let (part, rest) = rest.split_once(']').ok_or("no end of the part")?;
+    text.push_str(before)?;
+    push_times(alloc, text, part, count)?;
+    text.push_str(rest)?;
+    Ok(())
+}
+
+/// Whether the first refusal is the last answer, and is this one.
+fn is_last(answers: &[u8], refused: &str) -> bool {
+    let Ok(answers) = str::from_utf8(answers) else {
+        return false;
+    };
+    match answers.split_once("refused ") {
+        Some((_, after)) => after.strip_suffix('\n') == Some(refused),
+        None => false,
+    }
+}
+
+/// The last line of the script of a row is refused as the row says.
 fn assert_refused<T: Threads + Wait + Sync + AllocGlobal + Abort>(
     rt: &T,
-    script: &str,
-    count: usize,
-    refused: &str,
+    row: &str,
 ) -> Result<(), Fail> {
-    let (before, rest) = script.split_once("[").ok_or("no part")?;
-    let (part, rest) = rest.split_once("]").ok_or("no end of the part")?;
-    let mut script = String::new(rt.alloc());
-    script.push_str(before)?;
-    push_times(rt.alloc(), &mut script, part, count)?;
-    script.push_str(rest)?;
-    let ended = run_on(rt, &["ordup", "run"], script.as_bytes());
-    // The first refusal is the last answer.
-    let answers = str::from_utf8(&ended.output)?;
-    let after = answers.split_once("refused ").map(|(_, after)| after);
-    assert_eq!(rt; after, Some(refused), "{part}, {rest}");
+    let (head, script) = row.split_once('\n').ok_or("no script")?;
+    let (count, refused) = head.split_once(' ').ok_or("no refusal")?;
+    let count: usize = count.parse().or(Err("no count"))?;
+    let mut text = String::new(rt.alloc());
+    push_script(rt.alloc(), &mut text, script, count)?;
+    let ended = run_on(rt, &["ordup", "run"], text.as_bytes());
+    assert!(rt; is_last(&ended.output, refused), "{row}");
     Ok(())
 }
 
 #[test]
 fn one_more_than_a_size_is_refused_in_its_order(rt: HostRuntime) -> Result<(), Fail> {
-    assert_refused(&rt, "[object o# 0\n]object more 0\n", 256, "10 TooMany\n")?;
-    assert_refused(
-        &rt,
-        "object x 0\n[group g# x\n]group more\n",
-        32,
-        "10 TooMany\n",
-    )?;
-    assert_refused(&rt, "object x 0\ngroup g[ x]\n", 65, "10 TooMany\n")?;
-    assert_refused(&rt, "object x 0\ngroup g[ x] z\n", 65, "6 UnknownObject\n")?;
-    assert_refused(&rt, "[site s# 4\n]site more 4\n", 16, "10 TooMany\n")?;
-    assert_refused(&rt, "[site s# 4\n]site more 0\n", 16, "9 OutOfRange\n")?;
-    assert_refused(
-        &rt,
-        "site a 4\n[object o# 0\nlimit a object o# 5\n]limit a object o0 5\n",
-        64,
-        "10 TooMany\n",
-    )?;
-    assert_refused(
-        &rt,
-        "site a 4\n[object o# 0\nlimit a object o# 5\n]limit a all 1000000000000000001\n",
-        64,
-        "9 OutOfRange\n",
-    )?;
-    assert_refused(
-        &rt,
-        "object x 0\nsite a 4\nstart\npropose[ add:x:1]\n",
-        65,
-        "10 TooMany\n",
-    )?;
-    assert_refused(
-        &rt,
-        "object x 0\nsite a 4\nstart\npropose[ add:x:1] add:x:1000000001\n",
-        65,
-        "9 OutOfRange\n",
-    )?;
-    assert_refused(
-        &rt,
-        "object x 0\nsite a 4\nstart\npropose[ add:x:1] add:z:1\n",
-        65,
-        "6 UnknownObject\n",
-    )?;
-    assert_refused(
-        &rt,
-        "object x 0\nsite a 4\nstart\n[begin q# a 0\n]begin q0 a 0\n",
-        64,
-        "10 TooMany\n",
-    )?;
-    assert_refused(
-        &rt,
-        "object x 0\nsite a 4\nstart\n[begin q# a 0\n]begin more a 1000000000000000001\n",
-        64,
-        "9 OutOfRange\n",
-    )?;
-    assert_refused(
-        &rt,
-        "object x 5\nsite a 4\nstart\nbegin q a 0\n[read q x\n]read q x\n",
-        256,
-        "10 TooMany\n",
-    )?;
-    assert_refused(
-        &rt,
-        "object x 5\nsite a 4\nstart\nbegin q a 0\n[read q x\n]propose add:x:1\nsend a\napply a\nread q x\n",
-        256,
-        "10 TooMany\n",
-    )?;
-    assert_refused(
-        &rt,
-        "site a 4\n[object o# 0\nlimit a object o# 5\n]start\nrelimit a all 5\n",
-        64,
-        "10 TooMany\n",
-    )?;
-    // A limit with its place more than a site may have, where the head is settled, and where it waits for the site.
-    assert_refused(
-        &rt,
-        "object x 0\nsite a 4\nstart\n[relimit a all #\npropose set:x:0\nsettle\n]relimit a all 5\n",
-        1_088,
-        "10 TooMany\n",
-    )?;
-    assert_refused(
-        &rt,
-        "object x 0\nsite a 4\nstart\n[relimit a all #\npropose set:x:0\nsettle\n]propose add:x:2000\nsettle\nrelimit a all 5\n",
-        1_088,
-        "10 TooMany\n",
-    )?;
+    assert_eq!(rt; TOO_MANY.split("\n\n").count(), 18);
+    for row in TOO_MANY.split("\n\n") {
+        assert_refused(&rt, row)?;
+    }
     Ok(())
 }
 
@@ -283,42 +338,69 @@ fn a_reader_that_fails_leaves_the_answers_to_the_lines_that_ended(
     Ok(())
 }
 
+/// Words that ask for no job, a line each.
+const WRONG: &str = "\
+ordup
+ordup nosuch
+ordup run more
+ordup record
+ordup record a more
+ordup check more
+ordup threads
+ordup threads 0
+ordup threads 17
+ordup threads -1
+ordup threads x
+ordup threads 1 more
+ordup --nosuch
+";
+
+/// Words that ask for help.
+const HELP: &str = "\
+ordup --help
+ordup run --help
+ordup record --help
+ordup check --help
+ordup threads --help
+";
+
+/// The words of a line.
+fn words_of(alloc: Global, line: &str) -> Result<Vec<&str>, AllocError> {
+    let mut words = Vec::new(alloc);
+    for word in line.split(' ') {
+        words.push(word)?;
+    }
+    Ok(words)
+}
+
 #[test]
-fn wrong_words_end_with_status_2_and_help_with_status_0(rt: HostRuntime) {
-    let wrong: [&[&str]; 13] = [
-        &["ordup"],
-        &["ordup", "nosuch"],
-        &["ordup", "run", "more"],
-        &["ordup", "record"],
-        &["ordup", "record", "a", "more"],
-        &["ordup", "check", "more"],
-        &["ordup", "threads"],
-        &["ordup", "threads", "0"],
-        &["ordup", "threads", "17"],
-        &["ordup", "threads", "-1"],
-        &["ordup", "threads", "x"],
-        &["ordup", "threads", "1", "more"],
-        &["ordup", "--nosuch"],
-    ];
-    for words in wrong {
-        let ended = run_on(&rt, words, b"object x 1\n");
-        assert_eq!(rt; ended.status, 2);
-        assert!(rt; ended.output.is_empty());
-        assert!(rt; !ended.faults.is_empty());
+fn wrong_words_end_with_status_2(rt: HostRuntime) -> Result<(), Fail> {
+    assert_eq!(rt; WRONG.lines().count(), 13);
+    for line in WRONG.lines() {
+        let words = words_of(rt.alloc(), line)?;
+        let ended = run_on(&rt, &words, b"object x 1\n");
+        assert_eq!(rt; ended.status, 2, "{line}");
+        assert!(rt;
+            ended.output.is_empty() && !ended.faults.is_empty(),
+            "{line}"
+        );
     }
-    let help: [&[&str]; 5] = [
-        &["ordup", "--help"],
-        &["ordup", "run", "--help"],
-        &["ordup", "record", "--help"],
-        &["ordup", "check", "--help"],
-        &["ordup", "threads", "--help"],
-    ];
-    for words in help {
-        let ended = run_on(&rt, words, b"object x 1\n");
-        assert_eq!(rt; ended.status, 0);
-        assert!(rt; !ended.output.is_empty());
-        assert!(rt; ended.faults.is_empty());
+    Ok(())
+}
+
+#[test]
+fn help_ends_with_status_0(rt: HostRuntime) -> Result<(), Fail> {
+    assert_eq!(rt; HELP.lines().count(), 5);
+    for line in HELP.lines() {
+        let words = words_of(rt.alloc(), line)?;
+        let ended = run_on(&rt, &words, b"object x 1\n");
+        assert_eq!(rt; ended.status, 0, "{line}");
+        assert!(rt;
+            !ended.output.is_empty() && ended.faults.is_empty(),
+            "{line}"
+        );
     }
+    Ok(())
 }
 
 #[test]

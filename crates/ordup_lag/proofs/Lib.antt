@@ -1,0 +1,3 @@
+pub mod PlaceLemmas
+pub mod SeriesLemmas
+pub mod SentLemmas

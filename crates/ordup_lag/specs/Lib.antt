@@ -1,0 +1,3 @@
+pub mod Series
+pub mod Parts
+pub mod Texts

@@ -3,6 +3,8 @@ use Rattle.std.specs.Prelude.{ℕ, List, ◌++◌, codes, Result, Ok, Err}
 use Rattle.std.specs.Fmt.{decimal}
 use Rattle.ordup_check.specs.declared.reading.RecordReadFault.{RecordReadFault}
 use Rattle.ordup_check.specs.declared.reading.RecordReadFault.TheVariants as reading
+use Rattle.ordup_lag.specs.declared.writing.SeriesFault.{SeriesFault}
+use Rattle.ordup_lag.specs.declared.writing.SeriesFault.TheVariants as series
 use Rattle.ordup_rows.specs.declared.writing.RecordWriteFault.{RecordWriteFault}
 use Rattle.ordup_rows.specs.declared.writing.RecordWriteFault.TheVariants as writing
 use Rattle.ordup_script.specs.declared.plan.PlanFault.{PlanFault}
@@ -36,6 +38,11 @@ of_reading reading.NoMemory = fault.NoMemory
 abbrev pub of_writing : RecordWriteFault → Fault
 of_writing writing.Write = fault.Write
 of_writing writing.NoMemory = fault.NoMemory
+
+-- the fault of writing the series of a record
+abbrev pub of_series : SeriesFault → Fault
+of_series series.Write = fault.Write
+of_series series.NoMemory = fault.NoMemory
 
 -- 1 where a site does not agree with the log, 2 where there is no such site, 3 where the input or the output failed or the script
 -- did not start, 4 where there was no memory

@@ -18,6 +18,7 @@ use Rattle.ordup_rows.specs.Texts.{TextTells}
 use Rattle.ordup_check.specs.Limits.{IsMalformedWithin}
 use Rattle.ordup_rows.specs.Rows.{rows_of, rows_text}
 use Rattle.ordup_rows.specs.Sizes.{most_record_bytes}
+use Rattle.ordup_lag.specs.Texts.{series_text}
 use Rattle.ordup_answers.specs.declared.script_end.ScriptEnd.{ScriptEnd}
 use Rattle.ordup_answers.specs.declared.script_end.ScriptEnd.TheVariants.{Declared, Running}
 use Rattle.ordup_text.specs.Fronts.{AppendsFront}
@@ -130,6 +131,47 @@ Checks had old new (Err fault.NotStarted) = ⊥
 Checks had old new (Err fault.UnknownSite) = ⊥
 Checks had old new (Err fault.Mixed) = ⊥
 
+-- ---- the series of a record is printed
+
+-- the series of a record was written: all of it, or a front of it where the writer failed, or nothing for want of memory
+abbrev pub PrintsSeries : RecordState → Bytes → Bytes → Outcome → Type 0
+PrintsSeries r old new (Ok status) = (status ≡ 0) × Appends old new (series_text r)
+PrintsSeries r old new (Err fault.Write) = AppendsFront old new (series_text r)
+PrintsSeries r old new (Err fault.NoMemory) = new ≡ old
+PrintsSeries r old new (Err fault.Read) = ⊥
+PrintsSeries r old new (Err fault.TooLong) = ⊥
+PrintsSeries r old new (Err (fault.Malformed row)) = ⊥
+PrintsSeries r old new (Err fault.NotStarted) = ⊥
+PrintsSeries r old new (Err fault.UnknownSite) = ⊥
+PrintsSeries r old new (Err fault.Mixed) = ⊥
+
+-- of a record that was judged so the series was printed, or the line of the verdict where it is not valid
+abbrev pub PrintsLag : RecordState → Verdict → Bytes → Bytes → Outcome → Type 0
+PrintsLag r (Fewest n) old new outcome = PrintsSeries r old new outcome
+PrintsLag r (No row reason) old new outcome = PrintsVerdict (No row reason) old new outcome
+
+-- the text is not too long, the record that it tells was judged, and its series or the verdict printed
+abbrev pub PrintsJudgedLag : Bytes → Bytes → Bytes → Outcome → Type 0
+PrintsJudgedLag had old new outcome =
+    (r : RecordState) × (verdict : Verdict)
+    × IfSome had (λ text. length text ≤ most_record_bytes)
+    × IfSome had (λ text. TextTells (strip_bom text) r)
+    × Judges r verdict
+    × PrintsLag r verdict old new outcome
+
+-- A record was read from these bytes, judged, and its series printed. Nothing was written where no record could be read.
+abbrev pub Lags : Bytes → Bytes → Bytes → Outcome → Type 0
+Lags had old new (Ok status) = PrintsJudgedLag had old new (Ok status)
+Lags had old new (Err fault.Write) = PrintsJudgedLag had old new (Err fault.Write)
+Lags had old new (Err (fault.Malformed row)) =
+    IfSome had (λ text. IsMalformedWithin most_record_bytes text row) × (new ≡ old)
+Lags had old new (Err fault.Read) = new ≡ old
+Lags had old new (Err fault.NoMemory) = new ≡ old
+Lags had old new (Err fault.TooLong) = ⊥
+Lags had old new (Err fault.NotStarted) = ⊥
+Lags had old new (Err fault.UnknownSite) = ⊥
+Lags had old new (Err fault.Mixed) = ⊥
+
 -- ---- any of these
 
 -- the job was done over these streams, and ended so
@@ -137,4 +179,5 @@ abbrev pub Does : Job → Streams → Outcome → Type 0
 Does job.Run s outcome = Answers s outcome
 Does (job.Record site) s outcome = Records (string_bytes site) s outcome
 Does job.Check s outcome = Checks s.had s.old s.new outcome
+Does job.Lag s outcome = Lags s.had s.old s.new outcome
 Does (job.Threads callers) s outcome = RunsPlan s outcome

@@ -3,10 +3,11 @@ ghost use Rattle.std.specs.Prelude.{◌≡◌, OnOk, ◌++◌};
 ghost use Rattle.std.specs.Fmt.{decimal};
 ghost use Rattle.std.specs.Io.KnownBytes.{Appends};
 ghost use Rattle.ordup_text.specs.Fronts.{AppendsFront};
-ghost use Rattle.ordup_cli.specs.Faults.{fault_status, fault_text, of_plan, of_script, of_reading, of_writing};
+ghost use Rattle.ordup_cli.specs.Faults.{fault_status, fault_text, of_plan, of_script, of_reading, of_series, of_writing};
 
 use itoa::Buffer;
 use ordup_check::RecordReadFault;
+use ordup_lag::SeriesFault;
 use ordup_rows::RecordWriteFault;
 use ordup_script::{PlanFault, ScriptFault};
 use ordup_text::{WriteFault, send};
@@ -85,6 +86,16 @@ impl Fault {
         match fault {
             RecordWriteFault::Write => Fault::Write,
             RecordWriteFault::NoMemory => Fault::NoMemory,
+        }
+    }
+
+    /// The fault of writing the series of a record.
+    pub(crate) fn of_series(fault: SeriesFault) -> Self
+        ensures { result ≡ of_series fault }
+    {
+        match fault {
+            SeriesFault::Write => Fault::Write,
+            SeriesFault::NoMemory => Fault::NoMemory,
         }
     }
 

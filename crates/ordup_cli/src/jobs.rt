@@ -1,15 +1,18 @@
-//! The jobs of the program: it runs a script or a plan, prints the record of a site, or checks a record.
+//! The jobs of the program: it runs a script or a plan, prints the record of a site, checks a record, or prints its series.
 ghost use Rattle.std.specs.Prelude.{◌≡◌, IfErr, IfOk, string_bytes};
 ghost use Rattle.ordup_objects.specs.Tables.{index_of};
 ghost use Rattle.std.specs.Io.KnownBytes.{Keeps};
-ghost use Rattle.ordup_cli.specs.Jobs.{Answers, Checks, Does, PrintsRecord, PrintsSite, PrintsVerdict, Records};
+ghost use Rattle.ordup_audit.specs.Validity.{IsValid};
+ghost use Rattle.ordup_audit.specs.Verdicts.{IfFewest};
+ghost use Rattle.ordup_cli.specs.Jobs.{Answers, Checks, Does, Lags, PrintsLag, PrintsRecord, PrintsSeries, PrintsSite, PrintsVerdict, Records};
 ghost use Rattle.ordup_cli.specs.Jobs.{verdict_status, verdict_text};
 
 use crate::fault::{Fault, NOT_VALID};
 use crate::plans::run_plan;
-use ordup_audit::{RecordView, Verdict, check};
+use ordup_audit::{Record, RecordView, Verdict, check};
 use ordup_check::read_record;
 use ordup_command_line::Job;
+use ordup_lag::write_series;
 use ordup_primary::Primary;
 use ordup_record::view_of;
 use ordup_rows::write_view;
@@ -45,6 +48,7 @@ pub(crate) fn do_job<T: Threads + Wait + Sync, R: Read, W: Write>(
         Job::Run => run(alloc, input, output),
         Job::Record { site } => print_record(alloc, site.as_bytes(), input, output),
         Job::Check => check_record(alloc, input, output),
+        Job::Lag => print_lag(alloc, input, output),
         Job::Threads { callers } => run_plan(rt, alloc, *callers, input, output),
     }
 }
@@ -178,6 +182,49 @@ fn status_of(verdict: Verdict) -> u8
         Verdict::Fewest(_) => DONE,
         Verdict::No { .. } => NOT_VALID,
     }
+}
+
+/// Reads a record and prints its series, or the verdict on it where it is not valid.
+///
+/// - Where it ends with a status or a write fault, the text is not too long, and it tells a record. The series of a valid record
+///   was printed, or a front of it; of any other record the verdict was, or a front of that line.
+/// - `Malformed`: the row is the first that breaks a rule. Nothing was written.
+/// - `Read`, `NoMemory`: nothing was written.
+fn print_lag<R: Read, W: Write>(alloc: Global, input: &mut R, output: &mut W) -> Outcome
+    ensures { Lags (R.remaining input.old) (W.contents output.old) (W.contents output.new) result }
+{
+    match read_record(alloc, input) {
+        Ok(read) => {
+            let verdict = check(&read);
+            let printed = print_judged(alloc, &read, verdict, output);
+            drop(read);
+            printed
+        }
+        Err(fault) => Err(Fault::of_reading(fault)),
+    }
+}
+
+/// Prints the series of a record that this verdict calls valid, and else the verdict.
+fn print_judged<W: Write>(alloc: Global, read: &Record, verdict: Verdict, output: &mut W) -> Outcome
+    requires { IfFewest verdict (λ n. IsValid read.now) }
+    ensures { PrintsLag read.now verdict (W.contents output.old) (W.contents output.new) result }
+{
+    match verdict {
+        Verdict::Fewest(_) => print_series(alloc, read, output),
+        Verdict::No { .. } => print_verdict(alloc, verdict, output),
+    }
+}
+
+/// Prints the series of a valid record: all of it, or a front of it where the writer fails, or nothing for want of memory.
+fn print_series<W: Write>(alloc: Global, read: &Record, output: &mut W) -> Outcome
+    requires { IsValid read.now }
+    ensures { PrintsSeries read.now (W.contents output.old) (W.contents output.new) result }
+{
+    if let Err(fault) = write_series(alloc, read, output) {
+        return Err(Fault::of_series(fault));
+    }
+    flush(output)?;
+    Ok(DONE)
 }
 
 /// Flushes what was printed.

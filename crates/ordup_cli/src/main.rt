@@ -6,6 +6,8 @@ mod act;
 mod fault;
 mod jobs;
 #[cfg(test)]
+mod lag_tests;
+#[cfg(test)]
 mod plan_tests;
 mod plans;
 #[cfg(test)]

@@ -14,6 +14,8 @@ pub enum Job {
     },
     /// Checks a record.
     Check,
+    /// Prints the lag of a site, as its record tells it.
+    Lag,
     /// Runs a plan in threads.
     Threads {
         /// How many callers there are, at most 16.
@@ -42,6 +44,7 @@ fn job_in(alloc: Global, matches: &ArgMatches<'_>) -> Result<Option<Job>, Error>
             None => Ok(None),
         },
         Some(("check", _)) => Ok(Some(Job::Check)),
+        Some(("lag", _)) => Ok(Some(Job::Lag)),
         Some(("threads", words)) => Ok(callers_of(words.get_one::<u8>("CLIENTS"))),
         _ => Ok(None),
     }
@@ -63,6 +66,7 @@ fn command<'a>(alloc: Global) -> Result<Command<'a>, AllocError> {
     let ordup = ordup.subcommand(run(alloc))?;
     let ordup = with_job(ordup, record(alloc))?;
     let ordup = ordup.subcommand(check(alloc))?;
+    let ordup = ordup.subcommand(lag(alloc))?;
     with_job(ordup, threads(alloc))
 }
 
@@ -106,6 +110,13 @@ fn check<'a>(alloc: Global) -> Command<'a> {
         .after_help(CHECK_HELP)
 }
 
+/// The words of `ordup lag`.
+fn lag<'a>(alloc: Global) -> Command<'a> {
+    Command::new(alloc, "lag")
+        .about("Prints the lag of a site at each decision, as its record tells it")
+        .after_help(LAG_HELP)
+}
+
 /// The words of `ordup threads`.
 fn threads<'a>(alloc: Global) -> Result<Command<'a>, AllocError> {
     Command::new(alloc, "threads")
@@ -139,7 +150,8 @@ answer for each command on standard output:
 
 `ordup record SITE` runs a script and prints the record of a site, and
 `ordup check` says whether a record shows that the site's forced rounds are the
-fewest that keep its limits: `yes N`, or `no ROW REASON`.
+fewest that keep its limits: `yes N`, or `no ROW REASON`. `ordup lag` prints, from
+the same record, how far behind the site was at each decision.
 
 `ordup threads CLIENTS` reads a plan, which is declarations, `start` and then
 proposals alone, and lets callers in threads of their own make the proposals,
@@ -214,6 +226,27 @@ Exit statuses: 0 yes, 1 no; 3 with `malformed ROW` (the first row that breaks a
 rule of the format), `read fault` (also for a record that is too long) or
 `write fault` on standard error; 4 with `no memory`; 2 for wrong words.
 The rows, and each reason: docs/FORMATS.md";
+
+const LAG_HELP: &str = "\
+Reads the record of a site from standard input, as `ordup check` does, and
+prints comma-separated values: a header, and a row for each decided update.
+
+    place,reported,weight object:x,amount object:x,round,window
+    1,0,5,5,0,1
+    2,0,6,5,1,1
+
+A row has the place of the update and what the site had reported when it was
+decided. Then come two cells for each limit of the site: what the updates from
+there to the place weigh, and the amount in force. Both are empty where the limit
+began later. The last two are 1 at a forced round and else 0, and the number of
+the window that has the place, if any.
+
+Of a record that is not valid it prints what `ordup check` prints: `no ROW REASON`.
+
+Exit statuses: 0 the series, 1 not valid; 3 with `malformed ROW` (the first row
+that breaks a rule of the format), `read fault` (also for a record that is too
+long) or `write fault` on standard error; 4 with `no memory`; 2 for wrong words.
+The cells: docs/FORMATS.md. A picture of them: examples/lag.gp";
 
 const THREADS_HELP: &str = "\
 Reads a plan from standard input to its end: declarations, `start`, and then

@@ -6,7 +6,7 @@ use Rattle.std.specs.Io.KnownBytes.{Appends}
 use Rattle.ordup_text.specs.Fronts.{AppendsFront}
 use Rattle.ordup_limits.specs.Entries.{latest}
 use Rattle.ordup_lag.specs.Series.{row_at}
-use Rattle.ordup_lag.specs.Parts.{SendsUpto}
+use Rattle.ordup_rows.specs.Forming.{SendsUpto}
 use Rattle.ordup_lag.specs.Texts.{row_text, rows_upto}
 use Rattle.ordup_lag.proofs.SeriesLemmas.{upto-front, upto-next}
 

@@ -1,3 +1,2 @@
 pub mod Series
-pub mod Parts
 pub mod Texts

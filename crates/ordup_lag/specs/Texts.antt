@@ -7,7 +7,7 @@ use Rattle.ordup_log.specs.declared.scope.Scope.{Scope}
 use Rattle.ordup_limits.specs.Entries.{latest}
 use Rattle.ordup_limits.specs.Limits.{Limits}
 use Rattle.ordup_limits.specs.declared.limit.Limit.{Limit}
-use Rattle.ordup_lag.specs.Parts.{scope_text}
+use Rattle.ordup_rows.specs.Rows.{scope_text}
 use Rattle.ordup_audit.specs.Records.{RecordState}
 use Rattle.ordup_lag.specs.Series.{LagRow, LimitUse, row_at}
 

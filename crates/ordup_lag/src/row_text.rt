@@ -5,7 +5,7 @@ ghost use Rattle.ordup_objects.specs.Serial.{IsLegalHistory};
 ghost use Rattle.ordup_log.specs.Spans.{IsScopeKnown};
 ghost use Rattle.ordup_limits.specs.Entries.{in_force, latest};
 ghost use Rattle.ordup_limits.specs.Limits.{AreScopesKnown};
-ghost use Rattle.ordup_lag.specs.Parts.{scope_text};
+ghost use Rattle.ordup_rows.specs.Rows.{scope_text};
 ghost use Rattle.ordup_audit.specs.Records.{history_of, report_at};
 ghost use Rattle.ordup_audit.specs.Validity.{IsValid};
 ghost use Rattle.ordup_lag.specs.Series.{row_at, use_of};

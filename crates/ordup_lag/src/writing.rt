@@ -3,7 +3,7 @@
 ghost use Rattle.std.specs.Prelude.{◌≡◌, ◌++◌, [], IfErr, IfOk, OnErr, OnOk, length};
 ghost use Rattle.std.specs.Io.KnownBytes.{Appends};
 ghost use Rattle.ordup_text.specs.Fronts.{AppendsFront};
-ghost use Rattle.ordup_lag.specs.Parts.{SendsUpto};
+ghost use Rattle.ordup_rows.specs.Forming.{SendsUpto};
 ghost use Rattle.ordup_audit.specs.Validity.{IsValid};
 ghost use Rattle.ordup_lag.specs.Texts.{head_text, rows_upto, series_text};
 

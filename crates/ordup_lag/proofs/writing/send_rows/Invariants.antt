@@ -1,7 +1,7 @@
 use Rattle.std.proofs.Common.{◌≡◌, ◌++◌, take}
 use Rattle.ordup_limits.specs.Entries.{latest}
 use Rattle.ordup_audit.specs.Beginning.{HaveBegun}
-use Rattle.ordup_lag.specs.Parts.{SendsUpto}
+use Rattle.ordup_rows.specs.Forming.{SendsUpto}
 use Rattle.ordup_lag.specs.Texts.{rows_upto}
 use Rattle.ordup_lag.proofs.writing.send_rows.Given as goal
 

@@ -10,7 +10,7 @@ ghost use Rattle.ordup_check.specs.Limits.{IsMalformedWithin, never};
 ghost use Rattle.ordup_rows.specs.Sizes.{most_record_bytes};
 ghost use Rattle.ordup_check.specs.Reading.{HasBadRow, IsFresh, IsTaken, has_never};
 ghost use Rattle.ordup_rows.specs.Texts.{TextTells};
-ghost use Rattle.ordup_rows.specs.Stages.{closed};
+ghost use Rattle.ordup_rows.specs.Stages.{closed, unread};
 ghost use Rattle.ordup_check.specs.StageViews.{stage_of};
 ghost use Rattle.ordup_check.specs.PartialRecords.{record_so_far};
 
@@ -79,6 +79,7 @@ fn close(stage: Stage) -> Result<Option<Record>, AllocError>
             if so_far.has_updates(decided) {
                 Ok(Some(whole_record(so_far)?))
             } else {
+                drop(so_far);
                 Ok(None)
             }
         }
@@ -97,28 +98,32 @@ fn see_row(row: &ByteRecord)
     see_bytes(row.as_slice());
 }
 
-/// Reads rows to the end, or to the first that may not stand where it stands. It answers the stage after them, and the number of
-/// the row that would be next.
-fn read_rows<R: Read>(alloc: Global, rdr: &mut Reader<R>) -> Result<(Stage, u64), RecordReadFault>
-    requires { IsFresh rdr.old }
-    ensures taken { IfOk result (λ p. IfSome (source_of R.remaining rdr.old) (λ text. IsTaken text (stage_of p.0) p.1)) }
-    ensures sound { IfOk result (λ p. IfSome (closed (stage_of p.0)) IsRecord) }
+/// Reads rows to the end, or to the first that may not stand where it stands. The stage is then the one after them, and the answer
+/// is the number of the row that would be next.
+fn read_rows<R: Read>(
+    alloc: Global,
+    rdr: &mut Reader<R>,
+    row: &mut ByteRecord,
+    stage: &mut Stage,
+) -> Result<u64, RecordReadFault>
+    requires fresh { IsFresh rdr.old }
+    requires unread { stage_of stage.old ≡ unread }
+    ensures taken { IfOk result (λ n. IfSome (source_of R.remaining rdr.old) (λ text. IsTaken text (stage_of stage.new) n)) }
+    ensures sound { OnOk result (IfSome (closed (stage_of stage.new)) IsRecord) }
     ensures malformed { IfErr result (λ e. (n : ℕ) → e ≡ RecordReadFault.Malformed n
         → IfSome (source_of R.remaining rdr.old) (λ text. HasBadRow text n)) }
 {
-    let mut stage = Stage::Unread;
-    let mut row = ByteRecord::new(alloc);
     for count in 0..u64::MAX {
-        let is_found = match rdr.read_byte_record(&mut row) {
+        let is_found = match rdr.read_byte_record(row) {
             Ok(is_found) => is_found,
             Err(e) if e.is_io_error() => return Err(RecordReadFault::Read),
             Err(_) => return Err(RecordReadFault::NoMemory),
         };
         if !is_found {
-            return Ok((stage, count + 1));
+            return Ok(count + 1);
         }
-        see_row(&row);
-        let Ok(is_taken) = take_row(alloc, &mut stage, &row) else {
+        see_row(row);
+        let Ok(is_taken) = take_row(alloc, stage, row) else {
             return Err(RecordReadFault::NoMemory);
         };
         if !is_taken {
@@ -126,6 +131,27 @@ fn read_rows<R: Read>(alloc: Global, rdr: &mut Reader<R>) -> Result<(Stage, u64)
         }
     }
     Err(RecordReadFault::Read)
+}
+
+/// Reads rows as [`read_rows`] does, from none on. It answers the stage after them, and the number of the row that would be next.
+fn read_stage<R: Read>(alloc: Global, rdr: &mut Reader<R>) -> Result<(Stage, u64), RecordReadFault>
+    requires { IsFresh rdr.old }
+    ensures taken { IfOk result (λ p. IfSome (source_of R.remaining rdr.old) (λ text. IsTaken text (stage_of p.0) p.1)) }
+    ensures sound { IfOk result (λ p. IfSome (closed (stage_of p.0)) IsRecord) }
+    ensures malformed { IfErr result (λ e. (n : ℕ) → e ≡ RecordReadFault.Malformed n
+        → IfSome (source_of R.remaining rdr.old) (λ text. HasBadRow text n)) }
+{
+    let mut row = ByteRecord::new(alloc);
+    let mut stage = Stage::Unread;
+    let read = read_rows(alloc, rdr, &mut row, &mut stage);
+    drop(row);
+    match read {
+        Ok(next) => Ok((stage, next)),
+        Err(fault) => {
+            drop(stage);
+            Err(fault)
+        }
+    }
 }
 
 /// Reads a record of at most `limit` bytes. A byte order mark at the start is passed over. It promises, clause by clause, of a
@@ -152,7 +178,9 @@ pub fn read_record_within<R: Read>(
         .has_headers(false)
         .flexible(true)
         .from_reader(alloc, ShortRows::new(Limited::new(input, limit)));
-    let (stage, row) = read_rows(alloc, &mut rdr)?;
+    let read = read_stage(alloc, &mut rdr);
+    drop(rdr);
+    let (stage, row) = read?;
     match close(stage) {
         Ok(Some(record)) => Ok(record),
         Ok(None) => Err(RecordReadFault::Malformed { row }),

@@ -17,6 +17,7 @@ use ordup_objects::Name;
 use ordup_objects::sizes::MOST_UPDATES;
 use ordup_rows::{RowKind, Version};
 use std::alloc::{AllocError, Global};
+use std::mem::replace;
 
 /// No row was read; or the version, how many updates are decided, and the record as far as its rows were read.
 #[derive(Drop)]
@@ -68,7 +69,7 @@ fn take_head(alloc: Global, stage: &mut Stage, c: &RowColumns<'_>) -> bool
 {
     match read_head(alloc, c) {
         Some(reading) => {
-            *stage = reading;
+            drop(replace(stage, reading));
             true
         }
         None => false,

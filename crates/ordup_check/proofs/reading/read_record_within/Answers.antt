@@ -11,8 +11,8 @@ returns-in_err-stage-clause-malformed g c =
     let failed = err_from_is_err_and c.from_residual.result c.from_residual.ensures.1 in
     let source = (rw (c.new-3.ensures.input, c.new-3.ensures.state, c.new-3.ensures.left, c.new-3.ensures.open, c.new-2.ensures.input, c.new-2.ensures.left, c.new-2.ensures.within) at c.from_reader-rdr.ensures.source) in
     let text = g.R.Read.remaining c.args.input.now in
-    rw failed.1
-    (λ n e. read_bad c.args.limit text _ n source (c.in_err-stage.ensures.malformed n (sym failed.2 ∙ e)))
+    let bad = rw c.in_err-stage.was at c.read_stage-read.ensures.malformed in
+    rw failed.1 (λ n e. read_bad c.args.limit text _ n source (bad n (sym failed.2 ∙ e)))
 
 pub returns-in-Ok-Some-clause-read : goal.returns-in-Ok-Some-clause-read
 returns-in-Ok-Some-clause-read g c =
@@ -21,7 +21,7 @@ returns-in-Ok-Some-clause-read g c =
     tells_whole text c.args.limit stage c.in_ok-stage.row c.in-Ok-Some.record (sym c.in-Ok-Some.ensures ∙ c.in-Ok-Some.field-0-is)
     (read_whole c.args.limit text _ stage c.in_ok-stage.row
     (rw (c.new-3.ensures.input, c.new-3.ensures.state, c.new-3.ensures.left, c.new-3.ensures.open, c.new-2.ensures.input, c.new-2.ensures.left, c.new-2.ensures.within) at c.from_reader-rdr.ensures.source)
-    c.in_ok-stage.ensures.taken)
+    (rw c.in_ok-stage.was at c.read_stage-read.ensures.taken))
 
 pub returns-in-Ok-Some-clause-limited : goal.returns-in-Ok-Some-clause-limited
 returns-in-Ok-Some-clause-limited g c =
@@ -30,7 +30,7 @@ returns-in-Ok-Some-clause-limited g c =
     tells_within text c.args.limit stage c.in_ok-stage.row
     (read_whole c.args.limit text _ stage c.in_ok-stage.row
     (rw (c.new-3.ensures.input, c.new-3.ensures.state, c.new-3.ensures.left, c.new-3.ensures.open, c.new-2.ensures.input, c.new-2.ensures.left, c.new-2.ensures.within) at c.from_reader-rdr.ensures.source)
-    c.in_ok-stage.ensures.taken)
+    (rw c.in_ok-stage.was at c.read_stage-read.ensures.taken))
 
 pub returns-in-Ok-None-clause-malformed : goal.returns-in-Ok-None-clause-malformed
 returns-in-Ok-None-clause-malformed g c n e =
@@ -40,7 +40,7 @@ returns-in-Ok-None-clause-malformed g c n e =
     (missing_within text c.args.limit stage c.in_ok-stage.row (sym c.in-Ok-None.ensures ∙ c.in-Ok-None.field-0-is)
     (read_whole c.args.limit text _ stage c.in_ok-stage.row
     (rw (c.new-3.ensures.input, c.new-3.ensures.state, c.new-3.ensures.left, c.new-3.ensures.open, c.new-2.ensures.input, c.new-2.ensures.left, c.new-2.ensures.within) at c.from_reader-rdr.ensures.source)
-    c.in_ok-stage.ensures.taken))
+    (rw c.in_ok-stage.was at c.read_stage-read.ensures.taken)))
 
 pub returns-in_err-stage-clause-told : goal.returns-in_err-stage-clause-told
 returns-in_err-stage-clause-told g c text r is few told =

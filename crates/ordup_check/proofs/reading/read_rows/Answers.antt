@@ -7,7 +7,9 @@ use Rattle.ordup_rows.proofs.Running.{step_follows}
 use Rattle.ordup_check.proofs.reading.read_rows.Goals as goal
 
 pub loop-count-init : goal.loop-count-init
-loop-count-init g c = (c.requires.plain, c.requires.ready, c.requires.config, tt, begins g.R.Read.remaining c.args.rdr.now c.requires)
+loop-count-init g c =
+    let fresh = c.requires.fresh in
+    rw c.requires.unread (fresh.plain, fresh.ready, fresh.config, tt, begins g.R.Read.remaining c.args.rdr.now fresh)
 
 pub returns-then-not-is_found-clause-taken : goal.returns-then-not-is_found-clause-taken
 returns-then-not-is_found-clause-taken g c =

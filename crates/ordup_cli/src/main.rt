@@ -4,6 +4,8 @@
 
 mod act;
 mod fault;
+#[cfg(test)]
+mod fault_tests;
 mod jobs;
 #[cfg(test)]
 mod lag_tests;
@@ -18,6 +20,8 @@ mod rows;
 mod streams;
 #[cfg(test)]
 mod tests;
+#[cfg(test)]
+mod word_tests;
 
 pub use act::act;
 use fault::{Fault, WRONG_WORDS, tell};

@@ -25,8 +25,8 @@ pub(crate) fn close(rt: &impl Print, cluster: Cluster) -> io::Result<()> {
 fn print_closed(rt: &impl Print, closed: &Closed) -> io::Result<()> {
     print_log(rt, closed)?;
     closed.primary().keeps();
-    for place in 0..closed.primary().setup().sites() {
-        print_site(rt, closed, SiteId::new(place as u8))?;
+    for index in 0..closed.primary().setup().sites() {
+        print_site(rt, closed, SiteId::new(index as u8))?;
     }
     Ok(())
 }
@@ -35,8 +35,8 @@ fn print_closed(rt: &impl Print, closed: &Closed) -> io::Result<()> {
 fn print_log(rt: &impl Print, closed: &Closed) -> io::Result<()> {
     let log = closed.primary().log();
     print!(rt; "log {} values", log.len())?;
-    for place in 0..OBJECTS {
-        let object = ObjectId::new(place);
+    for index in 0..OBJECTS {
+        let object = ObjectId::new(index);
         if object.index() < log.objects() {
             print!(rt; " {}", log.end_value(object))?;
         }

@@ -9,7 +9,7 @@ use Rattle.ordup_objects.specs.declared.refusal.Refusal.{Refusal}
 use Rattle.ordup_grammar.specs.declared.change_words.ChangeWord.{ChangeWord}
 use Rattle.ordup_grammar.specs.declared.operation.Operation.{Operation}
 use Rattle.ordup_grammar.specs.declared.operation.Operation.TheVariants as word
-use Rattle.ordup_answers.specs.Places.{index_among}
+use Rattle.ordup_answers.specs.Names.{index_among}
 use Rattle.ordup_answers.specs.Refusals.{unless}
 
 -- the operation over these objects

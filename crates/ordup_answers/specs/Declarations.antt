@@ -7,7 +7,7 @@ use Rattle.ordup_primary.specs.Declarations.{Declared, with_object, with_group, 
 use Rattle.ordup_grammar.specs.Numbers.{amount_of}
 use Rattle.ordup_grammar.specs.declared.declaration.Declaration.{Declaration}
 use Rattle.ordup_grammar.specs.declared.declaration.Declaration.TheVariants.{Object, Group, Site, Limit}
-use Rattle.ordup_answers.specs.Places.{index_among, indices_among, scope_in}
+use Rattle.ordup_answers.specs.Names.{index_among, indices_among, scope_in}
 use Rattle.ordup_answers.specs.Refusals.{unless}
 
 -- what is declared with one declaration more, or why it is refused

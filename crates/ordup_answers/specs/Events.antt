@@ -22,7 +22,7 @@ use Rattle.ordup_grammar.specs.Actions.{
   Relimit,
 }
 use Rattle.ordup_answers.specs.Changes.{set_in}
-use Rattle.ordup_answers.specs.Places.{index_among, scope_in}
+use Rattle.ordup_answers.specs.Names.{index_among, scope_in}
 use Rattle.ordup_answers.specs.Refusals.{made_of}
 
 -- the name of a query: none is open by what is no name

@@ -1,6 +1,6 @@
 pub mod Texts
 pub mod Refusals
-pub mod Places
+pub mod Names
 pub mod Changes
 pub mod NearestNumbers
 pub mod Declarations

@@ -14,7 +14,7 @@ use Rattle.ordup_grammar.specs.declared.declaration.Declaration.{Declaration}
 use Rattle.ordup_grammar.specs.declared.declaration.Declaration.TheVariants.{Object, Group, Site, Limit}
 use Rattle.ordup_answers.specs.Declarations.{with_declaration}
 use Rattle.ordup_answers.specs.Events.{event_of, names_of}
-use Rattle.ordup_answers.specs.Places.{index_among}
+use Rattle.ordup_answers.specs.Names.{index_among}
 use Rattle.ordup_answers.specs.Refusals.{made_of, unless}
 use Rattle.ordup_answers.specs.ScriptStates.{ScriptState, declaring, running}
 use Rattle.ordup_answers.specs.Texts.{refused_text, started_text, answer_text, certified_text}

@@ -15,7 +15,7 @@ use crate::events::{
     answer_abandon, answer_apply, answer_begin, answer_end, answer_propose, answer_read,
     answer_relimit, answer_report, answer_send, answer_settle, answer_show,
 };
-use crate::places::find_site;
+use crate::names::find_site;
 use crate::script_end::ScriptEnd;
 use crate::text::{push_certified, push_refused, push_started};
 use ordup_grammar::{Declaration, Keyword, ScriptLine, Word, Words};

@@ -6,7 +6,7 @@ ghost use Rattle.ordup_answers.specs.Changes.{op_in, change_in, changes_in, set_
 ghost use Rattle.ordup_answers.specs.NearestNumbers.{nearest_operation, nearest_change, nearest_changes};
 ghost use Rattle.ordup_answers.specs.Refusals.{Gives};
 
-use crate::places::find_object;
+use crate::names::find_object;
 use ordup_grammar::{ChangeWord, ChangeWords, Operation, Words};
 use ordup_objects::{Change, MessageSet, ObjectTable, Op, Refusal};
 use std::alloc::Allocator;

@@ -2,7 +2,7 @@
 ghost use Rattle.ordup_answers.specs.Declarations.{with_declaration};
 ghost use Rattle.ordup_answers.specs.Refusals.{Makes};
 
-use crate::places::{find_objects, find_scope, find_site};
+use crate::names::{find_objects, find_scope, find_site};
 use ordup_grammar::{Declaration, Number, ScopeWord, Word, Words};
 use ordup_objects::Refusal;
 use ordup_world::Setup;

@@ -16,7 +16,7 @@ ghost use Rattle.ordup_answers.specs.Replies.{event_reply, words_reply};
 ghost use Rattle.ordup_answers.specs.ScriptStates.{ScriptState, IsWorldOf, Stands};
 
 use crate::changes::{set_in, syntax_or};
-use crate::places::{find_object, find_scope, find_site};
+use crate::names::{find_object, find_scope, find_site};
 use crate::script_end::ScriptEnd;
 use crate::text::{push_answer, push_refused};
 use ordup_grammar::{ScopeWord, Word, Words};
@@ -177,10 +177,10 @@ pub(crate) fn answer_read<A: Allocator + Copy>(
         return push_refused(out, Refusal::NotStarted);
     };
     match read_of(world.primary().setup(), &query, &object) {
-        Ok((name, place)) => {
+        Ok((name, id)) => {
             let event = Event::Read {
                 query: name,
-                object: place,
+                object: id,
             };
             answer_event(world, event, query.as_bytes(), object.as_bytes(), out)
         }

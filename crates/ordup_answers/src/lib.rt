@@ -7,7 +7,7 @@ mod answers;
 mod changes;
 mod declarations;
 mod events;
-mod places;
+mod names;
 mod script_end;
 mod text;
 

@@ -34,9 +34,9 @@ fn first_out_of_range<A: Allocator + Copy>(values: &Values<A>, changes: &[Change
     requires illegal { is_legal changes.now values.now ≡ false }
     ensures { IsFirstFailure (λ p. slice_index_or (map (λ c. in_range (result_at values.now c)) changes.now) p true) (length changes.now) result }
 {
-    for (place, change) in changes.iter().enumerate() {
+    for (index, change) in changes.iter().enumerate() {
         if values.result(change).unsigned_abs() > GREATEST_VALUE {
-            return place;
+            return index;
         }
     }
     unreachable!()

@@ -13,22 +13,22 @@ use std::alloc::Allocator;
 pub(crate) fn change_row<A: Allocator + Copy>(
     audited: &Record<A>,
     updates: u64,
-    place: usize,
+    index: usize,
 ) -> u64
     requires updates { updates ≤ length audited.now.sets }
-    requires place { place < most_changes }
-    ensures { result ≡ change_row audited.now updates place }
+    requires index { index < most_changes }
+    ensures { result ≡ change_row audited.now updates index }
 {
-    rows_before_changes(audited) + change_count(audited, updates) + place as u64 + 1
+    rows_before_changes(audited) + change_count(audited, updates) + index as u64 + 1
 }
 
 /// The row of the window after the first `place` windows.
-pub(crate) fn window_row<A: Allocator + Copy>(audited: &Record<A>, place: usize) -> u64
-    requires { place < length audited.now.windows }
-    ensures { result ≡ window_row audited.now place }
+pub(crate) fn window_row<A: Allocator + Copy>(audited: &Record<A>, index: usize) -> u64
+    requires { index < length audited.now.windows }
+    ensures { result ≡ window_row audited.now index }
 {
     audited.keeps();
-    rows_before_windows(audited) + place as u64 + 1
+    rows_before_windows(audited) + index as u64 + 1
 }
 
 /// The last row.
@@ -56,8 +56,8 @@ pub fn member_count<A: Allocator + Copy>(groups: &Groups<A>) -> u64
     ensures few { result ≤ most_groups * most_members }
 {
     let mut count = 0;
-    for place in 0..groups.len() {
-        count += groups.members(GroupId::new(place as u8)).len() as u64;
+    for index in 0..groups.len() {
+        count += groups.members(GroupId::new(index as u8)).len() as u64;
     }
     count
 }

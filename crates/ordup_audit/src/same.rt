@@ -18,8 +18,8 @@ pub(crate) fn are_same_objects<A: Allocator + Copy>(
     if count != those.len() {
         return false;
     }
-    for place in 0..count {
-        if !is_same_object(these, those, ObjectId::new(place as u16)) {
+    for index in 0..count {
+        if !is_same_object(these, those, ObjectId::new(index as u16)) {
             return false;
         }
     }
@@ -45,8 +45,8 @@ pub(crate) fn are_same_groups<A: Allocator + Copy>(these: &Groups<A>, those: &Gr
     if count != those.len() {
         return false;
     }
-    for place in 0..count {
-        if !is_same_group(these, those, GroupId::new(place as u8)) {
+    for index in 0..count {
+        if !is_same_group(these, those, GroupId::new(index as u8)) {
             return false;
         }
     }

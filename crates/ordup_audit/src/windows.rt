@@ -22,9 +22,9 @@ pub(crate) fn first_light<A: Allocator + Copy>(
     ensures some { IfSome result (λ row. IsLightRow audited.now row) }
 {
     audited.keeps();
-    for (place, window) in audited.windows().iter().enumerate() {
+    for (index, window) in audited.windows().iter().enumerate() {
         if !starts.passes_a_limit(audited, window.from, window.to) {
-            return Some(window_row(audited, place));
+            return Some(window_row(audited, index));
         }
     }
     None
@@ -36,9 +36,9 @@ pub(crate) fn first_meeting<A: Allocator + Copy>(audited: &Record<A>) -> Option<
     ensures some { IfSome result (λ row. IsMeetingRow audited.now row) }
 {
     let mut end = 0;
-    for (place, window) in audited.windows().iter().enumerate() {
+    for (index, window) in audited.windows().iter().enumerate() {
         if window.from < end {
-            return Some(window_row(audited, place));
+            return Some(window_row(audited, index));
         }
         end = window.to;
     }
@@ -50,9 +50,9 @@ pub(crate) fn first_reported<A: Allocator + Copy>(audited: &Record<A>) -> Option
     ensures none { IfNone result (AreWindowsUnreported audited.now) }
     ensures some { IfSome result (λ row. IsReportedRow audited.now row) }
 {
-    for (place, window) in audited.windows().iter().enumerate() {
+    for (index, window) in audited.windows().iter().enumerate() {
         if audited.reported_at(window.to) > window.from {
-            return Some(window_row(audited, place));
+            return Some(window_row(audited, index));
         }
     }
     None

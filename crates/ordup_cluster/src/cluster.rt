@@ -399,12 +399,12 @@ fn first_mixed(
     if sites.len() != primary.setup().sites() {
         return Some(SiteId::new(0));
     }
-    for place in 0..primary.setup().sites() {
-        let site = SiteId::new(place as u8);
+    for index in 0..primary.setup().sites() {
+        let site = SiteId::new(index as u8);
         let Some(values) = spare_values.pop() else {
             return Some(site);
         };
-        if !agree(primary, site, &sites[place], values) {
+        if !agree(primary, site, &sites[index], values) {
             return Some(site);
         }
     }

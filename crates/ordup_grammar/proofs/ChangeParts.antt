@@ -32,14 +32,14 @@ either_way : (b : Bool) (c : Option ChangeWord) → (if b then c else c) ≡ c
 either_way true c = refl
 either_way false c = refl
 
-change_by_place : (word kind rest name operand : List ℕ) (place : Option ℕ)
+change_by_index : (word kind rest name operand : List ℕ) (index : Option ℕ)
     → slice_split is_colon word ≡ kind ∷ slice_split is_colon rest
     → slice_split is_colon rest ≡ name ∷ slice_split is_colon operand
-    → position is_colon operand ≡ place
-    → change_of word ≡ change_by name (if is_some place then None else operation_of kind operand)
-change_by_place word kind rest name operand None first second nowhere =
+    → position is_colon operand ≡ index
+    → change_of word ≡ change_by name (if is_some index then None else operation_of kind operand)
+change_by_index word kind rest name operand None first second nowhere =
     rw (first, second, slice_split-no_position is_colon operand nowhere) refl
-change_by_place word kind rest name operand (Some i) first second found =
+change_by_index word kind rest name operand (Some i) first second found =
     let parts = slice_split-position is_colon operand i found in
     let more = take (length operand - (i + 1)) (drop (i + 1) operand) in
     let some : 0 < length (slice_split is_colon more) = omega (arith, length-slice_split is_colon more) in
@@ -51,7 +51,7 @@ pub change_of-behind : (word kind rest name operand : List ℕ)
     → slice_split is_colon rest ≡ name ∷ slice_split is_colon operand
     → change_of word ≡ change_by name (if is_some (position is_colon operand) then None else operation_of kind operand)
 change_of-behind word kind rest name operand first second =
-    change_by_place word kind rest name operand (position is_colon operand) first second refl
+    change_by_index word kind rest name operand (position is_colon operand) first second refl
 
 digit_at : (digits : List ℕ) (i : ℕ) → all_ascii_digits digits ≡ true → i < length digits → is_colon (get_or digits i 0) ≡ false
 digit_at [] i all below = absurd (omega (arith, below))
@@ -83,13 +83,13 @@ number_of-colon (first ∷ rest) i found =
     let at = position-Some is_colon (first ∷ rest) i 0 found in
     no_number first rest i (first == 45) refl at.0 at.1
 
-no_place : (word : List ℕ) (z : ℤ) (place : Option ℕ) → position is_colon word ≡ place → number_of word ≡ Some z
-    → is_some place ≡ false
-no_place word z None nowhere number = refl
-no_place word z (Some i) found number =
+no_index : (word : List ℕ) (z : ℤ) (index : Option ℕ) → position is_colon word ≡ index → number_of word ≡ Some z
+    → is_some index ≡ false
+no_index word z None nowhere number = refl
+no_index word z (Some i) found number =
     let none = number_of-colon word i found in
     absurd cc
 
 -- in a number stands no colon
 pub position-number : (word : List ℕ) (z : ℤ) → number_of word ≡ Some z → is_some (position is_colon word) ≡ false
-position-number word z number = no_place word z (position is_colon word) refl number
+position-number word z number = no_index word z (position is_colon word) refl number

@@ -8,7 +8,7 @@ use Rattle.std.proofs.lemmas.List.{get_or-take}
 use Rattle.std.proofs.lemmas.List.Sums.{position_or_len_is}
 use Rattle.std.proofs.lemmas.Simd.{run_in_chunk_fails, run_in_chunk_stops}
 
--- the place of a byte in a front, by its place in the first sixteen bytes of the text
+-- the index of a byte in a front, by its index in the first sixteen bytes of the text
 module _ (wanted : ℕ) (text : List ℕ) (len r m : ℕ) (within : len ≤ length text) (room : 16 ≤ length text)
     (counted : r ≡ prefix_len (λ byte. not (byte == wanted)) (take 16 text)) where
   long : length (take len text) ≡ len
@@ -36,8 +36,8 @@ module _ (wanted : ℕ) (text : List ℕ) (len r m : ℕ) (within : len ≤ leng
       | inr past ↦ absurd (omega (arith, inside, late past))
     ]
 
-    pub place_in_front : position_or_len (λ byte. byte == wanted) (take len text) ≡ m
-    place_in_front =
+    pub index_in_front : position_or_len (λ byte. byte == wanted) (take len text) ≡ m
+    index_in_front =
         position_or_len_is (λ byte. byte == wanted) (take len text) m 0 (omega (arith, long, least.1))
         (λ k below. rw (get_or-take len text k 0 (omega (arith, below, least.1)))
         (run_in_chunk_fails (λ byte. byte == wanted) text 0 16 r 0 room counted k (omega arith) (omega (arith, below, least.0))))

@@ -13,16 +13,16 @@ module _ (wanted : ℕ) where
   abbrev is_wanted : ℕ → Bool
   is_wanted byte = byte == wanted
 
-  module _ (text : List ℕ) (place n : ℕ) (room : place + n ≤ length text) (few : n ≤ 64) where
+  module _ (text : List ℕ) (index n : ℕ) (room : index + n ≤ length text) (few : n ≤ 64) where
     abbrev block : List ℕ
-    block = take n (drop place text)
+    block = take n (drop index text)
 
     -- the bytes of the block that are wanted, as the bits of a number
     abbrev found : ℕ
     found = mask_l (map (top 7) (zip2 (λ a b. cond (nat_eq a b) 255 0) block (replicate n wanted))) % 2 ^ 64
 
     long : length block ≡ n
-    long = omega (arith, length-take n (drop place text), length-drop place text)
+    long = omega (arith, length-take n (drop index text), length-drop index text)
 
     first_found : cond (found == 0) n (count_trailing_zeros 64 found) ≡ prefix_len (λ byte. not (is_wanted byte)) block
     first_found = rw (bitmask_splat w8 nat_eq block n wanted long few) (first_set_mask_l is_wanted block n long few)

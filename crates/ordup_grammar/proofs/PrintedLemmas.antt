@@ -72,16 +72,16 @@ without_zero m n a b chosen some = grind (arith, chosen)
 pub with_zero : (m n a b : ℕ) → cond (m == 0) n a ≡ b → m ≡ 0 → n ≡ b
 with_zero m n a b chosen none = grind (arith, chosen)
 
-module _ (bytes : List ℕ) (place : ℕ) (room : place + 16 ≤ length bytes) (fit : (i : ℕ) → get_or bytes i 0 < 256) where
+module _ (bytes : List ℕ) (index : ℕ) (room : index + 16 ≤ length bytes) (fit : (i : ℕ) → get_or bytes i 0 < 256) where
   abbrev block : List ℕ
-  block = take 16 (drop place bytes)
+  block = take 16 (drop index bytes)
 
   -- the marks of the block, as the bits of a number
   abbrev marked : ℕ
   marked = mask_l (map (top 7) (zip2 marks (replicate 16 95) (zip2 less block (replicate 16 32)))) % 2 ^ 64
 
   sixteen : length block ≡ 16
-  sixteen = omega (arith, length-take 16 (drop place bytes), length-drop place bytes)
+  sixteen = omega (arith, length-take 16 (drop index bytes), length-drop index bytes)
 
   marked_bits : marked ≡ mask_l (map is_marked block)
   marked_bits =
@@ -94,9 +94,9 @@ module _ (bytes : List ℕ) (place : ℕ) (room : place + 16 ≤ length bytes) (
   same : (i : ℕ) → i < length block → not (is_marked (get_or block i 0)) ≡ is_printed (get_or block i 0)
   same i lt =
       let within : i < 16 = omega (arith, sixteen) in
-      printed_byte (get_or block i 0) (rw (get_or-take 16 (drop place bytes) i 0 within, get_or-drop place bytes i 0) (fit (place + i)))
+      printed_byte (get_or block i 0) (rw (get_or-take 16 (drop index bytes) i 0 within, get_or-drop index bytes i 0) (fit (index + i)))
 
-  -- the place of the first mark, or 16 where there is none
+  -- the index of the first mark, or 16 where there is none
   first_mark : cond (marked == 0) 16 (count_trailing_zeros 64 marked) ≡ prefix_len is_printed block
   first_mark =
       rw marked_bits (first_set_mask_l is_marked block 16 sixteen (omega arith))
@@ -116,33 +116,33 @@ without_all r rest whole is lt = grind (arith, is)
 with_all : (r rest whole : ℕ) → whole ≡ cond (r == 16) (16 + rest) r → 16 ≤ r → r ≤ 16 → whole ≡ 16 + rest
 with_all r rest whole is le ge = grind (arith, is)
 
-module _ (bytes : List ℕ) (place r : ℕ) (room : place + 16 ≤ length bytes)
-    (so_far : prefix_len is_printed bytes ≡ place + prefix_len is_printed (drop place bytes))
-    (found : r ≡ prefix_len is_printed (take 16 (drop place bytes))) where
-  parts : prefix_len is_printed (drop place bytes) ≡ cond (r == 16) (16 + prefix_len is_printed (drop (place + 16) bytes)) r
+module _ (bytes : List ℕ) (index r : ℕ) (room : index + 16 ≤ length bytes)
+    (so_far : prefix_len is_printed bytes ≡ index + prefix_len is_printed (drop index bytes))
+    (found : r ≡ prefix_len is_printed (take 16 (drop index bytes))) where
+  parts : prefix_len is_printed (drop index bytes) ≡ cond (r == 16) (16 + prefix_len is_printed (drop (index + 16) bytes)) r
   parts =
-      let block = take 16 (drop place bytes) in
-      let long : length block ≡ 16 = omega (arith, length-take 16 (drop place bytes), length-drop place bytes) in
-      let both = prefix_len-append is_printed block (drop (place + 16) bytes) in
-      rw found (ap (prefix_len is_printed) (chunk-drop place 16 bytes) ∙ (rw long at both))
+      let block = take 16 (drop index bytes) in
+      let long : length block ≡ 16 = omega (arith, length-take 16 (drop index bytes), length-drop index bytes) in
+      let both = prefix_len-append is_printed block (drop (index + 16) bytes) in
+      rw found (ap (prefix_len is_printed) (chunk-drop index 16 bytes) ∙ (rw long at both))
 
-  pub stops_in_block : r < 16 → place + r ≡ prefix_len is_printed bytes
+  pub stops_in_block : r < 16 → index + r ≡ prefix_len is_printed bytes
   stops_in_block lt =
-      let here = without_all r (prefix_len is_printed (drop (place + 16) bytes)) (prefix_len is_printed (drop place bytes)) parts lt in
+      let here = without_all r (prefix_len is_printed (drop (index + 16) bytes)) (prefix_len is_printed (drop index bytes)) parts lt in
       omega (arith, here, so_far)
 
-  pub goes_past_block : 16 ≤ r → prefix_len is_printed bytes ≡ place + 16 + prefix_len is_printed (drop (place + 16) bytes)
+  pub goes_past_block : 16 ≤ r → prefix_len is_printed bytes ≡ index + 16 + prefix_len is_printed (drop (index + 16) bytes)
   goes_past_block le =
-      let block = take 16 (drop place bytes) in
+      let block = take 16 (drop index bytes) in
       let most : r ≤ 16 =
       omega (
         arith,
         found,
         length-prefix_len is_printed block,
         length-take (prefix_len is_printed block) block,
-        length-take 16 (drop place bytes),
+        length-take 16 (drop index bytes),
       ) in
-      let here = with_all r (prefix_len is_printed (drop (place + 16) bytes)) (prefix_len is_printed (drop place bytes)) parts le most in
+      let here = with_all r (prefix_len is_printed (drop (index + 16) bytes)) (prefix_len is_printed (drop index bytes)) parts le most in
       omega (arith, here, so_far)
 
 -- ---- the printed prefix of a line

@@ -10,41 +10,41 @@ use Rattle.std.proofs.lemmas.List.{get_or-take, get_or-drop, ext_get_or}
 use Rattle.std.proofs.lemmas.Nat.{le_bytes_4}
 
 abbrev four : ℕ → List ℕ → List ℕ
-four place text = take 4 (drop place text)
+four index text = take 4 (drop index text)
 
 abbrev AreBytes : List ℕ → Type 0
 AreBytes text = (i : ℕ) → get_or text i 0 < 256
 
--- the byte at a place of the four
-byte_of_four : (text : List ℕ) (place i : ℕ) → i < 4 → get_or (four place text) i 0 ≡ get_or text (place + i) 0
-byte_of_four text place i below = get_or-take 4 (drop place text) i 0 below ∙ get_or-drop place text i 0
+-- the byte at an index of the four
+byte_of_four : (text : List ℕ) (index i : ℕ) → i < 4 → get_or (four index text) i 0 ≡ get_or text (index + i) 0
+byte_of_four text index i below = get_or-take 4 (drop index text) i 0 below ∙ get_or-drop index text i 0
 
-are_bytes : (text : List ℕ) (place : ℕ) → AreBytes text → place + 4 ≤ length text → AreBytes (four place text)
-are_bytes text place fit room i = elim (cases_lt i 4) [
-  | inl below ↦ rw (byte_of_four text place i below) (fit (place + i))
-  | inr past ↦ grind (arith, length-take 4 (drop place text), length-drop place text)
+are_bytes : (text : List ℕ) (index : ℕ) → AreBytes text → index + 4 ≤ length text → AreBytes (four index text)
+are_bytes text index fit room i = elim (cases_lt i 4) [
+  | inl below ↦ rw (byte_of_four text index i below) (fit (index + i))
+  | inr past ↦ grind (arith, length-take 4 (drop index text), length-drop index text)
 ]
 
-long : (text : List ℕ) (place : ℕ) → place + 4 ≤ length text → length (four place text) ≡ 4
-long text place room = omega (arith, length-take 4 (drop place text), length-drop place text)
+long : (text : List ℕ) (index : ℕ) → index + 4 ≤ length text → length (four index text) ≡ 4
+long text index room = omega (arith, length-take 4 (drop index text), length-drop index text)
 
 module _ (word keyword : List ℕ) (same : length word ≡ length keyword) (least : 4 ≤ length keyword) (most : length keyword ≤ 8)
     (fit : AreBytes word) (keyword_fit : AreBytes keyword) where
   -- equal numbers are of equal bytes
-  equal_four : (place : ℕ) → place + 4 ≤ length keyword → from_le_bytes w32 (four place word) ≡ from_le_bytes w32 (four place keyword)
-      → four place word ≡ four place keyword
-  equal_four place room e =
-      sym (le_bytes_4 (four place word) _ (long word place (omega arith)) (are_bytes word place fit (omega arith)) refl)
-      ∙ le_bytes_4 (four place keyword) _ (long keyword place room) (are_bytes keyword place keyword_fit room) e
+  equal_four : (index : ℕ) → index + 4 ≤ length keyword → from_le_bytes w32 (four index word) ≡ from_le_bytes w32 (four index keyword)
+      → four index word ≡ four index keyword
+  equal_four index room e =
+      sym (le_bytes_4 (four index word) _ (long word index (omega arith)) (are_bytes word index fit (omega arith)) refl)
+      ∙ le_bytes_4 (four index keyword) _ (long keyword index room) (are_bytes keyword index keyword_fit room) e
 
-  same_byte : (place i : ℕ) → four place word ≡ four place keyword → place ≤ i → i < place + 4 → get_or word i 0 ≡ get_or keyword i 0
-  same_byte place i e from to =
-      let below : i - place < 4 = omega arith in
-      let back : place + (i - place) ≡ i = omega arith in
+  same_byte : (index i : ℕ) → four index word ≡ four index keyword → index ≤ i → i < index + 4 → get_or word i 0 ≡ get_or keyword i 0
+  same_byte index i e from to =
+      let below : i - index < 4 = omega arith in
+      let back : index + (i - index) ≡ i = omega arith in
       ap (λ k. get_or word k 0) (sym back)
-      ∙ sym (byte_of_four word place (i - place) below)
-      ∙ ap (λ text. get_or text (i - place) 0) e
-      ∙ byte_of_four keyword place (i - place) below
+      ∙ sym (byte_of_four word index (i - index) below)
+      ∙ ap (λ text. get_or text (i - index) 0) e
+      ∙ byte_of_four keyword index (i - index) below
       ∙ ap (λ k. get_or keyword k 0) back
 
   same_word : four 0 word ≡ four 0 keyword → four (length keyword - 4) word ≡ four (length keyword - 4) keyword → word ≡ keyword

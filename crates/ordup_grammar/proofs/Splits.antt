@@ -1,4 +1,4 @@
--- The parts of a list, from the place of the first element at which it is cut.
+-- The parts of a list, from the index of the first element at which it is cut.
 use Rattle.std.proofs.Common.{◌≡◌, ◌∙◌, ap, ℕ, suc, ◌+◌, ◌-◌, ◌<◌, ◌≤◌, refl}
 use Rattle.std.proofs.Common.{Bool, false, true, cond, nat_lt, List, [], ◌∷◌, ◌++◌, length}
 use Rattle.std.proofs.Common.{take, drop, get_or, Some, None, arith, add-one, position, not, sym, inl, inr, ◌==◌}
@@ -20,11 +20,11 @@ is_false : (b : Bool) → ¬ (b ≡ true) → b ≡ false
 is_false true h = absurd (h refl)
 is_false false h = refl
 
--- a place that is no answer is the end
-at_end : (place len : ℕ) → cond (nat_lt place len) (Some place) None ≡ None → len ≤ place
-at_end place len h = grind (arith, nat_tests)
+-- an index that is no answer is the end
+at_end : (index len : ℕ) → cond (nat_lt index len) (Some index) None ≡ None → len ≤ index
+at_end index len h = grind (arith, nat_tests)
 
--- before the first place that passes none does
+-- before the first index that passes none does
 front_fails : (p : ℕ → Bool) (xs : List ℕ) (i : ℕ) → ((k : ℕ) → k < i → p (get_or xs k 0) ≡ false)
     → All (λ x. p x ≡ false) (take i xs)
 front_fails p xs i before =
@@ -47,26 +47,26 @@ pub fails-no_byte : (p : ℕ → Bool) (xs : List ℕ) → IsFirstByte p xs None
 fails-no_byte p xs nowhere =
     All-from_get_or (λ x. p x ≡ false) xs 0 (λ k below. is_false (p (get_or xs k 0)) (nowhere k (omega arith) below))
 
--- a place is within the list
-pub place_within : (p : ℕ → Bool) (xs : List ℕ) → position_or_len p xs ≤ length xs
-place_within p xs = omega (arith, length-prefix_len (λ x. not (p x)) xs, length-take (position_or_len p xs) xs)
+-- an index is within the list
+pub index_within : (p : ℕ → Bool) (xs : List ℕ) → position_or_len p xs ≤ length xs
+index_within p xs = omega (arith, length-prefix_len (λ x. not (p x)) xs, length-take (position_or_len p xs) xs)
 
--- the place of the first of these bytes
-pub place-first_byte : (b : ℕ) (xs : List ℕ) (i : ℕ) → IsFirstByte (λ x. x == b) xs (Some i) → position_or_len (λ x. x == b) xs ≡ i
-place-first_byte b xs i (first, passes) =
+-- the index of the first of these bytes
+pub index-first_byte : (b : ℕ) (xs : List ℕ) (i : ℕ) → IsFirstByte (λ x. x == b) xs (Some i) → position_or_len (λ x. x == b) xs ≡ i
+index-first_byte b xs i (first, passes) =
     position_or_len_is (λ x. x == b) xs i 0 (omega (arith, first.high))
     (λ k below. is_false (get_or xs k 0 == b) (first.before k (omega arith) below)) (λ inside. passes)
 
-pub place-no_byte : (b : ℕ) (xs : List ℕ) → IsFirstByte (λ x. x == b) xs None → position_or_len (λ x. x == b) xs ≡ length xs
-place-no_byte b xs nowhere =
+pub index-no_byte : (b : ℕ) (xs : List ℕ) → IsFirstByte (λ x. x == b) xs None → position_or_len (λ x. x == b) xs ≡ length xs
+index-no_byte b xs nowhere =
     position_or_len_is (λ x. x == b) xs (length xs) 0 (omega arith)
     (λ k below. is_false (get_or xs k 0 == b) (nowhere k (omega arith) below)) (λ inside. absurd (omega (arith, inside)))
 
 -- a list that is cut nowhere is its one part
-pub slice_split-no_place : (p : ℕ → Bool) (xs : List ℕ) → length xs ≤ position_or_len p xs → slice_split p xs ≡ xs ∷ []
-slice_split-no_place p xs end = slice_split_none p xs (λ k d below. fails_before_first p xs k d (omega (arith, end, below)))
+pub slice_split-no_index : (p : ℕ → Bool) (xs : List ℕ) → length xs ≤ position_or_len p xs → slice_split p xs ≡ xs ∷ []
+slice_split-no_index p xs end = slice_split_none p xs (λ k d below. fails_before_first p xs k d (omega (arith, end, below)))
 
--- the first place at which a list is cut ends its first part
+-- the first index at which a list is cut ends its first part
 pub slice_split-position : (p : ℕ → Bool) (xs : List ℕ) (i : ℕ) → position p xs ≡ Some i
     → slice_split p xs ≡ take i xs ∷ slice_split p (take (length xs - (i + 1)) (drop (i + 1) xs))
 slice_split-position p xs i h =
@@ -75,14 +75,14 @@ slice_split-position p xs i h =
     rw (rest, add-one) (ap (slice_split p) (split_at xs i 0 found.0)
     ∙ slice_split_at p (take i xs) (get_or xs i 0) (drop (suc i) xs) (front_fails p xs i found.2) found.1)
 
--- with no such place a list is its one part
+-- with no such index a list is its one part
 pub slice_split-no_position : (p : ℕ → Bool) (xs : List ℕ) → position p xs ≡ None → slice_split p xs ≡ xs ∷ []
-slice_split-no_position p xs h = slice_split-no_place p xs (at_end (position_or_len p xs) (length xs) h)
+slice_split-no_position p xs h = slice_split-no_index p xs (at_end (position_or_len p xs) (length xs) h)
 
--- the same, by the place or the length
-pub slice_split-place : (p : ℕ → Bool) (xs : List ℕ) (i : ℕ) → i ≡ position_or_len p xs → i < length xs
+-- the same, by the index or the length
+pub slice_split-index : (p : ℕ → Bool) (xs : List ℕ) (i : ℕ) → i ≡ position_or_len p xs → i < length xs
     → slice_split p xs ≡ take i xs ∷ slice_split p (drop (i + 1) xs)
-slice_split-place p xs i is inside = rw is (slice_split_first p xs 0 (omega (arith, is, inside)))
+slice_split-index p xs i is inside = rw is (slice_split_first p xs 0 (omega (arith, is, inside)))
 
 abbrev is_space : ℕ → Bool
 is_space byte = byte == 32
@@ -121,13 +121,13 @@ word_before_space line end some is inside =
     let space : is_space byte ≡ true = rw is (passes_at_first is_space line 0 (omega (arith, is, inside))) in
     let behind : words_of (drop end line) ≡ words_of rest =
     rw (drop_more line end 0 inside) (sym (words_without_space (byte ∷ rest) space)) in
-    rw (slice_split-place is_space line end is inside, behind, word) refl
+    rw (slice_split-index is_space line end is inside, behind, word) refl
 
 last_word : (line : List ℕ) (end : ℕ) → 0 < length line → end ≡ position_or_len is_space line → length line ≤ end
     → words_of line ≡ take end line ∷ words_of (drop end line)
 last_word line end some is past =
     let word : is_word line ≡ true = grind (arith, nat_tests) in
-    rw (slice_split-no_place is_space line (omega (arith, is, past)), take_all end line past, drop_all end line past, word) refl
+    rw (slice_split-no_index is_space line (omega (arith, is, past)), take_all end line past, drop_all end line past, word) refl
 
 -- the first word of a line that begins with no space, and those after it
 pub first_word : (line : List ℕ) (end : ℕ) → begins_with 32 line ≡ false → 0 < length line → end ≡ position_or_len is_space line

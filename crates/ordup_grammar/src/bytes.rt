@@ -7,7 +7,7 @@
 //!   not printed is as a rule the line feed, so `split_line` finds both in one pass. Only where it is another byte does `memchr`
 //!   look for the line feed. Against `memchr` and a second pass over each line, that takes 5.6 percent of all instructions of the
 //!   mixed load away.
-//! - **Where a word ends** (`place_of`): one comparison of sixteen bytes, whatever the length of the word. The text goes on
+//! - **Where a word ends** (`index_of`): one comparison of sixteen bytes, whatever the length of the word. The text goes on
 //!   behind a word, as a rule (`Front`), so there are sixteen. Only at the end of a piece, or in a longer word, `memchr` looks for
 //!   the end. Against comparisons of eight and of four bytes within the word, and a call for a line's only word, that takes 3.5
 //!   percent of all instructions of `first` away, 2.5 of the load of queries and 2 of the mixed load.
@@ -38,27 +38,27 @@ fn is_printed(byte: u8) -> bool
 pub(crate) fn printed_prefix(bytes: &[u8]) -> usize
     ensures { result ≡ prefix_len is_printed bytes.now }
 {
-    let mut place = 0;
-    while bytes.len() - place >= BLOCK {
-        let printed = printed_in_block(bytes, place);
+    let mut index = 0;
+    while bytes.len() - index >= BLOCK {
+        let printed = printed_in_block(bytes, index);
         if printed < BLOCK {
-            return place + printed;
+            return index + printed;
         }
-        place += BLOCK;
+        index += BLOCK;
     }
-    while place < bytes.len() && is_printed(bytes[place]) {
-        place += 1;
+    while index < bytes.len() && is_printed(bytes[index]) {
+        index += 1;
     }
-    place
+    index
 }
 
-/// How many bytes of the block that begins at a place are printed before the first that is not.
+/// How many bytes of the block that begins at an index are printed before the first that is not.
 #[inline(always)]
-fn printed_in_block(bytes: &[u8], place: usize) -> usize
-    requires { place + 16 ≤ length bytes.now }
-    ensures { result ≡ prefix_len is_printed (take 16 (drop place bytes.now)) }
+fn printed_in_block(bytes: &[u8], index: usize) -> usize
+    requires { index + 16 ≤ length bytes.now }
+    ensures { result ≡ prefix_len is_printed (take 16 (drop index bytes.now)) }
 {
-    let lanes = u8x16::from_slice(&bytes[place..]);
+    let lanes = u8x16::from_slice(&bytes[index..]);
     let unprinted = (lanes - u8x16::splat(32))
         .simd_ge(u8x16::splat(95))
         .to_bitmask();
@@ -68,19 +68,19 @@ fn printed_in_block(bytes: &[u8], place: usize) -> usize
     unprinted.trailing_zeros() as usize
 }
 
-/// The place of the first of these bytes among the first `len` of a text, or `len` where there is none.
+/// The index of the first of these bytes among the first `len` of a text, or `len` where there is none.
 #[inline(always)]
-pub(crate) fn place_of(text: &[u8], len: usize, wanted: u8) -> usize
+pub(crate) fn index_of(text: &[u8], len: usize, wanted: u8) -> usize
     requires { len ≤ length text.now }
     ensures { result ≡ position_or_len (λ byte. byte == wanted) (take len text.now) }
 {
     if text.len() >= BLOCK {
-        let place = before_in_block(text, wanted);
-        if place < BLOCK || len <= BLOCK {
-            return place.min(len);
+        let index = before_in_block(text, wanted);
+        if index < BLOCK || len <= BLOCK {
+            return index.min(len);
         }
     }
-    place_in(&text[..len], wanted)
+    index_in(&text[..len], wanted)
 }
 
 /// How many of the first sixteen bytes of a text stand before the first of these bytes.
@@ -98,13 +98,13 @@ fn before_in_block(text: &[u8], wanted: u8) -> usize
     found.trailing_zeros() as usize
 }
 
-/// The place of the first of these bytes in a text, or the length of the text where there is none.
+/// The index of the first of these bytes in a text, or the length of the text where there is none.
 #[inline(never)]
-fn place_in(text: &[u8], wanted: u8) -> usize
+fn index_in(text: &[u8], wanted: u8) -> usize
     ensures { result ≡ position_or_len (λ byte. byte == wanted) text.now }
 {
     match memchr(wanted, text) {
-        Some(place) => place,
+        Some(index) => index,
         None => text.len(),
     }
 }
@@ -123,11 +123,11 @@ pub(crate) fn is_spelled(word: &[u8], keyword: &[u8]) -> bool
     four_bytes(word, last) == four_bytes(keyword, last)
 }
 
-/// The four bytes from a place on, as one number.
+/// The four bytes from an index on, as one number.
 #[inline(always)]
-fn four_bytes(text: &[u8], place: usize) -> u32
-    requires { place + 4 ≤ length text.now }
-    ensures { result ≡ from_le_bytes w32 (take 4 (drop place text.now)) }
+fn four_bytes(text: &[u8], index: usize) -> u32
+    requires { index + 4 ≤ length text.now }
+    ensures { result ≡ from_le_bytes w32 (take 4 (drop index text.now)) }
 {
-    u32::from_le_bytes(*text[place..].first_chunk::<4>().unwrap())
+    u32::from_le_bytes(*text[index..].first_chunk::<4>().unwrap())
 }

@@ -2,7 +2,7 @@ ghost use Rattle.std.specs.Prelude.{◌≡◌, ◌≤◌, ◌∷◌, [], ◌==�
 ghost use Rattle.std.specs.List.{position_or_len, slice_split};
 ghost use Rattle.ordup_grammar.specs.Words.{begins_with, words_of};
 
-use crate::bytes::place_of;
+use crate::bytes::index_of;
 use std::marker::Model;
 
 /// The first bytes of a text.
@@ -66,7 +66,7 @@ impl<'a> Front<'a> {
         Front::new(self.text, self.len)
     }
 
-    /// The bytes up to a place.
+    /// The bytes up to an index.
     #[inline(always)]
     pub(crate) fn up_to(&self, end: usize) -> Front<'a>
         requires { end ≤ length self.now }
@@ -75,7 +75,7 @@ impl<'a> Front<'a> {
         Front::new(self.text, end)
     }
 
-    /// The bytes from a place on.
+    /// The bytes from an index on.
     #[inline(always)]
     pub(crate) fn from(&self, start: usize) -> Front<'a>
         requires { start ≤ length self.now }
@@ -84,12 +84,12 @@ impl<'a> Front<'a> {
         Front::new(&self.text[start..], self.len - start)
     }
 
-    /// The place of the first of these bytes, or the number of the bytes where there is none.
+    /// The index of the first of these bytes, or the number of the bytes where there is none.
     #[inline(always)]
-    pub(crate) fn place_of(&self, wanted: u8) -> usize
+    pub(crate) fn index_of(&self, wanted: u8) -> usize
         ensures { result ≡ position_or_len (λ byte. byte == wanted) self.now }
     {
-        place_of(self.text, self.len, wanted)
+        index_of(self.text, self.len, wanted)
     }
 
     /// Whether the first byte is this one.
@@ -121,7 +121,7 @@ impl<'a> Front<'a> {
             MatchOption result (parts self.now ≡ self.now ∷ []) (λ found.
             parts self.now ≡ found.0 ∷ parts found.1) }
     {
-        let end = self.place_of(separator);
+        let end = self.index_of(separator);
         if end == self.len {
             return None;
         }

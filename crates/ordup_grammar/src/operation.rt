@@ -22,7 +22,7 @@ impl<'a> Operation<'a> {
         ensures { result ≡ (if is_some (position (λ byte. byte == 58) operand.entry) then None else operation_of kind.now operand.entry) }
     {
         if kind == b"take".as_slice() {
-            return if operand.len() == 0 || operand.place_of(b':') < operand.len() {
+            return if operand.len() == 0 || operand.index_of(b':') < operand.len() {
                 None
             } else {
                 Some(Operation::Take(Word::of(operand)))

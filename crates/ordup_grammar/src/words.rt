@@ -54,7 +54,7 @@ impl<'a> Words<'a> {
     }
 
     /// The first word and those after it, if there is a word.
-    #[tactic(auto, using(crate::proofs::Splits::first_word, crate::proofs::Splits::place_within))]
+    #[tactic(auto, using(crate::proofs::Splits::first_word, crate::proofs::Splits::index_within))]
     #[inline(always)]
     pub fn split_first(&self) -> Option<(Word<'a>, Words<'a>)>
         ensures { MatchOption result (self.now ≡ []) (λ found. self.now ≡ found.0 ∷ found.1) }
@@ -63,7 +63,7 @@ impl<'a> Words<'a> {
         if line.len() == 0 {
             return None;
         }
-        let end = line.place_of(b' ');
+        let end = line.index_of(b' ');
         Some((Word::of(line.up_to(end)), Words::in_line(line.from(end))))
     }
 

@@ -40,11 +40,11 @@ weighed-few h legal groups are s known place le =
     let same : place - 0 ≡ place = omega arith in
     omega (arith, most, ap (λ n. greatest_weight * n) same)
 
--- where there is room, the place is among those that there may be
-pub place-small : (old limits : Limits) (l : Limit) (place : ℕ) → limits ≡ old → place ≡ index_of limits l
+-- where there is room, the index is among those that there may be
+pub index-small : (old limits : Limits) (l : Limit) (index : ℕ) → limits ≡ old → index ≡ index_of limits l
     → length (put are_on_one_scope old l) ≤ most_limits → length limits ≤ most_limits
-    → place < most_limits
-place-small old limits l place same at room few =
+    → index < most_limits
+index-small old limits l index same at room few =
     omega (
       arith,
       at,

@@ -83,7 +83,7 @@ pub(crate) fn put_entry<A: Allocator + Copy>(
     ensures err { IfErr result (λ _. entries.new.items ≡ entries.old.items) }
 {
     match index_of(entries.as_slice(), entry) {
-        Some(place) => entries[place] = *entry,
+        Some(index) => entries[index] = *entry,
         None => entries.push(*entry)?,
     }
     Ok(())

@@ -154,19 +154,19 @@ impl<A: Allocator + Copy> LagLedger<A> {
         // The prover joins branches over a borrowed scope, not over a copied one.
         let scope = &scope;
         // What is kept for the scope is put down again, also where it stays the same.
-        let place = self.limits.index_for(scope);
-        put_scope(&mut self.masks, groups, *scope, place);
+        let index = self.limits.index_for(scope);
+        put_scope(&mut self.masks, groups, *scope, index);
         let limit = Limit {
             scope: *scope,
             amount,
         };
         let total = weighed(log, groups, *scope, self.extended);
         let allowed = kept_amount(&limit) + weighed(log, groups, *scope, self.reported);
-        self.added[place] = total;
-        self.allowed[place] = allowed;
+        self.added[index] = total;
+        self.allowed[index] = allowed;
         self.limits.put(&limit);
         self.count = least_count(self.limits.as_slice());
-        self.passed = with_bit(self.passed, place, total > allowed);
+        self.passed = with_bit(self.passed, index, total > allowed);
     }
 
     /// Puts the ledger at two places of the log, wherever it stood. It takes no memory.

@@ -59,7 +59,7 @@ impl LimitList {
         ensures { self.new ≡ put are_on_one_scope self.old limit.now }
     {
         match self.index_of(&limit.scope) {
-            Some(place) => self.limits[place] = *limit,
+            Some(index) => self.limits[index] = *limit,
             None => self.push(limit),
         }
     }
@@ -87,7 +87,7 @@ impl LimitList {
         ensures { result ≡ position_or_len (λ l. is_same_scope l.scope scope.now) self.now }
     {
         match self.index_of(scope) {
-            Some(place) => place,
+            Some(index) => index,
             None => self.len(),
         }
     }

@@ -190,11 +190,11 @@ impl<A: Allocator + Copy> LimitTable<A> {
     }
 
     /// The scope and the last amount of a limit, by the index of the scope in the order of declaration.
-    pub fn get(&self, place: usize) -> (Scope, u64)
-        requires { place < length (latest self.now) }
-        ensures { slice_get (latest self.now) place ≡ Some (record { scope = result.0; amount = result.1 }) }
+    pub fn get(&self, index: usize) -> (Scope, u64)
+        requires { index < length (latest self.now) }
+        ensures { slice_get (latest self.now) index ≡ Some (record { scope = result.0; amount = result.1 }) }
     {
-        let limit = self.limits.as_slice()[place];
+        let limit = self.limits.as_slice()[index];
         (limit.scope, limit.amount)
     }
 
@@ -248,9 +248,9 @@ fn first_passed<A: Allocator + Copy>(
     ensures within { IsNone result ↔ IsTrue (within log.now groups.now limits.now from to) }
 {
     let mut all = None;
-    for (place, limit) in limits.iter().enumerate() {
+    for (index, limit) in limits.iter().enumerate() {
         if !keeps(log, groups, from, to, &mut all, *limit) {
-            return Some(place);
+            return Some(index);
         }
     }
     None

@@ -35,8 +35,8 @@ pub(crate) fn fill<A: Allocator + Copy>(
     ensures count { length masks.new.items ≡ most_objects }
     ensures masks { AreMasks groups.now limits.now masks.new.items }
 {
-    for (place, limit) in limits.iter().enumerate() {
-        put_scope(masks, groups, limit.scope, place);
+    for (index, limit) in limits.iter().enumerate() {
+        put_scope(masks, groups, limit.scope, index);
     }
 }
 

@@ -38,8 +38,8 @@ pub(crate) fn passed_of(added: &[u64], allowed: &[u64]) -> u64
     ensures { ArePassed result added.now allowed.now }
 {
     let mut passed = 0;
-    for place in 0..MOST_LIMITS {
-        passed = with_bit(passed, place, added[place] > allowed[place]);
+    for index in 0..MOST_LIMITS {
+        passed = with_bit(passed, index, added[index] > allowed[index]);
     }
     passed
 }
@@ -55,18 +55,18 @@ pub(crate) fn passed_among(added: &[u64], allowed: &[u64], mask: u64) -> u64
     let mut rest = mask;
     while rest != 0 {
         let bit = rest.trailing_zeros();
-        let place = bit as usize;
-        passed = with_bit(passed, place, added[place] > allowed[place]);
+        let index = bit as usize;
+        passed = with_bit(passed, index, added[index] > allowed[index]);
         rest &= !(1 << bit);
     }
     passed
 }
 
 /// A mask with one bit set or cleared.
-pub(crate) fn with_bit(mask: u64, place: usize, is_set: bool) -> u64
-    requires { place < most_limits }
-    ensures { (i : ℕ) → i < most_limits → (bit_at result i == 1) ≡ (if i == place then is_set else bit_at mask i == 1) }
+pub(crate) fn with_bit(mask: u64, index: usize, is_set: bool) -> u64
+    requires { index < most_limits }
+    ensures { (i : ℕ) → i < most_limits → (bit_at result i == 1) ≡ (if i == index then is_set else bit_at mask i == 1) }
 {
-    let bit = 1 << place;
+    let bit = 1 << index;
     if is_set { mask | bit } else { mask & !bit }
 }

@@ -105,8 +105,8 @@ pub(crate) fn add_amounts<A: Allocator + Copy>(totals: &mut Vec<u64, A>, limits:
         slice_index totals.new.items i ≡ slice_index totals.old.items i + kept_amount (slice_index_or limits.now i d) }
     ensures rest { (i : ℕ) → length limits.now ≤ i → slice_index totals.new.items i ≡ slice_index totals.old.items i }
 {
-    for (place, limit) in limits.iter().enumerate() {
-        totals[place] += kept_amount(limit);
+    for (index, limit) in limits.iter().enumerate() {
+        totals[index] += kept_amount(limit);
     }
 }
 
@@ -242,10 +242,10 @@ fn add<A: Allocator + Copy>(
     let mut rest = mask;
     while rest != 0 {
         let bit = rest.trailing_zeros();
-        let place = bit as usize;
-        let total = added[place] + weight;
-        added[place] = total;
-        passed = with_bit(passed, place, total > allowed[place]);
+        let index = bit as usize;
+        let total = added[index] + weight;
+        added[index] = total;
+        passed = with_bit(passed, index, total > allowed[index]);
         rest &= !(1 << bit);
     }
     passed
@@ -308,8 +308,8 @@ fn raise_by<A: Allocator + Copy>(allowed: &mut Vec<u64, A>, mask: u64, weight: u
 {
     let mut rest = mask;
     while rest != 0 {
-        let place = rest.trailing_zeros();
-        allowed[place as usize] += weight;
-        rest &= !(1 << place);
+        let index = rest.trailing_zeros();
+        allowed[index as usize] += weight;
+        rest &= !(1 << index);
     }
 }

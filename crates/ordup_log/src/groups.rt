@@ -73,10 +73,10 @@ impl<A: Allocator + Copy> Groups<A> {
         ensures err { IfErr result (λ _. self.new ≡ self.old) }
     {
         let name = self.check_group(objects.len(), name, members)?;
-        let place = self.len();
+        let index = self.len();
         let members = Vec::from_slice(*self.groups.allocator(), members)?;
         self.groups.push(name, members)?;
-        Ok(GroupId::new(place as u8))
+        Ok(GroupId::new(index as u8))
     }
 
     /// The name of a group that may be declared over this many objects. Any other is refused for the first reason that applies.
@@ -139,11 +139,11 @@ impl<A: Allocator + Copy> Groups<A> {
 
     /// The group of this name, if there is one.
     pub fn find(&self, name: &[u8]) -> Option<GroupId>
-        ensures place { option_map (λ g. g) result ≡ index_of name.now self.now }
+        ensures index { option_map (λ g. g) result ≡ index_of name.now self.now }
         ensures within { IfSome result (λ g. g < length self.now) }
     {
-        let place = self.groups.find(name)?;
-        Some(GroupId::new(place as u8))
+        let index = self.groups.find(name)?;
+        Some(GroupId::new(index as u8))
     }
 
     /// How many groups there are, at most 32.
@@ -197,8 +197,8 @@ fn copy_all<A: Allocator + Copy>(
     requires { copy.old ≡ [] }
     ensures { IfOk result (λ _. map {B = List ℕ × List ℕ} (λ g. (g.0, g.1.items)) copy.new ≡ map (λ g. (g.0, g.1.items)) groups.now) }
 {
-    for place in 0..groups.len() {
-        let (name, members) = groups.at(place);
+    for index in 0..groups.len() {
+        let (name, members) = groups.at(index);
         let members = Vec::from_slice(alloc, members.as_slice())?;
         copy.push(*name, members)?;
     }

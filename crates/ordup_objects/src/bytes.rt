@@ -89,24 +89,26 @@ const SLOTS: usize = 256;
 /// A guess may be wrong: the caller compares the name that stands there, and no clause speaks of guesses.
 #[derive(Drop)]
 pub struct Hints {
-    places: [u8; SLOTS],
+    indexes: [u8; SLOTS],
 }
 
 impl Hints {
     /// No guess is noted yet: each name is guessed at 0.
     pub fn new() -> Self {
-        Hints { places: [0; SLOTS] }
+        Hints {
+            indexes: [0; SLOTS],
+        }
     }
 
     /// A guess of where a name stands.
     #[inline(always)]
-    pub fn place(&self, name: &[u8]) -> usize {
-        self.places[slot_of(name) as usize] as usize
+    pub fn guess(&self, name: &[u8]) -> usize {
+        self.indexes[slot_of(name) as usize] as usize
     }
 
     /// Notes where a name stands. Its slot forgets what it held, and an index past the 256th is not guessed.
-    pub fn note(&mut self, name: &[u8], place: usize) {
-        self.places[slot_of(name) as usize] = (place % SLOTS) as u8;
+    pub fn note(&mut self, name: &[u8], index: usize) {
+        self.indexes[slot_of(name) as usize] = (index % SLOTS) as u8;
     }
 }
 

@@ -64,47 +64,47 @@ impl<V, A: Allocator + Copy> NameTable<V, A> {
         let _count = self.entries.len();
     }
 
-    /// The place of the name that these bytes spell, if it is there.
+    /// The index of the name that these bytes spell, if it is there.
     // The guess is tried before the bytes are hashed: see `bytes`.
     pub fn find(&self, name: &[u8]) -> Option<usize>
-        ensures place { result ≡ index_of name.now self.now }
+        ensures index { result ≡ index_of name.now self.now }
         ensures within { IfSome result (λ i. i < length self.now) }
     {
-        let place = self.hints.place(name);
-        if place < self.len() && self.at(place).0.is_spelled(name) {
-            return Some(place);
+        let index = self.hints.guess(name);
+        if index < self.len() && self.at(index).0.is_spelled(name) {
+            return Some(index);
         }
         self.find_by_hash(name)
     }
 
-    /// The place of the name that these bytes spell, if it is there, by their hash.
+    /// The index of the name that these bytes spell, if it is there, by their hash.
     // Not inlined, so that `find` stays small.
     #[inline(never)]
     fn find_by_hash(&self, name: &[u8]) -> Option<usize>
-        ensures place { result ≡ index_of name.now self.now }
+        ensures index { result ≡ index_of name.now self.now }
         ensures within { IfSome result (λ i. i < length self.now) }
     {
         self.entries.get_index_of(NameBytes { bytes: name })
     }
 
-    /// The name and the entry at a place.
-    pub fn at(&self, place: usize) -> (&Name, &V)
-        requires { place < length self.now }
-        ensures entry { slice_get self.now place ≡ Some (result.0.now, result.1.now) }
+    /// The name and the entry at an index.
+    pub fn at(&self, index: usize) -> (&Name, &V)
+        requires { index < length self.now }
+        ensures entry { slice_get self.now index ≡ Some (result.0.now, result.1.now) }
         // No earlier entry has the name.
-        ensures first { index_of result.0.now (take place self.now) ≡ None }
+        ensures first { index_of result.0.now (take index self.now) ≡ None }
     {
         self.keeps();
-        self.entries.get_index(place).unwrap()
+        self.entries.get_index(index).unwrap()
     }
 
-    /// Replaces the entry of the name at a place, and returns the entry that was there.
-    pub fn replace(&mut self, place: usize, entry: V) -> V
-        requires { place < length self.old }
-        ensures replaced { self.new ≡ with_entry self.old place entry }
-        ensures before { option_map (λ e. e.1) (slice_get self.old place) ≡ Some result }
+    /// Replaces the entry of the name at an index, and returns the entry that was there.
+    pub fn replace(&mut self, index: usize, entry: V) -> V
+        requires { index < length self.old }
+        ensures replaced { self.new ≡ with_entry self.old index entry }
+        ensures before { option_map (λ e. e.1) (slice_get self.old index) ≡ Some result }
     {
-        mem::replace(self.entries.get_index_mut(place).unwrap(), entry)
+        mem::replace(self.entries.get_index_mut(index).unwrap(), entry)
     }
 
     /// Adds a name that is not in the table.
@@ -115,9 +115,9 @@ impl<V, A: Allocator + Copy> NameTable<V, A> {
         ensures ok { IfOk result (λ _. self.new ≡ self.old ++ (name, entry) ∷ []) }
         ensures err { OnErr result (self.new ≡ self.old) }
     {
-        let place = self.entries.len();
+        let index = self.entries.len();
         self.entries.insert(name, entry)?;
-        self.hints.note(name.as_bytes(), place);
+        self.hints.note(name.as_bytes(), index);
         Ok(())
     }
 }

@@ -68,8 +68,8 @@ impl<A: Allocator + Copy> ObjectTable<A> {
         requires { objects.old ≡ [] }
         ensures { IfOk result (λ _. objects.new ≡ self.now) }
     {
-        for place in 0..self.objects.len() {
-            let (name, initial) = self.objects.at(place);
+        for index in 0..self.objects.len() {
+            let (name, initial) = self.objects.at(index);
             objects.push(*name, *initial)?;
         }
         Ok(())
@@ -86,9 +86,9 @@ impl<A: Allocator + Copy> ObjectTable<A> {
         ensures err { IfErr result (λ _. self.new ≡ self.old) }
     {
         let name = self.check_object(name, initial)?;
-        let place = self.objects.len();
+        let index = self.objects.len();
         self.objects.push(name, initial)?;
-        Ok(ObjectId::new(place as u16))
+        Ok(ObjectId::new(index as u16))
     }
 
     /// The name of an object that may be declared. Any other is refused for the first reason that applies.
@@ -115,12 +115,12 @@ impl<A: Allocator + Copy> ObjectTable<A> {
 
     /// The object of this name, if there is one.
     pub fn find(&self, name: &[u8]) -> Option<ObjectId>
-        ensures place { option_map (λ o. o) result ≡ index_of name.now self.now }
+        ensures index { option_map (λ o. o) result ≡ index_of name.now self.now }
         ensures within { IfSome result (λ o. o < length self.now) }
     {
-        let place = self.objects.find(name)?;
+        let index = self.objects.find(name)?;
         self.keeps();
-        Some(ObjectId::new(place as u16))
+        Some(ObjectId::new(index as u16))
     }
 
     /// How many objects there are, at most 256.

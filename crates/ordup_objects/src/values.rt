@@ -173,8 +173,8 @@ fn initial_values<A: Allocator + Copy>(
 {
     let count = objects.len();
     let mut values = Vec::with_capacity(alloc, count)?;
-    for place in 0..count {
-        values.push(objects.initial(ObjectId::new(place as u16)))?;
+    for index in 0..count {
+        values.push(objects.initial(ObjectId::new(index as u16)))?;
     }
     Ok(values)
 }

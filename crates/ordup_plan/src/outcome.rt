@@ -25,12 +25,12 @@ pub(crate) fn outcome_of(
     push_done(&mut out, b"log ", primary.log().len())?;
     push_done(&mut out, b"refused ", tally.refused)?;
     push_done(&mut out, b"pending ", tally.pending)?;
-    for place in 0..primary.setup().sites() {
-        let site = SiteId::new(place as u8);
+    for index in 0..primary.setup().sites() {
+        let site = SiteId::new(index as u8);
         push_site(&mut out, primary, site, closed.site(site))?;
     }
-    for place in 0..primary.setup().sites() {
-        push_certified(&mut out, primary, SiteId::new(place as u8))?;
+    for index in 0..primary.setup().sites() {
+        push_certified(&mut out, primary, SiteId::new(index as u8))?;
     }
     Ok(out)
 }

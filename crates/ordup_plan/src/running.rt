@@ -84,11 +84,11 @@ fn with_appliers<R: Threads + Wait + Sync>(
             requires { (cluster.now.sites ≤ most_sites) × (sum_by vec_len hands.items < 2 ^ 64) }
             ensures { IfSome result (λ t. counted t ≤ sum_by vec_len hands.items) }
         {
-            for place in 0..cluster.sites() {
+            for index in 0..cluster.sites() {
                 let applier = scope.spawn(
                     move || -> u64
-                        requires { (place < cluster.now.sites) × (cluster.now.sites ≤ most_sites) }
-                    { cluster.applier(rt, SiteId::new(place as u8), &OpenGate) },
+                        requires { (index < cluster.now.sites) × (cluster.now.sites ≤ most_sites) }
+                    { cluster.applier(rt, SiteId::new(index as u8), &OpenGate) },
                 );
                 if applier.is_err() {
                     cluster.stop();

@@ -43,8 +43,8 @@ pub(crate) fn reserve_decision<A: Allocator + Copy>(
     ensures room { OnOk result (All HasRoom sites.new.items) }
     ensures refused { IfErr result (λ e. e ≡ Refusal.NoMemory) }
 {
-    for place in 0..sites.len() {
-        reserve_decision_at(&mut sites[place])?;
+    for index in 0..sites.len() {
+        reserve_decision_at(&mut sites[index])?;
     }
     Ok(())
 }
@@ -72,9 +72,9 @@ pub(crate) fn put_down<A: Allocator + Copy>(
     ensures sites { (s : ℕ) (d : Progress A) → s < length sites.old.items →
         progress_of (slice_index_or sites.new.items s d) ≡ decided_at (not (list_any (λ t. t == s) forced.now)) number (progress_of (slice_index_or sites.old.items s d)) }
 {
-    for place in 0..sites.len() {
-        let is_forced = is_among(place, forced);
-        let site = &mut sites[place];
+    for index in 0..sites.len() {
+        let is_forced = is_among(index, forced);
+        let site = &mut sites[index];
         site.reports.push_reserved(number, site.reported);
         if is_forced {
             let window = Window {
@@ -87,10 +87,10 @@ pub(crate) fn put_down<A: Allocator + Copy>(
     }
 }
 
-fn is_among(place: usize, sites: &[SiteId]) -> bool
-    ensures { result ≡ list_any (λ t. t == place) sites.now }
+fn is_among(index: usize, sites: &[SiteId]) -> bool
+    ensures { result ≡ list_any (λ t. t == index) sites.now }
 {
-    sites.iter().any(|t| t.index() == place)
+    sites.iter().any(|t| t.index() == index)
 }
 
 /// The last of these places, 0 where there is none.

@@ -57,9 +57,9 @@ pub(crate) fn sites_over<A: Allocator + Copy>(ledgers: &[LagLedger<A>]) -> SiteL
         result ≡ where_below (λ s. is_over h groups (slice_index_or ledgers.now s d)) (length ledgers.now) }
 {
     let mut sites = SiteList::new();
-    for place in 0..ledgers.len() {
-        if ledgers[place].over() {
-            sites.push(SiteId::new(place as u8));
+    for index in 0..ledgers.len() {
+        if ledgers[index].over() {
+            sites.push(SiteId::new(index as u8));
         }
     }
     sites

@@ -391,13 +391,13 @@ impl<A: Allocator + Copy> Primary<A> {
         // The prover joins branches over a borrowed scope, not over a copied one.
         let scope = &scope;
         let head = self.acked + 1;
-        let place = site.index();
-        self.limits[place].keeps();
+        let index = site.index();
+        self.limits[index].keeps();
         let (objects, groups) = (self.setup.objects(), self.setup.groups());
-        let Ok(()) = self.limits[place].change(objects, groups, *scope, amount, head) else {
+        let Ok(()) = self.limits[index].change(objects, groups, *scope, amount, head) else {
             return Err(Refusal::NoMemory);
         };
-        self.ledgers[place].change(&self.log, groups, *scope, amount);
+        self.ledgers[index].change(&self.log, groups, *scope, amount);
         Ok(())
     }
 
@@ -473,8 +473,8 @@ impl<A: Allocator + Copy> Primary<A> {
         ensures { result ≡ waiting_now self.now }
     {
         let mut waiting = SiteList::new();
-        for place in 0..self.count() {
-            let site = SiteId::new(place as u8);
+        for index in 0..self.count() {
+            let site = SiteId::new(index as u8);
             if self.waits_for(site) {
                 waiting.push(site);
             }

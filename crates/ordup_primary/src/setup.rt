@@ -90,15 +90,15 @@ impl<A: Allocator + Copy> Setup<A> {
         if capacity == 0 || capacity > GREATEST_CAPACITY {
             return Err(Refusal::OutOfRange);
         }
-        let place = self.sites();
-        if place == MOST_SITES {
+        let index = self.sites();
+        if index == MOST_SITES {
             return Err(Refusal::TooMany);
         }
         let alloc = *self.limits.allocator();
         self.limits.reserve(1)?;
         self.capacities.push(name, capacity)?;
         self.limits.push_reserved(LimitTable::new(alloc));
-        Ok(SiteId::new(place as u8))
+        Ok(SiteId::new(index as u8))
     }
 
     /// Declares a limit of a site, whose amount lies from 0 to 10^18.
@@ -161,11 +161,11 @@ impl<A: Allocator + Copy> Setup<A> {
 
     /// The site of this name, if there is one.
     pub fn find_site(&self, name: &[u8]) -> Option<SiteId>
-        ensures place { option_map (λ s. s) result ≡ index_of name.now self.now.sites }
+        ensures index { option_map (λ s. s) result ≡ index_of name.now self.now.sites }
         ensures within { IfSome result (λ s. s < length self.now.sites) }
     {
         match self.capacities.find(name) {
-            Some(place) => Some(SiteId::new(place as u8)),
+            Some(index) => Some(SiteId::new(index as u8)),
             None => None,
         }
     }

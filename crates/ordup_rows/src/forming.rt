@@ -89,8 +89,8 @@ fn push_objects<A: Allocator + Copy>(
     ensures clean { OnOk result (IsClean rows.new) }
     ensures text { OnOk result (AddsRows rows.old rows.new (counted object_row 1 objects.now)) }
 {
-    for place in 0..objects.len() {
-        push_object(rows, objects, ObjectId::new(place as u16))?;
+    for index in 0..objects.len() {
+        push_object(rows, objects, ObjectId::new(index as u16))?;
     }
     Ok(())
 }
@@ -151,8 +151,8 @@ fn push_groups<A: Allocator + Copy>(
     ensures text { OnOk result (AddsRows rows.old rows.new (member_rows objects.now 1 groups.now)) }
 {
     let mut counter = 1;
-    for place in 0..groups.len() {
-        let group = GroupId::new(place as u8);
+    for index in 0..groups.len() {
+        let group = GroupId::new(index as u8);
         let members = groups.members(group);
         push_members(rows, objects, groups.name(group), counter, members)?;
         counter += members.len();

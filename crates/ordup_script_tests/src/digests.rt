@@ -104,8 +104,8 @@ pub(crate) fn add_set<A: Allocator + Copy>(digest: &mut Digest, set: &MessageSet
 /// What the readers of a table of objects answer.
 pub(crate) fn add_table<A: Allocator + Copy>(digest: &mut Digest, objects: &ObjectTable<A>) {
     digest.add(objects.len() as u64);
-    for place in 0..objects.len() {
-        let object = ObjectId::new(place as u16);
+    for index in 0..objects.len() {
+        let object = ObjectId::new(index as u16);
         digest.add_bytes(objects.name(object).as_bytes());
         digest.add_value(objects.initial(object));
     }
@@ -119,8 +119,8 @@ pub(crate) fn add_table<A: Allocator + Copy>(digest: &mut Digest, objects: &Obje
 /// What the readers of groups answer.
 pub(crate) fn add_groups<A: Allocator + Copy>(digest: &mut Digest, groups: &Groups<A>) {
     digest.add(groups.len() as u64);
-    for place in 0..groups.len() {
-        let group = GroupId::new(place as u8);
+    for index in 0..groups.len() {
+        let group = GroupId::new(index as u8);
         digest.add_bytes(groups.name(group).as_bytes());
         digest.add_objects(groups.members(group));
     }
@@ -134,8 +134,8 @@ pub(crate) fn add_groups<A: Allocator + Copy>(digest: &mut Digest, groups: &Grou
 /// What the readers of limits answer.
 pub(crate) fn add_limits<A: Allocator + Copy>(digest: &mut Digest, limits: &LimitTable<A>) {
     digest.add(limits.len() as u64);
-    for place in 0..limits.len() {
-        let (scope, amount) = limits.get(place);
+    for index in 0..limits.len() {
+        let (scope, amount) = limits.get(index);
         digest.add_scope(scope);
         digest.add(amount);
     }
@@ -152,8 +152,8 @@ pub(crate) fn add_setup<A: Allocator + Copy>(digest: &mut Digest, setup: &Setup<
     add_groups(digest, setup.groups());
     digest.add(u64::from(setup.is_ready()));
     digest.add(setup.sites() as u64);
-    for place in 0..setup.sites() as u8 {
-        let site = SiteId::new(place);
+    for index in 0..setup.sites() as u8 {
+        let site = SiteId::new(index);
         digest.add_bytes(setup.site_name(site).as_bytes());
         digest.add(setup.capacity(site));
         add_limits(digest, setup.limits(site));
@@ -191,8 +191,8 @@ pub(crate) fn add_log<A: Allocator + Copy>(digest: &mut Digest, log: &Log<A>, gr
         add_update(digest, log, groups, place);
     }
     digest.add(log.objects() as u64);
-    for place in 0..log.objects().min(256) {
-        let object = ObjectId::new(place as u16);
+    for index in 0..log.objects().min(256) {
+        let object = ObjectId::new(index as u16);
         digest.add_value(log.end_value(object));
         digest.add(log.running_weight(object, log.len()));
         digest.add_steps(log.postings(object));
@@ -224,7 +224,7 @@ pub(crate) fn add_primary<A: Allocator + Copy>(digest: &mut Digest, primary: &Pr
     add_log(digest, primary.log(), setup.groups());
     digest.add(primary.acked());
     digest.add(primary.decided());
-    for place in 0..setup.sites() as u8 {
-        add_site(digest, primary, SiteId::new(place));
+    for index in 0..setup.sites() as u8 {
+        add_site(digest, primary, SiteId::new(index));
     }
 }

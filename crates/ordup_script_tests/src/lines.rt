@@ -89,10 +89,10 @@ fn is_answered(session: &Session<'_>, step: Step<'_>) -> bool {
     session.out.as_slice() == step.answer.as_bytes()
 }
 
-/// Answers with memory the lines of a script from this place on, up to another one.
+/// Answers with memory the lines of a script from this index on, up to another one.
 fn answer_lines(rt: &impl Abort, session: &mut Session<'_>, script: &str, from: usize, to: usize) {
-    for (place, text) in script.split('>').skip(1).enumerate() {
-        if from <= place && place < to {
+    for (index, text) in script.split('>').skip(1).enumerate() {
+        if from <= index && index < to {
             expect_answer(rt, session, step_of(rt, text));
         }
     }
@@ -159,8 +159,8 @@ fn add_sites<'a>(
     ample: Heap<'a>,
     world: &mut World<Heap<'a>>,
 ) {
-    for place in 0..world.primary().setup().sites() as u8 {
-        let site = SiteId::new(place);
+    for index in 0..world.primary().setup().sites() as u8 {
+        let site = SiteId::new(index);
         add_held(rt, sites, world, site);
         add_record(rt, records, ample, world, site);
     }
@@ -195,8 +195,8 @@ fn are_same_records<'a>(before: &[Record<Heap<'a>>], after: &[Record<Heap<'a>>])
     if before.len() != after.len() {
         return false;
     }
-    for place in 0..before.len() {
-        if !before[place].same(&after[place]) {
+    for index in 0..before.len() {
+        if !before[index].same(&after[index]) {
             return false;
         }
     }
@@ -261,43 +261,43 @@ fn is_refused(rt: &impl Abort, session: &mut Session<'_>, step: Step<'_>, allowe
     refused
 }
 
-/// Answers a script whose line at this place has this count of growths allowed, and where one is refused is answered again: whether
+/// Answers a script whose line at this index has this count of growths allowed, and where one is refused is answered again: whether
 /// one was refused.
 fn is_refused_at(
     rt: &impl Abort,
     session: &mut Session<'_>,
     script: &str,
-    place: usize,
+    index: usize,
     allowed: u64,
 ) -> bool {
-    answer_lines(rt, session, script, 0, place);
-    let Some(text) = script.split('>').skip(1).nth(place) else {
+    answer_lines(rt, session, script, 0, index);
+    let Some(text) = script.split('>').skip(1).nth(index) else {
         panic!(rt; "there is no line")
     };
     let step = step_of(rt, text);
     let refused = is_refused(rt, session, step, allowed);
     let from = if !refused {
-        place.saturating_add(1)
+        index.saturating_add(1)
     } else if step.line == "start" {
         0
     } else {
-        place
+        index
     };
     answer_lines(rt, session, script, from, usize::MAX);
     refused
 }
 
-/// How many growths the line at this place of a script meets, each of which is refused in turn.
+/// How many growths the line at this index of a script meets, each of which is refused in turn.
 fn growths_at(
     rt: &impl Abort,
     scarce: Heap<'_>,
     ample: Heap<'_>,
     script: &str,
-    place: usize,
+    index: usize,
 ) -> u64 {
     for allowed in 0..100u64 {
         let mut session = Session::new(scarce, ample);
-        let refused = is_refused_at(rt, &mut session, script, place, allowed);
+        let refused = is_refused_at(rt, &mut session, script, index, allowed);
         drop(session);
         if !refused {
             return allowed;
@@ -312,9 +312,9 @@ fn each_growth_of_each_line_is_refused(rt: HostRuntime) {
     let scarce = Scarce::new(rt.alloc(), 0);
     let ample = Scarce::new(rt.alloc(), u64::MAX);
     for script in TRANSCRIPTS {
-        for (place, text) in script.split('>').skip(1).enumerate() {
+        for (index, text) in script.split('>').skip(1).enumerate() {
             let step = step_of(&rt, text);
-            let growths = growths_at(&rt, &scarce, &ample, script, place);
+            let growths = growths_at(&rt, &scarce, &ample, script, index);
             let is_so = match step.memory {
                 "+" => growths > 0,
                 "-" => growths == 0,

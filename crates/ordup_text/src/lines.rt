@@ -109,9 +109,9 @@ pub fn push_values<A: Allocator + Copy>(
 ) -> Result<(), AllocError>
     ensures { OnOk result (out.new.text ≡ out.old.text ++ values_text objects.now values.now) }
 {
-    for place in 0..objects.len().min(values.len()) {
-        let name = objects.name(ObjectId::new(place as u16));
-        push_named_value(out, name, values[place])?;
+    for index in 0..objects.len().min(values.len()) {
+        let name = objects.name(ObjectId::new(index as u16));
+        push_named_value(out, name, values[index])?;
     }
     Ok(())
 }

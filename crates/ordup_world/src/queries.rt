@@ -177,7 +177,7 @@ impl<A: Allocator + Copy> OpenQueries<A> {
         ensures at { IfSome result (λ i. IsOpenAt self.now name.now i) }
         ensures none { IfNone result (find_query name.now self.now ≡ None) }
     {
-        let guess = self.hints.place(name.as_bytes());
+        let guess = self.hints.guess(name.as_bytes());
         if let Some((key, _)) = self.entries.get_index(guess) {
             if key == name {
                 return Some(guess);
@@ -203,9 +203,9 @@ impl<A: Allocator + Copy> OpenQueries<A> {
         ensures len { IfOk result (λ _. length self.new ≡ length self.old + 1) }
         ensures err { OnErr result (self.new ≡ self.old) }
     {
-        let place = self.entries.len();
+        let index = self.entries.len();
         self.entries.insert(name, query)?;
-        self.hints.note(name.as_bytes(), place);
+        self.hints.note(name.as_bytes(), index);
         Ok(())
     }
 

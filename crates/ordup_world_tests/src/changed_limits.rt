@@ -165,10 +165,10 @@ fn expect_entries(rt: &impl Abort, primary: &Primary, wanted: &[(u64, u64)]) {
     let (scope, last) = limits.get(0);
     assert!(rt; scope == on_x());
     assert_eq!(rt; limits.entries().len(), wanted.len());
-    for (place, entry) in limits.entries().iter().enumerate() {
+    for (index, entry) in limits.entries().iter().enumerate() {
         assert!(rt; entry.limit.scope == on_x());
-        assert_eq!(rt; (entry.limit.amount, entry.place), wanted[place]);
-        assert!(rt; place + 1 < wanted.len() || last == entry.limit.amount);
+        assert_eq!(rt; (entry.limit.amount, entry.place), wanted[index]);
+        assert!(rt; index + 1 < wanted.len() || last == entry.limit.amount);
     }
 }
 

@@ -66,8 +66,8 @@ fn add_feeds(
     ensures feeds { OnOk result (AreFirstFeeds setup.now (length setup.now.sites) ends.new.items cells.new.items) }
     ensures refused { IfErr result (λ e. e ≡ Refusal.NoMemory) }
 {
-    for place in 0..setup.sites() {
-        let site = SiteId::new(place as u8);
+    for index in 0..setup.sites() {
+        let site = SiteId::new(index as u8);
         add_feed(alloc, setup, site, ends, cells)?;
     }
     Ok(())

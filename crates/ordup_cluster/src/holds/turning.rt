@@ -35,9 +35,9 @@ fn report_all<R: Wait>(rt: &R, primary: &mut Primary, ends: &mut Vec<SendEnd>)
     ensures reported { AtEachSite Reported (record { primary = primary.old; ends = ends.old.items }) (record { primary = primary.new; ends = ends.new.items }) }
 {
     primary.keeps();
-    for place in 0..primary.setup().sites() {
-        let site = SiteId::new(place as u8);
-        report(rt, primary, &mut ends[place], site);
+    for index in 0..primary.setup().sites() {
+        let site = SiteId::new(index as u8);
+        report(rt, primary, &mut ends[index], site);
     }
 }
 
@@ -79,9 +79,9 @@ fn send_all<R: Wait>(rt: &R, primary: &mut Primary, ends: &mut Vec<SendEnd>) -> 
     ensures refused { IfErr result (λ e. e ≡ Refusal.NoMemory) }
 {
     primary.keeps();
-    for place in 0..primary.setup().sites() {
-        let site = SiteId::new(place as u8);
-        send(rt, primary, &mut ends[place], site)?;
+    for index in 0..primary.setup().sites() {
+        let site = SiteId::new(index as u8);
+        send(rt, primary, &mut ends[index], site)?;
     }
     Ok(())
 }

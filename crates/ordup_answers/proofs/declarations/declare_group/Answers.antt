@@ -2,7 +2,7 @@ use Rattle.std.proofs.Common.{◌≡◌, rules, length}
 use Rattle.std.proofs.lemmas.Result.{err_from_is_err_and}
 use Rattle.ordup_log.specs.Groups.{group_refusal}
 use Rattle.ordup_primary.specs.Declarations.{with_group}
-use Rattle.ordup_answers.specs.Places.{indices_among}
+use Rattle.ordup_answers.specs.Names.{indices_among}
 use Rattle.ordup_answers.proofs.RefusalLemmas.{refused_by_call}
 use Rattle.ordup_answers.proofs.declarations.declare_group.Goals as goal
 

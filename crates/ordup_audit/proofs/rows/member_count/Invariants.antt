@@ -3,8 +3,8 @@ use Rattle.ordup_objects.specs.Sizes.{most_members}
 use Rattle.ordup_audit.proofs.rows.member_count.Given as goal
 
 -- the members of the groups so far
-abbrev pub invariant-loop-place : goal.invariant-loop-place
-invariant-loop-place g l = record {
-  so_far : l.count ≡ sum_by (λ g. length g.1) (take l.place l.groups);
-  few : l.count ≤ most_members * l.place;
+abbrev pub invariant-loop-index : goal.invariant-loop-index
+invariant-loop-index g l = record {
+  so_far : l.count ≡ sum_by (λ g. length g.1) (take l.index l.groups);
+  few : l.count ≤ most_members * l.index;
 }

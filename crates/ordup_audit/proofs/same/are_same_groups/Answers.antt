@@ -7,11 +7,11 @@ returns-then-not-is_same_group g c =
     not_same-at c.args.these.now c.args.those.now c.new.result ([], []) c.is_same_group.result (c.is_same_group.ensures _).1
     c.if-not-is_same_group.true
 
-pub loop-place-preserved : goal.loop-place-preserved
-loop-place-preserved g c =
-    same-more c.args.these.now c.args.those.now c.loop-place.place c.loop-place.invariant c.new.result c.new.ensures (λ d.
+pub loop-index-preserved : goal.loop-index-preserved
+loop-index-preserved g c =
+    same-more c.args.these.now c.args.those.now c.loop-index.index c.loop-index.invariant c.new.result c.new.ensures (λ d.
     (c.is_same_group.ensures d).0 c.if-not-is_same_group.false)
 
 pub returns : goal.returns
 returns g c =
-    (λ is. same_lists c.args.these.now c.args.those.now (omega arith) (λ k d lt. c.loop-place.invariant k d (omega arith)), λ e. refl)
+    (λ is. same_lists c.args.these.now c.args.those.now (omega arith) (λ k d lt. c.loop-index.invariant k d (omega arith)), λ e. refl)

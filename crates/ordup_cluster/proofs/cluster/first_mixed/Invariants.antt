@@ -4,9 +4,9 @@ use Rattle.ordup_cluster.specs.Clusters.{AgreeBelow}
 use Rattle.ordup_cluster.proofs.cluster.first_mixed.Given as goal
 
 -- the sites so far agree, and each of the others has its initial values
-abbrev pub invariant-loop-place : goal.invariant-loop-place
-invariant-loop-place l = record {
+abbrev pub invariant-loop-index : goal.invariant-loop-index
+invariant-loop-index l = record {
   spare_values : All (λ v. v ≡ l.primary.log.start) l.spare_values.items;
-  count : l.place + length l.spare_values.items ≡ length l.primary.sites;
-  agree : AgreeBelow l.place l.primary l.sites.items;
+  count : l.index + length l.spare_values.items ≡ length l.primary.sites;
+  agree : AgreeBelow l.index l.primary l.sites.items;
 }

@@ -4,12 +4,12 @@ use Rattle.ordup_grammar.proofs.bytes.printed_prefix.Goals as goal
 
 pub returns-then-printed-lt-BLOCK : goal.returns-then-printed-lt-BLOCK
 returns-then-printed-lt-BLOCK c =
-    stops_in_block c.args.bytes.now c.loop-place.place c.printed_in_block-printed.result (omega arith) c.loop-place.invariant.1
+    stops_in_block c.args.bytes.now c.loop-index.index c.printed_in_block-printed.result (omega arith) c.loop-index.invariant.1
     c.printed_in_block-printed.ensures c.if-printed-lt-BLOCK.true
 
-pub loop-place-preserved : goal.loop-place-preserved
-loop-place-preserved c = (
+pub loop-index-preserved : goal.loop-index-preserved
+loop-index-preserved c = (
   omega arith,
-  goes_past_block c.args.bytes.now c.loop-place.place c.printed_in_block-printed.result (omega arith) c.loop-place.invariant.1
+  goes_past_block c.args.bytes.now c.loop-index.index c.printed_in_block-printed.result (omega arith) c.loop-index.invariant.1
       c.printed_in_block-printed.ensures (omega arith),
 )

@@ -4,17 +4,17 @@ use Rattle.ordup_grammar.specs.Requests.{is_printed}
 use Rattle.ordup_grammar.proofs.bytes.printed_prefix.Given as goal
 
 -- all bytes so far are printed
-abbrev pub invariant-loop-place : goal.invariant-loop-place
-invariant-loop-place l =
-    (l.place ≤ length l.bytes) × (prefix_len is_printed l.bytes ≡ l.place + prefix_len is_printed (drop l.place l.bytes))
+abbrev pub invariant-loop-index : goal.invariant-loop-index
+invariant-loop-index l =
+    (l.index ≤ length l.bytes) × (prefix_len is_printed l.bytes ≡ l.index + prefix_len is_printed (drop l.index l.bytes))
 
-abbrev pub decreases-loop-place : goal.decreases-loop-place
-decreases-loop-place l = length l.bytes - l.place
+abbrev pub decreases-loop-index : goal.decreases-loop-index
+decreases-loop-index l = length l.bytes - l.index
 
 -- the same
-abbrev pub invariant-loop-place-2 : goal.invariant-loop-place-2
-invariant-loop-place-2 l =
-    (l.place ≤ length l.bytes) × (prefix_len is_printed l.bytes ≡ l.place + prefix_len is_printed (drop l.place l.bytes))
+abbrev pub invariant-loop-index-2 : goal.invariant-loop-index-2
+invariant-loop-index-2 l =
+    (l.index ≤ length l.bytes) × (prefix_len is_printed l.bytes ≡ l.index + prefix_len is_printed (drop l.index l.bytes))
 
-abbrev pub decreases-loop-place-2 : goal.decreases-loop-place-2
-decreases-loop-place-2 l = length l.bytes - l.place
+abbrev pub decreases-loop-index-2 : goal.decreases-loop-index-2
+decreases-loop-index-2 l = length l.bytes - l.index

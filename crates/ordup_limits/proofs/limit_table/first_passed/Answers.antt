@@ -7,27 +7,27 @@ use Rattle.ordup_limits.proofs.limit_table.first_passed.Goals as goal
 pub returns-then-not-keeps : goal.returns-then-not-keeps
 returns-then-not-keeps g c =
     let over : keeps c.args.log.now c.args.groups.now c.args.from c.args.to
-    (get_or c.args.limits.now c.loop-place.place c.index-limits-place.result) ≡ false =
-    rw (← c.index-limits-place.is) (sym c.if-not-keeps.ensures.kept) in
+    (get_or c.args.limits.now c.loop-index.index c.index-limits-index.result) ≡ false =
+    rw (← c.index-limits-index.is) (sym c.if-not-keeps.ensures.kept) in
     record {
       over = first_passed-at c.args.log.now c.args.groups.now c.args.limits.now c.args.from c.args.to
-          c.loop-place.place c.index-limits-place.result (omega arith) c.loop-place.invariant.kept over;
+          c.loop-index.index c.index-limits-index.result (omega arith) c.loop-index.invariant.kept over;
       within = passed-not_within c.args.log.now c.args.groups.now c.args.limits.now c.args.from c.args.to
-          c.loop-place.place c.index-limits-place.result (omega arith) over;
+          c.loop-index.index c.index-limits-index.result (omega arith) over;
     }
 
-pub loop-place-preserved : goal.loop-place-preserved
-loop-place-preserved g c =
+pub loop-index-preserved : goal.loop-index-preserved
+loop-index-preserved g c =
     let kept : keeps c.args.log.now c.args.groups.now c.args.from c.args.to
-    (get_or c.args.limits.now c.loop-place.place c.index-limits-place.result) ≡ true =
-    rw (← c.index-limits-place.is) (sym c.if-not-keeps.ensures.kept) in
+    (get_or c.args.limits.now c.loop-index.index c.index-limits-index.result) ≡ true =
+    rw (← c.index-limits-index.is) (sym c.if-not-keeps.ensures.kept) in
     record {
       kept = within-more c.args.log.now c.args.groups.now c.args.limits.now c.args.from c.args.to
-          c.loop-place.place c.index-limits-place.result (omega arith) c.loop-place.invariant.kept kept;
+          c.loop-index.index c.index-limits-index.result (omega arith) c.loop-index.invariant.kept kept;
       all = c.if-not-keeps.ensures.all;
     }
 
 pub returns-clause-over : goal.returns-clause-over
 returns-clause-over g c =
     first_passed-within c.args.log.now c.args.groups.now c.args.limits.now c.args.from c.args.to
-    (rw (take_all c.loop-place.place c.args.limits.now c.loop-place-test.false) at c.loop-place.invariant.kept)
+    (rw (take_all c.loop-index.index c.args.limits.now c.loop-index-test.false) at c.loop-index.invariant.kept)

@@ -7,9 +7,9 @@ use Rattle.ordup_limits.specs.Totals.{has_bit, counts_on}
 use Rattle.ordup_limits.proofs.masks.fill.Given as goal
 
 -- the limits so far are put down
-abbrev pub invariant-loop-place : goal.invariant-loop-place
-invariant-loop-place g l = record {
+abbrev pub invariant-loop-index : goal.invariant-loop-index
+invariant-loop-index g l = record {
   count : length l.masks.items ≡ most_objects;
   bits : (x i : ℕ) (d : Limit) → x < most_objects → i < most_limits
-      → has_bit l.masks.items i x ≡ (nat_lt i l.place && counts_on l.groups (get_or l.limits i d).scope x);
+      → has_bit l.masks.items i x ≡ (nat_lt i l.index && counts_on l.groups (get_or l.limits i d).scope x);
 }

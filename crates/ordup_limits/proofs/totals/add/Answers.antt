@@ -26,13 +26,13 @@ pub overflow_add-total : goal.overflow_add-total
 overflow_add-total g c =
     let rest = c.loop-rest.rest in
     let low = bit_at-trailing_zeros w64 rest (omega (arith, c.loop-rest-test.true)) (Fits-lt-pow c.loop-rest.auto.rest-fits) in
-    let place = trailing_zeros w64 rest in
+    let index = trailing_zeros w64 rest in
     omega (
       arith,
       get_or_read c.loop-rest.added.items _ _ (omega (arith, low.0, c.loop-rest.invariant.count)) c.index.ensures 0,
-      c.loop-rest.invariant.totals place low.0,
-      share-most (bit_at c.args.mask place == 1) c.args.weight,
-      c.requires.few place,
+      c.loop-rest.invariant.totals index low.0,
+      share-most (bit_at c.args.mask index == 1) c.args.weight,
+      c.requires.few index,
       c.requires.weight,
     )
 

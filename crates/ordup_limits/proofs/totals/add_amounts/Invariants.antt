@@ -6,10 +6,10 @@ use Rattle.ordup_limits.specs.declared.limit.Limit.{Limit}
 use Rattle.ordup_limits.proofs.totals.add_amounts.Given as goal
 
 -- the totals so far have their amounts, and the others are as they were
-abbrev pub invariant-loop-place : goal.invariant-loop-place
-invariant-loop-place g l = record {
+abbrev pub invariant-loop-index : goal.invariant-loop-index
+invariant-loop-index g l = record {
   count : length l.totals.items ≡ most_limits;
-  raised : (k : ℕ) (d : Limit) → k < l.place
+  raised : (k : ℕ) (d : Limit) → k < l.index
       → slice_index l.totals.items k ≡ slice_index l.fn.totals.items k + kept_amount (slice_index_or l.limits k d);
-  rest : (k : ℕ) → l.place ≤ k → slice_index l.totals.items k ≡ slice_index l.fn.totals.items k;
+  rest : (k : ℕ) → l.index ≤ k → slice_index l.totals.items k ≡ slice_index l.fn.totals.items k;
 }

@@ -3,5 +3,5 @@ use Rattle.ordup_objects.specs.Tables.{initial_state}
 use Rattle.ordup_objects.proofs.values.initial_values.Given as goal
 
 -- the values so far
-abbrev pub invariant-loop-place : goal.invariant-loop-place
-invariant-loop-place g l = l.values.items ≡ take l.place (initial_state l.objects)
+abbrev pub invariant-loop-index : goal.invariant-loop-index
+invariant-loop-index g l = l.values.items ≡ take l.index (initial_state l.objects)

@@ -7,12 +7,12 @@ use Rattle.ordup_primary.specs.declared.progress.Progress.{Progress}
 use Rattle.ordup_primary.proofs.decisions.put_down.Given as goal
 
 -- at the sites so far the decision is put down, the others are as they were
-abbrev pub invariant-loop-place : goal.invariant-loop-place
-invariant-loop-place g l = record {
+abbrev pub invariant-loop-index : goal.invariant-loop-index
+invariant-loop-index g l = record {
   count : length l.sites.items ≡ length l.fn.sites.items;
-  done : (t : ℕ) (d : Progress g.row.A.Denot) → t < l.place →
+  done : (t : ℕ) (d : Progress g.row.A.Denot) → t < l.index →
       progress_of (slice_index_or l.sites.items t d)
       ≡ decided_at (not (list_any (λ u. u == t) l.forced)) l.number (progress_of (slice_index_or l.fn.sites.items t d));
-  rest : (t : ℕ) (d : Progress g.row.A.Denot) → l.place ≤ t
+  rest : (t : ℕ) (d : Progress g.row.A.Denot) → l.index ≤ t
       → slice_index_or l.sites.items t d ≡ slice_index_or l.fn.sites.items t d;
 }

@@ -7,20 +7,20 @@ use Rattle.ordup_primary.proofs.decisions.reserve_decision.Goals as goal
 
 pub returns-in_err-reserve_decision_at-clause-same : goal.returns-in_err-reserve_decision_at-clause-same
 returns-in_err-reserve_decision_at-clause-same g c =
-    map-set_same progress_of c.loop-place.sites.items c.loop-place.place c.reserve_decision_at.new.site c.index_mut.result.now
+    map-set_same progress_of c.loop-index.sites.items c.loop-index.index c.reserve_decision_at.new.site c.index_mut.result.now
     (c.reserve_decision_at.ensures.same ∙ ap progress_of c.index_mut.ensures.value)
-    ∙ c.loop-place.invariant.same
+    ∙ c.loop-index.invariant.same
 
-pub loop-place-preserved : goal.loop-place-preserved
-loop-place-preserved g c =
-    let xs = c.loop-place.sites.items in
+pub loop-index-preserved : goal.loop-index-preserved
+loop-index-preserved g c =
+    let xs = c.loop-index.sites.items in
     let x = c.reserve_decision_at.new.site in
-    let before = c.loop-place.invariant in
+    let before = c.loop-index.invariant in
     record {
       same =
-          map-set_same progress_of xs c.loop-place.place x c.index_mut.result.now
+          map-set_same progress_of xs c.loop-index.index x c.index_mut.result.now
           (c.reserve_decision_at.ensures.same ∙ ap progress_of c.index_mut.ensures.value)
           ∙ before.same;
-      count = length-set xs c.loop-place.place x ∙ before.count;
-      room = each-more HasRoom xs c.loop-place.place x (omega arith) c.in_ok-reserve_decision_at.ensures.room before.room;
+      count = length-set xs c.loop-index.index x ∙ before.count;
+      room = each-more HasRoom xs c.loop-index.index x (omega arith) c.in_ok-reserve_decision_at.ensures.room before.room;
     }

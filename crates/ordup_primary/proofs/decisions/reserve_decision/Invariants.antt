@@ -5,9 +5,9 @@ use Rattle.ordup_primary.specs.declared.progress.Progress.{Progress}
 use Rattle.ordup_primary.proofs.decisions.reserve_decision.Given as goal
 
 -- nothing changed, and the sites so far have room
-abbrev pub invariant-loop-place : goal.invariant-loop-place
-invariant-loop-place g l = record {
+abbrev pub invariant-loop-index : goal.invariant-loop-index
+invariant-loop-index g l = record {
   same : map progress_of l.sites.items ≡ map progress_of l.fn.sites.items;
   count : length l.sites.items ≡ length l.fn.sites.items;
-  room : (t : ℕ) (d : Progress g.row.A.Denot) → t < l.place → HasRoom (slice_index_or l.sites.items t d);
+  room : (t : ℕ) (d : Progress g.row.A.Denot) → t < l.index → HasRoom (slice_index_or l.sites.items t d);
 }

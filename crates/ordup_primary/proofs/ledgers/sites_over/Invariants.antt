@@ -8,9 +8,9 @@ use Rattle.ordup_primary.specs.PrimaryInside.{is_over}
 use Rattle.ordup_primary.proofs.ledgers.sites_over.Given as goal
 
 -- the sites so far
-abbrev pub invariant-loop-place : goal.invariant-loop-place
-invariant-loop-place g l = record {
-  few : length l.sites ≤ l.place;
+abbrev pub invariant-loop-index : goal.invariant-loop-index
+invariant-loop-index g l = record {
+  few : length l.sites ≤ l.index;
   sites : (h : History) (groups : GroupList) (d : LedgerState) → All (λ (k : LedgerState). StandsFor k h groups) l.ledgers
-      → l.sites ≡ where_below (λ s. is_over h groups (slice_index_or l.ledgers s d)) l.place;
+      → l.sites ≡ where_below (λ s. is_over h groups (slice_index_or l.ledgers s d)) l.index;
 }

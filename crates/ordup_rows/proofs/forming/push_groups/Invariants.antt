@@ -4,8 +4,8 @@ use Rattle.ordup_rows.specs.Rows.{member_rows}
 use Rattle.ordup_rows.proofs.FormLemmas.{IsUpto}
 use Rattle.ordup_rows.proofs.forming.push_groups.Given as goal
 
-abbrev pub invariant-loop-place : goal.invariant-loop-place
-invariant-loop-place g l =
-    IsUpto l.initial.rows l.rows (member_rows l.objects l.counter (drop l.place l.groups))
+abbrev pub invariant-loop-index : goal.invariant-loop-index
+invariant-loop-index g l =
+    IsUpto l.initial.rows l.rows (member_rows l.objects l.counter (drop l.index l.groups))
     (member_rows l.objects 1 l.groups)
-    × (l.counter ≤ 1 + most_members * l.place) × (0 < l.counter)
+    × (l.counter ≤ 1 + most_members * l.index) × (0 < l.counter)

@@ -7,25 +7,25 @@ use Rattle.ordup_text.specs.Lines.{value_text, values_text}
 use Rattle.ordup_text.proofs.LineLemmas.{values_text-more, values_text-end}
 use Rattle.ordup_text.proofs.lines.push_values.Goals as goal
 
-pub loop-place-preserved : goal.loop-place-preserved
-loop-place-preserved g c =
+pub loop-index-preserved : goal.loop-index-preserved
+loop-index-preserved g c =
     let objects = c.args.objects.now in
     let values = c.args.values.now in
-    let place = c.loop-place.place in
-    let next = values_text-more objects values place c.name-name.result.now (pos 0) (omega arith) (omega arith)
+    let index = c.loop-index.index in
+    let next = values_text-more objects values index c.name-name.result.now (pos 0) (omega arith) (omega arith)
     (rw c.new.ensures at c.name-name.ensures) in
-    rw (c.in_ok-push_named_value.ensures, to_z-of_z w64 (get_or values place (pos 0)) (search rules))
-    (append_assoc c.loop-place.out.text (value_text c.name-name.result.now (get_or values place (pos 0))) _
-    ∙ ap (λ t. c.loop-place.out.text ++ t) (sym next)
-    ∙ c.loop-place.invariant)
+    rw (c.in_ok-push_named_value.ensures, to_z-of_z w64 (get_or values index (pos 0)) (search rules))
+    (append_assoc c.loop-index.out.text (value_text c.name-name.result.now (get_or values index (pos 0))) _
+    ∙ ap (λ t. c.loop-index.out.text ++ t) (sym next)
+    ∙ c.loop-index.invariant)
 
 pub returns : goal.returns
 returns g c =
     let objects = c.args.objects.now in
     let values = c.args.values.now in
-    let place = c.loop-place.place in
-    let none = elim (cases_lt place (length objects)) as (λ _. values_text (drop place objects) (drop place values) ≡ []) [
-      | inl lt ↦ values_text-end objects values place (inr (omega arith))
-      | inr past ↦ values_text-end objects values place (inl past)
+    let index = c.loop-index.index in
+    let none = elim (cases_lt index (length objects)) as (λ _. values_text (drop index objects) (drop index values) ≡ []) [
+      | inl lt ↦ values_text-end objects values index (inr (omega arith))
+      | inr past ↦ values_text-end objects values index (inl past)
     ] in
-    sym (append-nil c.loop-place.out.text) ∙ ap (λ t. c.loop-place.out.text ++ t) (sym none) ∙ c.loop-place.invariant
+    sym (append-nil c.loop-index.out.text) ∙ ap (λ t. c.loop-index.out.text ++ t) (sym none) ∙ c.loop-index.invariant

@@ -5,10 +5,10 @@ use Rattle.ordup_cluster.proofs.BookLemmas.{Upto}
 use Rattle.ordup_cluster.proofs.holds.turning.report_all.Given as goal
 
 -- the sites so far reported, the others are as they were
-abbrev pub invariant-loop-place : goal.invariant-loop-place
-invariant-loop-place g l = record {
+abbrev pub invariant-loop-index : goal.invariant-loop-index
+invariant-loop-index g l = record {
   kept : KeepsBook l.primary l.ends.items;
-  upto : Upto l.place Reported (record { primary = l.fn.primary; ends = l.fn.ends.items })
+  upto : Upto l.index Reported (record { primary = l.fn.primary; ends = l.fn.ends.items })
       (record { primary = l.primary; ends = l.ends.items });
-  sites : length l.primary.sites ≡ l.place-end;
+  sites : length l.primary.sites ≡ l.index-end;
 }

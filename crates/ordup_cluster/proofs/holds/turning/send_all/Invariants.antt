@@ -5,10 +5,10 @@ use Rattle.ordup_cluster.proofs.BookLemmas.{Upto}
 use Rattle.ordup_cluster.proofs.holds.turning.send_all.Given as goal
 
 -- the sites so far were sent what they may be, the others are as they were
-abbrev pub invariant-loop-place : goal.invariant-loop-place
-invariant-loop-place g l = record {
+abbrev pub invariant-loop-index : goal.invariant-loop-index
+invariant-loop-index g l = record {
   kept : KeepsBook l.primary l.ends.items;
-  upto : Upto l.place (SentOut (send_bound l.fn.primary)) (record { primary = l.fn.primary; ends = l.fn.ends.items })
+  upto : Upto l.index (SentOut (send_bound l.fn.primary)) (record { primary = l.fn.primary; ends = l.fn.ends.items })
       (record { primary = l.primary; ends = l.ends.items });
-  sites : length l.primary.sites ≡ l.place-end;
+  sites : length l.primary.sites ≡ l.index-end;
 }

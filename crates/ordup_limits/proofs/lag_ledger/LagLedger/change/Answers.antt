@@ -6,7 +6,7 @@ use Rattle.ordup_limits.specs.declared.limit.Limit.{Limit}
 use Rattle.ordup_limits.specs.Ledgers.{LedgerState}
 use Rattle.ordup_limits.specs.LedgerInside.{ledger_of}
 use Rattle.ordup_limits.specs.Limits.{are_on_one_scope}
-use Rattle.ordup_limits.proofs.ChangeLemmas.{place-small, weighed-few, AreTotals-put, AreAllowed-put, AreMasks-put}
+use Rattle.ordup_limits.proofs.ChangeLemmas.{index-small, weighed-few, AreTotals-put, AreAllowed-put, AreMasks-put}
 use Rattle.ordup_limits.proofs.LedgerLemmas.{StandsFor-prepared}
 use Rattle.ordup_limits.specs.PassedLimits.{least_count}
 use Rattle.ordup_limits.specs.Sizes.{greatest_amount}
@@ -21,7 +21,7 @@ pub put_scope-requires-clause-limit : goal.put_scope-requires-clause-limit
 put_scope-requires-clause-limit g c =
     let l : Limit = record { scope = c.args.scope; amount = c.args.amount } in
     let same = ap (λ (k : LedgerState). k.limits) (rw (← c.self.view_is) at c.prepare.ensures.rest) in
-    place-small c.args.self.now.limits c.self.inside.limits l c.index_for-place.result same c.index_for-place.ensures c.requires.room
+    index-small c.args.self.now.limits c.self.inside.limits l c.index_for-index.result same c.index_for-index.ensures c.requires.room
     c.self.invariant.ledger.few
 
 pub overflow_add-allowed : goal.overflow_add-allowed
@@ -46,7 +46,7 @@ index_mut-requires g c =
     let same = ap (λ (k : LedgerState). k.limits) (rw (← c.self.view_is) at c.prepare.ensures.rest) in
     omega (
       arith,
-      place-small c.args.self.now.limits c.self.inside.limits l c.index_for-place.result same c.index_for-place.ensures c.requires.room
+      index-small c.args.self.now.limits c.self.inside.limits l c.index_for-index.result same c.index_for-index.ensures c.requires.room
           c.self.invariant.ledger.few,
       c.self.invariant.ledger.added,
       c.self.inside.added.ok.0,
@@ -58,7 +58,7 @@ index_mut-requires-2 g c =
     let same = ap (λ (k : LedgerState). k.limits) (rw (← c.self.view_is) at c.prepare.ensures.rest) in
     omega (
       arith,
-      place-small c.args.self.now.limits c.self.inside.limits l c.index_for-place.result same c.index_for-place.ensures c.requires.room
+      index-small c.args.self.now.limits c.self.inside.limits l c.index_for-index.result same c.index_for-index.ensures c.requires.room
           c.self.invariant.ledger.few,
       c.self.invariant.ledger.allowed,
       c.self.inside.allowed.ok.0,
@@ -68,7 +68,7 @@ pub with_bit-self-inside-requires : goal.with_bit-self-inside-requires
 with_bit-self-inside-requires g c =
     let l : Limit = record { scope = c.args.scope; amount = c.args.amount } in
     let same = ap (λ (k : LedgerState). k.limits) (rw (← c.self.view_is) at c.prepare.ensures.rest) in
-    place-small c.args.self.now.limits c.self.inside.limits l c.index_for-place.result same c.index_for-place.ensures c.requires.room
+    index-small c.args.self.now.limits c.self.inside.limits l c.index_for-index.result same c.index_for-index.ensures c.requires.room
     c.self.invariant.ledger.few
 
 pub returns-clause-stands : goal.returns-clause-stands
@@ -77,11 +77,11 @@ returns-clause-stands g c =
     let groups = c.args.groups.now in
     let l : Limit = record { scope = c.args.scope; amount = c.args.amount } in
     let limits = c.self.inside.limits in
-    let place = c.index_for-place.result in
+    let index = c.index_for-index.result in
     let masks = rw (← c.self.view_is) at c.prepare.ensures.masks in
     let rest = rw (← c.self.view_is) at c.prepare.ensures.rest in
     let now = StandsFor-prepared (ledger_of c.self.inside) c.requires.stands rest masks in
-    let small = place-small c.args.self.now.limits limits l place (ap (λ (k : LedgerState). k.limits) rest) c.index_for-place.ensures
+    let small = index-small c.args.self.now.limits limits l index (ap (λ (k : LedgerState). k.limits) rest) c.index_for-index.ensures
     c.requires.room c.self.invariant.ledger.few in
     let legal = c.keeps.ensures.legal in
     let are = c.keeps-2.ensures.groups in
@@ -91,11 +91,11 @@ returns-clause-stands g c =
           (All-put (λ (m : Limit). IsScopeKnown (length h.start) groups m.scope) are_on_one_scope limits l now.known c.requires.known);
       reported = now.reported;
       extended = now.extended;
-      added = rw c.put.ensures (AreTotals-put h groups limits l c.self.inside.extended place c.weighed-total.result c.self.inside.added.items
-          now.added c.index_for-place.ensures (omega (arith, small, c.self.invariant.ledger.added)) c.weighed-total.ensures
+      added = rw c.put.ensures (AreTotals-put h groups limits l c.self.inside.extended index c.weighed-total.result c.self.inside.added.items
+          now.added c.index_for-index.ensures (omega (arith, small, c.self.invariant.ledger.added)) c.weighed-total.ensures
           (omega (arith, c.weighed-total.ensures, weighed-few h legal groups are l.scope c.requires.known c.self.inside.extended now.extended)));
-      allowed = rw c.put.ensures (AreAllowed-put h groups limits l c.self.inside.reported place (c.kept_amount.result + c.weighed.result)
-          c.self.inside.allowed.items now.allowed c.index_for-place.ensures (omega (arith, small, c.self.invariant.ledger.allowed))
+      allowed = rw c.put.ensures (AreAllowed-put h groups limits l c.self.inside.reported index (c.kept_amount.result + c.weighed.result)
+          c.self.inside.allowed.items now.allowed c.index_for-index.ensures (omega (arith, small, c.self.invariant.ledger.allowed))
           (omega (arith, c.kept_amount.ensures, c.weighed.ensures))
           (omega (
             arith,
@@ -104,38 +104,38 @@ returns-clause-stands g c =
             c.weighed.ensures,
             weighed-few h legal groups are l.scope c.requires.known c.self.inside.reported now.reported,
           )));
-      masks = λ e. rw c.put.ensures (AreMasks-put groups limits l place c.self.inside.masks.items c.put_scope.new.masks.items masks
-          c.index_for-place.ensures c.put_scope.ensures.bits);
+      masks = λ e. rw c.put.ensures (AreMasks-put groups limits l index c.self.inside.masks.items c.put_scope.new.masks.items masks
+          c.index_for-index.ensures c.put_scope.ensures.bits);
     }
 
 pub invariant_of-self : goal.invariant_of-self
 invariant_of-self g c =
     let l : Limit = record { scope = c.args.scope; amount = c.args.amount } in
     let k = c.self.inside in
-    let place = c.index_for-place.result in
+    let index = c.index_for-index.result in
     let before = c.self.invariant in
     let rest = rw (← c.self.view_is) at c.prepare.ensures.rest in
-    let small = place-small c.args.self.now.limits k.limits l place (ap (λ (s : LedgerState). s.limits) rest) c.index_for-place.ensures
+    let small = index-small c.args.self.now.limits k.limits l index (ap (λ (s : LedgerState). s.limits) rest) c.index_for-index.ensures
     c.requires.room before.ledger.few in
     record {
       ledger = record {
         few = c.as_slice.ensures.few;
         last = before.ledger.last;
-        added = length-set k.added.items place c.weighed-total.result ∙ before.ledger.added;
-        allowed = length-set k.allowed.items place (c.kept_amount.result + c.weighed.result) ∙ before.ledger.allowed;
+        added = length-set k.added.items index c.weighed-total.result ∙ before.ledger.added;
+        allowed = length-set k.allowed.items index (c.kept_amount.result + c.weighed.result) ∙ before.ledger.allowed;
         masks = c.put_scope.ensures.count;
         empty = λ e x. absurd (true≢false (sym (ap (λ (s : LedgerState). s.has_masks) rest) ∙ e));
       };
       count = c.least_count-self-inside.ensures ∙ ap least_count c.as_slice.ensures.limits;
-      passed = ArePassed-put k.passed c.with_bit-self-inside.result place k.added.items k.allowed.items _ _ _ before.passed
+      passed = ArePassed-put k.passed c.with_bit-self-inside.result index k.added.items k.allowed.items _ _ _ before.passed
           c.with_bit-self-inside.ensures
           (rw (
-            get_or-set_at k.allowed.items place place (c.kept_amount.result + c.weighed.result) 0 refl
+            get_or-set_at k.allowed.items index index (c.kept_amount.result + c.weighed.result) 0 refl
                 (omega (arith, small, before.ledger.allowed)),
-            get_or-set_at k.added.items place place c.weighed-total.result 0 refl (omega (arith, small, before.ledger.added)),
+            get_or-set_at k.added.items index index c.weighed-total.result 0 refl (omega (arith, small, before.ledger.added)),
           )
           refl)
-          (λ i other. get_or-set_other k.added.items place i c.weighed-total.result 0 other)
-          (λ i other. get_or-set_other k.allowed.items place i (c.kept_amount.result + c.weighed.result) 0 other);
+          (λ i other. get_or-set_other k.added.items index i c.weighed-total.result 0 other)
+          (λ i other. get_or-set_other k.allowed.items index i (c.kept_amount.result + c.weighed.result) 0 other);
       fits = c.with_bit-self-inside.type_inv;
     }

@@ -16,9 +16,9 @@ push-requires c =
 
 pub returns-in-Some : goal.returns-in-Some
 returns-in-Some c =
-    take-set c.self.inside.count c.self.inside.limits c.in-Some.place c.args.limit.now
-    ∙ ap (λ (ls : Limits). set ls c.in-Some.place c.args.limit.now) c.self.view_is
-    ∙ sym (put-at are_on_one_scope c.args.self.now c.args.limit.now c.in-Some.place c.in-Some.ensures)
+    take-set c.self.inside.count c.self.inside.limits c.in-Some.index c.args.limit.now
+    ∙ ap (λ (ls : Limits). set ls c.in-Some.index c.args.limit.now) c.self.view_is
+    ∙ sym (put-at are_on_one_scope c.args.self.now c.args.limit.now c.in-Some.index c.in-Some.ensures)
 
 pub returns-in-None : goal.returns-in-None
 returns-in-None c = c.push.ensures ∙ sym (put-last are_on_one_scope c.args.self.now c.args.limit.now c.in-None.ensures)

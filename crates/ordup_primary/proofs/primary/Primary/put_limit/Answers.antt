@@ -12,9 +12,9 @@ use Rattle.ordup_primary.proofs.primary.Primary.put_limit.Goals as goal
 pub invariant_of-self : goal.invariant_of-self
 invariant_of-self g c =
     let tables = c.self.inside.limits.items in
-    let same : set tables c.index-place.result c.change.new.self ≡ tables =
-    ap (set tables c.index-place.result) (c.in_default.ensures.err ∙ c.index_mut.ensures.value)
-    ∙ set-get_or tables c.index-place.result c.index_mut.result.now in
+    let same : set tables c.index-index.result c.change.new.self ≡ tables =
+    ap (set tables c.index-index.result) (c.in_default.ensures.err ∙ c.index_mut.ensures.value)
+    ∙ set-get_or tables c.index-index.result c.index_mut.result.now in
     record {
       primary = rw same c.self.invariant.primary;
       ledgers = rw same c.self.invariant.ledgers;
@@ -23,9 +23,9 @@ invariant_of-self g c =
 pub returns-in_default-clause-sound : goal.returns-in_default-clause-sound
 returns-in_default-clause-sound g c =
     let tables = c.self.inside.limits.items in
-    let same : set tables c.index-place.result c.change.new.self ≡ tables =
-    ap (set tables c.index-place.result) (c.in_default.ensures.err ∙ c.index_mut.ensures.value)
-    ∙ set-get_or tables c.index-place.result c.index_mut.result.now in
+    let same : set tables c.index-index.result c.change.new.self ≡ tables =
+    ap (set tables c.index-index.result) (c.in_default.ensures.err ∙ c.index_mut.ensures.value)
+    ∙ set-get_or tables c.index-index.result c.index_mut.result.now in
     rw same c.self.invariant.primary
 
 pub change-requires-2-clause-room : goal.change-requires-2-clause-room
@@ -34,19 +34,19 @@ change-requires-2-clause-room g c =
     let tables = c.self.inside.limits.items in
     let sound = c.self.invariant.primary in
     let there = rw (← c.self.view_is) at c.requires.site in
-    let inside : c.index-place.result < length tables = omega (arith, there, c.index-place.ensures, sound.tables) in
+    let inside : c.index-index.result < length tables = omega (arith, there, c.index-index.ensures, sound.tables) in
     let read : c.index.result.now ≡ limits_at p c.args.site =
-    get_or_read tables c.index-place.result c.index.result.now inside c.index.ensures []
-    ∙ ap (λ k. get_or tables k []) c.index-place.ensures in
+    get_or_read tables c.index-index.result c.index.result.now inside c.index.ensures []
+    ∙ ap (λ k. get_or tables k []) c.index-index.ensures in
     let keep : AreEntries (limits_at p c.args.site) = rw read at c.keeps.ensures in
     let ledgers = c.self.inside.ledgers.items in
     let x = c.index_mut-2.result.now in
-    let among : c.index-place.result < length ledgers = omega (arith, there, c.index-place.ensures, c.self.invariant.ledgers.count) in
-    let before = c.self.invariant.ledgers.each c.index-place.result x among in
+    let among : c.index-index.result < length ledgers = omega (arith, there, c.index-index.ensures, c.self.invariant.ledgers.count) in
+    let before = c.self.invariant.ledgers.each c.index-index.result x among in
     let allowed = rw (← c.self.view_is) at c.requires.allowed in
     let known = rw (← c.self.view_is) at c.requires.known in
     let limits = ap (λ (l : LedgerState). l.limits) c.index_mut-2.ensures.value ∙ before.limits
-    ∙ ap (λ k. latest (limits_at p k)) c.index-place.ensures in
+    ∙ ap (λ k. latest (limits_at p k)) c.index-index.ensures in
     rw limits (relimit-room p c.args.site c.args.scope c.args.amount sound there keep allowed)
 
 pub change-requires-2-clause-known : goal.change-requires-2-clause-known
@@ -59,8 +59,8 @@ change-requires-2-clause-stands g c =
     let there = rw (← c.self.view_is) at c.requires.site in
     let ledgers = c.self.inside.ledgers.items in
     let x = c.index_mut-2.result.now in
-    let among : c.index-place.result < length ledgers = omega (arith, there, c.index-place.ensures, c.self.invariant.ledgers.count) in
-    let before = c.self.invariant.ledgers.each c.index-place.result x among in
+    let among : c.index-index.result < length ledgers = omega (arith, there, c.index-index.ensures, c.self.invariant.ledgers.count) in
+    let before = c.self.invariant.ledgers.each c.index-index.result x among in
     rw (c.groups-groups.ensures.groups, c.index_mut-2.ensures.value) before.stands
 
 pub invariant_of-self-2 : goal.invariant_of-self-2
@@ -69,32 +69,32 @@ invariant_of-self-2 g c =
     let tables = c.self.inside.limits.items in
     let sound = c.self.invariant.primary in
     let there = rw (← c.self.view_is) at c.requires.site in
-    let inside : c.index-place.result < length tables = omega (arith, there, c.index-place.ensures, sound.tables) in
+    let inside : c.index-index.result < length tables = omega (arith, there, c.index-index.ensures, sound.tables) in
     let read : c.index.result.now ≡ limits_at p c.args.site =
-    get_or_read tables c.index-place.result c.index.result.now inside c.index.ensures []
-    ∙ ap (λ k. get_or tables k []) c.index-place.ensures in
+    get_or_read tables c.index-index.result c.index.result.now inside c.index.ensures []
+    ∙ ap (λ k. get_or tables k []) c.index-index.ensures in
     let keep : AreEntries (limits_at p c.args.site) = rw read at c.keeps.ensures in
     let e = entry_of c.args.scope c.args.amount (c.self.inside.acked + 1) in
     let old : c.index_mut.result.now ≡ limits_at p c.args.site =
-    get_or_read tables c.index-place.result c.index_mut.result.now inside c.index_mut.ensures.value []
-    ∙ ap (λ k. get_or tables k []) c.index-place.ensures in
-    let stored : set tables c.index-place.result c.change.new.self ≡ set tables c.args.site (changed (limits_at p c.args.site) e) =
-    ap (set tables c.index-place.result) (c.in-Ok.ensures.changed ∙ ap (λ (entries : Entries). changed entries e) old)
-    ∙ ap (λ k. set tables k (changed (limits_at p c.args.site) e)) c.index-place.ensures in
+    get_or_read tables c.index-index.result c.index_mut.result.now inside c.index_mut.ensures.value []
+    ∙ ap (λ k. get_or tables k []) c.index-index.ensures in
+    let stored : set tables c.index-index.result c.change.new.self ≡ set tables c.args.site (changed (limits_at p c.args.site) e) =
+    ap (set tables c.index-index.result) (c.in-Ok.ensures.changed ∙ ap (λ (entries : Entries). changed entries e) old)
+    ∙ ap (λ k. set tables k (changed (limits_at p c.args.site) e)) c.index-index.ensures in
     let ledgers = c.self.inside.ledgers.items in
     let x = c.index_mut-2.result.now in
-    let among : c.index-place.result < length ledgers = omega (arith, there, c.index-place.ensures, c.self.invariant.ledgers.count) in
-    let before = c.self.invariant.ledgers.each c.index-place.result x among in
+    let among : c.index-index.result < length ledgers = omega (arith, there, c.index-index.ensures, c.self.invariant.ledgers.count) in
+    let before = c.self.invariant.ledgers.each c.index-index.result x among in
     let allowed = rw (← c.self.view_is) at c.requires.allowed in
     let known = rw (← c.self.view_is) at c.requires.known in
     let l = c.change-2.new.self in
     let at : x ≡ get_or ledgers c.args.site l =
-    get_or_read ledgers c.index-place.result x among c.index_mut-2.ensures.value l
-    ∙ ap (λ k. get_or ledgers k l) c.index-place.ensures in
+    get_or_read ledgers c.index-index.result x among c.index_mut-2.ensures.value l
+    ∙ ap (λ k. get_or ledgers k l) c.index-index.ensures in
     let made = c.change-2.ensures in
     record {
       primary = rw stored (IsPrimary-relimited p c.args.site c.args.scope c.args.amount sound there keep known allowed);
-      ledgers = rw (stored, c.index-place.ensures) (AreLedgers-relimited p c.args.site c.args.scope c.args.amount ledgers l sound
+      ledgers = rw (stored, c.index-index.ensures) (AreLedgers-relimited p c.args.site c.args.scope c.args.amount ledgers l sound
           c.self.invariant.ledgers there keep (rw c.groups-groups.ensures.groups at made.stands)
           (made.limits ∙ ap (λ (k : LedgerState). put are_on_one_scope k.limits e.limit) at)
           (made.places.0 ∙ ap (λ (k : LedgerState). k.reported) at, made.places.1 ∙ ap (λ (k : LedgerState). k.extended) at));
@@ -106,18 +106,18 @@ returns-clause-changed g c =
     let tables = c.self.inside.limits.items in
     let sound = c.self.invariant.primary in
     let there = rw (← c.self.view_is) at c.requires.site in
-    let inside : c.index-place.result < length tables = omega (arith, there, c.index-place.ensures, sound.tables) in
+    let inside : c.index-index.result < length tables = omega (arith, there, c.index-index.ensures, sound.tables) in
     let read : c.index.result.now ≡ limits_at p c.args.site =
-    get_or_read tables c.index-place.result c.index.result.now inside c.index.ensures []
-    ∙ ap (λ k. get_or tables k []) c.index-place.ensures in
+    get_or_read tables c.index-index.result c.index.result.now inside c.index.ensures []
+    ∙ ap (λ k. get_or tables k []) c.index-index.ensures in
     let keep : AreEntries (limits_at p c.args.site) = rw read at c.keeps.ensures in
     let e = entry_of c.args.scope c.args.amount (c.self.inside.acked + 1) in
     let old : c.index_mut.result.now ≡ limits_at p c.args.site =
-    get_or_read tables c.index-place.result c.index_mut.result.now inside c.index_mut.ensures.value []
-    ∙ ap (λ k. get_or tables k []) c.index-place.ensures in
-    let stored : set tables c.index-place.result c.change.new.self ≡ set tables c.args.site (changed (limits_at p c.args.site) e) =
-    ap (set tables c.index-place.result) (c.in-Ok.ensures.changed ∙ ap (λ (entries : Entries). changed entries e) old)
-    ∙ ap (λ k. set tables k (changed (limits_at p c.args.site) e)) c.index-place.ensures in
+    get_or_read tables c.index-index.result c.index_mut.result.now inside c.index_mut.ensures.value []
+    ∙ ap (λ k. get_or tables k []) c.index-index.ensures in
+    let stored : set tables c.index-index.result c.change.new.self ≡ set tables c.args.site (changed (limits_at p c.args.site) e) =
+    ap (set tables c.index-index.result) (c.in-Ok.ensures.changed ∙ ap (λ (entries : Entries). changed entries e) old)
+    ∙ ap (λ k. set tables k (changed (limits_at p c.args.site) e)) c.index-index.ensures in
     rw (← c.self.view_is) (ap (λ limits. let q : PrimaryState = record p { limits = limits } in q) stored)
 
 pub returns-clause-sound : goal.returns-clause-sound
@@ -126,18 +126,18 @@ returns-clause-sound g c =
     let tables = c.self.inside.limits.items in
     let sound = c.self.invariant.primary in
     let there = rw (← c.self.view_is) at c.requires.site in
-    let inside : c.index-place.result < length tables = omega (arith, there, c.index-place.ensures, sound.tables) in
+    let inside : c.index-index.result < length tables = omega (arith, there, c.index-index.ensures, sound.tables) in
     let read : c.index.result.now ≡ limits_at p c.args.site =
-    get_or_read tables c.index-place.result c.index.result.now inside c.index.ensures []
-    ∙ ap (λ k. get_or tables k []) c.index-place.ensures in
+    get_or_read tables c.index-index.result c.index.result.now inside c.index.ensures []
+    ∙ ap (λ k. get_or tables k []) c.index-index.ensures in
     let keep : AreEntries (limits_at p c.args.site) = rw read at c.keeps.ensures in
     let e = entry_of c.args.scope c.args.amount (c.self.inside.acked + 1) in
     let old : c.index_mut.result.now ≡ limits_at p c.args.site =
-    get_or_read tables c.index-place.result c.index_mut.result.now inside c.index_mut.ensures.value []
-    ∙ ap (λ k. get_or tables k []) c.index-place.ensures in
-    let stored : set tables c.index-place.result c.change.new.self ≡ set tables c.args.site (changed (limits_at p c.args.site) e) =
-    ap (set tables c.index-place.result) (c.in-Ok.ensures.changed ∙ ap (λ (entries : Entries). changed entries e) old)
-    ∙ ap (λ k. set tables k (changed (limits_at p c.args.site) e)) c.index-place.ensures in
+    get_or_read tables c.index-index.result c.index_mut.result.now inside c.index_mut.ensures.value []
+    ∙ ap (λ k. get_or tables k []) c.index-index.ensures in
+    let stored : set tables c.index-index.result c.change.new.self ≡ set tables c.args.site (changed (limits_at p c.args.site) e) =
+    ap (set tables c.index-index.result) (c.in-Ok.ensures.changed ∙ ap (λ (entries : Entries). changed entries e) old)
+    ∙ ap (λ k. set tables k (changed (limits_at p c.args.site) e)) c.index-index.ensures in
     let allowed = rw (← c.self.view_is) at c.requires.allowed in
     let known = rw (← c.self.view_is) at c.requires.known in
     rw stored (IsPrimary-relimited p c.args.site c.args.scope c.args.amount sound there keep known allowed)

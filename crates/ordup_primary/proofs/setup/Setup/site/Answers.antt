@@ -8,6 +8,6 @@ invariant_of-self-2 g c =
     let held = c.self.inside in
     let d : Declared =
     record { objects = held.objects; groups = held.groups; sites = held.capacities; limits = held.limits.items } in
-    let count : c.sites-place.result ≡ length held.capacities = rw (← c.self.view_is) at c.sites-place.ensures.sites in
+    let count : c.sites-index.result ≡ length held.capacities = rw (← c.self.view_is) at c.sites-index.ensures.sites in
     AreDeclared-site d c.in_ok-name.name c.args.capacity c.push.new.self c.push_reserved.new.self.items c.self.invariant
     (omega (arith, count, c.self.invariant.few)) (omega arith, omega arith) (search rules) (search rules)

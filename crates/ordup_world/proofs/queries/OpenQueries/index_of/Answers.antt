@@ -8,7 +8,7 @@ pub returns-then-eq-clause-at : goal.returns-then-eq-clause-at
 returns-then-eq-clause-at g c =
     let key : is_same c.in-Some.key.now c.args.name.now ≡ true = sym c.eq.ensures ∙ c.if-eq.true in
     let is : c.in-Some.key.now ≡ c.args.name.now = (bytes_decides c.in-Some.key.now c.args.name.now).0 key in
-    is_open-at c.args.self.now c.args.name.now c.place-guess.result (c.in-Some.key.now, c.in-Some.field-0-1.now)
+    is_open-at c.args.self.now c.args.name.now c.guess-guess.result (c.in-Some.key.now, c.in-Some.field-0-1.now)
     (search rules)
     (nat_list_eq_equiv.symm c.args.name.now c.in-Some.key.now ∙ key)
     (rw (← c.self.view_is) (rw is at c.in-Some.ensures.value))

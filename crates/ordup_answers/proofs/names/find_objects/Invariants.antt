@@ -1,6 +1,6 @@
 use Rattle.std.proofs.Common.{◌≡◌, ◌++◌, length}
-use Rattle.ordup_answers.specs.Places.{indices_among}
-use Rattle.ordup_answers.proofs.places.find_objects.Given as goal
+use Rattle.ordup_answers.specs.Names.{indices_among}
+use Rattle.ordup_answers.proofs.names.find_objects.Given as goal
 
 abbrev pub invariant-loop-name : goal.invariant-loop-name
 invariant-loop-name g l = l.found.items ++ indices_among l.objects l.rest ≡ indices_among l.objects l.names

@@ -1,7 +1,7 @@
 //! Which objects, groups and sites words name. A word that names nothing stands for the index after the last one, which each call
 //! refuses as unknown in its turn.
 ghost use Rattle.std.specs.Prelude.{◌≡◌, IfOk};
-ghost use Rattle.ordup_answers.specs.Places.{index_among, indices_among, scope_in};
+ghost use Rattle.ordup_answers.specs.Names.{index_among, indices_among, scope_in};
 
 use ordup_grammar::{ScopeWord, Word, Words};
 use ordup_limits::{GroupId, Groups, Scope};

@@ -3,6 +3,7 @@ use Rattle.ordup_audit.proofs.Common.{◌++◌, ◌+◌, ◌<◌, ◌∙◌, ◌
 use Rattle.ordup_audit.proofs.Common.{false, false≢true, get_or-append_seam, GroupList, History, history_of, in_force, inl, inr}
 use Rattle.ordup_audit.proofs.Common.{initial_state, is_within, IsRecord, le-leb, leb-true, length, length-map, length_push, List, lt-ltb}
 use Rattle.ordup_audit.proofs.Common.{most_objects, nat_lt, not, RecordState, refl, sym, take, true, ℕ, and_parts}
+use Rattle.ordup_audit.proofs.Common.{Err, IfOk, Ok, Result}
 use Rattle.std.proofs.lemmas.Bool.{le-ltb, not-true}
 use Rattle.std.proofs.Math.ListN.{get_or-append}
 use Rattle.ordup_log.specs.Spans.{span}
@@ -110,7 +111,7 @@ least-in_force r n a b begun least =
     }
 
 -- a new ledger without limits
-pub begins : (r : RecordState) (ledger : LedgerState) → IsRecord r → ledger.limits ≡ []
+begins : (r : RecordState) (ledger : LedgerState) → IsRecord r → ledger.limits ≡ []
     → (ledger.reported ≡ 0) × (ledger.extended ≡ 0)
     → ((h : History) (groups : GroupList) → length h.start ≤ most_objects → AreEntriesKnown (length h.start) groups []
     → StandsFor ledger h groups)
@@ -124,3 +125,12 @@ begins r ledger is limits places stands =
       to = places.1;
       stands = stands (history_of r) r.groups (omega (arith, count, few)) (λ i d lt. absurd (omega arith));
     }
+
+-- where one was made
+pub begins-made : {E : Type 0} (r : RecordState) (made : Result LedgerState E) → IsRecord r → IfOk made (λ l. l.limits ≡ [])
+    → IfOk made (λ l. (l.reported ≡ 0) × (l.extended ≡ 0))
+    → IfOk made (λ l. (h : History) (groups : GroupList) → length h.start ≤ most_objects → AreEntriesKnown (length h.start) groups []
+    → StandsFor l h groups)
+    → IfOk made (λ l. StandsAt (history_of r) r.groups [] 0 0 l)
+begins-made r (Ok ledger) is limits places stands = begins r ledger is limits places stands
+begins-made r (Err e) is limits places stands = limits

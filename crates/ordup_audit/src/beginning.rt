@@ -1,19 +1,38 @@
-//! Limits that begin to hold.
+//! A ledger of a record's log, and the limits that begin to hold.
 
-ghost use Rattle.std.specs.Prelude.{◌≡◌, ◌≤◌, length, take};
+ghost use Rattle.std.specs.Prelude.{◌≡◌, ◌≤◌, [], IfErr, IfOk, length, take};
 ghost use Rattle.std.specs.List.Sorted.{IsNonDecreasingBy};
 ghost use Rattle.ordup_limits.specs.Entries.{latest, AreEntriesKnown, HoldFrom};
 ghost use Rattle.ordup_limits.specs.Ledgers.{StandsFor};
 ghost use Rattle.ordup_limits.specs.Sizes.{most_limits};
 ghost use Rattle.ordup_audit.specs.Beginning.{HaveBegun};
+ghost use Rattle.ordup_audit.specs.LeastStarts.{StandsAt};
+ghost use Rattle.ordup_audit.specs.Records.{history_of};
 
-use ordup_limits::{Groups, LagLedger, LimitEntry};
+use crate::record::Record;
+use ordup_limits::{Groups, LagLedger, LimitEntry, LimitTable};
 use ordup_log::Log;
+use ordup_objects::Refusal;
 use std::alloc::Allocator;
+
+/// A ledger without limits, at the empty span from 0 of a record's log. The only refusal is `NoMemory`.
+pub fn first_ledger<A: Allocator + Copy>(
+    alloc: A,
+    audited: &Record<A>,
+) -> Result<LagLedger<A>, Refusal>
+    ensures stands { IfOk result (λ ledger. StandsAt (history_of audited.now) audited.now.groups [] 0 0 ledger) }
+    ensures refused { IfErr result (λ e. e ≡ Refusal.NoMemory) }
+{
+    audited.keeps();
+    let no_limits = LimitTable::new(alloc);
+    let made = LagLedger::new(alloc, &no_limits);
+    drop(no_limits);
+    made
+}
 
 /// Puts the limits of the entries that hold from a place or before into a ledger, which has those of the first `begun` entries. It
 /// answers how many entries the ledger has then.
-pub(crate) fn begin<A: Allocator + Copy>(
+pub fn begin_limits<A: Allocator + Copy>(
     ledger: &mut LagLedger<A>,
     log: &Log<A>,
     groups: &Groups<A>,

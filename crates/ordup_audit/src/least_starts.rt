@@ -7,9 +7,9 @@ ghost use Rattle.ordup_limits.specs.Ledgers.{StandsFor};
 ghost use Rattle.ordup_audit.specs.Records.{history_of, is_within};
 ghost use Rattle.ordup_audit.specs.LeastStarts.{AreLeastStarts, AreStartsOf, IsLeastStart, PassesBefore, StandsAt};
 
-use crate::beginning::begin;
+use crate::beginning::{begin_limits, first_ledger};
 use crate::record::Record;
-use ordup_limits::{Groups, LagLedger, LimitTable};
+use ordup_limits::{Groups, LagLedger};
 use ordup_log::Log;
 use std::alloc::{Allocator, Global};
 
@@ -56,24 +56,12 @@ fn find_starts<A: Allocator + Copy>(audited: &Record<A>) -> Option<Vec<u64, A>>
     requires { IsLegalHistory (history_of audited.now) }
     ensures { IfSome result (λ starts. AreLeastStarts (is_within audited.now) (length audited.now.sets + 1) starts.items) }
 {
-    let mut ledger = first_ledger(audited)?;
+    let Ok(mut ledger) = first_ledger(audited.allocator(), audited) else {
+        return None;
+    };
     let starts = starts_by(audited, &mut ledger);
     drop(ledger);
     starts
-}
-
-/// A ledger without limits, at the empty span from 0; none where it is refused memory.
-fn first_ledger<A: Allocator + Copy>(audited: &Record<A>) -> Option<LagLedger<A>>
-    ensures { IfSome result (λ ledger. StandsAt (history_of audited.now) audited.now.groups [] 0 0 ledger) }
-{
-    audited.keeps();
-    let no_limits = LimitTable::new(audited.allocator());
-    let made = LagLedger::new(audited.allocator(), &no_limits);
-    drop(no_limits);
-    match made {
-        Ok(ledger) => Some(ledger),
-        Err(_) => None,
-    }
 }
 
 /// The least starts of 0 and of each decided place, by a first ledger; none where they are refused memory.
@@ -98,7 +86,7 @@ fn starts_by<A: Allocator + Copy>(
     for place in 0..decided {
         ledger.extend(log, groups, place + 1);
         let before = begun;
-        begun = begin(ledger, log, groups, entries, before, place + 1);
+        begun = begin_limits(ledger, log, groups, entries, before, place + 1);
         start = next_start(ledger, log, groups, begun != before, start, place + 1);
         starts.push_reserved(start);
     }

@@ -23,6 +23,7 @@ pub mod sizes;
 mod verdict;
 mod windows;
 
+pub use beginning::{begin_limits, first_ledger};
 pub use checking::check;
 pub use record::{Record, RecordParts};
 pub use record_view::RecordView;

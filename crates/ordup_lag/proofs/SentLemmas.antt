@@ -46,6 +46,11 @@ pub front_none : (a : Option (List ℕ)) (text : List ℕ) → AppendsFront a a 
 front_none None text = ([], text, refl, tt)
 front_none (Some xs) text = ([], text, refl, sym (append-nil xs))
 
+-- nothing is sent, and all of it is left
+pub sends_none : (a : Option (List ℕ)) (text : List ℕ) → SendsUpto a a (text ++ []) text
+sends_none None text = ([], append-nil text, tt)
+sends_none (Some xs) text = ([], append-nil text, sym (append-nil xs))
+
 -- the line of one place more is formed
 pub row_formed : (a b : Option (List ℕ)) (head : List ℕ) (r : RecordState) (k : ℕ) (left text : List ℕ)
     → SendsUpto a b (head ++ rows_upto r k) left → text ≡ left ++ row_text (length (latest r.limits)) (row_at r (k + 1))

@@ -2,15 +2,20 @@
 use Rattle.ordup_audit.proofs.Common.{◌+◌, ◌-◌, ◌<◌, ◌≤◌, ◌∙◌, ◌∷◌, ◌≡◌, ◌++◌, [], All, ap, append-nil, append_assoc, arith, cases_lt, Entries}
 use Rattle.ordup_audit.proofs.Common.{get_or, GroupList, History, inl, inr, in_force, length, Limit, List, map, option_map, RecordState, refl}
 use Rattle.ordup_audit.proofs.Common.{slice_get, Some, None, suc, sym, zero, ℕ, Bool, codes, decimal, history_of, list_any, Objects, Option, report_at, ◌==◌}
-use Rattle.std.specs.Prelude.{min, OnOk, Result}
+use Rattle.std.specs.Prelude.{min, nat_le, fold, if◌then◌else◌, Err, Ok, OnOk, Result}
+use Rattle.std.specs.List.Sorted.{IsStrictlyIncreasing}
+use Rattle.ordup_audit.proofs.Common.{AllPairs, AllPairs-from_increasing, get_or-map, length-map}
+use Rattle.std.proofs.lemmas.Bool.{le-leb, lt-leb}
 use Rattle.std.proofs.Common.{add-one}
 use Rattle.std.proofs.lemmas.Bool.{cases_eq}
 use Rattle.std.proofs.lemmas.Option.{slice_get-get_or, slice_get-map, slice_get_past}
 use Rattle.ordup_log.specs.Spans.{span}
 use Rattle.ordup_log.specs.declared.scope.Scope.{Scope}
 use Rattle.ordup_limits.specs.Entries.{latest}
+use Rattle.ordup_limits.specs.Ledgers.{LedgerState, StandsFor}
 use Rattle.ordup_limits.specs.Limits.{Limits}
-use Rattle.ordup_lag.specs.Series.{LimitUse, row_at, use_of, window_of}
+use Rattle.ordup_audit.specs.declared.report_change.ReportChange.{ReportChange}
+use Rattle.ordup_lag.specs.Series.{LimitUse, row_at, use_of, uses_of, window_of}
 use Rattle.ordup_lag.specs.Texts.{limit_head, round_text, row_text, rows_upto, scope_head, scope_heads, use_text, uses_text, window_text}
 
 -- a span from after its end is empty, as one from its end is
@@ -36,19 +41,92 @@ uses-min h groups a b (limit ∷ limits) =
     ap (λ w. made w limit.amount ∷ map (use_of h groups (min a b) b) limits) (span-min h groups limit.scope a b)
     ∙ ap (λ us. use_of h groups a b limit ∷ us) (uses-min h groups a b limits)
 
--- what a span uses of the limit with a number
-pub use-there : {X Y : Type 0} (f : X → Y) (xs : List X) (i : ℕ) (d : X) → i < length xs
-    → Some (f (get_or xs i d)) ≡ slice_get (map f xs) i
-use-there f xs i d lt = sym (slice_get-map f xs i ∙ ap (option_map f) (slice_get-get_or xs i d lt))
+-- a fact that follows from one of success
+pub on_ok : {T E P Q : Type 0} (result : Result T E) → OnOk result P → (P → Q) → OnOk result Q
+on_ok (Ok _) holds next = next holds
+on_ok (Err _) holds next = holds
 
-pub use-none : {X Y : Type 0} (f : X → Y) (xs : List X) (i : ℕ) → length xs ≤ i → None ≡ slice_get (map f xs) i
-use-none f xs i past = sym (slice_get-map f xs i ∙ ap (option_map f) (slice_get_past xs i past))
+-- the cells of a use, where it is that of the limit with this index
+pub use_there : {T E : Type 0} (result : Result T E) (new old : List ℕ) (l : LedgerState) (i weight amount : ℕ) (d : Limit)
+    → OnOk result (new ≡ old ++ use_text (Some (made weight amount))) → i < length l.limits → amount ≡ (get_or l.limits i d).amount
+    → ((h : History) (groups : GroupList) (e : Limit) → StandsFor l h groups
+    → weight ≡ span h groups (get_or l.limits i e).scope l.reported l.extended)
+    → OnOk result ((h : History) (groups : GroupList) → StandsFor l h groups
+    → new ≡ old ++ use_text (slice_get (uses_of l h groups) i))
+use_there result new old l i weight amount d holds lt same weighs = on_ok result holds (λ is h groups stands.
+    is ∙ ap (λ u. old ++ use_text u)
+    (ap (λ w. Some (made w amount)) (weighs h groups d stands)
+    ∙ ap (λ n. Some (made (span h groups (get_or l.limits i d).scope l.reported l.extended) n)) same
+    ∙ sym (slice_get-map (use_of h groups l.reported l.extended) l.limits i
+    ∙ ap (option_map (use_of h groups l.reported l.extended)) (slice_get-get_or l.limits i d lt))))
 
--- the cells of a use that is this one
-pub same_use : {T E : Type 0} (result : Result T E) (new old : List ℕ) (x y : Option LimitUse)
-    → OnOk result (new ≡ old ++ use_text x) → x ≡ y
-    → OnOk result (new ≡ old ++ use_text y)
-same_use result new old x y holds same = rw same at holds
+-- the cells of no use, where there is no such limit
+pub use_none : {T E : Type 0} (result : Result T E) (new old : List ℕ) (l : LedgerState) (i : ℕ)
+    → OnOk result (new ≡ old ++ use_text None) → length l.limits ≤ i
+    → OnOk result ((h : History) (groups : GroupList) → StandsFor l h groups
+    → new ≡ old ++ use_text (slice_get (uses_of l h groups) i))
+use_none result new old l i holds past = on_ok result holds (λ is h groups stands.
+    is ∙ ap (λ u. old ++ use_text u)
+    (sym (slice_get-map (use_of h groups l.reported l.extended) l.limits i
+    ∙ ap (option_map (use_of h groups l.reported l.extended)) (slice_get_past l.limits i past))))
+
+-- the cells of one limit more
+pub uses_next : (old now next : List ℕ) (l : LedgerState) (n : ℕ)
+    → ((h : History) (groups : GroupList) → StandsFor l h groups → now ≡ old ++ uses_text (uses_of l h groups) n)
+    → ((h : History) (groups : GroupList) → StandsFor l h groups → next ≡ now ++ use_text (slice_get (uses_of l h groups) n))
+    → (h : History) (groups : GroupList) → StandsFor l h groups → next ≡ old ++ uses_text (uses_of l h groups) (n + 1)
+uses_next old now next l n before more h groups stands =
+    more h groups stands ∙ ap (λ t. t ++ use_text (slice_get (uses_of l h groups) n)) (before h groups stands)
+    ∙ append_assoc old (uses_text (uses_of l h groups) n) (use_text (slice_get (uses_of l h groups) n))
+    ∙ rw (add-one n) refl
+
+-- ---- what the site had reported, place by place
+
+-- reports from one on that no later one falls below
+abbrev report_from : ℕ → List ReportChange → ℕ → ℕ
+report_from first changes k = fold (λ reported c. if nat_le c.place k then c.reported else reported) first changes
+
+-- the report at the decision of a later place is no lower
+report_from-rises : (a b : ℕ) (changes : List ReportChange) (j k : ℕ) → j ≤ k → a ≤ b
+    → ((i : ℕ) (d : ReportChange) → i < length changes → a ≤ (get_or changes i d).reported)
+    → AllPairs (λ (x y : ReportChange). x.reported < y.reported) changes
+    → report_from a changes j ≤ report_from b changes k
+report_from-rises a b [] j k le less low rise = less
+report_from-rises a b (c ∷ changes) j k le less low rise =
+    let rest : AllPairs (λ (x y : ReportChange). x.reported < y.reported) changes =
+    λ i m d lt there. rise (suc i) (suc m) d (omega arith) (omega arith) in
+    let later : (i : ℕ) (d : ReportChange) → i < length changes → c.reported ≤ (get_or changes i d).reported =
+    λ i d lt. omega (arith, rise 0 (suc i) d (omega arith) (omega arith)) in
+    elim (cases_lt k c.place) [
+      | inl after ↦ rw (lt-leb c.place k after, lt-leb c.place j (omega arith))
+          (report_from-rises a b changes j k le less (λ i d lt. low (suc i) d (omega arith)) rest)
+      | inr here ↦ elim (cases_lt j c.place) [
+        | inl after ↦ rw (le-leb c.place k here, lt-leb c.place j after)
+            (report_from-rises a c.reported changes j k le (low 0 c (omega arith)) (λ i d lt. low (suc i) d (omega arith)) rest)
+        | inr also ↦ rw (le-leb c.place k here, le-leb c.place j also)
+            (report_from-rises c.reported c.reported changes j k le (omega arith) later rest)
+      ]
+    ]
+
+-- the reports of the changes rise
+reports-rise : (changes : List ReportChange) → IsStrictlyIncreasing (map (λ (c : ReportChange). c.reported) changes)
+    → AllPairs (λ (x y : ReportChange). x.reported < y.reported) changes
+reports-rise changes rise i j d lt there =
+    let reports = map (λ (c : ReportChange). c.reported) changes in
+    let pairs : AllPairs (λ x y. x < y) reports = AllPairs-from_increasing reports rise in
+    let last : j < length reports = rw (length-map changes (λ (c : ReportChange). c.reported)) there in
+    let before : get_or reports i d.reported < get_or reports j d.reported = pairs i j d.reported lt last in
+    let first : get_or reports i d.reported ≡ (get_or changes i d).reported =
+    get_or-map (λ (c : ReportChange). c.reported) changes i d d.reported (omega arith) in
+    let second : get_or reports j d.reported ≡ (get_or changes j d).reported =
+    get_or-map (λ (c : ReportChange). c.reported) changes j d d.reported there in
+    omega arith
+
+-- so what the site had reported at the decision of the next place is no less
+pub report_at-rises : (changes : List ReportChange) (k : ℕ) → IsStrictlyIncreasing (map (λ (c : ReportChange). c.reported) changes)
+    → report_at changes k ≤ report_at changes (k + 1)
+report_at-rises changes k rise =
+    report_from-rises 0 0 changes k (k + 1) (omega arith) (omega arith) (λ i d lt. omega arith) (reports-rise changes rise)
 
 heads-more : (objects : Objects) (groups : GroupList) (limits : Limits) (n : ℕ)
     → scope_heads objects groups limits n ++ limit_head objects groups (slice_get limits n) ≡ scope_heads objects groups limits (n + 1)

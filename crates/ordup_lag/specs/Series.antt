@@ -5,6 +5,7 @@ use Rattle.ordup_objects.specs.Serial.{History}
 use Rattle.ordup_log.specs.Groups.{GroupList}
 use Rattle.ordup_log.specs.Spans.{span}
 use Rattle.ordup_limits.specs.Entries.{in_force}
+use Rattle.ordup_limits.specs.Ledgers.{LedgerState}
 use Rattle.ordup_limits.specs.declared.limit.Limit.{Limit}
 use Rattle.ordup_rounds.specs.declared.window.Window.{Window}
 use Rattle.ordup_audit.specs.Records.{RecordState, history_of, report_at}
@@ -17,6 +18,10 @@ pub record LimitUse : Type 0 where
 -- how much of a limit the span from a to b uses
 abbrev pub use_of : History → GroupList → ℕ → ℕ → Limit → LimitUse
 use_of h groups a b limit = record { weight = span h groups limit.scope a b; amount = limit.amount }
+
+-- how much of each of its limits the span of a ledger uses
+abbrev pub uses_of : LedgerState → History → GroupList → List LimitUse
+uses_of l h groups = map (use_of h groups l.reported l.extended) l.limits
 
 -- for each limit in force at place k: what the updates up to k weigh that the site had not reported at the decision of k
 abbrev pub uses_at : RecordState → ℕ → List LimitUse

@@ -3,7 +3,6 @@
 //! The one contract above this layer: the series of a valid record is written whole, or a front of it and then the writer failed.
 #![tactic(auto)]
 
-mod begun_limits;
 mod places;
 mod row_text;
 mod writing;

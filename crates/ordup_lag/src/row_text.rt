@@ -1,19 +1,21 @@
 //! The text of the series: its header, and the line of a row.
 
-ghost use Rattle.std.specs.Prelude.{◌≡◌, ◌++◌, ◌≤◌, ◌<◌, OnOk, Option, length, map, min, slice_get, Some};
-ghost use Rattle.ordup_objects.specs.Serial.{IsLegalHistory};
+ghost use Rattle.std.specs.Prelude.{◌≡◌, ◌++◌, OnOk, Option, length, min, slice_get, Some};
+ghost use Rattle.ordup_objects.specs.Serial.{History};
+ghost use Rattle.ordup_log.specs.Groups.{GroupList};
 ghost use Rattle.ordup_log.specs.Spans.{IsScopeKnown};
 ghost use Rattle.ordup_limits.specs.Entries.{in_force, latest};
-ghost use Rattle.ordup_limits.specs.Limits.{AreScopesKnown};
+ghost use Rattle.ordup_limits.specs.Ledgers.{StandsFor};
 ghost use Rattle.ordup_rows.specs.Rows.{scope_text};
+ghost use Rattle.ordup_audit.specs.LeastStarts.{StandsAt};
 ghost use Rattle.ordup_audit.specs.Records.{history_of, report_at};
 ghost use Rattle.ordup_audit.specs.Validity.{IsValid};
-ghost use Rattle.ordup_lag.specs.Series.{row_at, use_of};
+ghost use Rattle.ordup_lag.specs.Series.{row_at, uses_of};
 ghost use Rattle.ordup_lag.specs.Texts.{head_text, round_text, row_text, scope_head, scope_heads, use_text, uses_text, window_text};
 
 use crate::places::{has_round, window_of};
 use ordup_audit::Record;
-use ordup_limits::{Groups, Limit, Scope};
+use ordup_limits::{Groups, LagLedger, Scope};
 use ordup_objects::ObjectTable;
 use ordup_text::{TextBuffer, push_with_number};
 use std::alloc::{AllocError, Allocator};
@@ -92,64 +94,46 @@ pub(crate) fn push_head<A: Allocator + Copy>(
     out.push(b",round,window\n")
 }
 
-/// Adds how much of a limit a span uses.
+/// Adds how much of a limit is used: a weight, and the amount of the limit.
 fn push_use<A: Allocator + Copy>(
     out: &mut TextBuffer<A>,
-    audited: &Record<A>,
-    limit: &Limit,
-    from: u64,
-    to: u64,
+    weight: u64,
+    amount: u64,
 ) -> Result<(), AllocError>
-    requires legal { IsLegalHistory (history_of audited.now) }
-    requires forward { from ≤ to }
-    requires last { to ≤ length audited.now.sets }
-    requires known { IsScopeKnown (length audited.now.objects) audited.now.groups limit.now.scope }
-    ensures { OnOk result (out.new.text ≡ out.old.text ++ use_text (Some (use_of (history_of audited.now) audited.now.groups from to limit.now))) }
+    ensures { OnOk result (out.new.text ≡ out.old.text ++ use_text (Some (record { weight = weight; amount = amount }))) }
 {
-    let weight = audited.log().span(limit.scope, audited.groups(), from, to);
     push_with_number(out, b",", weight)?;
-    push_with_number(out, b",", limit.amount)
+    push_with_number(out, b",", amount)
 }
 
-/// Adds how much of the limit with this number a span uses, or two empty cells where there is no such limit yet.
+/// Adds how much of the limit with this index the span of a ledger uses, or two empty cells where there is no such limit yet.
 fn push_any_use<A: Allocator + Copy>(
     out: &mut TextBuffer<A>,
-    audited: &Record<A>,
-    limits: &[Limit],
-    number: usize,
-    from: u64,
-    to: u64,
+    ledger: &LagLedger<A>,
+    index: usize,
 ) -> Result<(), AllocError>
-    requires legal { IsLegalHistory (history_of audited.now) }
-    requires forward { from ≤ to }
-    requires last { to ≤ length audited.now.sets }
-    requires known { AreScopesKnown (length audited.now.objects) audited.now.groups limits.now }
-    ensures { OnOk result (out.new.text ≡ out.old.text ++ use_text (slice_get (map (use_of (history_of audited.now) audited.now.groups from to) limits.now) number)) }
+    ensures { OnOk result ((h : History) (groups : GroupList) → StandsFor ledger.now h groups →
+        out.new.text ≡ out.old.text ++ use_text (slice_get (uses_of ledger.now h groups) index)) }
 {
-    if number < limits.len() {
-        push_use(out, audited, &limits[number], from, to)
+    let limits = ledger.limits();
+    if index < limits.len() {
+        push_use(out, ledger.weight(index), limits[index].amount)
     } else {
         out.push(b",,")
     }
 }
 
-/// Adds how much of each limit a span uses.
+/// Adds how much of each limit the span of a ledger uses, with cells for this many limits.
 fn push_uses<A: Allocator + Copy>(
     out: &mut TextBuffer<A>,
-    audited: &Record<A>,
-    limits: &[Limit],
+    ledger: &LagLedger<A>,
     scopes: usize,
-    from: u64,
-    to: u64,
 ) -> Result<(), AllocError>
-    requires legal { IsLegalHistory (history_of audited.now) }
-    requires forward { from ≤ to }
-    requires last { to ≤ length audited.now.sets }
-    requires known { AreScopesKnown (length audited.now.objects) audited.now.groups limits.now }
-    ensures { OnOk result (out.new.text ≡ out.old.text ++ uses_text (map (use_of (history_of audited.now) audited.now.groups from to) limits.now) scopes) }
+    ensures { OnOk result ((h : History) (groups : GroupList) → StandsFor ledger.now h groups →
+        out.new.text ≡ out.old.text ++ uses_text (uses_of ledger.now h groups) scopes) }
 {
-    for number in 0..scopes {
-        push_any_use(out, audited, limits, number, from, to)?;
+    for index in 0..scopes {
+        push_any_use(out, ledger, index)?;
     }
     Ok(())
 }
@@ -184,24 +168,22 @@ fn push_window<A: Allocator + Copy>(
     }
 }
 
-/// Adds the line of a place.
+/// Adds the line of a place, by a ledger at the span of the updates that the site had not reported at its decision.
 pub(crate) fn push_row<A: Allocator + Copy>(
     out: &mut TextBuffer<A>,
     audited: &Record<A>,
-    limits: &[Limit],
+    ledger: &LagLedger<A>,
     scopes: usize,
     place: u64,
 ) -> Result<(), AllocError>
     requires valid { IsValid audited.now }
-    requires last { place ≤ length audited.now.sets }
-    requires limits { limits.now ≡ in_force audited.now.limits place }
+    requires stands { StandsAt (history_of audited.now) audited.now.groups (in_force audited.now.limits place)
+        (min (report_at audited.now.reports place) place) place ledger.now }
     ensures { OnOk result (out.new.text ≡ out.old.text ++ row_text scopes (row_at audited.now place)) }
 {
-    audited.keeps();
-    let reported = audited.reported_at(place);
     out.push_number(place)?;
-    push_with_number(out, b",", reported)?;
-    push_uses(out, audited, limits, scopes, reported.min(place), place)?;
+    push_with_number(out, b",", audited.reported_at(place))?;
+    push_uses(out, ledger, scopes)?;
     push_round(out, has_round(audited.rounds(), place))?;
     push_window(out, window_of(audited.windows(), place))
 }

@@ -1,19 +1,22 @@
 //! The series as text, a piece at a time.
 
-ghost use Rattle.std.specs.Prelude.{◌≡◌, ◌++◌, [], IfErr, IfOk, OnErr, OnOk, length};
+ghost use Rattle.std.specs.Prelude.{◌≡◌, ◌++◌, ◌+◌, ◌<◌, [], IfErr, IfOk, OnOk, length, min, take};
 ghost use Rattle.std.specs.Io.KnownBytes.{Appends};
 ghost use Rattle.ordup_text.specs.Fronts.{AppendsFront};
 ghost use Rattle.ordup_rows.specs.Forming.{SendsUpto};
+ghost use Rattle.ordup_limits.specs.Entries.{latest};
+ghost use Rattle.ordup_audit.specs.Beginning.{HaveBegun};
+ghost use Rattle.ordup_audit.specs.LeastStarts.{StandsAt};
+ghost use Rattle.ordup_audit.specs.Records.{history_of, report_at};
 ghost use Rattle.ordup_audit.specs.Validity.{IsValid};
 ghost use Rattle.ordup_lag.specs.Texts.{head_text, rows_upto, series_text};
 
-use crate::begun_limits::begin;
 use crate::row_text::{push_head, push_row};
-use ordup_audit::Record;
-use ordup_limits::Limit;
-use ordup_limits::sizes::MOST_LIMITS;
+use ordup_audit::{Record, begin_limits, first_ledger};
+use ordup_limits::LagLedger;
+use ordup_objects::Refusal;
 use ordup_text::{TextBuffer, WriteFault, send};
-use std::alloc::{AllocError, Allocator};
+use std::alloc::Allocator;
 use std::io::Write;
 
 /// Why not all of a series was written.
@@ -47,60 +50,81 @@ pub fn write_series<A: Allocator + Copy, W: Write>(
     ensures front { AppendsFront (W.contents output.old) (W.contents output.new) (series_text audited.now) }
     ensures refused { IfErr result (λ e. e ≡ SeriesFault.NoMemory → output.new ≡ output.old) }
 {
-    let Ok((mut out, mut limits)) = form_head(alloc, audited) else {
+    let Ok((mut out, mut ledger)) = form_head(alloc, audited) else {
         return Err(SeriesFault::NoMemory);
     };
-    match send_rows(&mut out, &mut limits, audited, output) {
+    match send_rows(&mut out, &mut ledger, audited, output) {
         Ok(()) => Ok(()),
         Err(_) => Err(SeriesFault::Write),
     }
 }
 
-/// The header, a list for the limits in force, and the memory that all rows need: so none of them is refused any.
+/// The header, a first ledger, and the memory that all rows need: so none of them is refused any.
 fn form_head<A: Allocator + Copy>(
     alloc: A,
     audited: &Record<A>,
-) -> Result<(TextBuffer<A>, Vec<Limit, A>), AllocError>
+) -> Result<(TextBuffer<A>, LagLedger<A>), Refusal>
     ensures head { IfOk result (λ formed. formed.0.text ≡ head_text audited.now) }
-    ensures limits { IfOk result (λ formed. formed.1.items ≡ []) }
+    ensures ledger { IfOk result (λ formed. StandsAt (history_of audited.now) audited.now.groups [] 0 0 formed.1) }
 {
-    let limits = Vec::with_capacity(alloc, MOST_LIMITS)?;
+    let ledger = first_ledger(alloc, audited)?;
     let mut out = TextBuffer::new(alloc);
     out.reserve(MOST_UNSENT_BYTES)?;
     push_head(&mut out, audited)?;
-    Ok((out, limits))
+    Ok((out, ledger))
 }
 
 /// Sends what is formed, and the row of each decided place after it.
 fn send_rows<A: Allocator + Copy, W: Write>(
     out: &mut TextBuffer<A>,
-    limits: &mut Vec<Limit, A>,
+    ledger: &mut LagLedger<A>,
     audited: &Record<A>,
     output: &mut W,
 ) -> Result<(), WriteFault>
     requires valid { IsValid audited.now }
-    requires limits { limits.old.items ≡ [] }
+    requires first { StandsAt (history_of audited.now) audited.now.groups [] 0 0 ledger.old }
     ensures sent { OnOk result (Appends (W.contents output.old) (W.contents output.new) (out.old.text ++ rows_upto audited.now (length audited.now.sets))) }
     ensures front { AppendsFront (W.contents output.old) (W.contents output.new) (out.old.text ++ rows_upto audited.now (length audited.now.sets)) }
 {
     audited.keeps();
-    let table = audited.limits();
-    let entries = table.entries();
-    let scopes = table.len();
+    let scopes = audited.limits().len();
     let mut begun = 0;
     for updates in 0..audited.decided() {
-        let place = updates + 1;
-        let before = begun;
-        let Ok(count) = begin(limits, entries, before, place) else {
-            return Err(WriteFault);
-        };
-        begun = count;
-        let Ok(()) = push_row(out, audited, limits.as_slice(), scopes, place) else {
+        begun = advance(ledger, audited, begun, updates);
+        let Ok(()) = push_row(out, audited, ledger, scopes, updates + 1) else {
             return Err(WriteFault);
         };
         send_many(out, output)?;
     }
     send(output, out.as_slice())
+}
+
+/// Moves a ledger from the row after this many updates to the next one: by an update, the limits that begin to hold with it, and
+/// what the site has reported since. `begun` entries of the limits had begun to hold; it answers how many have then.
+fn advance<A: Allocator + Copy>(
+    ledger: &mut LagLedger<A>,
+    audited: &Record<A>,
+    begun: usize,
+    updates: u64,
+) -> usize
+    requires valid { IsValid audited.now }
+    requires there { updates < length audited.now.sets }
+    requires begun { HaveBegun updates audited.now.limits begun }
+    requires stands { StandsAt (history_of audited.now) audited.now.groups (latest (take begun audited.now.limits))
+        (min (report_at audited.now.reports updates) updates) updates ledger.old }
+    ensures begun { HaveBegun (updates + 1) audited.now.limits result }
+    ensures stands { StandsAt (history_of audited.now) audited.now.groups (latest (take result audited.now.limits))
+        (min (report_at audited.now.reports (updates + 1)) (updates + 1)) (updates + 1) ledger.new }
+{
+    audited.keeps();
+    let (log, groups) = (audited.log(), audited.groups());
+    audited.limits().keeps();
+    let entries = audited.limits().entries();
+    let place = updates + 1;
+    ledger.extend(log, groups, place);
+    let count = begin_limits(ledger, log, groups, entries, begun, place);
+    ledger.reported(log, groups, audited.reported_at(place).min(place));
+    count
 }
 
 /// Sends what is formed once it has as many bytes as a piece.

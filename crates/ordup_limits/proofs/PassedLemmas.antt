@@ -1,6 +1,6 @@
 -- Masks of limits, and which limits the span that a site lags passes.
 use Rattle.std.proofs.Common.{◌≡◌, ℕ, zero, suc, ◌+◌, ◌-◌, ◌*◌, ◌<◌, ◌≤◌, ◌^◌, Bool, true, false, not, List, [], ◌∷◌, length, get_or}
-use Rattle.std.proofs.Common.{arith, refl, sym, ap, ◌∙◌, inl, inr, w64}
+use Rattle.std.proofs.Common.{arith, refl, sym, ap, ◌∙◌, ◌⊎◌, inl, inr, w64}
 use Rattle.std.specs.Prelude.{◌==◌, ◌||◌, if◌then◌else◌, fold, min, nat_lt}
 use Rattle.std.specs.Int.{bit_at, trailing_zeros}
 use Rattle.std.specs.List.{list_all}
@@ -22,7 +22,7 @@ use Rattle.ordup_limits.specs.Limits.{Limits, keeps, within}
 use Rattle.ordup_limits.specs.Ledgers.{LedgerState, IsLedger, StandsFor}
 use Rattle.ordup_limits.specs.PassedLimits.{no_limit, least_with, least_count, ArePassed}
 use Rattle.ordup_limits.specs.Sizes.{most_limits, greatest_amount}
-use Rattle.ordup_limits.specs.Totals.{weighed}
+use Rattle.ordup_limits.specs.Totals.{kept_amount, weighed}
 use Rattle.ordup_limits.proofs.LedgerLemmas.{span-difference}
 
 -- ---- masks
@@ -119,6 +119,51 @@ span-passed : (h : History) (groups : GroupList) (s : Scope) (a b amount added a
 span-passed h groups Count a b amount added allowed up down few last lt = absurd (omega (arith, up, lt))
 span-passed h groups s a b amount added allowed up down few last lt =
     omega (arith, up, down, few, last, lt, span-difference h groups s a b)
+
+-- a scope that is not the count
+abbrev pub IsOfValues : Scope → Type 0
+IsOfValues s = ((x : ℕ) × (s ≡ Object x)) ⊎ (((g : ℕ) × (s ≡ Group g)) ⊎ (s ≡ Everything))
+
+-- what the updates up to a place weigh on it is a span
+weighed-span : (h : History) (groups : GroupList) (s : Scope) (place : ℕ) → IsOfValues s
+    → weighed h groups s place ≡ span h groups s 0 place
+weighed-span h groups s place is = elim is [
+  | inl object ↦ rw object.1 refl
+  | inr rest ↦ elim rest [
+    | inl group ↦ rw group.1 refl
+    | inr all ↦ rw all refl
+  ]
+]
+
+-- what is added, but for what is allowed beyond the amount, is what the span weighs
+span-left : (h : History) (groups : GroupList) (s : Scope) (a b amount added allowed : ℕ) → IsOfValues s
+    → added ≡ weighed h groups s b → allowed ≡ min amount greatest_amount + weighed h groups s a
+    → added - (allowed - min amount greatest_amount) ≡ span h groups s a b
+span-left h groups s a b amount added allowed is up down =
+    omega (arith, up, down, weighed-span h groups s a is, weighed-span h groups s b is, span-difference h groups s a b)
+
+-- the weight that a ledger has for a limit that is not on the count
+pub weight-kept : (l : LedgerState) (i : ℕ) (limit : Limit) (added allowed : ℕ) → IsLedger l → i < length l.limits
+    → limit ≡ get_or l.limits i limit → IsOfValues limit.scope → added ≡ get_or l.added i added → allowed ≡ get_or l.allowed i allowed
+    → (h : History) (groups : GroupList) (d : Limit) → StandsFor l h groups
+    → added - (allowed - kept_amount limit) ≡ span h groups (get_or l.limits i d).scope l.reported l.extended
+weight-kept l i limit added allowed is lt at values up down h groups d stands =
+    let same : limit ≡ get_or l.limits i d = at ∙ get_or_default l.limits i limit d lt in
+    let raised : added ≡ weighed h groups (get_or l.limits i d).scope l.extended =
+    up ∙ get_or_default l.added i added 0 (omega (arith, lt, is.few, is.added)) ∙ stands.added.each i d lt in
+    let let_in : allowed ≡ kept_amount (get_or l.limits i d) + weighed h groups (get_or l.limits i d).scope l.reported =
+    down ∙ get_or_default l.allowed i allowed 0 (omega (arith, lt, is.few, is.allowed)) ∙ stands.allowed.each i d lt in
+    rw (← same) (span-left h groups limit.scope l.reported l.extended limit.amount added allowed values (rw (← same) at raised)
+    (rw (← same) at let_in))
+
+-- and that for one on the count
+pub weight-count : (l : LedgerState) (i : ℕ) (limit : Limit) (n : ℕ) → i < length l.limits → limit ≡ get_or l.limits i limit
+    → limit.scope ≡ Count → n ≡ l.extended - l.reported
+    → (h : History) (groups : GroupList) (d : Limit) → StandsFor l h groups
+    → n ≡ span h groups (get_or l.limits i d).scope l.reported l.extended
+weight-count l i limit n lt at on is h groups d stands =
+    let same : limit ≡ get_or l.limits i d = at ∙ get_or_default l.limits i limit d lt in
+    rw (← same, on) (is ∙ sym (span-count h groups l.reported l.extended))
 
 -- a span passes a limit where it is of more updates than the least amount on the count, or the mask of passed weights has a bit
 pub within-passed : (l : LedgerState) (passed count : ℕ) → IsLedger l → passed < 2 ^ 64 → count ≡ least_count l.limits

@@ -1,8 +1,8 @@
-ghost use Rattle.std.specs.Prelude.{◌≡◌, ◌≤◌, ℕ, IfOk, IfErr, length, not, true};
+ghost use Rattle.std.specs.Prelude.{◌≡◌, ◌≤◌, ◌<◌, ℕ, IfOk, IfErr, length, not, slice_index_or, true};
 ghost use Rattle.ordup_objects.specs.Serial.{History};
 ghost use Rattle.ordup_objects.specs.Sizes.{most_objects};
 ghost use Rattle.ordup_log.specs.Groups.{GroupList};
-ghost use Rattle.ordup_log.specs.Spans.{IsScopeKnown};
+ghost use Rattle.ordup_log.specs.Spans.{span, IsScopeKnown};
 ghost use Rattle.ordup_limits.specs.Limits.{within, are_on_one_scope, AreScopesKnown};
 ghost use Rattle.ordup_limits.specs.Entries.{latest, put, AreEntriesKnown};
 ghost use Rattle.ordup_limits.specs.Sizes.{most_limits};
@@ -196,6 +196,29 @@ impl<A: Allocator + Copy> LagLedger<A> {
             result ≡ not (within h groups self.now.limits self.now.reported self.now.extended) }
     {
         self.passed != 0 || self.extended.saturating_sub(self.reported) > self.count
+    }
+
+    /// The last limit on each scope, in the order in which the scopes came.
+    pub fn limits(&self) -> &[Limit]
+        ensures { result.now ≡ self.now.limits }
+    {
+        self.limits.as_slice()
+    }
+
+    /// What the span from the reported place to the extended one weighs on the scope of the limit with this index.
+    pub fn weight(&self, index: usize) -> u64
+        requires { index < length self.now.limits }
+        ensures { (h : History) (groups : GroupList) (d : Limit) → StandsFor self.now h groups →
+            result ≡ span h groups (slice_index_or self.now.limits index d).scope self.now.reported self.now.extended }
+    {
+        let limit = &self.limits.as_slice()[index];
+        match limit.scope {
+            Scope::Count => self.extended.saturating_sub(self.reported),
+            Scope::Object(_) | Scope::Group(_) | Scope::All => {
+                let reported = self.allowed[index].saturating_sub(kept_amount(limit));
+                self.added[index].saturating_sub(reported)
+            }
+        }
     }
 
     /// Puts the masks down, where that was not done.

@@ -26,9 +26,9 @@ next_start-start-requires-clause-before g c = λ same.
     (let r = c.args.audited.now in
     let inside = c.loop-place.invariant in
     let entries = c.entries-entries.ensures ∙ c.limits-2.ensures in
-    let count : c.begin-begun.result ≡ c.loop-place.begun = eqb-true _ _ (not-false _ same) in
-    let limits : c.begin-begun.new.ledger.limits ≡ latest (take c.loop-place.begun r.limits) =
-    rw (count, entries) at c.begin-begun.ensures.limits in
+    let count : c.begin_limits-begun.result ≡ c.loop-place.begun = eqb-true _ _ (not-false _ same) in
+    let limits : c.begin_limits-begun.new.ledger.limits ≡ latest (take c.loop-place.begun r.limits) =
+    rw (count, entries) at c.begin_limits-begun.ensures.limits in
     rw (c.log-log.ensures.whole c.requires.legal, c.groups-groups.ensures, limits)
     (passes-longer (history_of r) r.groups (latest (take c.loop-place.begun r.limits)) c.loop-place.start c.loop-place.place
     (c.loop-place.place + 1) (omega arith) inside.before))
@@ -37,12 +37,12 @@ pub loop-place-preserved : goal.loop-place-preserved
 loop-place-preserved g c =
     let r = c.args.audited.now in
     let inside = c.loop-place.invariant in
-    let n = c.begin-begun.result in
+    let n = c.begin_limits-begun.result in
     let start = c.next_start-start.result in
     let log = c.log-log.ensures.whole c.requires.legal in
     let entries = c.entries-entries.ensures ∙ c.limits-2.ensures in
-    let begun : HaveBegun (c.loop-place.place + 1) r.limits n = rw entries at c.begin-begun.ensures.begun in
-    let limits : c.begin-begun.new.ledger.limits ≡ latest (take n r.limits) = rw entries at c.begin-begun.ensures.limits in
+    let begun : HaveBegun (c.loop-place.place + 1) r.limits n = rw entries at c.begin_limits-begun.ensures.begun in
+    let limits : c.begin_limits-begun.new.ledger.limits ≡ latest (take n r.limits) = rw entries at c.begin_limits-begun.ensures.limits in
     let least : IsLeastStart (within (history_of r) r.groups (latest (take n r.limits))) start (c.loop-place.place + 1) =
     rw (log, c.groups-groups.ensures, limits) at c.next_start-start.ensures.least in
     record {

@@ -1,20 +1,17 @@
-use Rattle.std.proofs.Common.{◌∙◌, None, Some, ap, arith}
-use Rattle.ordup_limits.specs.declared.limit.Limit.{Limit}
-use Rattle.ordup_audit.specs.Records.{history_of}
-use Rattle.ordup_lag.specs.Series.{use_of}
-use Rattle.ordup_lag.proofs.SeriesLemmas.{same_use, use-none, use-there}
+use Rattle.std.proofs.Common.{ap, arith, get_or, length}
+use Rattle.ordup_limits.specs.Limits.{Limits}
+use Rattle.ordup_lag.proofs.SeriesLemmas.{use_none, use_there}
 use Rattle.ordup_lag.proofs.row_text.push_any_use.Goals as goal
 
-pub returns-then-number-limits : goal.returns-then-number-limits
-returns-then-number-limits g c =
-    let r = c.args.audited.now in
-    same_use _ _ _ _ _ c.push_use.ensures
-    (ap (λ (l : Limit). Some (use_of (history_of r) r.groups c.args.from c.args.to l)) c.index-limits-number.is
-    ∙ use-there (use_of (history_of r) r.groups c.args.from c.args.to) c.args.limits.now c.args.number c.index-limits-number.result
-    c.if-number-limits.true)
+pub returns-then-index-limits : goal.returns-then-index-limits
+returns-then-index-limits g c =
+    let limit = c.index-limits-index.result in
+    let limits = ap (λ (ls : Limits). length ls) c.limits-limits.ensures in
+    use_there _ _ _ c.args.ledger.now c.args.index c.weight.result (get_or c.limits-limits.result.now c.args.index limit).amount limit
+    c.push_use.ensures (omega (arith, c.if-index-limits.true, limits))
+    (ap (λ (ls : Limits). (get_or ls c.args.index limit).amount) c.limits-limits.ensures) c.weight.ensures
 
-pub returns-else-number-limits : goal.returns-else-number-limits
-returns-else-number-limits g c =
-    let r = c.args.audited.now in
-    same_use _ _ _ None _ c.push.ensures
-    (use-none (use_of (history_of r) r.groups c.args.from c.args.to) c.args.limits.now c.args.number (omega arith))
+pub returns-else-index-limits : goal.returns-else-index-limits
+returns-else-index-limits g c =
+    let limits = ap (λ (ls : Limits). length ls) c.limits-limits.ensures in
+    use_none _ _ _ c.args.ledger.now c.args.index c.push.ensures (omega (arith, c.if-index-limits.false, limits))

@@ -1,10 +1,12 @@
-use Rattle.std.proofs.Common.{◌≡◌, ◌++◌, map}
-use Rattle.ordup_audit.specs.Records.{history_of}
-use Rattle.ordup_lag.specs.Series.{use_of}
+use Rattle.std.proofs.Common.{◌≡◌, ◌++◌}
+use Rattle.ordup_objects.specs.Serial.{History}
+use Rattle.ordup_log.specs.Groups.{GroupList}
+use Rattle.ordup_limits.specs.Ledgers.{StandsFor}
+use Rattle.ordup_lag.specs.Series.{uses_of}
 use Rattle.ordup_lag.specs.Texts.{uses_text}
 use Rattle.ordup_lag.proofs.row_text.push_uses.Given as goal
 
 -- the cells of the limits so far
-abbrev pub invariant-loop-number : goal.invariant-loop-number
-invariant-loop-number g l =
-    l.out.text ≡ l.initial.out.text ++ uses_text (map (use_of (history_of l.audited) l.audited.groups l.from l.to) l.limits) l.number
+abbrev pub invariant-loop-index : goal.invariant-loop-index
+invariant-loop-index g l = (h : History) (groups : GroupList) → StandsFor l.ledger h groups
+    → l.out.text ≡ l.initial.out.text ++ uses_text (uses_of l.ledger h groups) l.index

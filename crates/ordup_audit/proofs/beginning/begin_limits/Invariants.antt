@@ -1,7 +1,7 @@
 use Rattle.std.proofs.Common.{◌≡◌, ◌-◌, ◌≤◌, length, take}
 use Rattle.ordup_limits.specs.Entries.{latest, HoldFrom}
 use Rattle.ordup_limits.specs.Ledgers.{StandsFor}
-use Rattle.ordup_audit.proofs.beginning.begin.Given as goal
+use Rattle.ordup_audit.proofs.beginning.begin_limits.Given as goal
 
 -- the entries so far hold from the place or before, and the last of each scope are the ledger's limits, which stands where it stood
 abbrev pub invariant-loop-count : goal.invariant-loop-count

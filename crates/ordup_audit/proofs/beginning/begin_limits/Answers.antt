@@ -5,7 +5,7 @@ use Rattle.ordup_limits.specs.declared.limit_entry.LimitEntry.{LimitEntry}
 use Rattle.ordup_limits.specs.Limits.{Limits}
 use Rattle.ordup_limits.proofs.EntryLemmas.{later-drop, latest-take}
 use Rattle.ordup_audit.proofs.BeginningLemmas.{latest-next}
-use Rattle.ordup_audit.proofs.beginning.begin.Goals as goal
+use Rattle.ordup_audit.proofs.beginning.begin_limits.Goals as goal
 
 pub change-requires-clause-room : goal.change-requires-clause-room
 change-requires-clause-room g c =

@@ -1,17 +1,20 @@
 -- Lists with an element that is put in.
-use Rattle.std.proofs.Common.{◌≡◌, ℕ, zero, suc, ◌+◌, ◌<◌, ◌≤◌, Bool, true, false, List, [], ◌∷◌, ◌++◌, length, take, get_or}
+use Rattle.std.proofs.Common.{◌≡◌, ℕ, zero, suc, ◌+◌, ◌-◌, ◌<◌, ◌≤◌, Bool, true, false, List, [], ◌∷◌, ◌++◌, length, length-drop, drop, take, get_or, option_map}
 use Rattle.std.proofs.Common.{arith, refl, sym, ap, ◌∙◌, inl, inr}
 use Rattle.std.specs.Prelude.{All, Some, None, not, nat_le, nat_lt}
 use Rattle.std.specs.List.{list_any, position, position_or_len}
 use Rattle.std.proofs.Math.ListN.{set, length-set, get_or-append}
-use Rattle.std.proofs.lemmas.Bool.{cases_Bool, cases_lt, or_parts, lt-ltb, le-ltb, le-leb, lt-leb}
-use Rattle.std.proofs.lemmas.List.{length_push, get_or_push, get_or-set_other}
+use Rattle.std.proofs.lemmas.Bool.{and_right, cases_Bool, cases_lt, ltb-true, ne_eqb, or_parts, lt-ltb, le-ltb, le-leb, lt-leb}
+use Rattle.std.proofs.lemmas.List.{length_push, take_all, get_or_push, get_or-set_other}
 use Rattle.std.proofs.lemmas.Grind.{get_or-set_at}
 use Rattle.std.proofs.lemmas.List.Elements.{All-push, All-set}
 use Rattle.std.proofs.lemmas.List.Sums.{prefix_len-le-length}
 use Rattle.ordup_objects.specs.Repeats.{repeats}
 use Rattle.ordup_objects.proofs.RepeatLemmas.{list_any-alike}
-use Rattle.ordup_limits.specs.Entries.{put}
+use Rattle.std.specs.List.Sorted.{IsPartitionPoint}
+use Rattle.ordup_limits.specs.declared.limit_entry.LimitEntry.{LimitEntry}
+use Rattle.ordup_limits.specs.Entries.{put, are_one_entry, Entries}
+use Rattle.ordup_limits.specs.Limits.{are_on_one_scope}
 
 -- an element takes the place of the first that is the same
 pub put-found : {X : Type 0} (same : X → X → Bool) (xs : List X) (x : X) → position_or_len (λ y. same y x) xs < length xs
@@ -49,6 +52,46 @@ position-none p xs is = elim (cases_lt (position_or_len p xs) (length xs)) [
   | inl lt ↦ absurd (let e : None ≡ Some (position_or_len p xs) = rw (lt-ltb (position_or_len p xs) (length xs) lt) at is in cc)
   | inr le ↦ omega (arith, prefix_len-le-length (λ x. not (p x)) xs)
 ]
+
+-- where none of the first n passes, the first that passes is among the others
+position_or_len-behind : {X : Type 0} (p : X → Bool) (xs : List X) (n : ℕ) → n ≤ length xs
+    → ((j : ℕ) (d : X) → j < n → p (get_or xs j d) ≡ false)
+    → position_or_len p xs ≡ n + position_or_len p (drop n xs)
+position_or_len-behind p xs zero le none = omega arith
+position_or_len-behind p [] (suc n) le none = absurd (omega arith)
+position_or_len-behind p (x ∷ xs) (suc n) le none =
+    let first : p x ≡ false = none 0 x (omega arith) in
+    let rest = position_or_len-behind p xs n (omega arith) (λ j d lt. none (suc j) d (omega arith)) in
+    rw first (omega (arith, rest))
+
+position-behind : {X : Type 0} (p : X → Bool) (xs : List X) (n : ℕ) → n ≤ length xs
+    → ((j : ℕ) (d : X) → j < n → p (get_or xs j d) ≡ false)
+    → option_map (λ i. n + i) (position p (drop n xs)) ≡ position p xs
+position-behind p xs n le none =
+    let at = position_or_len-behind p xs n le none in
+    let k = position_or_len p (drop n xs) in
+    let long = length-drop n xs in
+    elim (cases_lt k (length (drop n xs))) [
+      | inl lt ↦ rw (at, lt-ltb k (length (drop n xs)) lt, lt-ltb (n + k) (length xs) (omega (arith, lt, long))) refl
+      | inr past ↦ rw (at, le-ltb k (length (drop n xs)) past, le-ltb (n + k) (length xs) (omega (arith, past, long))) refl
+    ]
+
+-- the first n entries stand at places before this one, and no later ones do
+abbrev pub StandBefore : Entries → ℕ → ℕ → Type 0
+StandBefore entries place n =
+    IsPartitionPoint (λ (e : LimitEntry). nat_lt e.place place ≡ true) (λ e. nat_lt e.place place ≡ false) entries n
+
+-- so the entry of the same scope and place is among the others
+pub entry-behind : (entries : Entries) (entry : LimitEntry) (n : ℕ) → n ≤ length entries → StandBefore entries entry.place n
+    → option_map (λ i. n + i) (position (λ e. are_one_entry e entry) (take (length entries - n) (drop n entries)))
+    ≡ position (λ e. are_one_entry e entry) entries
+entry-behind entries entry n le before =
+    ap (λ (es : Entries). option_map (λ i. n + i) (position (λ e. are_one_entry e entry) es))
+    (take_all (length entries - n) (drop n entries) (omega (arith, length-drop n entries)))
+    ∙ position-behind (λ e. are_one_entry e entry) entries n le
+    (λ j d lt. (let e = get_or entries j d in
+    let earlier : e.place < entry.place = ltb-true e.place entry.place (before.0 j d (omega (arith, lt, le)) lt) in
+    and_right (are_on_one_scope e.limit entry.limit) _ (ne_eqb e.place entry.place (λ same. absurd (omega (arith, same, earlier))))))
 
 -- a list with one more has one more at most
 pub put-length : {X : Type 0} (same : X → X → Bool) (xs : List X) (x : X)

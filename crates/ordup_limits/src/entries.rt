@@ -44,6 +44,7 @@ pub(crate) fn in_force(entries: &[LimitEntry], place: u64) -> LimitList
 /// Whether there is room for an entry among these, whose scopes have the limits.
 pub(crate) fn has_room(entries: &[LimitEntry], limits: &LimitList, entry: &LimitEntry) -> bool
     requires few { length entries.now ≤ most_entries }
+    requires rising { IsNonDecreasingBy (λ e. e.place) entries.now }
     requires limits { limits.now ≡ latest entries.now }
     requires changed { latest (changed entries.now entry.now) ≡ put are_on_one_scope limits.now entry.now.limit }
     ensures { result ≡ has_few (changed entries.now entry.now) }
@@ -64,7 +65,8 @@ fn has_scope_room(limits: &LimitList, limit: &Limit) -> bool
 
 /// Whether the entry would take the place of one of these, or there are fewer than 1,088.
 fn has_entry_room(entries: &[LimitEntry], entry: &LimitEntry) -> bool
-    requires { length entries.now ≤ most_entries }
+    requires few { length entries.now ≤ most_entries }
+    requires rising { IsNonDecreasingBy (λ e. e.place) entries.now }
     ensures { result ≡ nat_le (length (changed entries.now entry.now)) most_entries }
 {
     match index_of(entries, entry) {
@@ -78,6 +80,7 @@ pub(crate) fn put_entry<A: Allocator + Copy>(
     entries: &mut Vec<LimitEntry, A>,
     entry: &LimitEntry,
 ) -> Result<(), Refusal>
+    requires rising { IsNonDecreasingBy (λ e. e.place) entries.old.items }
     ensures changed { OnOk result (entries.new.items ≡ changed entries.old.items entry.now) }
     ensures refused { IfErr result (λ e. e ≡ Refusal.NoMemory) }
     ensures err { IfErr result (λ _. entries.new.items ≡ entries.old.items) }
@@ -89,8 +92,22 @@ pub(crate) fn put_entry<A: Allocator + Copy>(
     Ok(())
 }
 
-/// The index of the entry of the same scope and place, if there is one.
+/// The index of the entry of the same scope and place, if there is one. A change is made at one of the last places as a rule, so it
+/// is looked for among the entries from its place on.
 fn index_of(entries: &[LimitEntry], entry: &LimitEntry) -> Option<usize>
+    requires { IsNonDecreasingBy (λ e. e.place) entries.now }
+    ensures { result ≡ position (λ e. are_one_entry e entry.now) entries.now }
+{
+    let place = entry.place;
+    let before = entries.partition_point(|e| e.place < place);
+    match index_among(&entries[before..], entry) {
+        Some(index) => Some(before + index),
+        None => None,
+    }
+}
+
+/// The index of the entry of the same scope and place, if there is one, found from the first on.
+fn index_among(entries: &[LimitEntry], entry: &LimitEntry) -> Option<usize>
     ensures { result ≡ position (λ e. are_one_entry e entry.now) entries.now }
 {
     entries.iter().position(|e| e.limit.scope == entry.limit.scope && e.place == entry.place)

@@ -5,7 +5,7 @@ use Rattle.ordup_limits.proofs.PutLemmas.{room-found, room-new}
 use Rattle.ordup_limits.proofs.entries.has_entry_room.Goals as goal
 
 pub returns-in-Some : goal.returns-in-Some
-returns-in-Some c = room-found are_one_entry c.args.entries.now c.args.entry.now c.in-Some.field-0 most_entries c.in-Some.ensures c.requires
+returns-in-Some c = room-found are_one_entry c.args.entries.now c.args.entry.now c.in-Some.field-0 most_entries c.in-Some.ensures c.requires.few
 
 pub returns-in-None : goal.returns-in-None
 returns-in-None c = room-new are_one_entry c.args.entries.now c.args.entry.now _ most_entries c.in-None.ensures refl

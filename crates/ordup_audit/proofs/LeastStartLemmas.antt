@@ -10,12 +10,12 @@ use Rattle.ordup_log.specs.Spans.{span}
 use Rattle.ordup_log.proofs.SpanLemmas.{span-inner}
 use Rattle.ordup_rounds.specs.Schedules.{IsLimitTest}
 use Rattle.ordup_limits.specs.Entries.{latest}
-use Rattle.ordup_limits.specs.Ledgers.{LedgerState, StandsFor}
+use Rattle.ordup_limits.specs.Ledgers.{LedgerState, StandsFor, StandsAt}
 use Rattle.ordup_limits.specs.Limits.{keeps, Limits, within}
 use Rattle.ordup_limits.proofs.EntryLemmas.{in_force-first}
 use Rattle.ordup_limits.proofs.LimitLemmas.{within-empty, within-later}
 use Rattle.ordup_audit.specs.Beginning.{HaveBegun}
-use Rattle.ordup_audit.specs.LeastStarts.{AreLeastStarts, IsLeastStart, PassesBefore, StandsAt}
+use Rattle.ordup_audit.specs.LeastStarts.{AreLeastStarts, IsLeastStart, PassesBefore}
 
 -- a span that ends earlier keeps the limits that the longer one keeps
 within-earlier : (h : History) (groups : GroupList) (limits : Limits) (a b c : ℕ) → b ≤ c

@@ -1,9 +1,5 @@
 -- The least places from which spans pass no limit.
 use Rattle.std.specs.Prelude.{◌≡◌, ℕ, ◌<◌, ◌+◌, Bool, true, false, List, length, slice_index, IfSome}
-use Rattle.ordup_objects.specs.Serial.{History}
-use Rattle.ordup_log.specs.Groups.{GroupList}
-use Rattle.ordup_limits.specs.Ledgers.{LedgerState, StandsFor}
-use Rattle.ordup_limits.specs.Limits.{Limits}
 use Rattle.ordup_audit.specs.Records.{RecordState, is_within}
 use Rattle.ordup_audit.specs.declared.least_starts.LeastStarts.{LeastStarts}
 
@@ -24,10 +20,3 @@ pub record AreLeastStarts (test : ℕ → ℕ → Bool) (n : ℕ) (starts : List
 -- the starts, if they are there, are those of 0 and of each decided place
 abbrev pub AreStartsOf : {A : Type 0} → RecordState → LeastStarts A → Type 0
 AreStartsOf r least = IfSome least.starts (λ starts. AreLeastStarts (is_within r) (length r.sets + 1) starts.items)
-
--- a ledger of these limits is at the span from a to b
-pub record StandsAt (h : History) (groups : GroupList) (limits : Limits) (a b : ℕ) (l : LedgerState) : Type 0 where
-  pub same : l.limits ≡ limits
-  pub from : l.reported ≡ a
-  pub to : l.extended ≡ b
-  pub stands : StandsFor l h groups

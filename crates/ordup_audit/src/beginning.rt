@@ -3,10 +3,9 @@
 ghost use Rattle.std.specs.Prelude.{◌≡◌, ◌≤◌, [], IfErr, IfOk, length, take};
 ghost use Rattle.std.specs.List.Sorted.{IsNonDecreasingBy};
 ghost use Rattle.ordup_limits.specs.Entries.{latest, AreEntriesKnown, HoldFrom};
-ghost use Rattle.ordup_limits.specs.Ledgers.{StandsFor};
+ghost use Rattle.ordup_limits.specs.Ledgers.{StandsFor, StandsAt};
 ghost use Rattle.ordup_limits.specs.Sizes.{most_limits};
 ghost use Rattle.ordup_audit.specs.Beginning.{HaveBegun};
-ghost use Rattle.ordup_audit.specs.LeastStarts.{StandsAt};
 ghost use Rattle.ordup_audit.specs.Records.{history_of};
 
 use crate::record::Record;

@@ -3,9 +3,9 @@
 ghost use Rattle.std.specs.Prelude.{◌≡◌, ◌≤◌, ◌+◌, [], IfSome, length, not, false};
 ghost use Rattle.ordup_objects.specs.Serial.{IsLegalHistory};
 ghost use Rattle.ordup_limits.specs.Limits.{within};
-ghost use Rattle.ordup_limits.specs.Ledgers.{StandsFor};
+ghost use Rattle.ordup_limits.specs.Ledgers.{StandsFor, StandsAt};
 ghost use Rattle.ordup_audit.specs.Records.{history_of, is_within};
-ghost use Rattle.ordup_audit.specs.LeastStarts.{AreLeastStarts, AreStartsOf, IsLeastStart, PassesBefore, StandsAt};
+ghost use Rattle.ordup_audit.specs.LeastStarts.{AreLeastStarts, AreStartsOf, IsLeastStart, PassesBefore};
 
 use crate::beginning::{begin_limits, first_ledger};
 use crate::record::Record;

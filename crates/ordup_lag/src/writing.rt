@@ -6,7 +6,7 @@ ghost use Rattle.ordup_text.specs.Fronts.{AppendsFront};
 ghost use Rattle.ordup_rows.specs.Forming.{SendsUpto};
 ghost use Rattle.ordup_limits.specs.Entries.{latest};
 ghost use Rattle.ordup_audit.specs.Beginning.{HaveBegun};
-ghost use Rattle.ordup_audit.specs.LeastStarts.{StandsAt};
+ghost use Rattle.ordup_limits.specs.Ledgers.{StandsAt};
 ghost use Rattle.ordup_audit.specs.Records.{history_of, report_at};
 ghost use Rattle.ordup_audit.specs.Validity.{IsValid};
 ghost use Rattle.ordup_lag.specs.Texts.{head_text, rows_upto, series_text};

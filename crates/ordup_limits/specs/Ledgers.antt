@@ -38,6 +38,13 @@ pub record StandsFor (l : LedgerState) (h : History) (groups : GroupList) : Type
   pub allowed : AreAllowed h groups l.limits l.reported l.allowed
   pub masks : l.has_masks ≡ true → AreMasks groups l.limits l.masks
 
+-- a ledger of these limits is at the span from a to b
+pub record StandsAt (h : History) (groups : GroupList) (limits : Limits) (a b : ℕ) (l : LedgerState) : Type 0 where
+  pub same : l.limits ≡ limits
+  pub from : l.reported ≡ a
+  pub to : l.extended ≡ b
+  pub stands : StandsFor l h groups
+
 -- a ledger of a history is one of each longer history
 abbrev pub LongerHistoriesKeepLedgers : Type 0
 LongerHistoriesKeepLedgers =

@@ -1,6 +1,6 @@
 use Rattle.std.proofs.Common.{◌+◌, ◌-◌, ◌/◌, ◌∙◌, arith, refl}
 use Rattle.ordup_limits.proofs.LimitLemmas.{within-empty}
-use Rattle.ordup_audit.specs.LeastStarts.{StandsAt}
+use Rattle.ordup_limits.specs.Ledgers.{StandsAt}
 use Rattle.ordup_audit.proofs.LeastStartLemmas.{over-passes, passes-later}
 use Rattle.ordup_audit.proofs.least_starts.search.Goals as goal
 

@@ -3,7 +3,8 @@ use Rattle.ordup_limits.specs.Entries.{latest}
 use Rattle.ordup_limits.specs.Limits.{within}
 use Rattle.ordup_audit.specs.Records.{history_of, is_within}
 use Rattle.ordup_audit.specs.Beginning.{HaveBegun}
-use Rattle.ordup_audit.specs.LeastStarts.{AreLeastStarts, PassesBefore, StandsAt}
+use Rattle.ordup_limits.specs.Ledgers.{StandsAt}
+use Rattle.ordup_audit.specs.LeastStarts.{AreLeastStarts, PassesBefore}
 use Rattle.ordup_audit.proofs.least_starts.starts_by.Given as goal
 
 -- the starts of the places so far, with room for the others; how many limits have begun; and a ledger of these at the span from the

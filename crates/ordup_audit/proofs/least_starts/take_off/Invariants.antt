@@ -1,6 +1,7 @@
 use Rattle.std.proofs.Common.{◌-◌}
 use Rattle.ordup_limits.specs.Limits.{within}
-use Rattle.ordup_audit.specs.LeastStarts.{PassesBefore, StandsAt}
+use Rattle.ordup_limits.specs.Ledgers.{StandsAt}
+use Rattle.ordup_audit.specs.LeastStarts.{PassesBefore}
 use Rattle.ordup_audit.proofs.least_starts.take_off.Given as goal
 
 -- the ledger is at the span from the start, and each span that begins earlier passes a limit

@@ -2,7 +2,7 @@ use Rattle.std.proofs.Common.{◌++◌, take}
 use Rattle.std.specs.Prelude.{min}
 use Rattle.ordup_limits.specs.Entries.{latest}
 use Rattle.ordup_audit.specs.Beginning.{HaveBegun}
-use Rattle.ordup_audit.specs.LeastStarts.{StandsAt}
+use Rattle.ordup_limits.specs.Ledgers.{StandsAt}
 use Rattle.ordup_audit.specs.Records.{history_of, report_at}
 use Rattle.ordup_rows.specs.Forming.{SendsUpto}
 use Rattle.ordup_lag.specs.Texts.{rows_upto}

@@ -94,23 +94,29 @@ impl<A: Allocator + Copy> ObjectTable<A> {
     /// The name of an object that may be declared. Any other is refused for the first reason that applies.
     fn check_object(&self, name: &[u8], initial: i64) -> Result<Name, Refusal>
         ensures name { IfOk result (λ n. n ≡ name.now) }
-        ensures not_taken { IfOk result (λ _. index_of name.now self.now ≡ None) }
-        ensures range { IfOk result (λ _. IsInRange initial) }
-        ensures room { IfOk result (λ _. length self.now < most_objects) }
         ensures allowed { IfOk result (λ _. object_refusal self.now name.now initial ≡ None) }
         ensures refused { IfErr result (λ e. object_refusal self.now name.now initial ≡ Some e) }
     {
         let name = Name::new(name)?;
+        match self.refusal_of(&name, initial) {
+            Some(refusal) => Err(refusal),
+            None => Ok(name),
+        }
+    }
+
+    /// Why an object of this name is refused, if it is.
+    fn refusal_of(&self, name: &Name, initial: i64) -> Option<Refusal>
+        ensures { result ≡ object_refusal self.now name.now initial }
+    {
         if self.objects.find(name.as_bytes()).is_some() {
-            return Err(Refusal::NameTaken);
+            Some(Refusal::NameTaken)
+        } else if !is_in_range(initial) {
+            Some(Refusal::OutOfRange)
+        } else if self.objects.len() == MOST_OBJECTS {
+            Some(Refusal::TooMany)
+        } else {
+            None
         }
-        if !is_in_range(initial) {
-            return Err(Refusal::OutOfRange);
-        }
-        if self.objects.len() == MOST_OBJECTS {
-            return Err(Refusal::TooMany);
-        }
-        Ok(name)
     }
 
     /// The object of this name, if there is one.

@@ -2,6 +2,7 @@ ghost use Rattle.std.specs.Prelude.{◌≡◌};
 
 use ordup_world::{Setup, World};
 use std::alloc::{Allocator, Global};
+use std::mem;
 
 /// Where a script stands: what it has declared, or the store that it has started.
 #[derive(Drop)]
@@ -26,6 +27,7 @@ impl<A: Allocator + Copy> ScriptEnd<A> {
     pub(crate) fn run(&mut self, world: World<A>)
         ensures { self.new ≡ ScriptEnd.Running world }
     {
-        *self = ScriptEnd::Running(world);
+        // By a call: where the declarations go out of scope, the proof takes them apart.
+        drop(mem::replace(self, ScriptEnd::Running(world)));
     }
 }

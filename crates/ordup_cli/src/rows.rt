@@ -68,6 +68,24 @@ fn site_of(record: &[u8]) -> Option<&str> {
     str::from_utf8(record).ok()?.split(',').nth(2)
 }
 
+/// Sees that the program prints this record of the site that it names, and that the check says this of it.
+fn expect_record<T: Threads + Wait + Sync + AllocGlobal + Abort>(
+    rt: &T,
+    row: &str,
+    script: &[u8],
+    record: &[u8],
+    verdict: &[u8],
+) -> Result<(), Fail> {
+    let site = site_of(record).ok_or("no site")?;
+    let printed = run_on(rt, &["ordup", "record", site], script);
+    assert!(rt; printed.is(0, record, b""), "the record: {row}");
+    let checked = run_on(rt, &["ordup", "check"], record);
+    let mut said = Vec::new(rt.alloc());
+    push_line(&mut said, verdict)?;
+    assert!(rt; says(&checked, &said), "the check: {row}");
+    Ok(())
+}
+
 /// Sees that each record in a row is the one that the program prints there, and that the check says of it what the row says.
 fn expect_records<T: Threads + Wait + Sync + AllocGlobal + Abort>(
     rt: &T,
@@ -80,13 +98,7 @@ fn expect_records<T: Threads + Wait + Sync + AllocGlobal + Abort>(
             [b'>', b' ', command @ ..] => push_line(&mut script, command)?,
             [b'|', b' ', row @ ..] => push_line(&mut record, row)?,
             [b'=', b' ', verdict @ ..] => {
-                let site = site_of(&record).ok_or("no site")?;
-                let printed = run_on(rt, &["ordup", "record", site], &script);
-                assert!(rt; printed.is(0, &record, b""), "the record: {row}");
-                let mut said = Vec::new(rt.alloc());
-                push_line(&mut said, verdict)?;
-                let checked = run_on(rt, &["ordup", "check"], &record);
-                assert!(rt; says(&checked, &said), "the check: {row}");
+                expect_record(rt, row, &script, &record, verdict)?;
                 record.clear();
             }
             _ => {}

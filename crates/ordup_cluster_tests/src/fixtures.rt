@@ -48,9 +48,9 @@ pub fn b() -> SiteId
 // Tests drop it by a call, which is proved once for all tests: docs/DECISIONS.md, Tests.
 pub fn x_y_and_z(rt: &impl Abort, alloc: Global) -> ObjectTable {
     let mut objects = ObjectTable::new(alloc);
-    assert_eq!(rt; objects.declare(b"x", 0), Ok(x()));
-    assert_eq!(rt; objects.declare(b"y", 10), Ok(y()));
-    assert_eq!(rt; objects.declare(b"z", 0), Ok(z()));
+    expect_eq!(rt; objects.declare(b"x", 0), Ok(x()));
+    expect_eq!(rt; objects.declare(b"y", 10), Ok(y()));
+    expect_eq!(rt; objects.declare(b"z", 0), Ok(z()));
     objects
 }
 
@@ -79,10 +79,10 @@ fn declare(setup: &mut Setup, site: &Site) -> Result<(), Refusal> {
 /// The declarations of x, y and these sites.
 pub fn declared(rt: &impl Abort, alloc: Global, sites: &[Site]) -> Setup {
     let mut setup = Setup::new(alloc);
-    assert_eq!(rt; setup.object(b"x", 0), Ok(x()));
-    assert_eq!(rt; setup.object(b"y", 10), Ok(y()));
+    expect_eq!(rt; setup.object(b"x", 0), Ok(x()));
+    expect_eq!(rt; setup.object(b"y", 10), Ok(y()));
     for site in sites {
-        assert_eq!(rt; declare(&mut setup, site), Ok(()));
+        expect_eq!(rt; declare(&mut setup, site), Ok(()));
     }
     setup
 }
@@ -90,14 +90,14 @@ pub fn declared(rt: &impl Abort, alloc: Global, sites: &[Site]) -> Setup {
 /// A primary of x, y and these sites.
 pub fn started(rt: &impl Abort, alloc: Global, sites: &[Site]) -> Result<Primary, Refusal> {
     let setup = declared(rt, alloc, sites);
-    assert!(rt; setup.is_ready());
+    expect!(rt; setup.is_ready());
     Primary::new(alloc, setup)
 }
 
 /// Proposes the update that adds a number to x, and answers its number.
 pub fn propose_add(rt: &impl Abort, primary: &mut Primary, n: i64) -> Result<u64, Refusal> {
     let set = add(rt, primary.setup().objects(), x(), n);
-    assert!(rt; set.are_known(primary.log().objects()));
+    expect!(rt; set.are_known(primary.log().objects()));
     primary.propose(set)
 }
 

@@ -23,7 +23,7 @@ fn expect_changed<R: Wait + Abort>(
     amount: u64,
     answer: Result<u64, Refusal>,
 ) {
-    assert_eq!(rt; cluster.relimit(rt, site, scope, amount), answer);
+    expect_eq!(rt; cluster.relimit(rt, site, scope, amount), answer);
 }
 
 /// The scope of x.
@@ -51,12 +51,12 @@ fn entry(amount: u64, place: u64) -> LimitEntry {
 fn expect_lowered(rt: &impl Abort, alloc: Global, primary: &Primary) {
     // For the proof: there are as many sites as were declared.
     let _acked = primary.acked();
-    assert!(rt; primary.setup().sites() > 0);
-    assert!(rt; primary.limits(a()).entries() == [entry(5, 1), entry(3, 2)].as_slice());
+    expect!(rt; primary.setup().sites() > 0);
+    expect!(rt; primary.limits(a()).entries() == [entry(5, 1), entry(3, 2)].as_slice());
     let Ok(record) = record_of(alloc, primary, a()) else {
         panic!(rt; "there is no memory for a record")
     };
-    assert!(rt; matches!(check(&record), Verdict::Fewest(0)));
+    expect!(rt; matches!(check(&record), Verdict::Fewest(0)));
     // Dropped by a call, which is proved once for all tests: docs/DECISIONS.md, Tests.
     drop(record);
 }

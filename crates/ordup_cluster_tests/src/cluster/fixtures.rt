@@ -47,10 +47,7 @@ pub fn expect_seen<R: Wait + Abort>(
     value: i64,
     applied: u64,
 ) {
-    assert_eq!(rt;
-        cluster.read(rt, session, site, x()),
-        Ok(seen(value, applied))
-    );
+    expect_eq!(rt; cluster.read(rt, session, site, x()), Ok(seen(value, applied)));
 }
 
 /// Reads x at a site that is behind the session, and sees how many updates the site has applied.
@@ -61,10 +58,7 @@ pub fn expect_behind<R: Wait + Abort>(
     site: SiteId,
     applied: u64,
 ) {
-    assert_eq!(rt;
-        cluster.read(rt, session, site, x()),
-        Err(Refusal::Behind { applied })
-    );
+    expect_eq!(rt; cluster.read(rt, session, site, x()), Err(Refusal::Behind { applied }));
 }
 
 /// Proposes a set in a session with this count of turns, and sees this answer.
@@ -78,7 +72,7 @@ pub fn expect_proposed<R: Wait + Abort>(
 )
     requires { 1 ≤ turns }
 {
-    assert_eq!(rt; cluster.propose(rt, session, set, turns), answer);
+    expect_eq!(rt; cluster.propose(rt, session, set, turns), answer);
 }
 
 /// Waits for an update in a session for this count of turns, and sees this answer.
@@ -92,13 +86,13 @@ pub fn expect_settled<R: Wait + Abort>(
 )
     requires { 1 ≤ turns }
 {
-    assert_eq!(rt; cluster.settle(rt, session, number, turns), answer);
+    expect_eq!(rt; cluster.settle(rt, session, number, turns), answer);
 }
 
 /// Applies at a site of a stopped cluster, and sees how many updates were applied.
 pub fn expect_applied<R: Wait + Abort>(rt: &R, cluster: &Cluster, site: SiteId, updates: u64) {
-    assert!(rt; site.index() < cluster.sites());
-    assert_eq!(rt; cluster.applier(rt, site, &OpenGate), updates);
+    expect!(rt; site.index() < cluster.sites());
+    expect_eq!(rt; cluster.applier(rt, site, &OpenGate), updates);
 }
 
 /// Applies one update at a site of a stopped cluster.
@@ -111,8 +105,8 @@ pub fn expect_held(rt: &impl Abort, closed: &Closed, site: SiteId, updates: u64)
     let primary = closed.primary();
     // For the proof: there are as many sites as were declared.
     let _acked = primary.acked();
-    assert!(rt; site.index() < primary.setup().sites());
-    assert_eq!(rt; closed.site(site).applied(), updates);
+    expect!(rt; site.index() < primary.setup().sites());
+    expect_eq!(rt; closed.site(site).applied(), updates);
 }
 
 /// Closes a cluster, and sees how many updates its log has, what the site a holds of x, and its windows.
@@ -129,15 +123,12 @@ pub fn expect_closed(
     let primary = closed.primary();
     // For the proof: there are as many sites as were declared.
     let _acked = primary.acked();
-    assert_eq!(rt; primary.log().len(), updates);
-    assert!(rt; primary.setup().sites() > 0);
-    assert_eq!(rt; primary.windows(a()), windows);
+    expect_eq!(rt; primary.log().len(), updates);
+    expect!(rt; primary.setup().sites() > 0);
+    expect_eq!(rt; primary.windows(a()), windows);
     let site = closed.site(a());
-    assert!(rt; site.len() > 0);
-    assert_eq!(rt;
-        (site.value(x()), site.applied()),
-        (at_a.value, at_a.applied)
-    );
+    expect!(rt; site.len() > 0);
+    expect_eq!(rt; (site.value(x()), site.applied()), (at_a.value, at_a.applied));
     // Dropped by a call, which is proved once for all tests: docs/DECISIONS.md, Tests.
     drop(closed);
 }

@@ -57,9 +57,9 @@ fn expect_calls<R: Wait + Abort>(
         overtakes,
         calls: AtomicU64::new(0),
     };
-    assert!(rt; site.index() < cluster.sites());
-    assert_eq!(rt; cluster.applier(rt, site, &gate), updates);
-    assert_eq!(rt; gate.calls.load(Ordering::SeqCst), calls);
+    expect!(rt; site.index() < cluster.sites());
+    expect_eq!(rt; cluster.applier(rt, site, &gate), updates);
+    expect_eq!(rt; gate.calls.load(Ordering::SeqCst), calls);
 }
 
 /// Proposes two sets, each of which is acknowledged in its first turn.

@@ -33,32 +33,10 @@ fn query_meanwhile<R: Wait + Abort>(
     session: &mut Session,
     set: MessageSet,
 ) {
-    assert_eq!(rt;
-        query.read(rt, x()),
-        Ok(ReadAnswer {
-            value: 0,
-            import: 3,
-            total: 3
-        })
-    );
+    expect_eq!(rt; query.read(rt, x()), Ok(ReadAnswer { value: 0, import: 3, total: 3, }));
     stop_and_apply(rt, cluster, session, set);
-    assert_eq!(rt;
-        query.read(rt, x()),
-        Ok(ReadAnswer {
-            value: 3,
-            import: 0,
-            total: 3
-        })
-    );
-    assert_eq!(rt;
-        query.end(),
-        QueryAnswer {
-            place: 1,
-            sum: 3,
-            total: 3,
-            reads: 2
-        }
-    );
+    expect_eq!(rt; query.read(rt, x()), Ok(ReadAnswer { value: 3, import: 0, total: 3, }));
+    expect_eq!(rt; query.end(), QueryAnswer { place: 1, sum: 3, total: 3, reads: 2, });
 }
 
 /// The update that adds 3 to x is acknowledged before the site a has applied it.
@@ -92,9 +70,9 @@ fn wait_for_the_report<R: Wait + Abort>(rt: &R, cluster: &Cluster, set: MessageS
     expect_proposed(rt, cluster, &mut session, set, 1, waits);
     cluster.stop();
     apply_at(rt, cluster, a());
-    assert_eq!(rt; session.seen(), 0);
+    expect_eq!(rt; session.seen(), 0);
     expect_settled(rt, cluster, &mut session, 1, 1, Ok(()));
-    assert_eq!(rt; session.seen(), 1);
+    expect_eq!(rt; session.seen(), 1);
 }
 
 /// Proposes, applies and reads an update.

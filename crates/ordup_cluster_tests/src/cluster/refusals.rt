@@ -18,7 +18,7 @@ fn expect_read<R: Wait + Abort>(
     object: ObjectId,
     answer: Result<SeenValue, Refusal>,
 ) {
-    assert_eq!(rt; cluster.read(rt, &mut Session::new(), site, object), answer);
+    expect_eq!(rt; cluster.read(rt, &mut Session::new(), site, object), answer);
 }
 
 /// Begins a query at a site with this limit, and sees why it is refused, if it is.
@@ -29,7 +29,7 @@ fn expect_begun<R: Wait + Abort>(
     limit: u64,
     refusal: Option<Refusal>,
 ) {
-    assert_eq!(rt; cluster.begin(rt, site, limit).err(), refusal);
+    expect_eq!(rt; cluster.begin(rt, site, limit).err(), refusal);
 }
 
 /// Proposes a set, with one turn, in a session that has seen nothing, and sees this answer.
@@ -57,35 +57,17 @@ fn read_within_2<R: Wait + Abort>(rt: &R, cluster: &Cluster) {
     let Ok(mut query) = cluster.begin(rt, a(), 2) else {
         panic!(rt; "the query is refused")
     };
-    assert_eq!(rt; query.read(rt, z()), Err(Refusal::UnknownObject));
-    assert_eq!(rt; query.read(rt, x()), Err(Refusal::OverImport));
-    assert_eq!(rt;
-        query.read(rt, y()),
-        Ok(ReadAnswer {
-            value: 10,
-            import: 0,
-            total: 0
-        })
-    );
-    assert_eq!(rt;
-        query.end(),
-        QueryAnswer {
-            place: 1,
-            sum: 10,
-            total: 0,
-            reads: 1
-        }
-    );
+    expect_eq!(rt; query.read(rt, z()), Err(Refusal::UnknownObject));
+    expect_eq!(rt; query.read(rt, x()), Err(Refusal::OverImport));
+    expect_eq!(rt; query.read(rt, y()), Ok(ReadAnswer { value: 10, import: 0, total: 0, }));
+    expect_eq!(rt; query.end(), QueryAnswer { place: 1, sum: 10, total: 0, reads: 1, });
 }
 
 /// Makes a cluster without a site.
 #[test]
 fn a_cluster_has_a_site(rt: HostRuntime) -> Result<(), Fail> {
     let alloc = rt.alloc();
-    assert_eq!(rt;
-        Cluster::new(alloc, Setup::new(alloc)).err(),
-        Some(Refusal::Empty)
-    );
+    expect_eq!(&rt; Cluster::new(alloc, Setup::new(alloc)).err(), Some(Refusal::Empty));
     Ok(())
 }
 

@@ -16,7 +16,7 @@ fn a_feed_has_room_for_1_to_1024_parcels(rt: HostRuntime) -> Result<(), Fail> {
         (1_024, None),
         (1_025, Some(Refusal::OutOfRange)),
     ] {
-        assert_eq!(rt; Feed::new(alloc, &objects, capacity).err(), refusal);
+        expect_eq!(&rt; Feed::new(alloc, &objects, capacity).err(), refusal);
     }
     // Dropped by a call, which is proved once for all tests: docs/DECISIONS.md, Tests.
     drop(objects);
@@ -35,14 +35,14 @@ fn a_full_feed_hands_the_parcel_back(rt: HostRuntime) -> Result<(), Fail> {
     let Err(back) = sender.push(&rt, parcel(&rt, &objects, 2)) else {
         panic!(rt; "the feed has room for a second parcel")
     };
-    assert_eq!(rt; (back.refusal.number(), back.parcel.number), (15, 2));
-    assert_eq!(rt; taker.pop(&rt).map(|p| p.number), Some(1));
-    assert_eq!(rt; taker.pop(&rt).map(|p| p.number), None);
-    assert_eq!(rt; sender.look(&rt), 0);
+    expect_eq!(&rt; (back.refusal.number(), back.parcel.number), (15, 2));
+    expect_eq!(&rt; taker.pop(&rt).map(|p| p.number), Some(1));
+    expect_eq!(&rt; taker.pop(&rt).map(|p| p.number), None);
+    expect_eq!(&rt; sender.look(&rt), 0);
     taker.tell(&rt);
-    assert_eq!(rt; sender.look(&rt), 1);
-    assert!(rt; sender.push(&rt, back.parcel).is_ok());
-    assert_eq!(rt; taker.pop(&rt).map(|p| p.number), Some(2));
+    expect_eq!(&rt; sender.look(&rt), 1);
+    expect!(&rt; sender.push(&rt, back.parcel).is_ok());
+    expect_eq!(&rt; taker.pop(&rt).map(|p| p.number), Some(2));
     drop(taker);
     drop(sender);
     drop(objects);
@@ -55,10 +55,10 @@ fn a_feed_with_a_parcel_in_its_only_slot_is_full(rt: HostRuntime) -> Result<(), 
     let alloc = rt.alloc();
     let objects = x_y_and_z(&rt, alloc);
     let (mut sender, mut taker) = Feed::new(alloc, &objects, 1)?;
-    assert!(rt; sender.push(&rt, parcel(&rt, &objects, 1)).is_ok());
-    assert!(rt; sender.is_full());
-    assert_eq!(rt; taker.pop(&rt).map(|p| p.number), Some(1));
-    assert!(rt; !sender.is_full());
+    expect!(&rt; sender.push(&rt, parcel(&rt, &objects, 1)).is_ok());
+    expect!(&rt; sender.is_full());
+    expect_eq!(&rt; taker.pop(&rt).map(|p| p.number), Some(1));
+    expect!(&rt; !sender.is_full());
     drop(taker);
     drop(sender);
     drop(objects);

@@ -13,8 +13,8 @@ use std::test::Fail;
 /// The primary of the site a with two updates, which add 3 and then 4 to x.
 fn two_updates(rt: &impl Abort, alloc: Global) -> Result<Primary, Refusal> {
     let mut primary = started(rt, alloc, &[("a", 1, None)])?;
-    assert_eq!(rt; propose_add(rt, &mut primary, 3), Ok(1));
-    assert_eq!(rt; propose_add(rt, &mut primary, 4), Ok(2));
+    expect_eq!(rt; propose_add(rt, &mut primary, 3), Ok(1));
+    expect_eq!(rt; propose_add(rt, &mut primary, 4), Ok(2));
     Ok(primary)
 }
 
@@ -23,8 +23,8 @@ fn feed_of(rt: &impl Abort, alloc: Global, primary: &Primary) -> (SendEnd, TakeE
     ensures { HasPushed primary.now result.0 }
 {
     let _acked = primary.acked();
-    assert!(rt; primary.setup().sites() > 0);
-    assert!(rt; primary.sent(a()) == 0);
+    expect!(rt; primary.setup().sites() > 0);
+    expect!(rt; primary.sent(a()) == 0);
     let Ok(ends) = Feed::new(alloc, primary.setup().objects(), 1) else {
         panic!(rt; "the feed is refused")
     };
@@ -63,12 +63,12 @@ fn expect_sent<R: Wait + Abort>(
     requires { HasPushed primary.old end.old }
     ensures { HasPushed primary.new end.new }
 {
-    assert_eq!(rt; send(rt, primary, end), answer);
+    expect_eq!(rt; send(rt, primary, end), answer);
 }
 
 /// Pops, and sees that the parcel has this number.
 fn expect_taken<R: Wait + Abort>(rt: &R, end: &mut TakeEnd, number: u64) {
-    assert_eq!(rt; end.pop(rt).map(|p| p.number), Some(number));
+    expect_eq!(rt; end.pop(rt).map(|p| p.number), Some(number));
 }
 
 /// Sends two updates of a primary through its feed.

@@ -59,7 +59,7 @@ fn send_all<R: Wait + Abort>(rt: &R, objects: &ObjectTable, mut end: SendEnd, be
     for i in 0..PARCELS {
         push(rt, &mut end, parcel(rt, objects, i + 1));
         let known = end.look(rt);
-        assert!(rt; known <= begun.load(Ordering::SeqCst));
+        expect!(rt; known <= begun.load(Ordering::SeqCst));
     }
     drop(end);
 }
@@ -68,7 +68,7 @@ fn send_all<R: Wait + Abort>(rt: &R, objects: &ObjectTable, mut end: SendEnd, be
 fn take_all<R: Wait + Abort>(rt: &R, mut end: TakeEnd, begun: &AtomicU64) {
     for i in 0..PARCELS {
         begun.fetch_add(1, Ordering::SeqCst);
-        assert_eq!(rt; pop(rt, &mut end), i + 1);
+        expect_eq!(rt; pop(rt, &mut end), i + 1);
         end.tell(rt);
     }
     drop(end);

@@ -18,15 +18,15 @@ fn first_site(rt: &impl Abort, alloc: Global, primary: &Primary) -> Site {
 
 /// Proposes the update that adds a number to x, and notes that it was sent to a.
 fn send(rt: &impl Abort, primary: &mut Primary, n: i64) {
-    assert!(rt; propose_add(rt, primary, n).is_ok());
+    expect!(rt; propose_add(rt, primary, n).is_ok());
     mark_sent(rt, primary);
 }
 
 /// Notes that the next update was sent to a.
 fn mark_sent(rt: &impl Abort, primary: &mut Primary) {
     let _acked = primary.acked();
-    assert!(rt; primary.setup().sites() > 0);
-    assert!(rt; primary.sent(a()) < primary.log().len());
+    expect!(rt; primary.setup().sites() > 0);
+    expect!(rt; primary.sent(a()) < primary.log().len());
     primary.mark_sent(a());
 }
 
@@ -37,16 +37,16 @@ fn apply(rt: &impl Abort, primary: &Primary, site: &mut Site, n: i64) {
 }
 
 fn apply_set(rt: &impl Abort, site: &mut Site, set: &MessageSet) {
-    assert!(rt; set.are_known(site.len()));
-    assert!(rt; site.values().allows(set));
-    assert!(rt; site.applied() < 1_000_000);
+    expect!(rt; set.are_known(site.len()));
+    expect!(rt; site.values().allows(set));
+    expect!(rt; site.applied() < 1_000_000);
     site.apply(set);
 }
 
 /// Whether a site agrees, as the site a of a primary.
 fn agrees(rt: &impl Abort, alloc: Global, primary: &Primary, replica: &Site) -> bool {
     let _acked = primary.acked();
-    assert!(rt; primary.setup().sites() > 0);
+    expect!(rt; primary.setup().sites() > 0);
     let Ok(values) = Values::initial(alloc, primary.setup().objects()) else {
         panic!(rt; "there is no memory for values")
     };
@@ -60,9 +60,9 @@ fn a_site_agrees_where_it_holds_what_it_applied(rt: HostRuntime) -> Result<(), F
     let mut primary = started(&rt, alloc, &[("a", 4, None)])?;
     let mut replica = first_site(&rt, alloc, &primary);
     send(&rt, &mut primary, 3);
-    assert!(rt; agrees(&rt, alloc, &primary, &replica));
+    expect!(&rt; agrees(&rt, alloc, &primary, &replica));
     apply(&rt, &primary, &mut replica, 4);
-    assert!(rt; !agrees(&rt, alloc, &primary, &replica));
+    expect!(&rt; !agrees(&rt, alloc, &primary, &replica));
     // Dropped by a call, which is proved once for all tests: docs/DECISIONS.md, Tests.
     drop(replica);
     drop(primary);
@@ -77,9 +77,9 @@ fn a_site_agrees_only_up_to_what_it_was_sent(rt: HostRuntime) -> Result<(), Fail
     let mut replica = first_site(&rt, alloc, &primary);
     send(&rt, &mut primary, 3);
     apply(&rt, &primary, &mut replica, 3);
-    assert!(rt; agrees(&rt, alloc, &primary, &replica));
+    expect!(&rt; agrees(&rt, alloc, &primary, &replica));
     apply(&rt, &primary, &mut replica, 3);
-    assert!(rt; !agrees(&rt, alloc, &primary, &replica));
+    expect!(&rt; !agrees(&rt, alloc, &primary, &replica));
     drop(replica);
     drop(primary);
     Ok(())

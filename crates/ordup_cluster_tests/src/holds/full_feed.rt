@@ -11,7 +11,7 @@ use std::test::Fail;
 /// Numbers the updates from the first number to the last one.
 fn number_all(rt: &impl Abort, book: &mut Book, first: u32, last: u32) {
     for k in first..=last {
-        assert_eq!(rt; number_add(rt, book, i64::from(k)), Ok(u64::from(k)));
+        expect_eq!(rt; number_add(rt, book, i64::from(k)), Ok(u64::from(k)));
     }
 }
 
@@ -26,11 +26,8 @@ fn take_all<R: Wait + Abort>(rt: &R, cell: &mut SiteCell, first: u64, last: u64)
 /// Sees how many updates were sent to a, and how many it reported.
 fn expect_known(rt: &impl Abort, book: &Book, sent: u64, reported: u64) {
     let primary = book.primary();
-    assert!(rt; primary.setup().sites() > 0);
-    assert_eq!(rt;
-        (primary.sent(a()), primary.reported(a())),
-        (sent, reported)
-    );
+    expect!(rt; primary.setup().sites() > 0);
+    expect_eq!(rt; (primary.sent(a()), primary.reported(a())), (sent, reported));
 }
 
 /// Five updates through a feed with a capacity of two.
@@ -59,7 +56,7 @@ fn sends_stop_at_a_full_feed_and_go_on_once_there_is_room(rt: HostRuntime) -> Re
     let alloc = rt.alloc();
     let setup = declared(&rt, alloc, &[("a", 2, None)]);
     let (mut book, mut cells) = open(alloc, setup)?;
-    assert_eq!(rt; cells.len(), 1);
+    expect!(&rt; cells.len() == 1);
     fill_and_empty(&rt, &mut book, &mut cells[0]);
     drop(book);
     drop(cells);
@@ -86,7 +83,7 @@ fn each_update_that_is_taken_makes_room_for_one(rt: HostRuntime) -> Result<(), F
     let alloc = rt.alloc();
     let setup = declared(&rt, alloc, &[("a", 3, None)]);
     let (mut book, mut cells) = open(alloc, setup)?;
-    assert_eq!(rt; cells.len(), 1);
+    expect!(&rt; cells.len() == 1);
     take_one_by_one(&rt, &mut book, &mut cells[0]);
     drop(book);
     drop(cells);
@@ -113,7 +110,7 @@ fn the_largest_feed_loses_nothing(rt: HostRuntime) -> Result<(), Fail> {
     let alloc = rt.alloc();
     let setup = declared(&rt, alloc, &[("a", GREATEST_CAPACITY, None)]);
     let (mut book, mut cells) = open(alloc, setup)?;
-    assert_eq!(rt; cells.len(), 1);
+    expect!(&rt; cells.len() == 1);
     overfill(&rt, &mut book, &mut cells[0]);
     drop(book);
     drop(cells);
@@ -133,7 +130,7 @@ fn a_full_feed_keeps_nothing_from_the_other_sites(rt: HostRuntime) -> Result<(),
     let alloc = rt.alloc();
     let setup = declared(&rt, alloc, &[("a", 1, None), ("b", 4, None)]);
     let (mut book, mut cells) = open(alloc, setup)?;
-    assert_eq!(rt; cells.len(), 2);
+    expect!(&rt; cells.len() == 2);
     fill_the_first(&rt, &mut book);
     take_all(&rt, &mut cells[0], 1, 1);
     take_all(&rt, &mut cells[1], 1, 3);
@@ -164,7 +161,7 @@ fn a_turn_learns_what_was_taken_and_acknowledges_it(rt: HostRuntime) -> Result<(
     let alloc = rt.alloc();
     let setup = declared(&rt, alloc, &[("a", 1, Some((Scope::All, 0)))]);
     let (mut book, mut cells) = open(alloc, setup)?;
-    assert_eq!(rt; cells.len(), 1);
+    expect!(&rt; cells.len() == 1);
     wait_for_each(&rt, &mut book, &mut cells[0]);
     drop(book);
     drop(cells);
@@ -194,11 +191,11 @@ fn wait_for_the_fourth<R: Wait + Abort>(rt: &R, book: &mut Book, cell: &mut Site
 /// Sees that the first site had one round, at this place, and one window, from 0 to there.
 fn expect_round(rt: &impl Abort, book: &Book, place: u64) {
     let primary = book.primary();
-    assert!(rt; primary.setup().sites() > 0);
-    assert_eq!(rt; primary.rounds(a()), [place].as_slice());
+    expect!(rt; primary.setup().sites() > 0);
+    expect_eq!(rt; primary.rounds(a()), [place].as_slice());
     let windows = primary.windows(a());
-    assert_eq!(rt; windows.len(), 1);
-    assert_eq!(rt; (windows[0].from, windows[0].to), (0, place));
+    expect!(rt; windows.len() == 1);
+    expect_eq!(rt; (windows[0].from, windows[0].to), (0, place));
 }
 
 /// Waits for four updates through a feed with a capacity of one.
@@ -207,7 +204,7 @@ fn a_round_ends_though_the_feed_has_room_for_one(rt: HostRuntime) -> Result<(), 
     let alloc = rt.alloc();
     let setup = declared(&rt, alloc, &[("a", 1, Some((Scope::Count, 3)))]);
     let (mut book, mut cells) = open(alloc, setup)?;
-    assert_eq!(rt; cells.len(), 1);
+    expect!(&rt; cells.len() == 1);
     wait_for_the_fourth(&rt, &mut book, &mut cells[0]);
     expect_round(&rt, &book, 4);
     drop(book);

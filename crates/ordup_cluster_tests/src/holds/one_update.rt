@@ -10,14 +10,14 @@ use std::test::Fail;
 
 /// The limit on x is 5: the update adds 6, and is acknowledged only once the site reported it.
 fn follow<R: Wait + Abort>(rt: &R, book: &mut Book, cell: &mut SiteCell) {
-    assert_eq!(rt; number_add(rt, book, 6), Ok(1));
+    expect_eq!(rt; number_add(rt, book, 6), Ok(1));
     expect_taken(rt, cell, None);
     expect_turn(rt, book, 0);
     expect_seen(rt, cell, 0, 0);
-    assert_eq!(rt; cell.next(), 1);
+    expect_eq!(rt; cell.next(), 1);
     expect_taken(rt, cell, Some(1));
     expect_seen(rt, cell, 6, 1);
-    assert_eq!(rt; view(cell, z()), Err(Refusal::UnknownObject));
+    expect_eq!(rt; view(cell, z()), Err(Refusal::UnknownObject));
     expect_turn(rt, book, 1);
 }
 
@@ -27,7 +27,7 @@ fn an_update_is_numbered_sent_taken_seen_and_acknowledged(rt: HostRuntime) -> Re
     let alloc = rt.alloc();
     let setup = declared(&rt, alloc, &[("a", 4, Some((Scope::Object(x()), 5)))]);
     let (mut book, mut cells) = open(alloc, setup)?;
-    assert_eq!(rt; cells.len(), 1);
+    expect!(&rt; cells.len() == 1);
     follow(&rt, &mut book, &mut cells[0]);
     drop(book);
     drop(cells);

@@ -69,14 +69,11 @@ impl Turns for Planned {
 #[test]
 fn waiting_ends_with_the_last_turn_or_the_acknowledgement(rt: HostRuntime) -> Result<(), Fail> {
     let mut store = Planned::new(3, 0);
-    assert_eq!(rt;
-        until(&rt, &mut store, 2, 2),
-        Err(Refusal::NotYet { number: 2 })
-    );
-    assert_eq!(rt; store.made, 2);
+    expect_eq!(&rt; until(&rt, &mut store, 2, 2), Err(Refusal::NotYet { number: 2 }));
+    expect_eq!(&rt; store.made, 2);
     let mut store = Planned::new(3, 0);
-    assert_eq!(rt; until(&rt, &mut store, 2, 5), Ok(()));
-    assert_eq!(rt; store.made, 3);
+    expect_eq!(&rt; until(&rt, &mut store, 2, 5), Ok(()));
+    expect_eq!(&rt; store.made, 3);
     Ok(())
 }
 
@@ -85,9 +82,9 @@ fn waiting_ends_with_the_last_turn_or_the_acknowledgement(rt: HostRuntime) -> Re
 fn waiting_ends_with_a_refused_growth(rt: HostRuntime) -> Result<(), Fail> {
     for turns in [2, 5] {
         let mut store = Planned::new(0, 2);
-        assert_eq!(rt; until(&rt, &mut store, 2, turns), Err(Refusal::NoMemory));
-        assert_eq!(rt; store.made, 2);
-        assert!(rt; store.is_refused());
+        expect_eq!(&rt; until(&rt, &mut store, 2, turns), Err(Refusal::NoMemory));
+        expect_eq!(&rt; store.made, 2);
+        expect!(&rt; store.is_refused());
     }
     Ok(())
 }

@@ -1,0 +1,18 @@
+//! What tests expect. An assertion divides the proof of the function that has it, which takes half a second to one and a half for
+//! each. A call does not, so an expectation is a call: the macros of `lib.rt` show what was expected.
+ghost use Rattle.std.specs.Prelude.{IsTrue};
+
+use std::fmt::Debug;
+use std::process::Abort;
+
+/// Expects that a condition holds, which the proof of the test knows from then on.
+pub(crate) fn holds(rt: &impl Abort, what: &str, condition: bool)
+    ensures { IsTrue condition }
+{
+    assert!(rt; condition, "expected: {what}");
+}
+
+/// Expects that two values are equal.
+pub(crate) fn equal<T: PartialEq + Debug>(rt: &impl Abort, what: &str, found: &T, wanted: &T) {
+    assert_eq!(rt; found, wanted, "{what}");
+}

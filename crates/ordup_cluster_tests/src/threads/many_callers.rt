@@ -1,0 +1,206 @@
+//! Four callers, four sites and two readers. Each update adds 1 to x and takes 2 from y, so after k updates x is k and y is 10 -
+//! 2k.
+use super::fixtures::{TRIES, adding, apply_at, closed, opened, propose, set_of, x_and_y};
+use crate::fixtures::{Site, a, b, x, y};
+use ordup_cluster::{Cluster, OpenGate, SeenValue, Session};
+use ordup_limits::Scope;
+use ordup_log::Log;
+use ordup_objects::{ObjectId, ObjectTable, Refusal, SiteId};
+use std::alloc::Global;
+use std::process::Abort;
+use std::sync::Wait;
+use std::sync::atomic::{AtomicU64, Ordering};
+use std::test::Fail;
+use std::thread;
+use std::thread::Threads;
+
+/// How many sets each of the four callers proposes.
+const SETS: u64 = 5_000;
+
+/// Four sites: a may lag by 64 updates, b by a way of 50 on x, the others have no limit.
+fn sites() -> [Site; 4] {
+    [
+        ("a", 64, Some((Scope::Count, 64))),
+        ("b", 8, Some((Scope::Object(x()), 50))),
+        ("c", 1, None),
+        ("d", 1_024, None),
+    ]
+}
+
+/// The value of an object after this count of updates.
+fn value_after(object: ObjectId, updates: u64) -> i64 {
+    let updates = updates.min(1_000_000) as i64;
+    if object == x() {
+        updates
+    } else {
+        10 - 2 * updates
+    }
+}
+
+/// Reads an object at a site. The value is that after the updates that the site applied, which are no fewer than the session has
+/// seen.
+fn read<R: Wait + Abort>(
+    rt: &R,
+    cluster: &Cluster,
+    session: &mut Session,
+    site: u8,
+    object: ObjectId,
+) -> bool {
+    let seen = session.seen();
+    match cluster.read(rt, session, SiteId::new(site), object) {
+        Ok(SeenValue { value, applied }) => {
+            expect_eq!(rt; value, value_after(object, applied));
+            expect!(rt; seen <= applied);
+            expect_eq!(rt; session.seen(), applied);
+            true
+        }
+        Err(refusal) => {
+            let Refusal::Behind { applied } = refusal else {
+                panic!(rt; "a read is refused: {refusal}")
+            };
+            expect!(rt; applied < seen);
+            expect_eq!(rt; session.seen(), seen);
+            false
+        }
+    }
+}
+
+/// Proposes its sets, and reads after each. The caller that ends last stops the cluster.
+fn call<R: Wait + Abort>(
+    rt: &R,
+    alloc: Global,
+    objects: &ObjectTable,
+    cluster: &Cluster,
+    ended: &AtomicU64,
+) {
+    let mut session = Session::new();
+    let mut last = 0;
+    for _ in 0..SETS {
+        let set = set_of(rt, alloc, objects, &[adding(x(), 1), adding(y(), -2)]);
+        let number = propose(rt, cluster, &mut session, set);
+        expect!(rt; last < number);
+        last = number;
+        read(rt, cluster, &mut session, (number % 4) as u8, x());
+    }
+    if ended.fetch_add(1, Ordering::SeqCst) == 3 {
+        cluster.stop();
+    }
+}
+
+/// Reads at all sites in turn until all callers have ended. Some of the reads are answered.
+fn watch<R: Wait + Abort>(rt: &R, cluster: &Cluster, object: ObjectId, ended: &AtomicU64) {
+    let mut session = Session::new();
+    let mut answered = false;
+    for i in 0..TRIES {
+        if read(rt, cluster, &mut session, (i % 4) as u8, object) {
+            answered = true;
+        }
+        if ended.load(Ordering::SeqCst) == 4 {
+            expect!(rt; answered);
+            return;
+        }
+        thread::yield_now();
+    }
+    panic!(rt; "the callers do not end")
+}
+
+/// Two appliers, each in a thread of its own.
+fn apply_two<R: Threads + Wait + Abort + Sync>(rt: &R, cluster: &Cluster, first: u8, second: u8) {
+    thread::join(
+        rt,
+        move || apply_at(rt, cluster, first, &OpenGate),
+        move || apply_at(rt, cluster, second, &OpenGate),
+    );
+}
+
+/// Two callers, each in a thread of its own.
+fn call_two<R: Threads + Wait + Abort + Sync>(
+    rt: &R,
+    alloc: Global,
+    objects: &ObjectTable,
+    cluster: &Cluster,
+    ended: &AtomicU64,
+) {
+    thread::join(
+        rt,
+        move || call(rt, alloc, objects, cluster, ended),
+        move || call(rt, alloc, objects, cluster, ended),
+    );
+}
+
+/// Two readers, each in a thread of its own.
+fn watch_two<R: Threads + Wait + Abort + Sync>(rt: &R, cluster: &Cluster, ended: &AtomicU64) {
+    thread::join(
+        rt,
+        move || watch(rt, cluster, x(), ended),
+        move || watch(rt, cluster, y(), ended),
+    );
+}
+
+/// The four appliers.
+fn apply<R: Threads + Wait + Abort + Sync>(rt: &R, cluster: &Cluster) {
+    thread::join(
+        rt,
+        move || apply_two(rt, cluster, 0, 1),
+        move || apply_two(rt, cluster, 2, 3),
+    );
+}
+
+/// The four callers and the two readers.
+fn call_and_watch<R: Threads + Wait + Abort + Sync>(rt: &R, alloc: Global, cluster: &Cluster) {
+    let table = x_and_y(rt, alloc);
+    let objects = &table;
+    let ended = AtomicU64::new(0);
+    let ended = &ended;
+    thread::join(
+        rt,
+        move || watch_two(rt, cluster, ended),
+        move || {
+            thread::join(
+                rt,
+                move || call_two(rt, alloc, objects, cluster, ended),
+                move || call_two(rt, alloc, objects, cluster, ended),
+            )
+        },
+    );
+    drop(table);
+}
+
+/// All ten threads.
+fn run<R: Threads + Wait + Abort + Sync>(rt: &R, alloc: Global, cluster: &Cluster) {
+    thread::join(
+        rt,
+        move || apply(rt, cluster),
+        move || call_and_watch(rt, alloc, cluster),
+    );
+}
+
+/// The log has all sets, in whatever order.
+fn expect_all(rt: &impl Abort, log: &Log) {
+    expect_eq!(rt; log.len(), 4 * SETS);
+    expect!(rt; log.objects() == 2);
+    expect_eq!(rt; (log.end_value(x()), log.end_value(y())), (20_000, -39_990));
+}
+
+/// The sites with limits have applied all updates but those by which they may lag.
+fn close(rt: &impl Abort, cluster: Cluster) {
+    let closed = closed(rt, cluster);
+    let primary = closed.primary();
+    // For the proof: there are as many sites as were declared.
+    let acked = primary.acked();
+    expect_eq!(rt; acked, 4 * SETS);
+    expect_all(rt, primary.log());
+    expect!(rt; primary.setup().sites() == 4);
+    expect!(rt; closed.site(a()).applied() >= 4 * SETS - 64);
+    expect!(rt; closed.site(b()).applied() >= 4 * SETS - 50);
+    drop(closed);
+}
+
+/// Reads beside four callers and four sites.
+#[test]
+fn each_read_is_the_value_of_a_prefix(rt: HostRuntime) -> Result<(), Fail> {
+    let cluster = opened(&rt, rt.alloc(), &sites())?;
+    run(&rt, rt.alloc(), &cluster);
+    close(&rt, cluster);
+    Ok(())
+}

@@ -1,0 +1,104 @@
+//! Two callers and a site that they wait for, with a capacity of one update, which may lag by three.
+use super::fixtures::{adding, apply_at, closed, expect_fewest, opened, propose, set_of, x_and_y};
+use crate::fixtures::{a, x, y};
+use ordup_cluster::{Cluster, OpenGate, Session};
+use ordup_limits::Scope;
+use ordup_log::Log;
+use ordup_objects::{ObjectId, ObjectTable};
+use std::alloc::Global;
+use std::process::Abort;
+use std::sync::Wait;
+use std::sync::atomic::{AtomicU64, Ordering};
+use std::test::Fail;
+use std::thread;
+use std::thread::Threads;
+
+/// Adds 1 to an object twenty times. The caller that ends last stops the cluster.
+fn call<R: Wait + Abort>(
+    rt: &R,
+    alloc: Global,
+    objects: &ObjectTable,
+    cluster: &Cluster,
+    object: ObjectId,
+    ended: &AtomicU64,
+) {
+    let mut session = Session::new();
+    let mut last = 0;
+    for _ in 0..20 {
+        let set = set_of(rt, alloc, objects, &[adding(object, 1)]);
+        let number = propose(rt, cluster, &mut session, set);
+        expect!(rt; last < number);
+        last = number;
+    }
+    if ended.fetch_add(1, Ordering::SeqCst) == 1 {
+        cluster.stop();
+    }
+}
+
+/// The applier and the two callers, each in a thread of its own.
+fn run<R: Threads + Wait + Abort + Sync>(rt: &R, alloc: Global, cluster: &Cluster) {
+    let table = x_and_y(rt, alloc);
+    let objects = &table;
+    let ended = AtomicU64::new(0);
+    let ended = &ended;
+    thread::join(
+        rt,
+        move || apply_at(rt, cluster, 0, &OpenGate),
+        move || {
+            thread::join(
+                rt,
+                move || call(rt, alloc, objects, cluster, x(), ended),
+                move || call(rt, alloc, objects, cluster, y(), ended),
+            )
+        },
+    );
+    drop(table);
+}
+
+/// How many sets of the log change this object first.
+fn sets_on(log: &Log, object: ObjectId) -> u64 {
+    let mut count = 0u64;
+    for number in 1..=log.len() {
+        let changes = log.set(number).changes();
+        if changes
+            .first()
+            .is_some_and(|change| change.object == object)
+        {
+            count = count.saturating_add(1);
+        }
+    }
+    count
+}
+
+/// The log has twenty sets of each caller.
+fn expect_both(rt: &impl Abort, log: &Log) {
+    expect_eq!(rt; log.len(), 40);
+    expect_eq!(rt; (sets_on(log, x()), sets_on(log, y())), (20, 20));
+    expect!(rt; log.objects() == 2);
+    expect_eq!(rt; (log.end_value(x()), log.end_value(y())), (20, 30));
+}
+
+/// The log has all sets, and the site at most three fewer.
+fn close(rt: &impl Abort, alloc: Global, cluster: Cluster) {
+    let closed = closed(rt, cluster);
+    let primary = closed.primary();
+    // For the proof: there are as many sites as were declared.
+    let _acked = primary.acked();
+    expect_both(rt, primary.log());
+    expect!(rt; primary.setup().sites() == 1);
+    let applied = closed.site(a()).applied();
+    expect!(rt; 37 <= applied);
+    expect!(rt; applied <= 40);
+    expect_fewest(rt, alloc, primary);
+    drop(closed);
+}
+
+/// Proposes from two threads, with one site.
+#[test]
+fn two_callers_wait_for_one_site(rt: HostRuntime) -> Result<(), Fail> {
+    let sites = [("a", 1, Some((Scope::Count, 3)))];
+    let cluster = opened(&rt, rt.alloc(), &sites)?;
+    run(&rt, rt.alloc(), &cluster);
+    close(&rt, rt.alloc(), cluster);
+    Ok(())
+}

@@ -1,0 +1,15 @@
+//! Scripts over streams that fail, plans, the windows of a script's sites, and all calls where memory is refused.
+mod additions;
+mod copies;
+mod digests;
+mod growths;
+mod lines;
+mod memory;
+mod plans;
+mod scarce;
+mod script;
+mod sets;
+mod starts;
+mod transcripts;
+mod windows;
+mod without_memory;

@@ -1,15 +1,22 @@
 -- Declarations that grow.
 use Rattle.std.proofs.Common.{◌≡◌, ℕ, ◌<◌, ◌≤◌, List, [], ◌∷◌, ◌++◌, length, arith, ap, sym, subst, ◌∙◌}
-use Rattle.std.specs.Prelude.{Result, Ok, Err, OnOk, IfErr}
+use Rattle.std.specs.Prelude.{None, Result, Ok, Err, OnOk, IfErr}
 use Rattle.ordup_objects.specs.declared.refusal.Refusal.{Refusal}
 use Rattle.std.proofs.Math.ListN.{set, length-set}
+use Rattle.std.proofs.lemmas.Bool.Decides.{nat_tests}
 use Rattle.std.proofs.lemmas.List.{length_push}
 use Rattle.std.proofs.lemmas.List.Elements.{All-push, All-nil, All-set}
 use Rattle.ordup_objects.specs.Sizes.{most_sites, greatest_capacity}
 use Rattle.ordup_log.specs.Spans.{IsScopeKnown}
 use Rattle.ordup_limits.specs.declared.limit_entry.LimitEntry.{LimitEntry}
 use Rattle.ordup_limits.specs.Entries.{Entries, AreEntriesKnown, HoldFrom}
-use Rattle.ordup_primary.specs.Declarations.{Declared, AreDeclared}
+use Rattle.ordup_primary.specs.Declarations.{Declared, AreDeclared, site_refusal}
+
+-- what holds of a site that is not refused
+pub site_allowed : (sites : List (List ℕ × ℕ)) (name : List ℕ) (capacity : ℕ) → site_refusal sites name capacity ≡ None
+    → length sites ≤ most_sites
+    → (length sites < most_sites) × ((1 ≤ capacity) × (capacity ≤ greatest_capacity))
+site_allowed sites name capacity allowed few = grind (arith, nat_tests)
 
 -- one site more, without limits
 pub AreDeclared-site : (d : Declared) (name : List ℕ) (capacity : ℕ) (sites : List (List ℕ × ℕ)) (limits : List Entries)

@@ -1,4 +1,4 @@
-ghost use Rattle.std.specs.Prelude.{◌≡◌, ◌≤◌, ℕ, ◌<◌, None, Some, IfSome, IfOk, IfErr, [], length, slice_get, option_map, OnOk};
+ghost use Rattle.std.specs.Prelude.{◌≡◌, ◌≤◌, ℕ, ◌<◌, None, Some, IfSome, IfOk, IfErr, [], length, slice_get, option_map, OnOk, not, nat_lt, ◌||◌, ◌==◌};
 ghost use Rattle.ordup_objects.specs.Sizes.{most_sites, greatest_capacity};
 ghost use Rattle.ordup_objects.specs.Tables.{index_of, object_refusal};
 ghost use Rattle.ordup_objects.specs.Refusals.{IsRefusal};
@@ -83,22 +83,41 @@ impl<A: Allocator + Copy> Setup<A> {
         ensures refused { IfErr result (λ e. IsRefusal (site_refusal self.old.sites name.now capacity) e) }
         ensures err { IfErr result (λ _. self.new ≡ self.old) }
     {
-        let name = Name::new(name)?;
-        if self.capacities.find(name.as_bytes()).is_some() {
-            return Err(Refusal::NameTaken);
-        }
-        if capacity == 0 || capacity > GREATEST_CAPACITY {
-            return Err(Refusal::OutOfRange);
-        }
+        let name = self.check_site(name, capacity)?;
         let index = self.sites();
-        if index == MOST_SITES {
-            return Err(Refusal::TooMany);
-        }
         let alloc = *self.limits.allocator();
         self.limits.reserve(1)?;
         self.capacities.push(name, capacity)?;
         self.limits.push_reserved(LimitTable::new(alloc));
         Ok(SiteId::new(index as u8))
+    }
+
+    /// The name of a site that may be declared. Any other is refused for the first reason that applies.
+    fn check_site(&self, name: &[u8], capacity: u64) -> Result<Name, Refusal>
+        ensures name { IfOk result (λ n. n ≡ name.now) }
+        ensures allowed { IfOk result (λ _. site_refusal self.now.sites name.now capacity ≡ None) }
+        ensures refused { IfErr result (λ e. site_refusal self.now.sites name.now capacity ≡ Some e) }
+    {
+        let name = Name::new(name)?;
+        match self.refusal_of_site(&name, capacity) {
+            Some(refusal) => Err(refusal),
+            None => Ok(name),
+        }
+    }
+
+    /// Why a site of this name is refused, if it is.
+    fn refusal_of_site(&self, name: &Name, capacity: u64) -> Option<Refusal>
+        ensures { result ≡ site_refusal self.now.sites name.now capacity }
+    {
+        if self.capacities.find(name.as_bytes()).is_some() {
+            Some(Refusal::NameTaken)
+        } else if !is_capacity(capacity) {
+            Some(Refusal::OutOfRange)
+        } else if self.sites() == MOST_SITES {
+            Some(Refusal::TooMany)
+        } else {
+            None
+        }
     }
 
     /// Declares a limit of a site, whose amount lies from 0 to 10^18.
@@ -197,4 +216,11 @@ impl<A: Allocator + Copy> Setup<A> {
     {
         &self.limits[site.index()]
     }
+}
+
+/// Whether a feed may have this capacity.
+fn is_capacity(capacity: u64) -> bool
+    ensures { result ≡ not (capacity == 0 || nat_lt greatest_capacity capacity) }
+{
+    capacity > 0 && capacity <= GREATEST_CAPACITY
 }

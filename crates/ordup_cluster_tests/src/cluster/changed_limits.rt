@@ -49,8 +49,7 @@ fn entry(amount: u64, place: u64) -> LimitEntry {
 
 /// The limit of a on x is 5 from the start, and 3 from place 2 on. The check accepts the record of a, which has no round.
 fn expect_lowered(rt: &impl Abort, alloc: Global, primary: &Primary) {
-    // For the proof: there are as many sites as were declared.
-    let _acked = primary.acked();
+    primary.keeps();
     expect!(rt; primary.setup().sites() > 0);
     expect!(rt; primary.limits(a()).entries() == [entry(5, 1), entry(3, 2)].as_slice());
     let Ok(record) = record_of(alloc, primary, a()) else {

@@ -103,8 +103,7 @@ pub fn apply_at<R: Wait + Abort>(rt: &R, cluster: &Cluster, site: SiteId) {
 /// Sees how many updates a site of a closed cluster has applied.
 pub fn expect_held(rt: &impl Abort, closed: &Closed, site: SiteId, updates: u64) {
     let primary = closed.primary();
-    // For the proof: there are as many sites as were declared.
-    let _acked = primary.acked();
+    primary.keeps();
     expect!(rt; site.index() < primary.setup().sites());
     expect_eq!(rt; closed.site(site).applied(), updates);
 }
@@ -121,8 +120,7 @@ pub fn expect_closed(
         panic!(rt; "a site does not agree with the log")
     };
     let primary = closed.primary();
-    // For the proof: there are as many sites as were declared.
-    let _acked = primary.acked();
+    primary.keeps();
     expect_eq!(rt; primary.log().len(), updates);
     expect!(rt; primary.setup().sites() > 0);
     expect_eq!(rt; primary.windows(a()), windows);

@@ -22,7 +22,7 @@ fn two_updates(rt: &impl Abort, alloc: Global) -> Result<Primary, Refusal> {
 fn feed_of(rt: &impl Abort, alloc: Global, primary: &Primary) -> (SendEnd, TakeEnd)
     ensures { HasPushed primary.now result.0 }
 {
-    let _acked = primary.acked();
+    primary.keeps();
     expect!(rt; primary.setup().sites() > 0);
     expect!(rt; primary.sent(a()) == 0);
     let Ok(ends) = Feed::new(alloc, primary.setup().objects(), 1) else {
@@ -38,7 +38,7 @@ fn send<R: Wait>(rt: &R, primary: &mut Primary, end: &mut SendEnd) -> Result<u64
 {
     next_updates_may_follow();
     let site = a();
-    let _acked = primary.acked();
+    primary.keeps();
     let parcel = primary.next_for(site)?;
     let number = parcel.number;
     match end.push(rt, parcel) {

@@ -24,7 +24,7 @@ fn send(rt: &impl Abort, primary: &mut Primary, n: i64) {
 
 /// Notes that the next update was sent to a.
 fn mark_sent(rt: &impl Abort, primary: &mut Primary) {
-    let _acked = primary.acked();
+    primary.keeps();
     expect!(rt; primary.setup().sites() > 0);
     expect!(rt; primary.sent(a()) < primary.log().len());
     primary.mark_sent(a());
@@ -45,7 +45,7 @@ fn apply_set(rt: &impl Abort, site: &mut Site, set: &MessageSet) {
 
 /// Whether a site agrees, as the site a of a primary.
 fn agrees(rt: &impl Abort, alloc: Global, primary: &Primary, replica: &Site) -> bool {
-    let _acked = primary.acked();
+    primary.keeps();
     expect!(rt; primary.setup().sites() > 0);
     let Ok(values) = Values::initial(alloc, primary.setup().objects()) else {
         panic!(rt; "there is no memory for values")

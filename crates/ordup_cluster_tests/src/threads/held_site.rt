@@ -126,8 +126,7 @@ fn apply_and_read<R: Threads + Wait + Abort + Sync>(rt: &R, cluster: &Cluster, g
 fn close(rt: &impl Abort, cluster: Cluster) {
     let closed = closed(rt, cluster);
     let primary = closed.primary();
-    // For the proof: there are as many sites as were declared.
-    let _acked = primary.acked();
+    primary.keeps();
     expect_eq!(rt; primary.log().len(), 1);
     expect!(rt; primary.setup().sites() == 2);
     expect_eq!(rt; closed.site(a()).applied(), 1);

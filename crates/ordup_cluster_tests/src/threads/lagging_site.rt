@@ -81,8 +81,7 @@ fn run<R: Threads + Wait + Abort + Sync>(
 fn close(rt: &impl Abort, cluster: Cluster) {
     let closed = closed(rt, cluster);
     let primary = closed.primary();
-    // For the proof: there are as many sites as were declared.
-    let _acked = primary.acked();
+    primary.keeps();
     expect!(rt; primary.setup().sites() > 0);
     expect_eq!(rt; primary.windows(a()), [Window { from: 0, to: 4 }].as_slice());
     let site = closed.site(a());

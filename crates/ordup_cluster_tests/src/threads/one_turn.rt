@@ -142,8 +142,7 @@ fn run<R: Threads + Wait + Abort + Sync>(
 fn close(rt: &impl Abort, cluster: Cluster) {
     let closed = closed(rt, cluster);
     let primary = closed.primary();
-    // For the proof: there are as many sites as were declared.
-    let _acked = primary.acked();
+    primary.keeps();
     expect!(rt; primary.setup().sites() > 0);
     expect_eq!(rt; primary.rounds(a()).len(), 3_000);
     expect_eq!(rt; closed.site(a()).applied(), 3_000);

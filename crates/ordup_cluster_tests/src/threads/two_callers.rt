@@ -82,8 +82,7 @@ fn expect_both(rt: &impl Abort, log: &Log) {
 fn close(rt: &impl Abort, alloc: Global, cluster: Cluster) {
     let closed = closed(rt, cluster);
     let primary = closed.primary();
-    // For the proof: there are as many sites as were declared.
-    let _acked = primary.acked();
+    primary.keeps();
     expect_both(rt, primary.log());
     expect!(rt; primary.setup().sites() == 1);
     let applied = closed.site(a()).applied();

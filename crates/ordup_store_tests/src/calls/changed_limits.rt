@@ -117,16 +117,14 @@ fn expect_round(rt: &impl Abort, primary: &mut Primary, number: u64) {
 
 /// Changes the limit of a on x.
 fn relimit(rt: &impl Abort, primary: &mut Primary, amount: u64) -> Result<u64, Refusal> {
-    // For the proof: what each primary keeps.
-    let _acked = primary.acked();
+    primary.keeps();
     expect!(rt; primary.setup().sites() > 0);
     primary.relimit(a(), on_x(), amount)
 }
 
 /// Marks the next update as sent to a.
 fn send(rt: &impl Abort, primary: &mut Primary) {
-    // For the proof: what each primary keeps.
-    let _acked = primary.acked();
+    primary.keeps();
     expect!(rt; primary.setup().sites() > 0);
     expect!(rt; primary.sent(a()) < primary.log().len());
     primary.mark_sent(a());
@@ -134,8 +132,7 @@ fn send(rt: &impl Abort, primary: &mut Primary) {
 
 /// Notes that a reported all that was sent to it.
 fn report(rt: &impl Abort, primary: &mut Primary) {
-    // For the proof: what each primary keeps.
-    let _acked = primary.acked();
+    primary.keeps();
     expect!(rt; primary.setup().sites() > 0);
     let sent = primary.sent(a());
     expect!(rt; primary.reported(a()) <= sent);
@@ -144,8 +141,7 @@ fn report(rt: &impl Abort, primary: &mut Primary) {
 
 /// Sees which rounds and windows a has.
 fn expect_rounds(rt: &impl Abort, primary: &Primary, rounds: &[u64], windows: &[Window]) {
-    // For the proof: what each primary keeps.
-    let _acked = primary.acked();
+    primary.keeps();
     expect!(rt; primary.setup().sites() > 0);
     expect!(rt; primary.rounds(a()) == rounds);
     expect!(rt; primary.windows(a()) == windows);
@@ -153,8 +149,7 @@ fn expect_rounds(rt: &impl Abort, primary: &Primary, rounds: &[u64], windows: &[
 
 /// Sees that a has a limit on x alone, whose entries have these amounts and places.
 fn expect_entries(rt: &impl Abort, primary: &Primary, wanted: &[(u64, u64)]) {
-    // For the proof: what each primary keeps.
-    let _acked = primary.acked();
+    primary.keeps();
     expect!(rt; primary.setup().sites() > 0);
     let limits = primary.limits(a());
     expect!(rt; limits.len() == 1);

@@ -98,8 +98,7 @@ pub(crate) fn first_passed(
     from: u64,
     to: u64,
 ) -> Option<usize> {
-    // For the proof: what each primary keeps.
-    let _acked = primary.acked();
+    primary.keeps();
     let (setup, log) = (primary.setup(), primary.log());
     expect!(rt; setup.sites() > 0);
     expect!(rt; log.objects() == setup.objects().len());

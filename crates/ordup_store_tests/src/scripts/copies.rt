@@ -226,8 +226,7 @@ fn make<'a>(
     call: Call,
 ) -> Result<bool, Refusal> {
     let primary = given.primary;
-    // For the proof: there are as many sites as are declared.
-    let _acked = primary.acked();
+    primary.keeps();
     let (setup, log) = (primary.setup(), primary.log());
     expect!(rt; setup.sites() > 0);
     expect!(rt; log.len() == 3);

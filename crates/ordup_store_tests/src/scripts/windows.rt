@@ -193,8 +193,7 @@ fn push_windows(alloc: Global, text: &mut Vec<u8>, windows: &[Window]) -> Result
 
 /// Adds the sites of a primary, each with its windows.
 fn push_sites(alloc: Global, text: &mut Vec<u8>, primary: &Primary) -> Result<(), AllocError> {
-    // For the proof: there are as many windows as sites have.
-    let _acked = primary.acked();
+    primary.keeps();
     let setup = primary.setup();
     for place in 0..setup.sites() as u8 {
         let site = SiteId::new(place);

@@ -23,7 +23,7 @@ const INPUT_OR_OUTPUT_FAILED: u8 = 3;
 const NO_MEMORY: u8 = 4;
 
 /// Why a job was not done.
-#[derive(Clone, Copy, Debug, PartialEq, Eq)]
+#[derive(Clone, Copy)]
 pub(crate) enum Fault {
     /// A read failed, or a record has more bytes than it may.
     Read,

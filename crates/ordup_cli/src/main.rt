@@ -4,24 +4,8 @@
 
 mod act;
 mod fault;
-#[cfg(test)]
-mod fault_tests;
 mod jobs;
-#[cfg(test)]
-mod lag_tests;
-#[cfg(test)]
-mod plan_tests;
 mod plans;
-#[cfg(test)]
-mod record_tests;
-#[cfg(test)]
-mod rows;
-#[cfg(test)]
-mod streams;
-#[cfg(test)]
-mod tests;
-#[cfg(test)]
-mod word_tests;
 
 pub use act::act;
 use fault::{Fault, WRONG_WORDS, tell};

@@ -1,4 +1,4 @@
-//! Scripts over streams that fail, plans, the windows of a script's sites, and all calls where memory is refused.
+//! Scripts over streams that fail, plans, and all calls where memory is refused.
 mod additions;
 mod copies;
 mod digests;
@@ -11,5 +11,4 @@ mod script;
 mod sets;
 mod starts;
 mod transcripts;
-mod windows;
 mod without_memory;

@@ -1,9 +1,7 @@
 //! Records to a writer that fails, and the version in which a record is written.
 ghost use Rattle.std.specs.Prelude.{Some};
 
-use crate::records::fixtures::record_in;
-use crate::records::places::{LATER, PLACED};
-use crate::records::spellings::RECORD;
+use crate::records::fixtures::{RECORD, record_in};
 use ordup_check::Record;
 use ordup_rows::{RecordWriteFault, write_record};
 use std::alloc::Global;
@@ -87,6 +85,30 @@ change,1,1,add:x:5
 change,2,1,add:x:1
 round,1,2,-
 window,1,0,2
+";
+
+/// A record whose limits begin at places 1 and 2.
+const PLACED: &str = "\
+ordup,2,a,2
+object,1,x,0
+limit,1,object:x,5@1
+limit,2,all,9@2
+change,1,1,add:x:5
+change,2,1,add:x:1
+round,1,2,-
+window,1,0,2
+";
+
+/// A record whose only limit begins at place 3.
+const LATER: &str = "\
+ordup,2,a,3
+object,1,x,0
+limit,1,count,2@3
+change,1,1,add:x:1
+change,2,1,add:x:1
+change,3,1,add:x:1
+round,1,3,-
+window,1,0,3
 ";
 
 /// Whether the record in a text is written as another text.

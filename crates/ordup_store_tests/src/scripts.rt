@@ -1,4 +1,4 @@
-//! Scripts over streams that fail, plans, and all calls where memory is refused.
+//! Scripts and plans over streams that fail and limits of bytes, and all calls where memory is refused.
 mod additions;
 mod copies;
 mod digests;
@@ -11,4 +11,3 @@ mod script;
 mod sets;
 mod starts;
 mod transcripts;
-mod without_memory;

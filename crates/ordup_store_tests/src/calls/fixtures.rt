@@ -5,7 +5,7 @@ ghost use Rattle.std.specs.Prelude.{◌≡◌};
 
 use ordup_limits::Scope;
 use ordup_objects::{Change, MessageSet, ObjectId, ObjectTable, Op, Refusal, SiteId};
-use ordup_world::{Event, Primary, Run, Setup, run};
+use ordup_world::{Event, Run, Setup, run};
 use std::alloc::Global;
 use std::process::Abort;
 
@@ -91,56 +91,9 @@ pub(crate) fn swap(rt: &impl Abort, alloc: Global, objects: &ObjectTable) -> Mes
     set_of(rt, alloc, objects, &changes)
 }
 
-/// The first limit of a that a span passes.
-pub(crate) fn first_passed(
-    rt: &impl Abort,
-    primary: &Primary,
-    from: u64,
-    to: u64,
-) -> Option<usize> {
-    primary.keeps();
-    let (setup, log) = (primary.setup(), primary.log());
-    expect!(rt; setup.sites() > 0);
-    expect!(rt; log.objects() == setup.objects().len());
-    expect!(rt; to <= log.len());
-    primary.limits(a()).over(log, setup.groups(), from, to)
-}
-
 /// A proposal of the update that adds a number to x.
 fn propose_add(rt: &impl Abort, setup: &Setup, n: i64) -> Event {
     Event::Propose(set_of_one(rt, setup.objects(), x(), Op::Add(n)))
-}
-
-/// Runs two updates, each with its settlement: 3 is added to x, and y becomes 14.
-///
-/// The first weighs 3, within each limit of a; with the second it is 7 on all, over 3.
-pub(crate) fn run_two_updates(rt: &impl Abort, alloc: Global) -> Result<Run, Refusal> {
-    let limits = [(on_x(), 5), (Scope::All, 3), (Scope::Count, 1)];
-    let setup = declared(rt, alloc, &limits);
-    let events = [
-        propose_add(rt, &setup, 3),
-        Event::Settle,
-        Event::Propose(set_of_one(rt, setup.objects(), y(), Op::Set(14))),
-        Event::Settle,
-    ];
-    let Ok(events) = Vec::from_array(alloc, events) else {
-        panic!(rt; "there is no memory for the events")
-    };
-    run(alloc, setup, events)
-}
-
-/// Runs three updates that add 3 to x, then -4 and then 2. They weigh 3, 4 and 2, and are not settled.
-pub(crate) fn run_there_and_back(rt: &impl Abort, alloc: Global) -> Result<Run, Refusal> {
-    let setup = declared(rt, alloc, &[(on_x(), 5)]);
-    let events = [
-        propose_add(rt, &setup, 3),
-        propose_add(rt, &setup, -4),
-        propose_add(rt, &setup, 2),
-    ];
-    let Ok(events) = Vec::from_array(alloc, events) else {
-        panic!(rt; "there is no memory for the events")
-    };
-    run(alloc, setup, events)
 }
 
 /// Runs two updates that add 5 and then 1 to x. The second forces a round of a, and is settled until a has reported it; then a is

@@ -1,4 +1,4 @@
-//! What `bench_feed` does, in plain Rust, as a mark to measure it against: `plain_feed CAPACITY PARCELS`.
+//! What `bench_calls` does, in plain Rust, as a mark to measure it against: `plain_feed CAPACITY PARCELS`.
 //!
 //! Sends parcels from one thread to another through a bounded queue, and prints how many were taken. The taker tells in an
 //! atomic word how many it took, and the sender looks there after each push. A side that finds the queue full or empty lets the

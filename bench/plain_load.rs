@@ -1,8 +1,8 @@
-//! What `bench_events` does, in plain Rust, as a mark to measure it against:
+//! What `bench_calls` does, in plain Rust, as a mark to measure it against:
 //! `plain_load KIND EVENTS`.
 //!
 //! Steps a store with limits through about so many events, which a small generator
-//! makes, and prints what has become of it, byte for byte as bench_events does. It goes
+//! makes, and prints what has become of it, byte for byte as bench_calls does. It goes
 //! the same way: it keeps how far each change moved its object beside the change, it
 //! finds the weight of a span by adding these up over the log, and at each settlement
 //! it tests the limits of each site one by one, in their order. What the span weighs on

@@ -3,7 +3,7 @@ ghost use Rattle.std.specs.Prelude.{◌≡◌, ◌≤◌, ◌+◌, [], length, O
 ghost use Rattle.ordup_objects.specs.Sets.{AreKnown};
 ghost use Rattle.ordup_objects.specs.Sizes.{most_updates};
 ghost use Rattle.ordup_feed.specs.Parcels.{IsNext};
-ghost use Rattle.bench_feed.specs.Following.{first_to_one as only_set};
+ghost use Rattle.bench_calls.specs.Following.{first_to_one as only_set};
 
 use crate::parcels::{first_to_one, one_object, parcel};
 use ordup_feed::{Feed, SendEnd, TakeEnd};

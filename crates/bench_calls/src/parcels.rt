@@ -2,7 +2,7 @@
 ghost use Rattle.std.specs.Prelude.{◌≡◌, ◌≤◌, length, IfOk};
 ghost use Rattle.ordup_objects.specs.Sets.{AreKnown};
 ghost use Rattle.ordup_objects.specs.Sizes.{most_updates};
-ghost use Rattle.bench_feed.specs.Following.{FollowsAny, first_to_one};
+ghost use Rattle.bench_calls.specs.Following.{FollowsAny, first_to_one};
 
 use ordup_objects::{Change, MessageSet, ObjectId, ObjectTable, Op, Refusal};
 use ordup_primary::Parcel;

@@ -1,6 +1,6 @@
 use Rattle.std.proofs.Common.{◌≡◌}
 use Rattle.ordup_feed.specs.Parcels.{IsNext}
-use Rattle.bench_feed.proofs.carrying.push.Given as goal
+use Rattle.bench_calls.proofs.carrying.push.Given as goal
 
 abbrev pub invariant-loop : goal.invariant-loop
 invariant-loop g l =

@@ -1,5 +1,5 @@
 use Rattle.std.proofs.Common.{arith}
-use Rattle.bench_feed.proofs.carrying.send_all.Goals as goal
+use Rattle.bench_calls.proofs.carrying.send_all.Goals as goal
 
 pub push-requires : goal.push-requires
 push-requires g c =

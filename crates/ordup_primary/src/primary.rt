@@ -111,6 +111,7 @@ impl<A: Allocator + Copy> Primary<A> {
         ensures sound { IsPrimary self.new }
     {
         let number = self.log.append(set)?;
+        self.keeps();
         Ok(number)
     }
 
@@ -141,6 +142,7 @@ impl<A: Allocator + Copy> Primary<A> {
         ensures marked { self.new ≡ record self.old { sites = slice_set self.old.sites site (record (progress_at self.old site) { sent = (progress_at self.old site).sent + 1 }) } }
     {
         self.sites[site.index()].sent += 1;
+        self.keeps();
     }
 
     /// Notes that a site reported to have applied the updates up to a place.
@@ -153,6 +155,7 @@ impl<A: Allocator + Copy> Primary<A> {
     {
         self.sites[site.index()].reported = place;
         self.ledgers[site.index()].reported(&self.log, self.setup.groups(), place);
+        self.keeps();
     }
 
     /// Settles the head, the update after the last acknowledged one.
@@ -173,15 +176,9 @@ impl<A: Allocator + Copy> Primary<A> {
         ensures sound { IsPrimary self.new }
         ensures fewest { HasFewestRounds self.new }
     {
-        if self.acked == self.log.len() {
-            return Err(Refusal::NothingToSettle);
-        }
-        let head = self.acked + 1;
-        if self.acked == self.decided {
-            self.decide(head)
-        } else {
-            Ok(self.wait(head))
-        }
+        let settled = self.settle_head();
+        self.keeps();
+        settled
     }
 
     /// Changes the limit of a site on a scope from the head on, or begins one there. It returns the place of the head.
@@ -203,7 +200,9 @@ impl<A: Allocator + Copy> Primary<A> {
         let scope = &scope;
         self.keeps();
         self.check_relimit(site, *scope, amount)?;
-        self.put_limit(site, *scope, amount)?;
+        let put = self.put_limit(site, *scope, amount);
+        self.keeps();
+        put?;
         Ok(self.acked + 1)
     }
 
@@ -386,7 +385,6 @@ impl<A: Allocator + Copy> Primary<A> {
         ensures changed { OnOk result (self.new ≡ relimited self.old site scope amount) }
         ensures refused { IfErr result (λ e. e ≡ Refusal.NoMemory) }
         ensures err { IfErr result (λ _. self.new ≡ self.old) }
-        ensures sound { IsPrimary self.new }
     {
         // The prover joins branches over a borrowed scope, not over a copied one.
         let scope = &scope;
@@ -401,6 +399,27 @@ impl<A: Allocator + Copy> Primary<A> {
         Ok(())
     }
 
+    /// Settles the head, if there is one.
+    fn settle_head(&mut self) -> Result<Settled, Refusal>
+        ensures answer { IfOk result (λ settled. settled ≡ settled_as self.old) }
+        ensures first { IfOk result (λ _. self.old.acked ≡ self.old.decided → Decides self.old self.new) }
+        ensures later { IfOk result (λ _. self.old.acked < self.old.decided → self.new ≡ record self.old { acked = acked_after self.old.acked (waiting_now self.old) }) }
+        ensures allowed { IfOk result (λ _. settle_refusal self.old ≡ None) }
+        ensures refused { IfErr result (λ e. IsRefusal (settle_refusal self.old) e) }
+        ensures only_first { IfErr result (λ _. self.old.acked ≡ self.old.decided) }
+        ensures err { IfErr result (λ _. self.new ≡ self.old) }
+    {
+        if self.acked == self.log.len() {
+            return Err(Refusal::NothingToSettle);
+        }
+        let head = self.acked + 1;
+        if self.acked == self.decided {
+            self.decide(head)
+        } else {
+            Ok(self.wait(head))
+        }
+    }
+
     /// The first settlement of the head, which decides it.
     fn decide(&mut self, head: u64) -> Result<Settled, Refusal>
         requires first { self.old.acked ≡ self.old.decided }
@@ -410,7 +429,6 @@ impl<A: Allocator + Copy> Primary<A> {
         ensures decides { IfOk result (λ _. Decides self.old self.new) }
         ensures refused { IfErr result (λ e. e ≡ Refusal.NoMemory) }
         ensures err { IfErr result (λ _. self.new ≡ self.old) }
-        ensures sound { IsPrimary self.new }
     {
         let forced = self.forced_now(head);
         reserve_decision(&mut self.sites)?;
@@ -433,7 +451,6 @@ impl<A: Allocator + Copy> Primary<A> {
         requires some { head ≤ length self.old.log.sets }
         ensures answer { result ≡ acked_or_waiting (self.old.acked + 1) (waiting_now self.old) }
         ensures later { self.new ≡ record self.old { acked = acked_after self.old.acked (waiting_now self.old) } }
-        ensures sound { IsPrimary self.new }
     {
         let waiting = self.waiting_now();
         if waiting.as_slice().is_empty() {
@@ -460,7 +477,6 @@ impl<A: Allocator + Copy> Primary<A> {
         requires some { head ≤ length self.old.log.sets }
         ensures sites { result ≡ forced_now self.old }
         ensures same { self.new ≡ self.old }
-        ensures sound { IsPrimary self.new }
     {
         self.setup.keeps();
         extend_to(&mut self.ledgers, &self.log, self.setup.groups(), head);

@@ -72,30 +72,6 @@ returns-clause-decides g c =
     (acked-some c.self.inside.acked c.as_slice.result.now
     (c.if-is_empty.ensures ∙ ap (λ xs. length xs == 0) (c.as_slice-2.ensures ∙ sym c.as_slice.ensures))))
 
-pub returns-then-is_empty-clause-sound : goal.returns-then-is_empty-clause-sound
-returns-then-is_empty-clause-sound g c =
-    let is = c.self.view_is ∙ c.forced_now-forced.ensures.same in
-    let forced = c.as_slice.ensures ∙ rw (← is) at c.forced_now-forced.ensures.sites in
-    let here = rw (← is) at c.requires.head in
-    IsPrimary-decided (state_of c.self.inside) _ c.self.invariant.primary (rw (← is) at c.requires.first)
-    (omega (arith, here, rw (← is) at c.requires.some))
-    (Decides-at c.self.inside c.reserve_decision.new.sites.items c.put_down.new.sites.items c.as_slice.result.now c.args.head
-    c.args.head c.in_ok-reserve_decision.ensures.same forced c.put_down.ensures.count c.put_down.ensures.sites here
-    (acked-none c.self.inside.acked c.args.head c.as_slice.result.now
-    (c.if-is_empty.ensures ∙ ap (λ xs. length xs == 0) (c.as_slice-2.ensures ∙ sym c.as_slice.ensures)) here))
-
-pub returns-clause-sound : goal.returns-clause-sound
-returns-clause-sound g c =
-    let is = c.self.view_is ∙ c.forced_now-forced.ensures.same in
-    let forced = c.as_slice.ensures ∙ rw (← is) at c.forced_now-forced.ensures.sites in
-    let here = rw (← is) at c.requires.head in
-    IsPrimary-decided (state_of c.self.inside) _ c.self.invariant.primary (rw (← is) at c.requires.first)
-    (omega (arith, here, rw (← is) at c.requires.some))
-    (Decides-at c.self.inside c.reserve_decision.new.sites.items c.put_down.new.sites.items c.as_slice.result.now c.self.inside.acked c.args.head
-    c.in_ok-reserve_decision.ensures.same forced c.put_down.ensures.count c.put_down.ensures.sites here
-    (acked-some c.self.inside.acked c.as_slice.result.now
-    (c.if-is_empty.ensures ∙ ap (λ xs. length xs == 0) (c.as_slice-2.ensures ∙ sym c.as_slice.ensures))))
-
 pub put_down-requires-clause-next : goal.put_down-requires-clause-next
 put_down-requires-clause-next g c =
     let is = c.self.view_is ∙ c.forced_now-forced.ensures.same in

@@ -32,13 +32,5 @@ returns-clause-marked g c =
     sent_more c.index.ensures lt c.index_mut.ensures.value refl in
     rw (← c.self.view_is) (ap (λ sites. let p : PrimaryState = record (state_of c.self.inside) { sites = sites } in p) e)
 
-pub returns-clause-sound : goal.returns-clause-sound
-returns-clause-sound g c =
-    let lt = rw (← c.self.view_is) at c.requires.site in
-    let e = view-set c.self.inside c.index.result c.args.site c.index_mut.result.now
-    (record c.index_mut.result.now { sent = c.index_mut.result.now.sent + 1 })
-    sent_more c.index.ensures lt c.index_mut.ensures.value refl in
-    IsPrimary-sent c.self.inside _ c.args.site c.self.invariant.primary lt (rw (← c.self.view_is) at c.requires.unsent) e
-
 pub index_mut-requires : goal.index_mut-requires
 index_mut-requires g c = grind (arith, common_steps)

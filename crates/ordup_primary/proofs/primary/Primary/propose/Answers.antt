@@ -16,11 +16,5 @@ invariant_of-self-2 g c =
       ledgers = AreLedgers-proposed (state_of c.self.inside) c.args.set c.self.inside.ledgers.items before.ledgers;
     })
 
-pub returns-clause-sound : goal.returns-clause-sound
-returns-clause-sound g c =
-    let set : IsSet c.args.set = search rules in
-    rw c.in_ok-number.ensures.added (IsPrimary-proposed (state_of c.self.inside) c.args.set c.self.invariant.primary set
-    (rw (← c.self.view_is) at c.requires) c.in_ok-number.ensures.allowed)
-
 pub append-requires : goal.append-requires
 append-requires g c = rw (← c.self.view_is) at c.requires

@@ -20,14 +20,6 @@ invariant_of-self g c =
       ledgers = rw same c.self.invariant.ledgers;
     }
 
-pub returns-in_default-clause-sound : goal.returns-in_default-clause-sound
-returns-in_default-clause-sound g c =
-    let tables = c.self.inside.limits.items in
-    let same : set tables c.index-index.result c.change.new.self ≡ tables =
-    ap (set tables c.index-index.result) (c.in_default.ensures.err ∙ c.index_mut.ensures.value)
-    ∙ set-get_or tables c.index-index.result c.index_mut.result.now in
-    rw same c.self.invariant.primary
-
 pub change-requires-2-clause-room : goal.change-requires-2-clause-room
 change-requires-2-clause-room g c =
     let p = state_of c.self.inside in
@@ -119,25 +111,3 @@ returns-clause-changed g c =
     ap (set tables c.index-index.result) (c.in-Ok.ensures.changed ∙ ap (λ (entries : Entries). changed entries e) old)
     ∙ ap (λ k. set tables k (changed (limits_at p c.args.site) e)) c.index-index.ensures in
     rw (← c.self.view_is) (ap (λ limits. let q : PrimaryState = record p { limits = limits } in q) stored)
-
-pub returns-clause-sound : goal.returns-clause-sound
-returns-clause-sound g c =
-    let p = state_of c.self.inside in
-    let tables = c.self.inside.limits.items in
-    let sound = c.self.invariant.primary in
-    let there = rw (← c.self.view_is) at c.requires.site in
-    let inside : c.index-index.result < length tables = omega (arith, there, c.index-index.ensures, sound.tables) in
-    let read : c.index.result.now ≡ limits_at p c.args.site =
-    get_or_read tables c.index-index.result c.index.result.now inside c.index.ensures []
-    ∙ ap (λ k. get_or tables k []) c.index-index.ensures in
-    let keep : AreEntries (limits_at p c.args.site) = rw read at c.keeps.ensures in
-    let e = entry_of c.args.scope c.args.amount (c.self.inside.acked + 1) in
-    let old : c.index_mut.result.now ≡ limits_at p c.args.site =
-    get_or_read tables c.index-index.result c.index_mut.result.now inside c.index_mut.ensures.value []
-    ∙ ap (λ k. get_or tables k []) c.index-index.ensures in
-    let stored : set tables c.index-index.result c.change.new.self ≡ set tables c.args.site (changed (limits_at p c.args.site) e) =
-    ap (set tables c.index-index.result) (c.in-Ok.ensures.changed ∙ ap (λ (entries : Entries). changed entries e) old)
-    ∙ ap (λ k. set tables k (changed (limits_at p c.args.site) e)) c.index-index.ensures in
-    let allowed = rw (← c.self.view_is) at c.requires.allowed in
-    let known = rw (← c.self.view_is) at c.requires.known in
-    rw stored (IsPrimary-relimited p c.args.site c.args.scope c.args.amount sound there keep known allowed)

@@ -40,15 +40,6 @@ returns-clause-noted g c =
     c.index.ensures lt c.index_mut.ensures.value refl in
     rw (← c.self.view_is) (ap (λ sites. let p : PrimaryState = record (state_of c.self.inside) { sites = sites } in p) e)
 
-pub returns-clause-sound : goal.returns-clause-sound
-returns-clause-sound g c =
-    let lt = rw (← c.self.view_is) at c.requires.site in
-    let e = view-set c.self.inside c.index.result c.args.site c.index_mut.result.now
-    (record c.index_mut.result.now { reported = c.args.place }) (reported_as c.args.place)
-    c.index.ensures lt c.index_mut.ensures.value refl in
-    IsPrimary-reported c.self.inside _ c.args.site c.args.place c.self.invariant.primary lt (rw (← c.self.view_is) at c.requires.risen)
-    (rw (← c.self.view_is) at c.requires.sent) e
-
 pub index_mut-requires : goal.index_mut-requires
 index_mut-requires g c = grind (arith, common_steps)
 

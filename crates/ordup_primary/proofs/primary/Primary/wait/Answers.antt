@@ -19,13 +19,6 @@ invariant_of-self g c =
           c.self.invariant.ledgers refl refl refl (omega (arith, rw (← c.self.view_is) at c.requires.head)) refl (λ s lt. refl);
     }
 
-pub returns-then-is_empty-clause-sound : goal.returns-then-is_empty-clause-sound
-returns-then-is_empty-clause-sound g c =
-    let waiting = c.as_slice.ensures ∙ rw (← c.self.view_is) at c.waiting_now-waiting.ensures in
-    IsPrimary-acked (state_of c.self.inside) c.as_slice.result.now c.args.head c.self.invariant.primary
-    (rw (← c.self.view_is) at c.requires.later) (rw (← c.self.view_is) at c.requires.head) waiting
-    (nil-from_empty c.as_slice.result.now c.if-is_empty.ensures)
-
 pub returns-then-is_empty-clause-later : goal.returns-then-is_empty-clause-later
 returns-then-is_empty-clause-later g c =
     let p = state_of c.self.inside in

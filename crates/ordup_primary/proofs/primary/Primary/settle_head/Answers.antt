@@ -1,18 +1,9 @@
-use Rattle.std.proofs.Common.{◌≡◌, ◌∙◌, arith}
-use Rattle.std.proofs.lemmas.Result.{IfErr-weaker}
+use Rattle.std.proofs.Common.{◌≡◌, ◌∙◌, arith, None}
+use Rattle.std.proofs.lemmas.Result.{IfErr-weaker, IfOk-weaker}
 use Rattle.ordup_objects.specs.declared.refusal.Refusal.TheVariants.{NoMemory}
-use Rattle.ordup_primary.specs.PrimaryInside.{state_of}
-use Rattle.ordup_primary.proofs.PrimaryLemmas.{HasFewestRounds-sound, settle-allowed, settled-later}
-use Rattle.ordup_primary.proofs.primary.Primary.settle.Goals as goal
-
-pub returns-then-self-len-clause-fewest : goal.returns-then-self-len-clause-fewest
-returns-then-self-len-clause-fewest g c = rw (← c.self.view_is) (HasFewestRounds-sound (state_of c.self.inside) c.self.invariant.primary)
-
-pub returns-then-self-clause-fewest : goal.returns-then-self-clause-fewest
-returns-then-self-clause-fewest g c = HasFewestRounds-sound c.decide.new.self c.decide.ensures.sound
-
-pub returns-else-self-clause-fewest : goal.returns-else-self-clause-fewest
-returns-else-self-clause-fewest g c = HasFewestRounds-sound c.wait.new.self c.wait.ensures.sound
+use Rattle.ordup_primary.specs.Primaries.{settle_refusal}
+use Rattle.ordup_primary.proofs.PrimaryLemmas.{settle-allowed, settled-later}
+use Rattle.ordup_primary.proofs.primary.Primary.settle_head.Goals as goal
 
 pub returns-else-self-clause-answer : goal.returns-else-self-clause-answer
 returns-else-self-clause-answer g c =
@@ -25,6 +16,13 @@ pub returns-else-self-clause-allowed : goal.returns-else-self-clause-allowed
 returns-else-self-clause-allowed g c =
     settle-allowed c.args.self.now c.len.result (rw (← c.self.view_is) c.len.ensures.len)
     (λ e. c.if-self-len.false (rw (← c.self.view_is) at e))
+
+pub returns-then-self-clause-allowed : goal.returns-then-self-clause-allowed
+returns-then-self-clause-allowed g c =
+    let allowed =
+    settle-allowed c.args.self.now c.len.result (rw (← c.self.view_is) c.len.ensures.len)
+    (λ e. c.if-self-len.false (rw (← c.self.view_is) at e)) in
+    IfOk-weaker c.decide.result _ (λ settled. settle_refusal c.args.self.now ≡ None) (λ settled is. allowed) c.decide.ensures.answer
 
 pub returns-then-self-clause-refused : goal.returns-then-self-clause-refused
 returns-then-self-clause-refused g c =

@@ -1,5 +1,5 @@
 -- What a reply is, by the parts that answered it.
-use Rattle.std.proofs.Common.{◌≡◌, ℕ, List, [], ◌++◌, Option, Some, None, true, false, refl}
+use Rattle.std.proofs.Common.{◌≡◌, ℕ, List, [], Option, Some, None, true, false, refl}
 use Rattle.std.proofs.Common.{ap, subst, sym, ◌∙◌, inl, inr}
 use Rattle.std.specs.Prelude.{Result, Ok, Err}
 use Rattle.std.proofs.lemmas.Bool.{cases_Bool}
@@ -41,74 +41,73 @@ module _ {A : Type 0} where
   -- what is left by an event
   pub left_by_event : (d : Declared) (w : WorldState) (past : Past A) (e : Event A) (answer : Answer A)
       → IsAnswer d past e answer → StandsFor d w (later past e answer) → (answer ≡ Refused NoMemory → ⊥)
-      → (setup : Declared) (subject object old new : List ℕ) → setup ≡ d
-      → new ≡ old ++ answer_text setup subject object answer
-      → Leaves (IsWorldOf w) old new (event_reply d past (subject, object) e)
-  left_by_event d w past e answer is state other setup subject object old new same text =
+      → (setup : Declared) (subject object : List ℕ) (Took : List ℕ → Type 0) → setup ≡ d
+      → Took (answer_text setup subject object answer)
+      → Leaves (IsWorldOf w) Took (event_reply d past (subject, object) e)
+  left_by_event d w past e answer is state other setup subject object Took same took =
       let replied = answered d past e answer is other in (
         subst (λ given. StandsFor d w (later past e given)) replied state,
-        text
-            ∙ ap (λ (d : Declared). old ++ answer_text d subject object answer) same
-            ∙ ap (λ given. old ++ answer_text d subject object given) replied,
+        subst (λ given. Took (answer_text d subject object given)) replied
+            (subst (λ (d : Declared). Took (answer_text d subject object answer)) same took),
       )
 
   -- what is left by an action, by its event and the names in it
-  pub left_by_action : (v w : WorldState) (a : Action) (names : List ℕ × List ℕ) (e : Event A) (old new : List ℕ)
+  pub left_by_action : (v w : WorldState) (a : Action) (names : List ℕ × List ℕ) (e : Event A) (Took : List ℕ → Type 0)
       → event_of v.primary.setup a ≡ Ok e → names ≡ names_of a
-      → ((d : Declared) (past : Past A) → StandsFor d v past → Leaves (IsWorldOf w) old new (event_reply d past names e))
-      → (s : ScriptState A) → IsWorldOf v s → Leaves (IsWorldOf w) old new (reply_or_refusal s (command_reply s (Act a)))
-  left_by_action v w a names e old new is named left (declaring d) stands = absurd stands
-  left_by_action v w a names e old new is named left (running d past) stands =
+      → ((d : Declared) (past : Past A) → StandsFor d v past → Leaves (IsWorldOf w) Took (event_reply d past names e))
+      → (s : ScriptState A) → IsWorldOf v s → Leaves (IsWorldOf w) Took (reply_or_refusal s (command_reply s (Act a)))
+  left_by_action v w a names e Took is named left (declaring d) stands = absurd stands
+  left_by_action v w a names e Took is named left (running d past) stands =
       let event : event_of d a ≡ Ok e = ap (λ d. event_of d a) (sym stands.store.declared) ∙ is in
       rw (event, sym named) (left d past stands)
 
   -- what is left by the action that words spell
-  pub left_by_words : (v w : WorldState) (c : Option Command) (a : Action) (names : List ℕ × List ℕ) (e : Event A) (old new : List ℕ)
-      → c ≡ Some (Act a) → event_of v.primary.setup a ≡ Ok e → names ≡ names_of a
-      → ((d : Declared) (past : Past A) → StandsFor d v past → Leaves (IsWorldOf w) old new (event_reply d past names e))
-      → (s : ScriptState A) → IsWorldOf v s → Leaves (IsWorldOf w) old new (words_reply s c)
-  left_by_words v w c a names e old new spelled is named left s stands =
-      rw spelled (left_by_action v w a names e old new is named left s stands)
+  pub left_by_words : (v w : WorldState) (c : Option Command) (a : Action) (names : List ℕ × List ℕ) (e : Event A)
+      (Took : List ℕ → Type 0) → c ≡ Some (Act a) → event_of v.primary.setup a ≡ Ok e → names ≡ names_of a
+      → ((d : Declared) (past : Past A) → StandsFor d v past → Leaves (IsWorldOf w) Took (event_reply d past names e))
+      → (s : ScriptState A) → IsWorldOf v s → Leaves (IsWorldOf w) Took (words_reply s c)
+  left_by_words v w c a names e Took spelled is named left s stands =
+      rw spelled (left_by_action v w a names e Took is named left s stands)
 
   -- what is left by an action of words that is refused
-  pub left_by_refusal : (v : WorldState) (c : Option Command) (a : Action) (r : Refusal) (old new : List ℕ)
-      → c ≡ Some (Act a) → event_of {A = A} v.primary.setup a ≡ Err r → new ≡ old ++ refused_text r
-      → (s : ScriptState A) → IsWorldOf v s → Leaves (IsWorldOf v) old new (words_reply s c)
-  left_by_refusal v c a r old new spelled is text (declaring d) stands = absurd stands
-  left_by_refusal v c a r old new spelled is text (running d past) stands =
+  pub left_by_refusal : (v : WorldState) (c : Option Command) (a : Action) (r : Refusal) (Took : List ℕ → Type 0)
+      → c ≡ Some (Act a) → event_of {A = A} v.primary.setup a ≡ Err r → Took (refused_text r)
+      → (s : ScriptState A) → IsWorldOf v s → Leaves (IsWorldOf v) Took (words_reply s c)
+  left_by_refusal v c a r Took spelled is took (declaring d) stands = absurd stands
+  left_by_refusal v c a r Took spelled is took (running d past) stands =
       let refused : event_of {A = A} d a ≡ Err r = ap (λ d. event_of {A = A} d a) (sym stands.store.declared) ∙ is in
-      rw (spelled, refused) (stands, text)
+      rw (spelled, refused) (stands, took)
 
   -- what is left by words that spell no command
-  pub left_by_no_command : (IsState : ScriptState A → Type 0) (c : Option Command) (old new : List ℕ)
-      → c ≡ None → new ≡ old ++ refused_text Syntax
-      → (s : ScriptState A) → IsState s → Leaves IsState old new (words_reply s c)
-  left_by_no_command IsState c old new none text s is = rw none (is, text)
+  pub left_by_no_command : (IsState : ScriptState A → Type 0) (c : Option Command) (Took : List ℕ → Type 0)
+      → c ≡ None → Took (refused_text Syntax)
+      → (s : ScriptState A) → IsState s → Leaves IsState Took (words_reply s c)
+  left_by_no_command IsState c Took none took s is = rw none (is, took)
 
   -- what is left by a proposal whose words give no set
-  pub left_by_no_set : (v : WorldState) (words : List (List ℕ)) (r : Result (List Change) Refusal) (e : Refusal) (old new : List ℕ)
-      → r ≡ Err e → (are_changes words ≡ false → r ≡ Err Syntax)
+  pub left_by_no_set : (v : WorldState) (words : List (List ℕ)) (r : Result (List Change) Refusal) (e : Refusal)
+      (Took : List ℕ → Type 0) → r ≡ Err e → (are_changes words ≡ false → r ≡ Err Syntax)
       → (are_changes words ≡ true → Gives (set_in v.primary.setup.objects (changes_of words)) r)
-      → (e ≡ NoMemory → ⊥) → new ≡ old ++ refused_text e
-      → (s : ScriptState A) → IsWorldOf v s → Leaves (IsWorldOf v) old new (words_reply s (command_by keyword.Propose words))
-  left_by_no_set v words r e old new is syntax gives other text s stands = elim (cases_Bool (are_changes words)) [
+      → (e ≡ NoMemory → ⊥) → Took (refused_text e)
+      → (s : ScriptState A) → IsWorldOf v s → Leaves (IsWorldOf v) Took (words_reply s (command_by keyword.Propose words))
+  left_by_no_set v words r e Took is syntax gives other took s stands = elim (cases_Bool (are_changes words)) [
     | inl each ↦ elim (rw is at (gives each)) [
       | inl refused ↦
-          left_by_refusal v (command_by keyword.Propose words) (Propose (changes_of words)) e old new (rw each refl) (rw refused refl)
-          text s stands
+          left_by_refusal v (command_by keyword.Propose words) (Propose (changes_of words)) e Took (rw each refl) (rw refused refl)
+          took s stands
       | inr no_memory ↦ absurd (other no_memory)
     ]
     | inr none ↦
         let same : e ≡ Syntax = (let p = sym is ∙ syntax none in cc) in
-        left_by_no_command (IsWorldOf v) (command_by keyword.Propose words) old new (rw none refl)
-        (text ∙ ap (λ (e : Refusal). old ++ refused_text e) same) s stands
+        left_by_no_command (IsWorldOf v) (command_by keyword.Propose words) Took (rw none refl)
+        (subst (λ (e : Refusal). Took (refused_text e)) same took) s stands
   ]
 
   -- what is left by a start
-  pub left_by_start : (d : Declared) (w : WorldState) (old new : List ℕ)
-      → (start_refusal d ≡ None) × IsWorldOf {A = A} w (running d []) → new ≡ old ++ started_text
+  pub left_by_start : (d : Declared) (w : WorldState) (Took : List ℕ → Type 0)
+      → (start_refusal d ≡ None) × IsWorldOf {A = A} w (running d []) → Took started_text
       → (s : ScriptState A) → Declares d s
-      → Leaves (IsWorldOf w) old new (reply_or_refusal s (command_reply s Start))
-  left_by_start d w old new (ready, started) text s is =
-      let wanted : ScriptState A → Type 0 = λ s. Leaves (IsWorldOf w) old new (reply_or_refusal s (command_reply s Start)) in
-      at_declaring wanted d (rw ready (started, text)) s is
+      → Leaves (IsWorldOf w) Took (reply_or_refusal s (command_reply s Start))
+  left_by_start d w Took (ready, started) took s is =
+      let wanted : ScriptState A → Type 0 = λ s. Leaves (IsWorldOf w) Took (reply_or_refusal s (command_reply s Start)) in
+      at_declaring wanted d (rw ready (started, took)) s is

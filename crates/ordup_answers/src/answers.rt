@@ -1,11 +1,11 @@
 //! The answer to a line: what its command does to the setup or to the world, and the text that says so.
-ghost use Rattle.std.specs.Prelude.{◌≡◌, ◌++◌, [], None, Some, IfOk, IfErr, OnOk, option_map};
+ghost use Rattle.std.specs.Prelude.{◌≡◌, [], None, Some, IfOk, IfErr, OnOk, option_map};
 ghost use Rattle.ordup_grammar.specs.Commands.{Certify, Declare, Start, command_by, command_of};
 ghost use Rattle.ordup_grammar.specs.Declarations.{declaration_of};
 ghost use Rattle.ordup_grammar.specs.Requests.{asked};
 ghost use Rattle.ordup_grammar.specs.declared.keyword.Keyword.{Keyword};
 ghost use Rattle.ordup_answers.specs.ScriptStates.{ScriptState, Declares, IsWorldOf, Stands};
-ghost use Rattle.ordup_answers.specs.Replies.{request_reply, words_reply, command_reply, reply_or_refusal, declared_text};
+ghost use Rattle.ordup_answers.specs.Replies.{request_reply, words_reply, command_reply, reply_or_refusal};
 ghost use Rattle.ordup_answers.specs.ScriptStates.{running};
 ghost use Rattle.ordup_primary.specs.Declarations.{Declared, start_refusal};
 ghost use Rattle.ordup_answers.specs.Answers.{Leaves};
@@ -17,31 +17,33 @@ use crate::events::{
 };
 use crate::names::find_site;
 use crate::script_end::ScriptEnd;
-use crate::text::{push_certified, push_refused, push_started};
+use crate::taker::AnswerTaker;
 use ordup_grammar::{Declaration, Keyword, ScriptLine, Word, Words};
 use ordup_objects::Refusal;
-use ordup_text::{TextBuffer, push_named};
 use ordup_world::{Setup, World};
 use std::alloc::{AllocError, Allocator};
 use std::mem;
 
 /// Answers a line.
 ///
-/// Where it succeeds: if the script was in a state, it is afterwards in the state that the reply to the line leaves, and the text
-/// of the reply was added to `out`. It fails only where an allocation was refused, and then the run ends.
+/// Where it succeeds: if the script was in a state, it is afterwards in the state that the reply to the line leaves, and `out` took
+/// the text of the reply. It fails only where an allocation was refused, and then the run ends.
 // Inlined into the loop over lines, with the reading of a line before it, so that the words of a line are not moved.
 #[inline(always)]
-pub fn answer<A: Allocator + Copy>(
+pub fn answer<A: Allocator + Copy, O: AnswerTaker<A>>(
     alloc: A,
     store: &mut ScriptEnd<A>,
     line: &ScriptLine<'_>,
-    out: &mut TextBuffer<A>,
+    out: &mut O,
 ) -> Result<(), AllocError>
-    ensures { OnOk result ((s : ScriptState A) → Stands store.old s → Leaves (Stands store.new) out.old.text out.new.text (request_reply s (asked line.now))) }
+    ensures { OnOk result ((s : ScriptState A) → Stands store.old s → Leaves (Stands store.new) (O.took out.old out.new) (request_reply s (asked line.now))) }
 {
     match line {
-        ScriptLine::Nothing => Ok(()),
-        ScriptLine::NoCommand => push_refused(out, Refusal::Syntax),
+        ScriptLine::Nothing => {
+            out.nothing();
+            Ok(())
+        }
+        ScriptLine::NoCommand => out.refused(Refusal::Syntax),
         ScriptLine::Words(first, rest) => answer_words(alloc, store, first, rest, out),
     }
 }
@@ -50,14 +52,14 @@ pub fn answer<A: Allocator + Copy>(
 // Each keyword is answered where it is found, so that no command is made that has to be matched again. That takes 14 percent off
 // the instructions of the load `first`, and 9 percent off those of the mixed load.
 #[inline(always)]
-fn answer_words<A: Allocator + Copy>(
+fn answer_words<A: Allocator + Copy, O: AnswerTaker<A>>(
     alloc: A,
     store: &mut ScriptEnd<A>,
     first: &Word<'_>,
     rest: &Words<'_>,
-    out: &mut TextBuffer<A>,
+    out: &mut O,
 ) -> Result<(), AllocError>
-    ensures { OnOk result ((s : ScriptState A) → Stands store.old s → Leaves (Stands store.new) out.old.text out.new.text (words_reply s (command_of first.now rest.now))) }
+    ensures { OnOk result ((s : ScriptState A) → Stands store.old s → Leaves (Stands store.new) (O.took out.old out.new) (words_reply s (command_of first.now rest.now))) }
 {
     let Some(keyword) = Keyword::of(first) else {
         return answer_declaration(alloc, store, first, rest, out);
@@ -80,86 +82,71 @@ fn answer_words<A: Allocator + Copy>(
 }
 
 /// Declares what words say, and answers that.
-fn answer_declaration<A: Allocator + Copy>(
+fn answer_declaration<A: Allocator + Copy, O: AnswerTaker<A>>(
     alloc: A,
     store: &mut ScriptEnd<A>,
     first: &Word<'_>,
     rest: &Words<'_>,
-    out: &mut TextBuffer<A>,
+    out: &mut O,
 ) -> Result<(), AllocError>
-    ensures { OnOk result ((s : ScriptState A) → Stands store.old s → Leaves (Stands store.new) out.old.text out.new.text (words_reply s (option_map (λ d. Declare d) (declaration_of first.now rest.now)))) }
+    ensures { OnOk result ((s : ScriptState A) → Stands store.old s → Leaves (Stands store.new) (O.took out.old out.new) (words_reply s (option_map (λ d. Declare d) (declaration_of first.now rest.now)))) }
 {
     let Some(declaration) = Declaration::parse(first, rest) else {
-        return push_refused(out, Refusal::Syntax);
+        return out.refused(Refusal::Syntax);
     };
     match store {
         ScriptEnd::Declared(setup) => carry_out(alloc, setup, &declaration, out),
-        ScriptEnd::Running(_) => push_refused(out, Refusal::AlreadyStarted),
+        ScriptEnd::Running(_) => out.refused(Refusal::AlreadyStarted),
     }
 }
 
 /// Declares what a declaration says, and answers it.
-fn carry_out<A: Allocator + Copy>(
+fn carry_out<A: Allocator + Copy, O: AnswerTaker<A>>(
     alloc: A,
     setup: &mut Setup<A>,
     declaration: &Declaration<'_>,
-    out: &mut TextBuffer<A>,
+    out: &mut O,
 ) -> Result<(), AllocError>
-    ensures { OnOk result ((s : ScriptState A) → Declares setup.old s → Leaves (Declares setup.new) out.old.text out.new.text (reply_or_refusal s (command_reply s (Declare declaration.now)))) }
+    ensures { OnOk result ((s : ScriptState A) → Declares setup.old s → Leaves (Declares setup.new) (O.took out.old out.new) (reply_or_refusal s (command_reply s (Declare declaration.now)))) }
 {
     match declare(alloc, setup, declaration) {
-        Ok(()) => push_declared(out, declaration),
-        Err(refusal) => push_refused(out, refusal),
-    }
-}
-
-/// Adds the answer to a declaration.
-fn push_declared<A: Allocator + Copy>(
-    out: &mut TextBuffer<A>,
-    declaration: &Declaration<'_>,
-) -> Result<(), AllocError>
-    ensures { OnOk result (out.new.text ≡ out.old.text ++ declared_text declaration.now) }
-{
-    match declaration {
-        Declaration::Object { name, .. } => push_named(out, b"ok object ", name.as_bytes()),
-        Declaration::Group { name, .. } => push_named(out, b"ok group ", name.as_bytes()),
-        Declaration::Site { name, .. } => push_named(out, b"ok site ", name.as_bytes()),
-        Declaration::Limit { site, .. } => push_named(out, b"ok limit ", site.as_bytes()),
+        Ok(()) => out.declared(declaration),
+        Err(refusal) => out.refused(refusal),
     }
 }
 
 /// Answers `start`.
-fn answer_start<A: Allocator + Copy>(
+fn answer_start<A: Allocator + Copy, O: AnswerTaker<A>>(
     alloc: A,
     store: &mut ScriptEnd<A>,
     rest: &Words<'_>,
-    out: &mut TextBuffer<A>,
+    out: &mut O,
 ) -> Result<(), AllocError>
-    ensures { OnOk result ((s : ScriptState A) → Stands store.old s → Leaves (Stands store.new) out.old.text out.new.text (words_reply s (command_by Keyword.Start rest.now))) }
+    ensures { OnOk result ((s : ScriptState A) → Stands store.old s → Leaves (Stands store.new) (O.took out.old out.new) (words_reply s (command_by Keyword.Start rest.now))) }
 {
     if !rest.is_empty() {
-        return push_refused(out, Refusal::Syntax);
+        return out.refused(Refusal::Syntax);
     }
     start_store(alloc, store, out)
 }
 
 /// Starts the store with what is declared, where it is not started yet, and answers that.
-fn start_store<A: Allocator + Copy>(
+fn start_store<A: Allocator + Copy, O: AnswerTaker<A>>(
     alloc: A,
     store: &mut ScriptEnd<A>,
-    out: &mut TextBuffer<A>,
+    out: &mut O,
 ) -> Result<(), AllocError>
-    ensures { OnOk result ((s : ScriptState A) → Stands store.old s → Leaves (Stands store.new) out.old.text out.new.text (reply_or_refusal s (command_reply s Start))) }
+    ensures { OnOk result ((s : ScriptState A) → Stands store.old s → Leaves (Stands store.new) (O.took out.old out.new) (reply_or_refusal s (command_reply s Start))) }
 {
     let ScriptEnd::Declared(setup) = store else {
-        return push_refused(out, Refusal::AlreadyStarted);
+        return out.refused(Refusal::AlreadyStarted);
     };
     match start(alloc, setup) {
         Ok(world) => {
             store.run(world);
-            push_started(out)
+            out.started()
         }
-        Err(refusal) => push_refused(out, refusal),
+        Err(refusal) => out.refused(refusal),
     }
 }
 
@@ -178,18 +165,18 @@ fn start<A: Allocator + Copy>(alloc: A, setup: &mut Setup<A>) -> Result<World<A>
 }
 
 /// Answers `certify S`.
-fn answer_certify<A: Allocator + Copy>(
+fn answer_certify<A: Allocator + Copy, O: AnswerTaker<A>>(
     store: &mut ScriptEnd<A>,
     rest: &Words<'_>,
-    out: &mut TextBuffer<A>,
+    out: &mut O,
 ) -> Result<(), AllocError>
-    ensures { OnOk result ((s : ScriptState A) → Stands store.old s → Leaves (Stands store.new) out.old.text out.new.text (words_reply s (command_by Keyword.Certify rest.now))) }
+    ensures { OnOk result ((s : ScriptState A) → Stands store.old s → Leaves (Stands store.new) (O.took out.old out.new) (words_reply s (command_by Keyword.Certify rest.now))) }
 {
     let Some(site) = rest.only_word() else {
-        return push_refused(out, Refusal::Syntax);
+        return out.refused(Refusal::Syntax);
     };
     match store {
-        ScriptEnd::Declared(_) => push_refused(out, Refusal::NotStarted),
+        ScriptEnd::Declared(_) => out.refused(Refusal::NotStarted),
         ScriptEnd::Running(world) => certify(world, &site, out),
     }
 }
@@ -198,19 +185,19 @@ fn answer_certify<A: Allocator + Copy>(
 ///
 /// The check of the site's record would answer the same number, so no record is formed: each record of a primary is valid, and of a
 /// valid record the check answers the number of its rounds.
-fn certify<A: Allocator + Copy>(
+fn certify<A: Allocator + Copy, O: AnswerTaker<A>>(
     world: &World<A>,
     name: &Word<'_>,
-    out: &mut TextBuffer<A>,
+    out: &mut O,
 ) -> Result<(), AllocError>
-    ensures { OnOk result ((s : ScriptState A) → IsWorldOf world.now s → Leaves (IsWorldOf world.now) out.old.text out.new.text (reply_or_refusal s (command_reply s (Certify name.now)))) }
+    ensures { OnOk result ((s : ScriptState A) → IsWorldOf world.now s → Leaves (IsWorldOf world.now) (O.took out.old out.new) (reply_or_refusal s (command_reply s (Certify name.now)))) }
 {
     let primary = world.primary();
     let setup = primary.setup();
     let site = find_site(setup, name);
     if site.index() >= setup.sites() {
-        return push_refused(out, Refusal::UnknownSite);
+        return out.refused(Refusal::UnknownSite);
     }
     let rounds = primary.rounds(site).len() as u64;
-    push_certified(out, name.as_bytes(), rounds, primary.windows(site))
+    out.certified(name.as_bytes(), rounds, primary.windows(site))
 }

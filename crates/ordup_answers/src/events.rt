@@ -18,136 +18,135 @@ ghost use Rattle.ordup_answers.specs.ScriptStates.{ScriptState, IsWorldOf, Stand
 use crate::changes::{set_in, syntax_or};
 use crate::names::{find_object, find_scope, find_site};
 use crate::script_end::ScriptEnd;
-use crate::text::{push_answer, push_refused};
+use crate::taker::AnswerTaker;
 use ordup_grammar::{ScopeWord, Word, Words};
 use ordup_objects::{Name, ObjectId, Refusal};
-use ordup_text::TextBuffer;
 use ordup_world::{Event, Setup, World};
 use std::alloc::{AllocError, Allocator};
 
 /// Answers `send S`.
-pub(crate) fn answer_send<A: Allocator + Copy>(
+pub(crate) fn answer_send<A: Allocator + Copy, O: AnswerTaker<A>>(
     store: &mut ScriptEnd<A>,
     rest: &Words<'_>,
-    out: &mut TextBuffer<A>,
+    out: &mut O,
 ) -> Result<(), AllocError>
-    ensures { OnOk result ((s : ScriptState A) → Stands store.old s → Leaves (Stands store.new) out.old.text out.new.text (words_reply s (command_by Keyword.Send rest.now))) }
+    ensures { OnOk result ((s : ScriptState A) → Stands store.old s → Leaves (Stands store.new) (O.took out.old out.new) (words_reply s (command_by Keyword.Send rest.now))) }
 {
     let Some(site) = rest.only_word() else {
-        return push_refused(out, Refusal::Syntax);
+        return out.refused(Refusal::Syntax);
     };
     let ScriptEnd::Running(world) = store else {
-        return push_refused(out, Refusal::NotStarted);
+        return out.refused(Refusal::NotStarted);
     };
     let event = Event::Send(find_site(world.primary().setup(), &site));
     answer_event(world, event, site.as_bytes(), &[], out)
 }
 
 /// Answers `apply S`.
-pub(crate) fn answer_apply<A: Allocator + Copy>(
+pub(crate) fn answer_apply<A: Allocator + Copy, O: AnswerTaker<A>>(
     store: &mut ScriptEnd<A>,
     rest: &Words<'_>,
-    out: &mut TextBuffer<A>,
+    out: &mut O,
 ) -> Result<(), AllocError>
-    ensures { OnOk result ((s : ScriptState A) → Stands store.old s → Leaves (Stands store.new) out.old.text out.new.text (words_reply s (command_by Keyword.Apply rest.now))) }
+    ensures { OnOk result ((s : ScriptState A) → Stands store.old s → Leaves (Stands store.new) (O.took out.old out.new) (words_reply s (command_by Keyword.Apply rest.now))) }
 {
     let Some(site) = rest.only_word() else {
-        return push_refused(out, Refusal::Syntax);
+        return out.refused(Refusal::Syntax);
     };
     let ScriptEnd::Running(world) = store else {
-        return push_refused(out, Refusal::NotStarted);
+        return out.refused(Refusal::NotStarted);
     };
     let event = Event::Apply(find_site(world.primary().setup(), &site));
     answer_event(world, event, site.as_bytes(), &[], out)
 }
 
 /// Answers `report S`.
-pub(crate) fn answer_report<A: Allocator + Copy>(
+pub(crate) fn answer_report<A: Allocator + Copy, O: AnswerTaker<A>>(
     store: &mut ScriptEnd<A>,
     rest: &Words<'_>,
-    out: &mut TextBuffer<A>,
+    out: &mut O,
 ) -> Result<(), AllocError>
-    ensures { OnOk result ((s : ScriptState A) → Stands store.old s → Leaves (Stands store.new) out.old.text out.new.text (words_reply s (command_by Keyword.Report rest.now))) }
+    ensures { OnOk result ((s : ScriptState A) → Stands store.old s → Leaves (Stands store.new) (O.took out.old out.new) (words_reply s (command_by Keyword.Report rest.now))) }
 {
     let Some(site) = rest.only_word() else {
-        return push_refused(out, Refusal::Syntax);
+        return out.refused(Refusal::Syntax);
     };
     let ScriptEnd::Running(world) = store else {
-        return push_refused(out, Refusal::NotStarted);
+        return out.refused(Refusal::NotStarted);
     };
     let event = Event::Report(find_site(world.primary().setup(), &site));
     answer_event(world, event, site.as_bytes(), &[], out)
 }
 
 /// Answers `show S`.
-pub(crate) fn answer_show<A: Allocator + Copy>(
+pub(crate) fn answer_show<A: Allocator + Copy, O: AnswerTaker<A>>(
     store: &mut ScriptEnd<A>,
     rest: &Words<'_>,
-    out: &mut TextBuffer<A>,
+    out: &mut O,
 ) -> Result<(), AllocError>
-    ensures { OnOk result ((s : ScriptState A) → Stands store.old s → Leaves (Stands store.new) out.old.text out.new.text (words_reply s (command_by Keyword.Show rest.now))) }
+    ensures { OnOk result ((s : ScriptState A) → Stands store.old s → Leaves (Stands store.new) (O.took out.old out.new) (words_reply s (command_by Keyword.Show rest.now))) }
 {
     let Some(site) = rest.only_word() else {
-        return push_refused(out, Refusal::Syntax);
+        return out.refused(Refusal::Syntax);
     };
     let ScriptEnd::Running(world) = store else {
-        return push_refused(out, Refusal::NotStarted);
+        return out.refused(Refusal::NotStarted);
     };
     let event = Event::Show(find_site(world.primary().setup(), &site));
     answer_event(world, event, site.as_bytes(), &[], out)
 }
 
 /// Answers `settle`.
-pub(crate) fn answer_settle<A: Allocator + Copy>(
+pub(crate) fn answer_settle<A: Allocator + Copy, O: AnswerTaker<A>>(
     store: &mut ScriptEnd<A>,
     rest: &Words<'_>,
-    out: &mut TextBuffer<A>,
+    out: &mut O,
 ) -> Result<(), AllocError>
-    ensures { OnOk result ((s : ScriptState A) → Stands store.old s → Leaves (Stands store.new) out.old.text out.new.text (words_reply s (command_by Keyword.Settle rest.now))) }
+    ensures { OnOk result ((s : ScriptState A) → Stands store.old s → Leaves (Stands store.new) (O.took out.old out.new) (words_reply s (command_by Keyword.Settle rest.now))) }
 {
     if !rest.is_empty() {
-        return push_refused(out, Refusal::Syntax);
+        return out.refused(Refusal::Syntax);
     }
     let ScriptEnd::Running(world) = store else {
-        return push_refused(out, Refusal::NotStarted);
+        return out.refused(Refusal::NotStarted);
     };
     answer_event(world, Event::Settle, &[], &[], out)
 }
 
 /// Answers `propose C..`.
-pub(crate) fn answer_propose<A: Allocator + Copy>(
+pub(crate) fn answer_propose<A: Allocator + Copy, O: AnswerTaker<A>>(
     alloc: A,
     store: &mut ScriptEnd<A>,
     rest: &Words<'_>,
-    out: &mut TextBuffer<A>,
+    out: &mut O,
 ) -> Result<(), AllocError>
-    ensures { OnOk result ((s : ScriptState A) → Stands store.old s → Leaves (Stands store.new) out.old.text out.new.text (words_reply s (command_by Keyword.Propose rest.now))) }
+    ensures { OnOk result ((s : ScriptState A) → Stands store.old s → Leaves (Stands store.new) (O.took out.old out.new) (words_reply s (command_by Keyword.Propose rest.now))) }
 {
     let ScriptEnd::Running(world) = store else {
-        return push_refused(out, syntax_or(rest, Refusal::NotStarted));
+        return out.refused(syntax_or(rest, Refusal::NotStarted));
     };
     match set_in(alloc, world.primary().setup().objects(), rest) {
         Ok(set) => answer_event(world, Event::Propose(set), &[], &[], out),
-        Err(refusal) => push_refused(out, refusal),
+        Err(refusal) => out.refused(refusal),
     }
 }
 
 /// Answers `begin Q S LIMIT`.
-pub(crate) fn answer_begin<A: Allocator + Copy>(
+pub(crate) fn answer_begin<A: Allocator + Copy, O: AnswerTaker<A>>(
     store: &mut ScriptEnd<A>,
     rest: &Words<'_>,
-    out: &mut TextBuffer<A>,
+    out: &mut O,
 ) -> Result<(), AllocError>
-    ensures { OnOk result ((s : ScriptState A) → Stands store.old s → Leaves (Stands store.new) out.old.text out.new.text (words_reply s (command_by Keyword.Begin rest.now))) }
+    ensures { OnOk result ((s : ScriptState A) → Stands store.old s → Leaves (Stands store.new) (O.took out.old out.new) (words_reply s (command_by Keyword.Begin rest.now))) }
 {
     let Some((query, rest)) = rest.split_first() else {
-        return push_refused(out, Refusal::Syntax);
+        return out.refused(Refusal::Syntax);
     };
     let Some((site, limit)) = rest.name_and_number() else {
-        return push_refused(out, Refusal::Syntax);
+        return out.refused(Refusal::Syntax);
     };
     let ScriptEnd::Running(world) = store else {
-        return push_refused(out, Refusal::NotStarted);
+        return out.refused(Refusal::NotStarted);
     };
     match Name::new(query.as_bytes()) {
         Ok(name) => {
@@ -158,23 +157,23 @@ pub(crate) fn answer_begin<A: Allocator + Copy>(
             };
             answer_event(world, event, query.as_bytes(), &[], out)
         }
-        Err(refusal) => push_refused(out, refusal),
+        Err(refusal) => out.refused(refusal),
     }
 }
 
 /// Answers `read Q X`.
-pub(crate) fn answer_read<A: Allocator + Copy>(
+pub(crate) fn answer_read<A: Allocator + Copy, O: AnswerTaker<A>>(
     store: &mut ScriptEnd<A>,
     rest: &Words<'_>,
-    out: &mut TextBuffer<A>,
+    out: &mut O,
 ) -> Result<(), AllocError>
-    ensures { OnOk result ((s : ScriptState A) → Stands store.old s → Leaves (Stands store.new) out.old.text out.new.text (words_reply s (command_by Keyword.Read rest.now))) }
+    ensures { OnOk result ((s : ScriptState A) → Stands store.old s → Leaves (Stands store.new) (O.took out.old out.new) (words_reply s (command_by Keyword.Read rest.now))) }
 {
     let Some((query, object)) = rest.two_words() else {
-        return push_refused(out, Refusal::Syntax);
+        return out.refused(Refusal::Syntax);
     };
     let ScriptEnd::Running(world) = store else {
-        return push_refused(out, Refusal::NotStarted);
+        return out.refused(Refusal::NotStarted);
     };
     match read_of(world.primary().setup(), &query, &object) {
         Ok((name, id)) => {
@@ -184,63 +183,63 @@ pub(crate) fn answer_read<A: Allocator + Copy>(
             };
             answer_event(world, event, query.as_bytes(), object.as_bytes(), out)
         }
-        Err(refusal) => push_refused(out, refusal),
+        Err(refusal) => out.refused(refusal),
     }
 }
 
 /// Answers `end Q`.
-pub(crate) fn answer_end<A: Allocator + Copy>(
+pub(crate) fn answer_end<A: Allocator + Copy, O: AnswerTaker<A>>(
     store: &mut ScriptEnd<A>,
     rest: &Words<'_>,
-    out: &mut TextBuffer<A>,
+    out: &mut O,
 ) -> Result<(), AllocError>
-    ensures { OnOk result ((s : ScriptState A) → Stands store.old s → Leaves (Stands store.new) out.old.text out.new.text (words_reply s (command_by Keyword.End rest.now))) }
+    ensures { OnOk result ((s : ScriptState A) → Stands store.old s → Leaves (Stands store.new) (O.took out.old out.new) (words_reply s (command_by Keyword.End rest.now))) }
 {
     let Some(query) = rest.only_word() else {
-        return push_refused(out, Refusal::Syntax);
+        return out.refused(Refusal::Syntax);
     };
     let ScriptEnd::Running(world) = store else {
-        return push_refused(out, Refusal::NotStarted);
+        return out.refused(Refusal::NotStarted);
     };
     match query_name(&query) {
         Ok(name) => answer_event(world, Event::End(name), query.as_bytes(), &[], out),
-        Err(refusal) => push_refused(out, refusal),
+        Err(refusal) => out.refused(refusal),
     }
 }
 
 /// Answers `abandon Q`.
-pub(crate) fn answer_abandon<A: Allocator + Copy>(
+pub(crate) fn answer_abandon<A: Allocator + Copy, O: AnswerTaker<A>>(
     store: &mut ScriptEnd<A>,
     rest: &Words<'_>,
-    out: &mut TextBuffer<A>,
+    out: &mut O,
 ) -> Result<(), AllocError>
-    ensures { OnOk result ((s : ScriptState A) → Stands store.old s → Leaves (Stands store.new) out.old.text out.new.text (words_reply s (command_by Keyword.Abandon rest.now))) }
+    ensures { OnOk result ((s : ScriptState A) → Stands store.old s → Leaves (Stands store.new) (O.took out.old out.new) (words_reply s (command_by Keyword.Abandon rest.now))) }
 {
     let Some(query) = rest.only_word() else {
-        return push_refused(out, Refusal::Syntax);
+        return out.refused(Refusal::Syntax);
     };
     let ScriptEnd::Running(world) = store else {
-        return push_refused(out, Refusal::NotStarted);
+        return out.refused(Refusal::NotStarted);
     };
     match query_name(&query) {
         Ok(name) => answer_event(world, Event::Abandon(name), query.as_bytes(), &[], out),
-        Err(refusal) => push_refused(out, refusal),
+        Err(refusal) => out.refused(refusal),
     }
 }
 
 /// Answers `relimit S .. N`.
-pub(crate) fn answer_relimit<A: Allocator + Copy>(
+pub(crate) fn answer_relimit<A: Allocator + Copy, O: AnswerTaker<A>>(
     store: &mut ScriptEnd<A>,
     rest: &Words<'_>,
-    out: &mut TextBuffer<A>,
+    out: &mut O,
 ) -> Result<(), AllocError>
-    ensures { OnOk result ((s : ScriptState A) → Stands store.old s → Leaves (Stands store.new) out.old.text out.new.text (words_reply s (command_by Keyword.Relimit rest.now))) }
+    ensures { OnOk result ((s : ScriptState A) → Stands store.old s → Leaves (Stands store.new) (O.took out.old out.new) (words_reply s (command_by Keyword.Relimit rest.now))) }
 {
     let Some((site, scope, amount)) = ScopeWord::parse_limit(rest) else {
-        return push_refused(out, Refusal::Syntax);
+        return out.refused(Refusal::Syntax);
     };
     let ScriptEnd::Running(world) = store else {
-        return push_refused(out, Refusal::NotStarted);
+        return out.refused(Refusal::NotStarted);
     };
     let setup = world.primary().setup();
     let event = Event::Relimit {
@@ -254,17 +253,17 @@ pub(crate) fn answer_relimit<A: Allocator + Copy>(
 /// Steps the world by an event, and answers it. The subject is the site or the query that it names, if it names one.
 // Inlined, with the steps, so that an event is not moved where it is known.
 #[inline(always)]
-fn answer_event<A: Allocator + Copy>(
+fn answer_event<A: Allocator + Copy, O: AnswerTaker<A>>(
     world: &mut World<A>,
     event: Event<A>,
     subject: &[u8],
     object: &[u8],
-    out: &mut TextBuffer<A>,
+    out: &mut O,
 ) -> Result<(), AllocError>
-    ensures { OnOk result ((d : Declared) (past : Past A) → StandsFor d world.old past → Leaves (IsWorldOf world.new) out.old.text out.new.text (event_reply d past (subject.now, object.now) event)) }
+    ensures { OnOk result ((d : Declared) (past : Past A) → StandsFor d world.old past → Leaves (IsWorldOf world.new) (O.took out.old out.new) (event_reply d past (subject.now, object.now) event)) }
 {
     let answer = world.step(event);
-    push_answer(out, world.primary().setup(), subject, object, &answer)
+    out.stepped(world.primary().setup(), subject, object, &answer)
 }
 
 /// The query and the object that a read names.

@@ -2,8 +2,10 @@
 ghost use Rattle.std.specs.Prelude.{◌≡◌, ◌++◌, ◌∷◌, [], OnOk, codes, length, slice_index_or};
 ghost use Rattle.std.specs.Fmt.{decimal, signed_decimal};
 ghost use Rattle.ordup_text.specs.Lines.{named_text, done_text, numbered_text};
+ghost use Rattle.ordup_answers.specs.Replies.{declared_text};
 ghost use Rattle.ordup_answers.specs.Texts.{refused_text, started_text, shown_text, sites_text, listed_text, settled_text, read_text, ended_text, window_text, windows_text, certified_text, answer_text};
 
+use ordup_grammar::Declaration;
 use ordup_objects::{ObjectTable, Refusal, SiteId};
 use ordup_primary::Window;
 use ordup_text::{
@@ -28,6 +30,21 @@ pub fn push_refused<A: Allocator + Copy>(
     out.push(b" ")?;
     out.push(refusal.name().as_bytes())?;
     out.push(b"\n")
+}
+
+/// Adds the answer to a declaration.
+pub(crate) fn push_declared<A: Allocator + Copy>(
+    out: &mut TextBuffer<A>,
+    declaration: &Declaration<'_>,
+) -> Result<(), AllocError>
+    ensures { OnOk result (out.new.text ≡ out.old.text ++ declared_text declaration.now) }
+{
+    match declaration {
+        Declaration::Object { name, .. } => push_named(out, b"ok object ", name.as_bytes()),
+        Declaration::Group { name, .. } => push_named(out, b"ok group ", name.as_bytes()),
+        Declaration::Site { name, .. } => push_named(out, b"ok site ", name.as_bytes()),
+        Declaration::Limit { site, .. } => push_named(out, b"ok limit ", site.as_bytes()),
+    }
 }
 
 /// Adds the answer to the start.

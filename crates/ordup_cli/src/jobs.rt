@@ -16,10 +16,10 @@ use ordup_lag::write_series;
 use ordup_primary::Primary;
 use ordup_record::view_of;
 use ordup_rows::write_view;
-use ordup_script::{ScriptEnd, run_script};
+use ordup_script::{ScriptEnd, follow_script, run_script};
 use ordup_text::send;
 use std::alloc::{AllocError, Global};
-use std::io::{self, Read, Write};
+use std::io::{Read, Write};
 use std::sync::Wait;
 use std::thread::Threads;
 
@@ -77,7 +77,7 @@ fn run<R: Read, W: Write>(alloc: Global, input: &mut R, output: &mut W) -> Outco
 
 /// Runs a script and prints the record of a site in place of the answers.
 ///
-/// The script was run from this reader, and no answer was written. Then the record of what the primary has of the site was
+/// The script was run from this reader, and no answer was formed. Then the record of what the primary has of the site was
 /// printed. Where the run failed, no store started, or there is no such site, nothing was written, and the outcome says so.
 fn print_record<R: Read, W: Write>(
     alloc: Global,
@@ -92,7 +92,7 @@ fn print_record<R: Read, W: Write>(
       new = W.contents output.new;
     }) result }
 {
-    match run_script(alloc, input, &mut io::sink()) {
+    match follow_script(alloc, input) {
         Ok(ScriptEnd::Running(world)) => {
             let printed = print_site(alloc, site, world.primary(), output);
             drop(world);

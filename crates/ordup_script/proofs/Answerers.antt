@@ -25,14 +25,15 @@ module _ {W A : Type 0} (contents : W → Option (List ℕ)) where
   pub answers_line : (first before after : Answerer W A) (earlier : List Line) (request : Request) (line : Line)
       → HasAnswered contents first before earlier → request ≡ request_of line
       → ((s : ScriptState A) → Stands before.store.now s
-      → Leaves (Stands after.store.now) before.answers.now.text after.answers.now.text (request_reply s request))
+      → Leaves (Stands after.store.now) (λ text. after.answers.now.text ≡ before.answers.now.text ++ text) (request_reply s request))
       → IsLater before after → after.output.now ≡ before.output.now
       → HasAnswered contents first after (earlier ++ line ∷ [])
   unfolding reply
   answers_line first before after earlier request line h is leaves later same =
       let w : Written A = written A earlier in
       let (stands, grew) = subst
-      (λ (a : Request). Leaves {A = A} (Stands after.store.now) before.answers.now.text after.answers.now.text (request_reply w.0 a)) is
+      (λ (a : Request).
+      Leaves {A = A} (Stands after.store.now) (λ text. after.answers.now.text ≡ before.answers.now.text ++ text) (request_reply w.0 a)) is
       (leaves w.0 h.store) in
       let next : written A (earlier ++ line ∷ []) ≡ answered w line = after_lines-append answered _ earlier (line ∷ []) in record {
         later = IsLater-trans first before after h.later later;

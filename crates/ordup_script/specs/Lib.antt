@@ -3,6 +3,7 @@ pub mod Scripts
 pub mod Output
 pub mod Readings
 pub mod Answerers
+pub mod Followers
 pub mod Runs
 pub mod Plans
 pub mod Plannings

@@ -4,12 +4,14 @@
 //! The one contract above this layer: what is written is a function of what is read, by lines.
 #![tactic(auto)]
 
+mod following;
 mod line_reader;
 mod plan;
 mod plan_reader;
 pub mod sizes;
 mod stream;
 
+pub use following::follow_script;
 pub use ordup_answers::ScriptEnd;
 pub use plan::{Plan, PlanFault};
 pub use plan_reader::{read_plan, read_plan_within};

@@ -13,7 +13,7 @@ returns g c =
     let spelled : command_by keyword.Relimit c.args.rest.now ≡ Some (Act action) = search rules in
     on_ok_weaker c.answer_event.result (λ left s stands.
     left_by_words c.in-Running.world c.answer_event.new.world (command_by keyword.Relimit c.args.rest.now) action
-    (c.as_bytes.result.now, []) (event.Relimit c.find_site.result c.find_scope.result c.amount.result) c.args.out.now.text
-    c.answer_event.new.out.text spelled
+    (c.as_bytes.result.now, []) (event.Relimit c.find_site.result c.find_scope.result c.amount.result)
+    (g.O.AnswerTaker.took c.args.out.now c.answer_event.new.out) spelled
     (rw (c.find_site.ensures, c.find_scope.ensures, c.amount.ensures, c.setup-setup.ensures, c.primary.ensures.primary) refl)
     (rw c.as_bytes.ensures refl) left s (rw c.in-Running.is at stands)) c.answer_event.ensures

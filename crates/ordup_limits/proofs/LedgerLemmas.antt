@@ -42,7 +42,7 @@ weighed-longer : (h : History) (groups : GroupList) (more : List (List Change)) 
 weighed-longer h groups more Count place le = refl
 weighed-longer h groups more s place le = span-longer h more groups s 0 place le
 
-AreTotals-longer : (h : History) (groups : GroupList) (limits : Limits) (more : List (List Change)) (place : ℕ) (totals : List ℕ)
+pub AreTotals-longer : (h : History) (groups : GroupList) (limits : Limits) (more : List (List Change)) (place : ℕ) (totals : List ℕ)
     → place ≤ length h.sets → AreTotals h groups limits place totals
     → AreTotals (with_more h more) groups limits place totals
 AreTotals-longer h groups limits more place totals le are = record {

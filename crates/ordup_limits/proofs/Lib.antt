@@ -6,4 +6,6 @@ mod MaskLemmas
 pub mod LedgerLemmas
 mod PassedLemmas
 mod ChangeLemmas
+pub mod SiteLemmas
+pub mod OverLemmas
 mod Examples

@@ -98,7 +98,7 @@ least-passed test u n (l ∷ limits) fails most above = elim (cases_lt (least_wi
 -- ---- the span between the places
 
 -- a span that is heavier than an amount does not keep the limit
-keeps-false : (h : History) (groups : GroupList) (a b : ℕ) (l : Limit) → l.amount < span h groups l.scope a b
+pub keeps-false : (h : History) (groups : GroupList) (a b : ℕ) (l : Limit) → l.amount < span h groups l.scope a b
     → keeps h groups a b l ≡ false
 keeps-false h groups a b l lt = elim (cases_Bool (keeps h groups a b l)) [
   | inl kept ↦ absurd (omega (arith, lt, leb-true (span h groups l.scope a b) l.amount kept))

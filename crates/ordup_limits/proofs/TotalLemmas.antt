@@ -208,7 +208,7 @@ span-counted h groups s a b le same =
     )
 
 -- the changes of the updates after a place that count on a scope
-weighed-more : (h : History) → IsLegalHistory h → (groups : GroupList) → All (λ g. IsGroup g.1) groups → (s : Scope)
+pub weighed-more : (h : History) → IsLegalHistory h → (groups : GroupList) → All (λ g. IsGroup g.1) groups → (s : Scope)
     → IsScopeKnown (length h.start) groups s → (a b : ℕ) → a ≤ b → b ≤ length h.sets
     → weighed h groups s a + sum_from (weight_where (counts_on groups s) h) a (b - a) ≡ weighed h groups s b
 weighed-more h legal groups are (Object x) known a b le last =

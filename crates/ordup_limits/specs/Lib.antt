@@ -7,3 +7,7 @@ pub mod Totals
 pub mod PassedLimits
 pub mod Ledgers
 pub mod LedgerInside
+pub mod SiteLedgers
+pub mod WeightsInside
+pub mod SiteLedgerInside
+pub mod LagLedgersInside

@@ -6,6 +6,7 @@
 
 mod entries;
 mod lag_ledger;
+mod lag_ledgers;
 mod laws;
 mod limit;
 mod limit_entry;
@@ -13,10 +14,14 @@ mod limit_list;
 mod limit_table;
 mod masks;
 mod passed;
+mod site_ledger;
+mod sites_over;
 pub mod sizes;
 mod totals;
+mod weights;
 
 pub use lag_ledger::LagLedger;
+pub use lag_ledgers::LagLedgers;
 pub use laws::{
     empty_spans_keep_limits, later_spans_keep_limits, limits_in_force_are_tests,
     limits_in_force_keep_their_numbers, longer_histories_keep_ledgers,

@@ -3,11 +3,12 @@ ghost use Rattle.std.specs.List.{list_any};
 ghost use Rattle.ordup_objects.specs.Sizes.{most_objects};
 ghost use Rattle.ordup_log.specs.Spans.{IsScopeKnown};
 ghost use Rattle.ordup_limits.specs.Limits.{AreScopesKnown};
+ghost use Rattle.ordup_limits.specs.SiteLedgers.{group_limits};
 ghost use Rattle.ordup_limits.specs.Sizes.{most_limits};
 ghost use Rattle.ordup_limits.specs.Totals.{has_bit, counts_on, AreMasks};
 
 use crate::limit::Limit;
-use ordup_log::{Groups, Scope};
+use ordup_log::{GroupId, Groups, Scope};
 use ordup_objects::sizes::MOST_OBJECTS;
 use ordup_objects::{ObjectId, Refusal};
 use std::alloc::Allocator;
@@ -37,6 +38,20 @@ pub(crate) fn fill<A: Allocator + Copy>(
 {
     for (index, limit) in limits.iter().enumerate() {
         put_scope(masks, groups, limit.scope, index);
+    }
+}
+
+/// Puts down for each object the groups that it is in.
+pub(crate) fn put_groups<A: Allocator + Copy>(masks: &mut Vec<u64, A>, groups: &Groups<A>)
+    requires count { length masks.old.items ≡ most_objects }
+    requires empty { (x : ℕ) → slice_index masks.old.items x ≡ 0 }
+    ensures count { length masks.new.items ≡ most_objects }
+    ensures masks { AreMasks groups.now (group_limits (length groups.now)) masks.new.items }
+{
+    groups.keeps();
+    for index in 0..groups.len() {
+        let group = GroupId::new(index as u8);
+        put_scope(masks, groups, Scope::Group(group), index);
     }
 }
 

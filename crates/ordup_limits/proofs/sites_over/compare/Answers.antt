@@ -1,0 +1,26 @@
+use Rattle.std.proofs.Common.{arith, ap, sym, ◌∙◌, ◌≡◌, ◌<◌, length, get_or, inl, inr}
+use Rattle.std.specs.Prelude.{nat_lt}
+use Rattle.std.proofs.lemmas.Bool.{cases_eq, eq-eqb, ne_eqb}
+use Rattle.std.proofs.lemmas.List.{get_or_read}
+use Rattle.ordup_limits.specs.SiteLedgers.{allowed, SiteLedgerState}
+use Rattle.ordup_limits.proofs.sites_over.compare.Goals as goal
+
+pub loop-index-preserved : goal.loop-index-preserved
+loop-index-preserved g c =
+    let before = c.loop-index.invariant in
+    let index = c.loop-index.index in
+    let sites = c.args.sites.now in
+    let at : (d : SiteLedgerState) → c.index-sites-index.result ≡ get_or sites index d =
+    λ d. get_or_read sites index c.index-sites-index.result c.loop-index-test.true c.index-sites-index.is d in
+    record {
+      over = λ s d lt. c.with_bit-over.ensures s (omega (arith, lt, c.loop-index-test.true, c.requires.few)) ∙ elim (cases_eq s index) [
+        | inl here ↦ rw (eq-eqb s index here) (ap (λ n. nat_lt n c.args.weight) (c.allowed-allowed.ensures
+            ∙ ap (λ (site : SiteLedgerState). allowed c.args.log.now c.args.groups.now site c.args.scope)
+            (at d ∙ ap (λ k. get_or sites k d) (sym here))))
+        | inr other ↦ rw (ne_eqb s index other) (before.over s d (omega (arith, lt, other)))
+      ];
+      least = λ s d lt. elim (cases_eq s index) [
+        | inl here ↦ rw (here, ← at d) (omega (arith, c.min-least.ensures, c.allowed-allowed.ensures))
+        | inr other ↦ omega (arith, c.min-least.ensures, before.least s d (omega (arith, lt, other)))
+      ];
+    }

@@ -17,7 +17,7 @@ use Rattle.ordup_limits.specs.declared.limit_entry.LimitEntry.{LimitEntry}
 use Rattle.ordup_limits.specs.Limits.{Limits, keeps, within, are_on_one_scope}
 use Rattle.ordup_limits.specs.Entries.{entry_of, put, latest, in_force, are_one_entry, changed, change_refusal, HoldFrom, AreEntries}
 use Rattle.ordup_limits.specs.Entries.{AreEntriesKnown}
-use Rattle.ordup_limits.specs.Ledgers.{LedgerState, StandsFor}
+use Rattle.ordup_limits.specs.SiteLedgers.{HasLimits, LedgersState, SiteLedgerState, StandFor, WeightsAt}
 use Rattle.ordup_limits.proofs.PutLemmas.{All-put}
 use Rattle.ordup_limits.proofs.EntryLemmas.{change-allowed, in_force-before, latest-changed, within-put}
 use Rattle.ordup_limits.specs.Sizes.{most_limits, most_entries}
@@ -158,34 +158,31 @@ IsPrimary-relimited p s scope amount is there are known allowed =
 -- ---- the ledgers
 
 -- the ledger of the site has the limit too
-pub AreLedgers-relimited : (p : PrimaryState) (s : ℕ) (scope : Scope) (amount : ℕ) (ledgers : List LedgerState) (l : LedgerState)
-    → IsPrimary p → AreLedgers p ledgers → s < length p.sites → AreEntries (limits_at p s) → StandsFor l p.log p.setup.groups
-    → l.limits ≡ put are_on_one_scope (get_or ledgers s l).limits (record { scope = scope; amount = amount })
-    → (l.reported ≡ (get_or ledgers s l).reported) × (l.extended ≡ (get_or ledgers s l).extended)
-    → AreLedgers (relimited p s scope amount) (set ledgers s l)
-AreLedgers-relimited p s scope amount ledgers l is are there keep stands limits places =
+pub AreLedgers-relimited : (p : PrimaryState) (s : ℕ) (scope : Scope) (amount : ℕ) (old new : LedgersState)
+    → IsPrimary p → AreLedgers p old → s < length p.sites → AreEntries (limits_at p s) → StandFor new p.log p.setup.groups
+    → new.added ≡ old.added → length new.sites ≡ length old.sites
+    → ((t : ℕ) (d : SiteLedgerState) → (t ≡ s → ⊥) → get_or new.sites t d ≡ get_or old.sites t d)
+    → ((d : SiteLedgerState) → (get_or new.sites s d).reported ≡ (get_or old.sites s d).reported)
+    → ((limits : Limits) (d : SiteLedgerState) → HasLimits (length p.log.start) p.setup.groups limits (get_or old.sites s d)
+    → HasLimits (length p.log.start) p.setup.groups (put are_on_one_scope limits (record { scope = scope; amount = amount }))
+    (get_or new.sites s d))
+    → AreLedgers (relimited p s scope amount) new
+AreLedgers-relimited p s scope amount old new is are there keep stand added count others reported limits =
     let e = entry_of scope amount (p.acked + 1) in
-    let lt : s < length p.limits = omega (arith, is.tables) in
+    let lt : s < length p.limits = omega (arith, there, is.tables) in
+    let now : latest (changed (limits_at p s) e) ≡ put are_on_one_scope (latest (limits_at p s)) e.limit =
+    latest-changed (limits_at p s) e keep.distinct keep.rising (is.begun s [] lt) in
     record {
-      count = length-set ledgers s l ∙ are.count;
-      each = λ t d below. (let inside : t < length ledgers = rw (length-set ledgers s l) at below in
-          let at = changed-at p s t scope amount lt in
+      count = count ∙ are.count;
+      stand = stand;
+      added = omega (arith, ap (λ (w : WeightsAt). w.place) added, are.added);
+      limits = λ t d below. (let at = changed-at p s t scope amount lt in
           elim (cases_eq t s) [
-            | inl same ↦ (let before = are.each s l (rw same at inside) in
-                rw (get_or-set_at ledgers s t l d same (rw same at inside)) (record {
-                  stands = stands;
-                  limits = limits ∙ ap (λ ls. put are_on_one_scope ls e.limit) before.limits
-                      ∙ sym (latest-changed (limits_at p s) e keep.distinct keep.rising (is.begun s [] lt))
-                      ∙ ap latest (sym (at.0 same));
-                  reported = places.0 ∙ before.reported ∙ ap (λ k. (progress_at p k).reported) (sym same);
-                  extended = omega (arith, places.1, before.extended);
-                }))
-            | inr other ↦ (let before = are.each t d inside in
-                rw (get_or-set_other ledgers s t l d other) (record {
-                  stands = before.stands;
-                  limits = before.limits ∙ ap latest (sym (at.1 other));
-                  reported = before.reported;
-                  extended = before.extended;
-                }))
+            | inl same ↦ rw (at.0 same, now, same) (limits (latest (limits_at p s)) d (are.limits s d there))
+            | inr other ↦ rw (at.1 other, others t d other) (are.limits t d below)
           ]);
+      reported = λ t d below. elim (cases_eq t s) [
+        | inl same ↦ rw same (ap (λ (w : WeightsAt). w.place) (reported d) ∙ are.reported s d there)
+        | inr other ↦ rw (others t d other) (are.reported t d below)
+      ];
     }

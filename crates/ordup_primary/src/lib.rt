@@ -7,7 +7,6 @@
 
 mod decisions;
 mod laws;
-mod ledgers;
 mod marks;
 mod parcel;
 mod primary;
@@ -16,6 +15,7 @@ mod reports;
 mod settled;
 mod setup;
 mod site_list;
+mod site_mask;
 mod starting;
 
 pub use laws::next_updates_may_follow;

@@ -5,15 +5,15 @@ ghost use Rattle.ordup_primary.specs.Declarations.{Declared, start_refusal};
 ghost use Rattle.ordup_primary.specs.Primaries.{first_progress};
 
 use crate::decisions::{last_place, put_down, reserve_decision};
-use crate::ledgers::{extend_to, sites_over};
 use crate::marks::marks_of;
 use crate::parcel::Parcel;
 use crate::progress::Progress;
 use crate::settled::Settled;
 use crate::setup::Setup;
 use crate::site_list::SiteList;
+use crate::site_mask::sites_among;
 use crate::starting::begin;
-use ordup_limits::{LagLedger, LimitTable, Scope};
+use ordup_limits::{LagLedgers, LimitTable, Scope};
 use ordup_log::Log;
 use ordup_objects::{MessageSet, Refusal, SiteId};
 use ordup_rounds::Window;
@@ -32,8 +32,8 @@ pub struct Primary<A: Allocator + Copy = Global> {
     sites: Vec<Progress<A>, A>,
     /// The limits of each site, which begin as those that were declared.
     limits: Vec<LimitTable<A>, A>,
-    /// For each site the weight of the updates up to the head that it has not reported.
-    ledgers: Vec<LagLedger<A>, A>,
+    /// The weights of the updates up to the head that the sites have not reported.
+    ledgers: LagLedgers<A>,
 }
 
 impl<A: Allocator + Copy> Model for Primary<A> {
@@ -76,9 +76,8 @@ impl<A: Allocator + Copy> Primary<A> {
         setup.keeps();
         let mut sites = Vec::new(alloc);
         let mut limits = Vec::new(alloc);
-        let mut ledgers = Vec::new(alloc);
-        match begin(alloc, &setup, &mut sites, &mut limits, &mut ledgers) {
-            Ok(log) => Ok(Primary {
+        match begin(alloc, &setup, &mut sites, &mut limits) {
+            Ok((log, ledgers)) => Ok(Primary {
                 setup,
                 log,
                 acked: 0,
@@ -92,7 +91,6 @@ impl<A: Allocator + Copy> Primary<A> {
                 drop(setup);
                 drop(sites);
                 drop(limits);
-                drop(ledgers);
                 Err(refusal)
             }
         }
@@ -154,7 +152,8 @@ impl<A: Allocator + Copy> Primary<A> {
         ensures noted { self.new ≡ record self.old { sites = slice_set self.old.sites site (record (progress_at self.old site) { reported = place }) } }
     {
         self.sites[site.index()].reported = place;
-        self.ledgers[site.index()].reported(&self.log, self.setup.groups(), place);
+        self.ledgers
+            .reported(&self.log, self.setup.groups(), site, place);
         self.keeps();
     }
 
@@ -395,7 +394,8 @@ impl<A: Allocator + Copy> Primary<A> {
         let Ok(()) = self.limits[index].change(objects, groups, *scope, amount, head) else {
             return Err(Refusal::NoMemory);
         };
-        self.ledgers[index].change(&self.log, groups, *scope, amount);
+        self.ledgers
+            .change(&self.log, groups, site, *scope, amount);
         Ok(())
     }
 
@@ -478,9 +478,8 @@ impl<A: Allocator + Copy> Primary<A> {
         ensures sites { result ≡ forced_now self.old }
         ensures same { self.new ≡ self.old }
     {
-        self.setup.keeps();
-        extend_to(&mut self.ledgers, &self.log, self.setup.groups(), head);
-        sites_over(self.ledgers.as_slice())
+        let over = self.ledgers.extend(&self.log, self.setup.groups(), head);
+        sites_among(over, self.count())
     }
 
     /// The sites that the head, which is decided, waits for.

@@ -5,37 +5,56 @@ ghost use Rattle.ordup_primary.specs.Primaries.{first_progress};
 ghost use Rattle.ordup_primary.specs.PrimaryInside.{progress_of, first_state, AreLedgers};
 
 use crate::decisions::add_sites;
-use crate::ledgers::add_ledgers;
 use crate::progress::Progress;
 use crate::setup::Setup;
-use ordup_limits::{LagLedger, LimitTable};
+use ordup_limits::{LagLedgers, LimitTable};
 use ordup_log::Log;
 use ordup_objects::{Refusal, SiteId};
 use std::alloc::Allocator;
 
-/// Makes the log of a primary at its start, and adds the sites, their limits and their ledgers to the lists.
+/// Makes the log and the ledgers of a primary at its start, and adds the sites and their limits to the lists.
 pub(crate) fn begin<A: Allocator + Copy>(
     alloc: A,
     setup: &Setup<A>,
     sites: &mut Vec<Progress<A>, A>,
     limits: &mut Vec<LimitTable<A>, A>,
-    ledgers: &mut Vec<LagLedger<A>, A>,
-) -> Result<Log<A>, Refusal>
+) -> Result<(Log<A>, LagLedgers<A>), Refusal>
     requires sites { sites.old.items ≡ [] }
     requires limits { limits.old.items ≡ [] }
-    requires ledgers { ledgers.old.items ≡ [] }
-    ensures log { IfOk result (λ log. log ≡ record { start = initial_state setup.now.objects; sets = [] }) }
-    ensures legal { IfOk result (λ log. IsLegalHistory log) }
+    ensures log { IfOk result (λ r. r.0 ≡ record { start = initial_state setup.now.objects; sets = [] }) }
+    ensures legal { IfOk result (λ r. IsLegalHistory r.0) }
     ensures sites { OnOk result (map progress_of sites.new.items ≡ replicate (length setup.now.sites) first_progress) }
     ensures limits { OnOk result (limits.new.items ≡ setup.now.limits) }
-    ensures ledgers { OnOk result (AreLedgers (first_state setup.now) ledgers.new.items) }
+    ensures ledgers { IfOk result (λ r. AreLedgers (first_state setup.now) r.1) }
     ensures refused { IfErr result (λ e. e ≡ Refusal.NoMemory) }
 {
     add_sites(sites, alloc, setup.sites())?;
     add_limits(limits, alloc, setup)?;
-    add_ledgers(ledgers, alloc, setup)?;
     let log = Log::new(alloc, setup.objects())?;
-    Ok(log)
+    match first_ledgers(alloc, setup, limits.as_slice()) {
+        Ok(ledgers) => Ok((log, ledgers)),
+        Err(refusal) => {
+            // By a call: where it goes out of scope, the proof takes it apart.
+            drop(log);
+            Err(refusal)
+        }
+    }
+}
+
+/// The ledgers of the sites, whose limits are as they were declared.
+fn first_ledgers<A: Allocator + Copy>(
+    alloc: A,
+    setup: &Setup<A>,
+    limits: &[LimitTable<A>],
+) -> Result<LagLedgers<A>, Refusal>
+    requires { limits.now ≡ setup.now.limits }
+    ensures ledgers { IfOk result (λ ledgers. AreLedgers (first_state setup.now) ledgers) }
+    ensures refused { IfErr result (λ e. e ≡ Refusal.NoMemory) }
+{
+    setup.keeps();
+    setup.objects().keeps();
+    let ledgers = LagLedgers::new(alloc, setup.groups(), limits)?;
+    Ok(ledgers)
 }
 
 /// Adds the limits of the sites as they were declared.

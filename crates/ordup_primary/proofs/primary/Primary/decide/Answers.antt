@@ -29,7 +29,7 @@ invariant_of-self-then-is_empty g c =
           IsPrimary-decided (state_of c.self.inside) _ c.self.invariant.primary (rw (← is) at c.requires.first)
           (omega (arith, here, rw (← is) at c.requires.some))
           decides;
-      ledgers = AreLedgers-decided (state_of c.self.inside) _ c.self.inside.ledgers.items c.self.invariant.ledgers
+      ledgers = AreLedgers-decided (state_of c.self.inside) _ c.self.inside.ledgers c.self.invariant.ledgers
           (omega (arith, here)) decides;
     }
 
@@ -58,7 +58,7 @@ invariant_of-self-else-is_empty g c =
           IsPrimary-decided (state_of c.self.inside) _ c.self.invariant.primary (rw (← is) at c.requires.first)
           (omega (arith, here, rw (← is) at c.requires.some))
           decides;
-      ledgers = AreLedgers-decided (state_of c.self.inside) _ c.self.inside.ledgers.items c.self.invariant.ledgers
+      ledgers = AreLedgers-decided (state_of c.self.inside) _ c.self.inside.ledgers c.self.invariant.ledgers
           (omega (arith, here)) decides;
     }
 

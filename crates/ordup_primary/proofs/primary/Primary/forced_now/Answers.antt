@@ -1,33 +1,29 @@
-use Rattle.std.proofs.Common.{◌∙◌, [], false}
-use Rattle.ordup_limits.specs.Ledgers.{LedgerState}
+use Rattle.std.proofs.Common.{◌∙◌, ap}
+use Rattle.std.specs.Prelude.{◌==◌}
+use Rattle.std.specs.Int.{bit_at}
+use Rattle.ordup_primary.specs.Settling.{where_below}
 use Rattle.ordup_primary.specs.PrimaryInside.{state_of}
 use Rattle.ordup_primary.proofs.LedgerLemmas.{AreLedgers-extended, forced-by_ledgers}
 use Rattle.ordup_primary.proofs.primary.Primary.forced_now.Goals as goal
 
--- a ledger, for a place that has none
-default : LedgerState
-default = record { limits = []; reported = 0; extended = 0; added = []; allowed = []; masks = []; has_masks = false }
+pub extend-over-requires-clause-stands : goal.extend-over-requires-clause-stands
+extend-over-requires-clause-stands g c = rw c.groups.ensures.groups c.self.invariant.ledgers.stand
 
 pub invariant_of-self : goal.invariant_of-self
 invariant_of-self g c =
     let before = c.self.invariant in
+    let made = c.extend-over.ensures in
     record {
       primary = before.primary;
-      ledgers =
-          AreLedgers-extended (state_of c.self.inside) c.self.inside.ledgers.items c.extend_to.new.ledgers.items c.args.head before.ledgers
-          c.extend_to.ensures.count (rw (← c.self.view_is) at c.requires.head)
-          (rw c.groups.ensures.groups at c.extend_to.ensures.ledgers);
+      ledgers = AreLedgers-extended (state_of c.self.inside) c.self.inside.ledgers c.extend-over.new.self c.args.head before.ledgers
+          (rw (← c.self.view_is) at c.requires.head) made.place made.sites (rw c.groups.ensures.groups at made.stands);
     }
 
 pub returns-clause-sites : goal.returns-clause-sites
 returns-clause-sites g c =
     let p = state_of c.self.inside in
-    let old = c.self.inside.ledgers.items in
-    let new = c.extend_to.new.ledgers.items in
-    let before = c.self.invariant.ledgers in
-    let here = rw (← c.self.view_is) at c.requires.head in
-    let extended = rw c.groups.ensures.groups at c.extend_to.ensures.ledgers in
-    let are = AreLedgers-extended p old new c.args.head before c.extend_to.ensures.count here extended in
-    rw (← c.self.view_is) (rw c.as_slice.ensures.value at (c.sites_over.ensures p.log p.setup.groups default)
-    (λ s d lt. (are.each s d lt).stands)
-    ∙ forced-by_ledgers p old new c.args.head default c.self.invariant.primary before c.extend_to.ensures.count here extended)
+    let before = c.self.invariant in
+    rw (← c.self.view_is)
+    (c.sites_among.ensures ∙ ap (where_below (λ s. bit_at c.extend-over.result s == 1)) c.count.ensures.count
+    ∙ forced-by_ledgers p c.self.inside.ledgers c.args.head c.extend-over.result before.primary before.ledgers
+    (rw (← c.self.view_is) at c.requires.head) (rw c.groups.ensures.groups at c.extend-over.ensures.over))

@@ -21,7 +21,7 @@ invariant_of-self g c =
     record {
       primary = IsPrimary-sent c.self.inside _ c.args.site c.self.invariant.primary lt (rw (← c.self.view_is) at c.requires.unsent) e;
       ledgers =
-          AreLedgers-with_site (state_of c.self.inside) c.self.inside.ledgers.items c.args.site _ _ c.self.invariant.ledgers lt refl e;
+          AreLedgers-with_site (state_of c.self.inside) c.self.inside.ledgers c.args.site _ _ c.self.invariant.ledgers lt refl e;
     }
 
 pub returns-clause-marked : goal.returns-clause-marked

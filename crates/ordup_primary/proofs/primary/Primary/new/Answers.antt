@@ -17,11 +17,11 @@ invariant_of-result g c =
             decided = 0;
             sites = c.begin.new.sites;
             limits = c.begin.new.limits;
-            ledgers = c.begin.new.ledgers;
+            ledgers = c.in-Ok.ledgers;
           }))
           c.keeps.ensures c.requires c.in-Ok.ensures.log c.in-Ok.ensures.legal
           refl refl c.in-Ok.ensures.sites c.in-Ok.ensures.limits;
-      ledgers = AreLedgers-kept (first_state c.args.setup) _ c.begin.new.ledgers.items c.in-Ok.ensures.ledgers refl
+      ledgers = AreLedgers-kept (first_state c.args.setup) _ c.in-Ok.ledgers c.in-Ok.ensures.ledgers refl
           c.in-Ok.ensures.log c.in-Ok.ensures.limits (omega arith) (ap length c.in-Ok.ensures.sites)
           (λ s lt. ap (λ (sites : List SiteProgress). (get_or sites s first_progress).reported) c.in-Ok.ensures.sites);
     }
@@ -37,7 +37,7 @@ returns-in-Ok-clause-sound g c =
       decided = 0;
       sites = c.begin.new.sites;
       limits = c.begin.new.limits;
-      ledgers = c.begin.new.ledgers;
+      ledgers = c.in-Ok.ledgers;
     }))
     c.keeps.ensures c.requires c.in-Ok.ensures.log c.in-Ok.ensures.legal
     refl refl c.in-Ok.ensures.sites c.in-Ok.ensures.limits

@@ -13,7 +13,7 @@ invariant_of-self-2 g c =
       primary =
           IsPrimary-proposed (state_of c.self.inside) c.args.set before.primary set (rw (← c.self.view_is) at c.requires)
           c.in_ok-number.ensures.allowed;
-      ledgers = AreLedgers-proposed (state_of c.self.inside) c.args.set c.self.inside.ledgers.items before.ledgers;
+      ledgers = AreLedgers-proposed (state_of c.self.inside) c.args.set c.self.inside.ledgers before.ledgers;
     })
 
 pub append-requires : goal.append-requires

@@ -1,6 +1,4 @@
 use Rattle.std.proofs.Common.{arith, refl, ap, ◌≡◌, ◌<◌, ◌∙◌, get_or, length}
-use Rattle.std.proofs.lemmas.List.{get_or_read}
-use Rattle.ordup_limits.specs.Ledgers.{LedgerState}
 use Rattle.std.proofs.lemmas.Grind.{common_steps}
 use Rattle.ordup_primary.specs.Primaries.{PrimaryState, first_progress, progress_at}
 use Rattle.ordup_primary.specs.PrimaryInside.{state_of}
@@ -19,17 +17,10 @@ invariant_of-self g c =
           IsPrimary-reported c.self.inside _ c.args.site c.args.place c.self.invariant.primary lt
           (rw (← c.self.view_is) at c.requires.risen) (rw (← c.self.view_is) at c.requires.sent) e;
       ledgers =
-          (let x = c.index_mut-2.result.now in
-          let l = c.reported.new.self in
-          let at : x ≡ get_or c.self.inside.ledgers.items c.args.site l =
-          get_or_read c.self.inside.ledgers.items c.index-2.result x
-          (omega (arith, c.index-2.ensures, lt, c.self.invariant.ledgers.count)) c.index_mut-2.ensures.value l
-          ∙ ap (λ k. get_or c.self.inside.ledgers.items k l) c.index-2.ensures in
-          let made = c.reported.ensures in
-          rw c.index-2.ensures (AreLedgers-reported (state_of c.self.inside) c.self.inside.ledgers.items c.args.site c.args.place l
+          (let made = c.reported.ensures in
+          AreLedgers-reported (state_of c.self.inside) c.self.inside.ledgers c.reported.new.self c.args.site c.args.place
           (reported_as c.args.place (progress_at (state_of c.self.inside) c.args.site)) _ e c.self.invariant.ledgers lt
-          (rw c.groups.ensures.groups at made.stands) (made.limits ∙ ap (λ (k : LedgerState). k.limits) at)
-          (made.places.0, made.places.1 ∙ ap (λ (k : LedgerState). k.extended) at) refl));
+          (rw c.groups.ensures.groups at made.stands) made.place made.count made.others made.reported made.amounts refl);
     }
 
 pub returns-clause-noted : goal.returns-clause-noted
@@ -48,11 +39,16 @@ reported-requires-clause-last g c =
     let lt = rw (← c.self.view_is) at c.requires.site in
     omega (arith, rw (← c.self.view_is) at c.requires.sent, (c.self.invariant.primary.sites c.args.site first_progress lt).sent)
 
+pub reported-requires-clause-site : goal.reported-requires-clause-site
+reported-requires-clause-site g c = omega (arith, rw (← c.self.view_is) at c.requires.site, c.self.invariant.ledgers.count)
+
+pub reported-requires-clause-forward : goal.reported-requires-clause-forward
+reported-requires-clause-forward g c = λ d.
+    omega (
+      arith,
+      c.self.invariant.ledgers.reported c.args.site d (rw (← c.self.view_is) at c.requires.site),
+      rw (← c.self.view_is) at c.requires.risen,
+    )
+
 pub reported-requires-clause-stands : goal.reported-requires-clause-stands
-reported-requires-clause-stands g c =
-    let x = c.index_mut-2.result.now in
-    let lt = rw (← c.self.view_is) at c.requires.site in
-    let here : c.index-2.result < length c.self.inside.ledgers.items =
-    omega (arith, c.index-2.ensures, lt, c.self.invariant.ledgers.count) in
-    rw c.groups.ensures.groups
-    (rw (← c.index_mut-2.ensures.value) at (c.self.invariant.ledgers.each c.index-2.result x here).stands)
+reported-requires-clause-stands g c = rw c.groups.ensures.groups c.self.invariant.ledgers.stand

@@ -15,7 +15,7 @@ invariant_of-self g c =
           (rw (← c.self.view_is) at c.requires.later) (rw (← c.self.view_is) at c.requires.head) waiting
           (nil-from_empty c.as_slice.result.now c.if-is_empty.ensures);
       ledgers =
-          AreLedgers-kept (state_of c.self.inside) (record (state_of c.self.inside) { acked = c.args.head }) c.self.inside.ledgers.items
+          AreLedgers-kept (state_of c.self.inside) (record (state_of c.self.inside) { acked = c.args.head }) c.self.inside.ledgers
           c.self.invariant.ledgers refl refl refl (omega (arith, rw (← c.self.view_is) at c.requires.head)) refl (λ s lt. refl);
     }
 

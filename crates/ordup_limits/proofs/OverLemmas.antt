@@ -1,13 +1,13 @@
 -- Which sites an update takes over a limit.
-use Rattle.std.proofs.Common.{◌≡◌, ℕ, zero, suc, ◌+◌, ◌-◌, ◌*◌, ◌<◌, ◌≤◌, Bool, true, false, not, List, [], ◌∷◌, length, get_or}
-use Rattle.std.proofs.Common.{length-append, arith, refl, sym, ap, ◌∙◌, inl, inr}
+use Rattle.std.proofs.Common.{◌≡◌, ℕ, zero, suc, ◌+◌, ◌-◌, ◌<◌, ◌≤◌, Bool, true, false, not, List, [], ◌∷◌, length, get_or}
+use Rattle.std.proofs.Common.{arith, refl, sym, ap, ◌∙◌, inl, inr}
 use Rattle.std.specs.Prelude.{◌==◌, ◌⊎◌, All}
 use Rattle.std.specs.Int.{bit_at}
 use Rattle.std.specs.List.{list_any}
 use Rattle.std.proofs.Math.ListN.{set, length-set}
 use Rattle.std.proofs.lemmas.Bool.{cases_Bool, cases_eq, cases_lt, false≢true, le-leb, leb-true, or_parts}
 use Rattle.std.proofs.lemmas.Grind.{get_or-set_at}
-use Rattle.std.proofs.lemmas.List.{get_or_default, get_or-set_other}
+use Rattle.std.proofs.lemmas.List.{get_or-set_other}
 use Rattle.std.proofs.lemmas.List.Folds.{list_all_at}
 use Rattle.std.proofs.lemmas.List.Sums.{list_all-from_AllPass}
 use Rattle.ordup_objects.specs.declared.change.Change.{Change}
@@ -23,7 +23,7 @@ use Rattle.ordup_log.proofs.SpanLemmas.{span-inner, span-longer}
 use Rattle.ordup_limits.specs.declared.limit.Limit.{Limit}
 use Rattle.ordup_limits.specs.Entries.{put}
 use Rattle.ordup_limits.specs.Limits.{Limits, are_on_one_scope, is_same_scope, keeps, within}
-use Rattle.ordup_limits.specs.SiteLedgers.{allowed, amount_on, may_weigh, most_scopes, scope_index, AreKept, AreOver, AreWeights, HasLimits}
+use Rattle.ordup_limits.specs.SiteLedgers.{allowed, amount_on, may_weigh, most_scopes, scope_index, AreOver, AreWeights, HasLimits}
 use Rattle.ordup_limits.specs.SiteLedgers.{LedgersState, SiteLedgerState, StandFor, WeightsAt}
 use Rattle.ordup_limits.specs.Sizes.{greatest_amount}
 use Rattle.ordup_limits.specs.Totals.{counts_on, kept_amount, weight_of, weight_where}

@@ -1,5 +1,5 @@
 -- What is kept to tell which sites lag by more than a limit.
-use Rattle.std.proofs.Common.{◌≡◌, ℕ, zero, suc, ◌+◌, ◌-◌, ◌*◌, ◌<◌, ◌≤◌, Bool, true, false, List, [], ◌∷◌, ◌++◌, length, get_or, replicate, take}
+use Rattle.std.proofs.Common.{◌≡◌, ℕ, zero, suc, ◌+◌, ◌-◌, ◌*◌, ◌<◌, ◌≤◌, Bool, true, false, List, [], ◌∷◌, length, get_or, replicate, take}
 use Rattle.std.proofs.Common.{length-append, w64, arith, refl, sym, ap, ◌∙◌, inl, inr}
 use Rattle.std.specs.Prelude.{◌==◌, ◌&&◌, ◌||◌, ◌⊎◌, if◌then◌else◌, fold, not, nat_lt, All}
 use Rattle.std.specs.Int.{bit_at}
@@ -14,19 +14,18 @@ use Rattle.std.proofs.lemmas.Nat.Bits.{bit_at_or, bit_at-lt, bit_at-zero, bit_at
 use Rattle.ordup_objects.specs.declared.change.Change.{Change}
 use Rattle.ordup_objects.specs.Repeats.{repeats}
 use Rattle.ordup_objects.specs.Serial.{History, IsLegalHistory, with_more}
-use Rattle.ordup_objects.specs.Sizes.{greatest_weight, most_groups, most_objects, most_updates}
+use Rattle.ordup_objects.specs.Sizes.{greatest_weight, most_groups, most_objects}
 use Rattle.ordup_objects.specs.Sums.{sum_from}
 use Rattle.ordup_objects.proofs.SumLemmas.{sum_from-few}
 use Rattle.ordup_log.specs.Groups.{GroupList, IsGroup}
 use Rattle.ordup_log.specs.Spans.{span, weight, IsScopeKnown}
 use Rattle.ordup_log.specs.declared.scope.Scope.{Scope}
 use Rattle.ordup_log.specs.declared.scope.Scope.TheVariants.{Object, Group, All as Everything, Count}
-use Rattle.ordup_log.proofs.SpanLemmas.{span-longer}
 use Rattle.ordup_log.proofs.WeightLemmas.{weight-few}
 use Rattle.ordup_limits.specs.declared.limit.Limit.{Limit}
 use Rattle.ordup_limits.specs.Entries.{put, latest, Entries}
 use Rattle.ordup_limits.specs.Limits.{Limits, are_on_one_scope, is_same_scope, AreScopesKnown}
-use Rattle.ordup_limits.specs.SiteLedgers.{allowed, amount_on, counts_within, group_limits, may_weigh, most_scopes, scope_index, AreKept, AreOver, AreWeights}
+use Rattle.ordup_limits.specs.SiteLedgers.{allowed, amount_on, counts_within, group_limits, may_weigh, most_scopes, scope_index, AreOver, AreWeights}
 use Rattle.ordup_limits.specs.SiteLedgers.{HaveAmounts, SiteLedgerState, WeightsAt}
 use Rattle.ordup_limits.specs.Sizes.{greatest_amount, most_limits}
 use Rattle.ordup_limits.specs.Totals.{has_bit, kept_amount, weight_where, AreMasks, AreTotals}
@@ -311,7 +310,7 @@ pub may_weigh-next : (groups : GroupList) (m : List Change) (k : ℕ) (c : Chang
     → ((may_weigh groups (take k m) s ≡ true) ⊎ (counts_within groups c.object s ≡ true))
 may_weigh-next groups m k c s lt at is =
     let more : list_any (λ e. counts_within groups e.object s) (take (k + 1) m)
-        ≡ (list_any (λ e. counts_within groups e.object s) (take k m) || counts_within groups c.object s) =
+    ≡ (list_any (λ e. counts_within groups e.object s) (take k m) || counts_within groups c.object s) =
     list_any_more (λ (e : Change). counts_within groups e.object s) m k c lt
     ∙ ap (λ (e : Change). list_any (λ f. counts_within groups f.object s) (take k m) || counts_within groups e.object s) (sym at) in
     let fixed = is_same_scope Everything s || is_same_scope Count s in

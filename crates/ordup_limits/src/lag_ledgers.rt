@@ -47,11 +47,7 @@ impl<A: Allocator + Copy> LagLedgers<A> {
     /// The ledgers of sites with these limits, at most 16, that have reported nothing. No update was added.
     ///
     /// They take all the memory that they ever need. The only refusal is `NoMemory`.
-    pub fn new(
-        alloc: A,
-        groups: &Groups<A>,
-        limits: &[LimitTable<A>],
-    ) -> Result<Self, Refusal>
+    pub fn new(alloc: A, groups: &Groups<A>, limits: &[LimitTable<A>]) -> Result<Self, Refusal>
         requires few { length limits.now ≤ most_sites }
         requires known { (n : ℕ) × ((n ≤ most_objects) × All (AreEntriesKnown n groups.now) limits.now) }
         ensures count { IfOk result (λ l. length l.sites ≡ length limits.now) }
@@ -118,7 +114,14 @@ impl<A: Allocator + Copy> LagLedgers<A> {
 
     /// Changes the amount of the limit of a site on a scope, or begins a limit there, with an amount from 0 to 10^18. It takes no
     /// memory.
-    pub fn change(&mut self, log: &Log<A>, groups: &Groups<A>, site: SiteId, scope: Scope, amount: u64)
+    pub fn change(
+        &mut self,
+        log: &Log<A>,
+        groups: &Groups<A>,
+        site: SiteId,
+        scope: Scope,
+        amount: u64,
+    )
         requires site { site < length self.old.sites }
         requires known { IsScopeKnown (length log.now.start) groups.now scope }
         requires stands { StandFor self.old log.now groups.now }

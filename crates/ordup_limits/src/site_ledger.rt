@@ -39,11 +39,7 @@ impl<A: Allocator + Copy> Model for SiteLedger<A> {
 
 impl<A: Allocator + Copy> SiteLedger<A> {
     /// A site with these limits that has reported nothing. The only refusal is `NoMemory`.
-    pub(crate) fn new(
-        alloc: A,
-        groups: &Groups<A>,
-        limits: &LimitTable<A>,
-    ) -> Result<Self, Refusal>
+    pub(crate) fn new(alloc: A, groups: &Groups<A>, limits: &LimitTable<A>) -> Result<Self, Refusal>
         requires known { (n : ℕ) × ((n ≤ most_objects) × AreEntriesKnown n groups.now limits.now) }
         ensures site { IfOk result (λ site. IsFirstSite groups.now limits.now site) }
         ensures refused { IfErr result (λ e. e ≡ Refusal.NoMemory) }
@@ -96,7 +92,10 @@ impl<A: Allocator + Copy> SiteLedger<A> {
 }
 
 /// One number for each scope.
-pub(crate) fn for_each_scope<A: Allocator + Copy>(alloc: A, number: u64) -> Result<Vec<u64, A>, Refusal>
+pub(crate) fn for_each_scope<A: Allocator + Copy>(
+    alloc: A,
+    number: u64,
+) -> Result<Vec<u64, A>, Refusal>
     ensures numbers { IfOk result (λ numbers. numbers.items ≡ replicate most_scopes number) }
     ensures refused { IfErr result (λ e. e ≡ Refusal.NoMemory) }
 {

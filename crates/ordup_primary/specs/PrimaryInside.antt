@@ -1,8 +1,6 @@
 -- A primary in the fields of a `Primary`.
-use Rattle.std.specs.Prelude.{◌≡◌, ℕ, ◌+◌, map, length, replicate, List, [], ◌<◌, ◌≤◌, Bool, not, vec_len, vec_capacity, slice_index_or}
-use Rattle.ordup_objects.specs.Serial.{History}
+use Rattle.std.specs.Prelude.{◌≡◌, ℕ, ◌+◌, map, length, replicate, [], ◌<◌, ◌≤◌, vec_len, vec_capacity, slice_index_or}
 use Rattle.ordup_objects.specs.Tables.{initial_state}
-use Rattle.ordup_log.specs.Groups.{GroupList}
 use Rattle.ordup_limits.specs.SiteLedgers.{HasLimits, LedgersState, SiteLedgerState, StandFor}
 use Rattle.ordup_limits.specs.Entries.{latest}
 use Rattle.ordup_primary.specs.Declarations.{Declared}

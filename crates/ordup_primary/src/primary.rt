@@ -394,8 +394,7 @@ impl<A: Allocator + Copy> Primary<A> {
         let Ok(()) = self.limits[index].change(objects, groups, *scope, amount, head) else {
             return Err(Refusal::NoMemory);
         };
-        self.ledgers
-            .change(&self.log, groups, site, *scope, amount);
+        self.ledgers.change(&self.log, groups, site, *scope, amount);
         Ok(())
     }
 

@@ -1,4 +1,4 @@
-use Rattle.std.proofs.Common.{arith, ap, ◌∙◌, [], ◌∷◌, length, get_or, inl, inr}
+use Rattle.std.proofs.Common.{arith, ap, [], ◌∷◌, length, inl, inr}
 use Rattle.std.proofs.Math.ListN.{get_or-append}
 use Rattle.std.proofs.lemmas.Bool.{cases_eq}
 use Rattle.std.proofs.lemmas.List.{get_or_push, get_or_read, length_push}

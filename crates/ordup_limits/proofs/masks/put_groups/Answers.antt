@@ -1,5 +1,5 @@
-use Rattle.std.proofs.Common.{arith, ap, sym, ◌∙◌, ◌≡◌, ◌<◌, ◌==◌, get_or, length}
-use Rattle.std.specs.Prelude.{◌&&◌, ◌||◌, nat_lt}
+use Rattle.std.proofs.Common.{arith, ap, sym, ◌∙◌, ◌≡◌, ◌==◌, get_or, length}
+use Rattle.std.specs.Prelude.{◌&&◌, ◌||◌}
 use Rattle.ordup_limits.specs.declared.limit.Limit.{Limit}
 use Rattle.ordup_limits.specs.SiteLedgers.{group_limits}
 use Rattle.ordup_limits.specs.Totals.{counts_on, has_bit}

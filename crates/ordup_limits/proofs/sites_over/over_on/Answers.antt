@@ -1,11 +1,10 @@
-use Rattle.std.proofs.Common.{arith, ap, sym, ◌∙◌, ◌≡◌, ◌<◌, ◌≤◌, length, get_or, inl, inr}
+use Rattle.std.proofs.Common.{arith, ap, ◌∙◌, ◌≡◌, length, get_or, inl, inr}
 use Rattle.std.specs.Prelude.{nat_lt}
 use Rattle.std.proofs.lemmas.Bool.{cases_eq}
 use Rattle.std.proofs.lemmas.Grind.{get_or-set_at}
 use Rattle.std.proofs.lemmas.List.{get_or_read, get_or-set_other}
-use Rattle.ordup_log.specs.declared.scope.Scope.{Scope}
 use Rattle.ordup_limits.specs.Limits.{is_same_scope}
-use Rattle.ordup_limits.specs.SiteLedgers.{allowed, scope_index, most_scopes}
+use Rattle.ordup_limits.specs.SiteLedgers.{allowed, scope_index}
 use Rattle.ordup_limits.proofs.EntryLemmas.{same_scope}
 use Rattle.ordup_limits.proofs.SiteLemmas.{scope_index-same, scope_index-small, AreOver-none, AreOver-scope}
 use Rattle.ordup_limits.proofs.sites_over.over_on.Goals as goal

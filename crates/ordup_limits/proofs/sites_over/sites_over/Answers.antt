@@ -1,5 +1,4 @@
-use Rattle.std.proofs.Common.{arith, ap, sym, ◌∙◌, ◌≡◌, ◌<◌, ◌-◌, ◌+◌, length, get_or, take, []}
-use Rattle.ordup_objects.specs.declared.change.Change.{Change}
+use Rattle.std.proofs.Common.{arith, ap, ◌∙◌, ◌≡◌, ◌<◌, ◌-◌, ◌+◌, length, get_or, take, []}
 use Rattle.ordup_objects.specs.Serial.{set_at}
 use Rattle.ordup_log.specs.declared.scope.Scope.TheVariants.{All as Everything, Count}
 use Rattle.ordup_limits.specs.Limits.{is_same_scope}

@@ -1,5 +1,4 @@
-use Rattle.std.proofs.Common.{arith, ap, length}
-use Rattle.ordup_objects.specs.Sizes.{most_objects}
+use Rattle.std.proofs.Common.{length}
 use Rattle.ordup_primary.proofs.LedgerLemmas.{AreLedgers-first}
 use Rattle.ordup_primary.proofs.starting.first_ledgers.Goals as goal
 

@@ -1,16 +1,14 @@
-use Rattle.std.proofs.Common.{arith, ap, sym, ◌∙◌, ◌≡◌, ◌<◌, ◌≤◌, ℕ, List, length, get_or, inl, inr}
+use Rattle.std.proofs.Common.{arith, ap, sym, ◌∙◌, ◌≡◌, ◌<◌, ◌≤◌, length, get_or, inl, inr}
 use Rattle.std.specs.Prelude.{min}
 use Rattle.std.proofs.Math.ListN.{set}
 use Rattle.std.proofs.lemmas.Bool.{cases_eq}
 use Rattle.std.proofs.lemmas.Grind.{get_or-set_at}
 use Rattle.std.proofs.lemmas.List.{get_or_default, get_or-set_other}
-use Rattle.ordup_log.specs.Spans.{span, IsScopeKnown}
+use Rattle.ordup_log.specs.Spans.{span}
 use Rattle.ordup_limits.specs.declared.limit.Limit.{Limit}
-use Rattle.ordup_limits.specs.Limits.{are_on_one_scope}
-use Rattle.ordup_limits.specs.SiteLedgers.{allowed, most_scopes, scope_index, SiteLedgerState}
+use Rattle.ordup_limits.specs.SiteLedgers.{allowed, scope_index, SiteLedgerState}
 use Rattle.ordup_limits.specs.Sizes.{greatest_amount}
 use Rattle.ordup_limits.specs.LagLedgersInside.{ledgers_of}
-use Rattle.ordup_limits.proofs.EntryLemmas.{same_scope}
 use Rattle.ordup_limits.proofs.OverLemmas.{HasLimits-put, StandFor-with_site}
 use Rattle.ordup_limits.proofs.SiteLemmas.{scope_index-small}
 use Rattle.ordup_limits.proofs.lag_ledgers.LagLedgers.change.Goals as goal

@@ -1,6 +1,3 @@
-use Rattle.std.proofs.Common.{arith, ap, sym, ◌∙◌, ◌≡◌, length, get_or}
-use Rattle.ordup_limits.specs.SiteLedgers.{LedgersState}
-use Rattle.ordup_limits.specs.LagLedgersInside.{ledgers_of}
 use Rattle.ordup_limits.proofs.OverLemmas.{over-exact}
 use Rattle.ordup_limits.proofs.lag_ledgers.LagLedgers.extend.Goals as goal
 

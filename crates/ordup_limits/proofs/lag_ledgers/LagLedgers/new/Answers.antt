@@ -1,4 +1,4 @@
-use Rattle.std.proofs.Common.{arith, ap, sym, ◌∙◌, ◌≡◌, length, get_or}
+use Rattle.std.proofs.Common.{arith}
 use Rattle.ordup_objects.specs.Sizes.{most_objects}
 use Rattle.ordup_limits.specs.SiteLedgers.{most_scopes, scope_index}
 use Rattle.ordup_limits.proofs.TotalLemmas.{none_at}

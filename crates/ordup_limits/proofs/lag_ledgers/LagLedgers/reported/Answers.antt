@@ -18,10 +18,11 @@ returns-clause-stands g c =
     let forward : (get_or sites index old).reported.place ≤ c.args.to = rw (← c.self.view_is, ← c.index.ensures) at (c.requires.forward old) in
     StandFor-with_site (ledgers_of c.self.inside) h groups index c.report.new.self kept stands lt c.report.ensures.weights
     (λ scope known. (let before : get_or kept (scope_index scope) 0 ≤ allowed h groups old scope =
-    rw (← is) at (stands.kept index old scope lt known) in
-    (omega (
-      arith,
-      before,
-      allowed-reported h groups old c.report.new.self scope c.report.ensures.amounts (omega (arith, rw (← is) at forward, c.report.ensures.place)),
-    ),
-    omega arith)))
+    rw (← is) at (stands.kept index old scope lt known) in (
+      omega (
+        arith,
+        before,
+        allowed-reported h groups old c.report.new.self scope c.report.ensures.amounts (omega (arith, rw (← is) at forward, c.report.ensures.place)),
+      ),
+      omega arith,
+    )))

@@ -1,4 +1,3 @@
-use Rattle.std.proofs.Common.{arith}
 use Rattle.ordup_limits.specs.WeightsInside.{weights_of}
 use Rattle.ordup_limits.proofs.SiteLemmas.{totals-few, AreWeights-extended}
 use Rattle.ordup_limits.proofs.weights.Weights.extend.Goals as goal

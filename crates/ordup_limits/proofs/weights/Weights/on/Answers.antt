@@ -1,9 +1,8 @@
-use Rattle.std.proofs.Common.{arith, ap, ◌∙◌, ◌≡◌, ◌≤◌, ◌<◌, ◌*◌, get_or, length}
+use Rattle.std.proofs.Common.{arith, ap, ◌∙◌, ◌≤◌, ◌<◌, ◌*◌, get_or, length}
 use Rattle.std.proofs.lemmas.List.{get_or_read}
 use Rattle.ordup_objects.specs.Sizes.{greatest_weight}
 use Rattle.ordup_objects.specs.Weights.{object_span}
-use Rattle.ordup_log.specs.declared.scope.Scope.TheVariants.{Object, Group}
-use Rattle.ordup_log.specs.Spans.{span}
+use Rattle.ordup_log.specs.declared.scope.Scope.TheVariants.{Object}
 use Rattle.ordup_limits.specs.WeightsInside.{weights_of}
 use Rattle.ordup_limits.proofs.SiteLemmas.{span-few, total-group}
 use Rattle.ordup_limits.proofs.weights.Weights.on.Goals as goal

@@ -1,4 +1,4 @@
-use Rattle.std.proofs.Common.{arith, refl, ap, ◌≡◌, ◌<◌, ◌∙◌, get_or, length}
+use Rattle.std.proofs.Common.{arith, refl, ap}
 use Rattle.std.proofs.lemmas.Grind.{common_steps}
 use Rattle.ordup_primary.specs.Primaries.{PrimaryState, first_progress, progress_at}
 use Rattle.ordup_primary.specs.PrimaryInside.{state_of}

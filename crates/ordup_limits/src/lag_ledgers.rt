@@ -107,8 +107,6 @@ impl<A: Allocator + Copy> LagLedgers<A> {
         ensures amounts { (d : SiteLedgerState) → (slice_index_or self.new.sites site d).amounts ≡ (slice_index_or self.old.sites site d).amounts }
         ensures stands { StandFor self.new log.now groups.now }
     {
-        log.keeps();
-        groups.keeps();
         self.sites[site.index()].report(log, groups, self.masks.as_slice(), to);
     }
 

@@ -1,5 +1,5 @@
 -- The ledgers of the sites.
-use Rattle.std.proofs.Common.{◌≡◌, ℕ, zero, suc, ◌+◌, ◌-◌, ◌<◌, ◌≤◌, Bool, true, false, not, List, [], ◌∷◌, ◌++◌, length, get_or}
+use Rattle.std.proofs.Common.{◌≡◌, ℕ, zero, suc, ◌+◌, ◌-◌, ◌<◌, ◌≤◌, Bool, true, false, not, List, [], ◌∷◌, length, get_or}
 use Rattle.std.proofs.Common.{arith, refl, sym, ap, ◌∙◌, inl, inr}
 use Rattle.std.specs.Prelude.{◌==◌, All}
 use Rattle.std.specs.Int.{bit_at}
@@ -24,13 +24,6 @@ use Rattle.ordup_primary.proofs.SettlingLemmas.{where_below-same}
 use Rattle.ordup_primary.proofs.PrimaryLemmas.{is_within-now}
 
 -- ---- lists
-
--- one number more that is tested
-pub where_below-more : (test : ℕ → Bool) (n : ℕ) (b : Bool) (xs : List ℕ) → b ≡ test n → xs ≡ where_below test n
-    → (b ≡ true → xs ++ n ∷ [] ≡ where_below test (n + 1)) × (b ≡ false → xs ≡ where_below test (n + 1))
-where_below-more test n b xs is before =
-    let next : n + 1 ≡ suc n = omega arith in
-    (λ e. rw (next, sym is ∙ e, ← before) refl, λ e. rw (next, sym is ∙ e) before)
 
 -- where no number passes
 pub where_below-empty : (test : ℕ → Bool) (n : ℕ) → ((s : ℕ) → test s ≡ false) → [] ≡ where_below test n

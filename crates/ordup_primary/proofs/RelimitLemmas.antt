@@ -1,10 +1,10 @@
 -- A primary whose limits change.
 use Rattle.std.proofs.Common.{◌≡◌, ℕ, ◌+◌, ◌<◌, ◌≤◌, ◌==◌, Bool, not, [], length, get_or}
 use Rattle.std.proofs.Common.{arith, refl, sym, ap, ◌∙◌, inl, inr}
-use Rattle.std.specs.Prelude.{Option, Some, None, nat_lt, nat_le, if◌then◌else◌}
+use Rattle.std.specs.Prelude.{Option, Some, None, nat_lt, if◌then◌else◌}
 use Rattle.std.specs.Option.{option_or}
 use Rattle.std.proofs.Math.ListN.{length-set}
-use Rattle.std.proofs.lemmas.Bool.{and_parts, cases_Bool, cases_eq, ltb-false, le-leb, leb-true, eqb-true}
+use Rattle.std.proofs.lemmas.Bool.{cases_Bool, cases_eq, ltb-false, le-leb, eqb-true}
 use Rattle.std.proofs.lemmas.List.{get_or-set_other, length-map}
 use Rattle.std.proofs.lemmas.List.Elements.{All-set}
 use Rattle.std.proofs.lemmas.Grind.{get_or-set_at}
@@ -19,8 +19,7 @@ use Rattle.ordup_limits.specs.Entries.{entry_of, put, latest, in_force, are_one_
 use Rattle.ordup_limits.specs.Entries.{AreEntriesKnown}
 use Rattle.ordup_limits.specs.SiteLedgers.{HasLimits, LedgersState, SiteLedgerState, StandFor, WeightsAt}
 use Rattle.ordup_limits.proofs.PutLemmas.{All-put}
-use Rattle.ordup_limits.proofs.EntryLemmas.{change-allowed, in_force-before, latest-changed, within-put}
-use Rattle.ordup_limits.specs.Sizes.{most_limits, most_entries}
+use Rattle.ordup_limits.proofs.EntryLemmas.{in_force-before, latest-changed, within-put}
 use Rattle.ordup_primary.specs.Primaries.{SiteProgress, PrimaryState, progress_at, limits_at, reported_at, is_within}
 use Rattle.ordup_primary.specs.Primaries.{relimit_refusal, relimited, IsSiteSound, IsPrimary}
 use Rattle.ordup_primary.specs.PrimaryInside.{AreLedgers}
@@ -47,23 +46,6 @@ relimit-allowed p s scope amount allowed =
         | inr near ↦ (both.0, eqb-true p.acked p.decided settled, ltb-false amount weight near)
       ]
     ]
-
--- there is room for the limit in the ledger of the site
-pub relimit-room : (p : PrimaryState) (s : ℕ) (scope : Scope) (amount : ℕ) → IsPrimary p → s < length p.sites → AreEntries (limits_at p s)
-    → relimit_refusal p s scope amount ≡ None
-    → length (put are_on_one_scope (latest (limits_at p s)) (record { scope = scope; amount = amount })) ≤ most_limits
-relimit-room p s scope amount is there are allowed =
-    let e = entry_of scope amount (p.acked + 1) in
-    let may = relimit-allowed p s scope amount allowed in
-    let few = (change-allowed (length p.setup.objects) p.setup.groups (limits_at p s) e may.0).1 in
-    let room = and_parts (nat_le (length (latest (changed (limits_at p s) e))) most_limits)
-    (nat_le (length (changed (limits_at p s) e)) most_entries) few in
-    omega (
-      arith,
-      leb-true (length (latest (changed (limits_at p s) e))) most_limits room.0,
-      ap (λ (ls : Limits). length ls)
-          (latest-changed (limits_at p s) e are.distinct are.rising (is.begun s [] (omega (arith, is.tables)))),
-    )
 
 -- a scope that is there is so for the log
 pub known-in_log : (p : PrimaryState) (scope : Scope) → IsPrimary p → IsScopeKnown (length p.setup.objects) p.setup.groups scope

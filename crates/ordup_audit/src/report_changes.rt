@@ -9,7 +9,7 @@ pub enum ReportChanges<'a> {
     /// As an auditor keeps them.
     Changes(&'a [ReportChange]),
     /// As a primary keeps them: each place, with how many updates the site had reported at its decision.
-    Steps(&'a [(u64, u64)]),
+    Steps(&'a [(u32, u32)]),
 }
 
 impl ReportChanges<'_> {
@@ -32,7 +32,10 @@ impl ReportChanges<'_> {
             ReportChanges::Changes(changes) => changes[index],
             ReportChanges::Steps(steps) => {
                 let (place, reported) = steps[index];
-                ReportChange { place, reported }
+                ReportChange {
+                    place: u64::from(place),
+                    reported: u64::from(reported),
+                }
             }
         }
     }

@@ -13,6 +13,7 @@ use Rattle.ordup_objects.specs.declared.change.Change.{Change}
 use Rattle.ordup_objects.specs.States.{is_legal}
 use Rattle.ordup_objects.specs.Tables.{initial_state}
 use Rattle.ordup_objects.specs.Sets.{IsSet, AreKnown}
+use Rattle.ordup_objects.specs.Sizes.{most_updates}
 use Rattle.ordup_objects.specs.Serial.{History, serial, with_update, IsLegalHistory}
 use Rattle.ordup_objects.specs.declared.refusal.Refusal.TheVariants.{LogFull, OutOfRange, Empty}
 use Rattle.ordup_log.specs.Appending.{append_refusal}
@@ -549,6 +550,17 @@ module _ {A : Type 0} where
       let at : get_or (state_of l).sites i first_progress ≡ progress_of (get_or roomed i d) =
       ap (λ sites. get_or sites i first_progress) (sym same) ∙ get_or-map progress_of roomed i d first_progress lt in
       omega (arith, here, first, ap (λ (site : SiteProgress). length site.reports) at, (is.sites i first_progress there).count)
+
+  -- and it has reported no more than a log has
+  pub reports-few : (l : Inside A) (roomed : List (Progress A)) → IsPrimary (state_of l)
+      → map progress_of roomed ≡ map progress_of l.sites.items
+      → All (λ (site : Progress A). site.reported ≤ most_updates) roomed
+  reports-few l roomed is same i d lt =
+      let there : i < length (state_of l).sites = omega (arith, ap length same, length-map roomed (progress_of {A = A})) in
+      let at : get_or (state_of l).sites i first_progress ≡ progress_of (get_or roomed i d) =
+      ap (λ sites. get_or sites i first_progress) (sym same) ∙ get_or-map progress_of roomed i d first_progress lt in
+      let sound = is.sites i first_progress there in
+      omega (arith, ap (λ (site : SiteProgress). site.reported) at, sound.reported, sound.sent, is.few)
 
   -- a site that changes, as callers see it
   pub view-set : (l : Inside A) (i s : ℕ) (x y : Progress A) (f : SiteProgress → SiteProgress) → i ≡ s

@@ -57,7 +57,7 @@ changes-pushed reports r =
 -- ---- changes that a caller has
 
 module _ (changes : List (ℕ × ℕ)) (decided : ℕ) (are : changes ≡ changes_of (reports_upto changes decided)) where
-  count : length (reports_upto changes decided) ≡ decided
+  pub count : length (reports_upto changes decided) ≡ decided
   count = length-map-range_with_len (as_of changes) 1 decided
 
   -- they can be searched

@@ -1,5 +1,6 @@
-ghost use Rattle.std.specs.Prelude.{◌≡◌, ◌<◌, ◌+◌, ◌==◌, ℕ, [], not, All, OnOk, IfErr, length, map, replicate, slice_index_or};
+ghost use Rattle.std.specs.Prelude.{◌≡◌, ◌<◌, ◌≤◌, ◌+◌, ◌==◌, ℕ, [], not, All, OnOk, IfErr, length, map, replicate, slice_index_or};
 ghost use Rattle.std.specs.List.{list_any};
+ghost use Rattle.ordup_objects.specs.Sizes.{most_updates};
 ghost use Rattle.ordup_primary.specs.Primaries.{first_progress, decided_at};
 ghost use Rattle.ordup_primary.specs.PrimaryInside.{progress_of, HasRoom};
 ghost use Rattle.ordup_primary.specs.Settling.{last_place};
@@ -68,6 +69,8 @@ pub(crate) fn put_down<A: Allocator + Copy>(
 )
     requires room { All HasRoom sites.old.items }
     requires next { All (λ site. number ≡ length site.reports.reports + 1) sites.old.items }
+    requires few { number ≤ most_updates }
+    requires reported { All (λ site. site.reported ≤ most_updates) sites.old.items }
     ensures count { length sites.new.items ≡ length sites.old.items }
     ensures sites { (s : ℕ) (d : Progress A) → s < length sites.old.items →
         progress_of (slice_index_or sites.new.items s d) ≡ decided_at (not (list_any (λ t. t == s) forced.now)) number (progress_of (slice_index_or sites.old.items s d)) }

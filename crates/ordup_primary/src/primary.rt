@@ -271,7 +271,7 @@ impl<A: Allocator + Copy> Primary<A> {
 
     /// How what a site had reported changed from one decision to the next: each decided place where it was another number than
     /// at the place before, which is 0 before the first, with this number, in order.
-    pub fn report_changes(&self, site: SiteId) -> &[(u64, u64)]
+    pub fn report_changes(&self, site: SiteId) -> &[(u32, u32)]
         requires { site < length self.now.sites }
         ensures changes { result.now ≡ changes_of (progress_at self.now site).reports }
         ensures decided { length (progress_at self.now site).reports ≡ self.now.decided }

@@ -1,8 +1,10 @@
 ghost use Rattle.std.specs.Prelude.{◌≡◌, ◌<◌, ◌≤◌, ◌+◌, ◌-◌, ℕ, [], ◌∷◌, ◌++◌, length, slice_index_or, OnOk};
+ghost use Rattle.std.specs.List.Sorted.{IsNonDecreasingBy};
+ghost use Rattle.ordup_objects.specs.Sizes.{most_updates};
+ghost use Rattle.ordup_log.specs.Steps.{as_of};
 ghost use Rattle.ordup_primary.specs.Settling.{report_at};
 ghost use Rattle.ordup_primary.specs.Reports.{changes_of};
 
-use ordup_log::as_of;
 use std::alloc::{AllocError, Allocator, Global};
 use std::marker::Model;
 
@@ -10,7 +12,7 @@ use std::marker::Model;
 #[derive(Drop)]
 pub(crate) struct Reports<A: Allocator + Copy = Global> {
     /// The places at which it had reported another number than at the decision before, each with it, in order.
-    changes: Vec<(u64, u64), A>,
+    changes: Vec<(u32, u32), A>,
     /// How many places are decided.
     decided: u64,
 }
@@ -50,10 +52,11 @@ impl<A: Allocator + Copy> Reports<A> {
     pub(crate) fn push_reserved(&mut self, place: u64, report: u64)
         requires room { 0 < self.old.room }
         requires next { place ≡ length self.old.reports + 1 }
+        requires few { (place ≤ most_updates) × (report ≤ most_updates) }
         ensures { self.new.reports ≡ self.old.reports ++ report ∷ [] }
     {
         if report != last_report(self.changes.as_slice()) {
-            self.changes.push_reserved((place, report));
+            self.changes.push_reserved((place as u32, report as u32));
         }
         self.decided = place;
     }
@@ -64,11 +67,11 @@ impl<A: Allocator + Copy> Reports<A> {
         requires decided { place ≤ length self.now.reports }
         ensures { result ≡ report_at self.now.reports place }
     {
-        as_of(self.changes.as_slice(), place)
+        u64::from(as_of(self.changes.as_slice(), place as u32))
     }
 
     /// The decisions at which the site had reported another number than at the one before, each with it.
-    pub(crate) fn changes(&self) -> &[(u64, u64)]
+    pub(crate) fn changes(&self) -> &[(u32, u32)]
         ensures { result.now ≡ changes_of self.now.reports }
     {
         self.changes.as_slice()
@@ -76,11 +79,28 @@ impl<A: Allocator + Copy> Reports<A> {
 }
 
 /// What the last of these changes is to, 0 where there is none.
-fn last_report(changes: &[(u64, u64)]) -> u64
+fn last_report(changes: &[(u32, u32)]) -> u64
     ensures { result ≡ (slice_index_or changes.now (length changes.now - 1) (0, 0)).1 }
 {
     match changes.last() {
-        Some(change) => change.1,
+        Some(change) => u64::from(change.1),
         None => 0,
+    }
+}
+
+/// What the last of these changes at or before a place is to, and 0 before the first. That is usually the last of all; an earlier
+/// one is found by binary search.
+fn as_of(changes: &[(u32, u32)], place: u32) -> u32
+    requires { IsNonDecreasingBy (λ (change : ℕ × ℕ). change.0) changes.now }
+    ensures { result ≡ as_of changes.now place }
+{
+    if let Some(last) = changes.last()
+        && last.0 <= place
+    {
+        return last.1;
+    }
+    match changes.partition_point(|change| change.0 <= place) {
+        0 => 0,
+        count => changes[count - 1].1,
     }
 }

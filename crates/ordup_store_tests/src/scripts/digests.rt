@@ -53,6 +53,15 @@ impl Digest {
         }
     }
 
+    /// Adds a list of decisions, each with what a site had reported.
+    fn add_changes(&mut self, changes: &[(u32, u32)]) {
+        self.add(changes.len() as u64);
+        for change in changes {
+            self.add(u64::from(change.0));
+            self.add(u64::from(change.1));
+        }
+    }
+
     /// Adds a list of objects.
     fn add_objects(&mut self, objects: &[ObjectId]) {
         self.add(objects.len() as u64);
@@ -209,7 +218,7 @@ fn add_site<A: Allocator + Copy>(digest: &mut Digest, primary: &Primary<A>, site
     for place in 0..primary.decided() {
         digest.add(primary.reported_at(site, place + 1));
     }
-    digest.add_steps(primary.report_changes(site));
+    digest.add_changes(primary.report_changes(site));
     digest.add_numbers(primary.rounds(site));
     for window in primary.windows(site) {
         digest.add(window.from);

@@ -1,6 +1,6 @@
 use Rattle.std.proofs.Common.{arith, ap, sym, ◌∙◌, length, ◌==◌}
 use Rattle.ordup_primary.specs.PrimaryInside.{state_of}
-use Rattle.ordup_primary.proofs.PrimaryLemmas.{IsPrimary-decided, Decides-at, reports-next, acked-none, acked-some}
+use Rattle.ordup_primary.proofs.PrimaryLemmas.{IsPrimary-decided, Decides-at, reports-few, reports-next, acked-none, acked-some}
 use Rattle.ordup_primary.proofs.PrimaryLemmas.{acked_or_round-none, acked_or_round-some}
 use Rattle.ordup_primary.proofs.LedgerLemmas.{AreLedgers-decided}
 use Rattle.ordup_primary.proofs.primary.Primary.decide.Goals as goal
@@ -71,6 +71,10 @@ returns-clause-decides g c =
     c.self.inside.acked c.args.head c.in_ok-reserve_decision.ensures.same forced c.put_down.ensures.count c.put_down.ensures.sites here
     (acked-some c.self.inside.acked c.as_slice.result.now
     (c.if-is_empty.ensures ∙ ap (λ xs. length xs == 0) (c.as_slice-2.ensures ∙ sym c.as_slice.ensures))))
+
+pub put_down-requires-clause-reported : goal.put_down-requires-clause-reported
+put_down-requires-clause-reported g c =
+    reports-few c.self.inside c.reserve_decision.new.sites.items c.self.invariant.primary c.in_ok-reserve_decision.ensures.same
 
 pub put_down-requires-clause-next : goal.put_down-requires-clause-next
 put_down-requires-clause-next g c =

@@ -161,6 +161,16 @@ distance-few h legal j i m ds lt same are below =
     rw are (distances-few h legal j lt i 0
     (omega (arith, below, ap length same, length-map (get_or h.sets j []) (distance_by (serial h j)))))
 
+pub distances-count : (h : History) (j : ℕ) (m : List Change) (ds : List ℕ) → m ≡ get_or h.sets j []
+    → ds ≡ distances_of (serial h j) (get_or h.sets j []) → length ds ≡ length m
+distances-count h j m ds same are = ap length are ∙ length-map (get_or h.sets j []) (distance_by (serial h j)) ∙ sym (ap length same)
+
+-- the object of a change of an update is there
+pub object-known : (h : History) → IsLegalHistory h → (j i : ℕ) (m : List Change) (c : Change) → j < length h.sets
+    → m ≡ get_or h.sets j [] → i < length m → c ≡ get_or m i c
+    → c.object < length h.start
+object-known h legal j i m c lt same below at = rw (at, same) (legal.known j [] lt i c (rw same at below)).0
+
 -- ---- one after the other
 
 -- one change less is left

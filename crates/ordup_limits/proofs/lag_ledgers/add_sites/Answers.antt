@@ -4,6 +4,15 @@ use Rattle.std.proofs.lemmas.Bool.{cases_eq}
 use Rattle.std.proofs.lemmas.List.{get_or_push, get_or_read, length_push}
 use Rattle.ordup_limits.proofs.lag_ledgers.add_sites.Goals as goal
 
+pub loop-table-init : goal.loop-table-init
+loop-table-init g c = record { count = ap length c.requires.none; each = λ s d lt. absurd (omega (arith, lt)) }
+
+pub new-requires : goal.new-requires
+new-requires g c =
+    let known = c.requires.known in
+    let item = known.1.1 c.loop-table.table-index c.table-item.result c.loop-table-test.true in
+    record { known = (known.0, (known.1.0, rw (← c.table-item.is) at item)) }
+
 pub loop-table-preserved : goal.loop-table-preserved
 loop-table-preserved g c =
     let before = c.loop-table.invariant in
@@ -21,3 +30,10 @@ loop-table-preserved g c =
             (before.each s d (omega (arith, lt, other)))
       ];
     }
+
+pub returns-clause-count : goal.returns-clause-count
+returns-clause-count g c =
+    omega (arith, c.loop-table.invariant.count, c.loop-table-test.false, c.loop-table.auto.table-index-end)
+
+pub returns-clause-sites : goal.returns-clause-sites
+returns-clause-sites g c = λ s d lt. c.loop-table.invariant.each s d (omega (arith, lt, c.loop-table-test.false))

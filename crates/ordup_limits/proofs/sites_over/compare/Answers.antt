@@ -5,6 +5,13 @@ use Rattle.std.proofs.lemmas.List.{get_or_read}
 use Rattle.ordup_limits.specs.SiteLedgers.{allowed, SiteLedgerState}
 use Rattle.ordup_limits.proofs.sites_over.compare.Goals as goal
 
+pub allowed-allowed-requires : goal.allowed-allowed-requires
+allowed-allowed-requires g c = record {
+  weights = rw (← c.index-sites-index.is) at (c.requires.sites c.loop-index.index c.index-sites-index.result c.loop-index-test.true);
+  index = c.requires.index;
+  known = c.requires.known;
+}
+
 pub loop-index-preserved : goal.loop-index-preserved
 loop-index-preserved g c =
     let before = c.loop-index.invariant in
@@ -24,3 +31,9 @@ loop-index-preserved g c =
         | inr other ↦ omega (arith, c.min-least.ensures, before.least s d (omega (arith, lt, other)))
       ];
     }
+
+pub returns-clause-over : goal.returns-clause-over
+returns-clause-over g c = λ s d lt. c.loop-index.invariant.over s d (omega (arith, lt, c.loop-index-test.false))
+
+pub returns-clause-least : goal.returns-clause-least
+returns-clause-least g c = λ s d lt. c.loop-index.invariant.least s d (omega (arith, lt, c.loop-index-test.false))

@@ -1,5 +1,6 @@
 use Rattle.std.proofs.Common.{arith, ap, ◌∙◌, ◌≡◌, length, get_or, inl, inr}
 use Rattle.std.specs.Prelude.{nat_lt}
+use Rattle.std.proofs.Math.ListN.{length-set}
 use Rattle.std.proofs.lemmas.Bool.{cases_eq}
 use Rattle.std.proofs.lemmas.Grind.{get_or-set_at}
 use Rattle.std.proofs.lemmas.List.{get_or_read, get_or-set_other}
@@ -8,6 +9,20 @@ use Rattle.ordup_limits.specs.SiteLedgers.{allowed, scope_index}
 use Rattle.ordup_limits.proofs.EntryLemmas.{same_scope}
 use Rattle.ordup_limits.proofs.SiteLemmas.{scope_index-same, scope_index-small, AreOver-none, AreOver-scope}
 use Rattle.ordup_limits.proofs.sites_over.over_on.Goals as goal
+
+pub on-weight-requires : goal.on-weight-requires
+on-weight-requires g c = record { weights = c.requires.added; known = c.requires.known }
+
+pub index-requires : goal.index-requires
+index-requires g c =
+    let small = scope_index-small (length c.args.log.now.start) c.args.groups.now c.args.scope c.requires.objects c.keeps.ensures.few c.requires.known in
+    omega (arith, c.scope_index-index.ensures, small, c.requires.count)
+
+pub returns-then-weight-index-clause-count : goal.returns-then-weight-index-clause-count
+returns-then-weight-index-clause-count g c = c.requires.count
+
+pub returns-then-weight-index-clause-kept : goal.returns-then-weight-index-clause-kept
+returns-then-weight-index-clause-kept g c = c.requires.kept
 
 pub returns-then-weight-index-clause-over : goal.returns-then-weight-index-clause-over
 returns-then-weight-index-clause-over g c =
@@ -23,6 +38,22 @@ returns-then-weight-index-clause-over g c =
     AreOver-none h groups c.args.added.now.place c.args.sites.now (is_same_scope scope)
     (λ s d t lt known same. (let e : scope ≡ t = same_scope scope t same in
     rw (← e) (omega (arith, c.on-weight.ensures.weight, c.if-weight-index.true, at, c.requires.kept s d scope lt c.requires.known))))
+
+pub compare-over-requires : goal.compare-over-requires
+compare-over-requires g c = record {
+  few = c.requires.few;
+  index = scope_index-small (length c.args.log.now.start) c.args.groups.now c.args.scope c.requires.objects c.keeps.ensures.few c.requires.known;
+  known = c.requires.known;
+  sites = c.requires.sites;
+}
+
+pub index_mut-requires : goal.index_mut-requires
+index_mut-requires g c =
+    let small = scope_index-small (length c.args.log.now.start) c.args.groups.now c.args.scope c.requires.objects c.keeps.ensures.few c.requires.known in
+    omega (arith, c.scope_index-index.ensures, small, c.requires.count)
+
+pub returns-clause-count : goal.returns-clause-count
+returns-clause-count g c = length-set c.args.kept.now.items c.scope_index-index.result c.compare-over.result.1 ∙ c.requires.count
 
 pub returns-clause-kept : goal.returns-clause-kept
 returns-clause-kept g c =

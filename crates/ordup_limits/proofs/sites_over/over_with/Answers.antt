@@ -9,6 +9,17 @@ use Rattle.ordup_limits.proofs.MaskLemmas.{cleared, cleared-less}
 use Rattle.ordup_limits.proofs.SiteLemmas.{beside-start, beside-next, beside-end, bit-known, bits-left, counts_beside, AreOver-or, AreOver-weaker}
 use Rattle.ordup_limits.proofs.sites_over.over_with.Goals as goal
 
+pub over_on-over-requires : goal.over_on-over-requires
+over_on-over-requires g c = record {
+  count = c.requires.count;
+  few = c.requires.few;
+  objects = c.requires.objects;
+  known = c.requires.object;
+  added = c.requires.added;
+  sites = c.requires.sites;
+  kept = c.requires.kept;
+}
+
 pub loop-rest-init : goal.loop-rest-init
 loop-rest-init g c =
     let h = c.args.log.now in
@@ -22,18 +33,44 @@ loop-rest-init g c =
       bits = λ i lt. omega arith;
     }
 
-pub over_on-over-requires-in-loop-rest-clause-known : goal.over_on-over-requires-in-loop-rest-clause-known
-over_on-over-requires-in-loop-rest-clause-known g c =
+pub overflow_cast-bit : goal.overflow_cast-bit
+overflow_cast-bit g c =
+    let rest = c.loop-rest.rest in
+    let low = bit_at-trailing_zeros w64 rest (omega (arith, c.loop-rest-test.true)) (Fits-lt-pow c.loop-rest.auto.rest-fits) in
+    omega (arith, low.0)
+
+pub over_on-over-requires-in-loop-rest : goal.over_on-over-requires-in-loop-rest
+over_on-over-requires-in-loop-rest g c =
     let rest = c.loop-rest.rest in
     let low = bit_at-trailing_zeros w64 rest (omega (arith, c.loop-rest-test.true)) (Fits-lt-pow c.loop-rest.auto.rest-fits) in
     let z = trailing_zeros w64 rest in
     let one : bit_at c.args.mask z ≡ 1 = omega (arith, low.1, c.loop-rest.invariant.bits z low.0, bit_at-lt c.args.mask z) in
-    omega (
-      arith,
-      c.new-group.ensures,
-      low.0,
-      bit-known c.args.groups.now c.args.object c.args.mask z c.requires.mask low.0 one,
-    )
+    record {
+      count = c.loop-rest.invariant.count;
+      few = c.requires.few;
+      objects = c.requires.objects;
+      known = omega (
+        arith,
+        c.new-group.ensures,
+        low.0,
+        bit-known c.args.groups.now c.args.object c.args.mask z c.requires.mask low.0 one,
+      );
+      added = c.requires.added;
+      sites = c.requires.sites;
+      kept = c.loop-rest.invariant.kept;
+    }
+
+pub overflow_cast-rest : goal.overflow_cast-rest
+overflow_cast-rest g c =
+    let rest = c.loop-rest.rest in
+    let low = bit_at-trailing_zeros w64 rest (omega (arith, c.loop-rest-test.true)) (Fits-lt-pow c.loop-rest.auto.rest-fits) in
+    omega (arith, low.0)
+
+pub overflow_shl-rest : goal.overflow_shl-rest
+overflow_shl-rest g c =
+    let rest = c.loop-rest.rest in
+    let low = bit_at-trailing_zeros w64 rest (omega (arith, c.loop-rest-test.true)) (Fits-lt-pow c.loop-rest.auto.rest-fits) in
+    low.0
 
 pub loop-rest-smaller : goal.loop-rest-smaller
 loop-rest-smaller g c =
@@ -59,6 +96,12 @@ loop-rest-preserved g c =
           (λ s known is. beside-next (length h.start) groups object rest z c.keeps.ensures.few low.0 s known is);
       bits = bits-left rest c.args.mask z low.0 c.loop-rest.invariant.bits;
     }
+
+pub returns-clause-count : goal.returns-clause-count
+returns-clause-count g c = c.loop-rest.invariant.count
+
+pub returns-clause-kept : goal.returns-clause-kept
+returns-clause-kept g c = c.loop-rest.invariant.kept
 
 pub returns-clause-over : goal.returns-clause-over
 returns-clause-over g c =

@@ -1,4 +1,4 @@
-use Rattle.std.proofs.Common.{arith, ap, ◌∙◌, ◌≡◌, ◌<◌, ◌-◌, ◌+◌, length, get_or, take, []}
+use Rattle.std.proofs.Common.{arith, rules, ap, ◌∙◌, ◌≡◌, ◌<◌, ◌-◌, ◌+◌, length, get_or, take, []}
 use Rattle.ordup_objects.specs.Serial.{set_at}
 use Rattle.ordup_log.specs.declared.scope.Scope.TheVariants.{All as Everything, Count}
 use Rattle.ordup_limits.specs.Limits.{is_same_scope}
@@ -48,3 +48,25 @@ loop-change-preserved g c =
           c.over_with-over.result c.loop-change.invariant.over c.over_with-over.ensures.over
           (λ s known is. may_weigh-next groups (set_at h place) k c.change-item.result s lt at is);
     }
+
+pub over_on-over-requires : goal.over_on-over-requires
+over_on-over-requires g c = record {
+  count = c.requires.count;
+  few = c.requires.few;
+  objects = c.requires.objects;
+  known = search rules;
+  added = c.requires.added;
+  sites = c.requires.sites;
+  kept = c.requires.kept;
+}
+
+pub over_on-over-requires-2 : goal.over_on-over-requires-2
+over_on-over-requires-2 g c = record {
+  count = c.over_on-over.ensures.count;
+  few = c.requires.few;
+  objects = c.requires.objects;
+  known = search rules;
+  added = c.requires.added;
+  sites = c.requires.sites;
+  kept = c.over_on-over.ensures.kept;
+}

@@ -5,10 +5,13 @@ use Rattle.std.specs.Prelude.{◌==◌, nat_lt}
 use Rattle.std.proofs.lemmas.Grind.{get_or-set_at}
 use Rattle.std.specs.Int.{bit_at, trailing_zeros}
 use Rattle.std.proofs.Math.Facts.{Fits-lt-pow}
-use Rattle.std.proofs.lemmas.Nat.Bits.{bit_at-trailing_zeros}
+use Rattle.std.proofs.lemmas.Nat.Bits.{bit_at-trailing_zeros, bit_at-zero}
 use Rattle.ordup_limits.proofs.MaskLemmas.{cleared-less, share-most, share-next}
 use Rattle.ordup_limits.proofs.PassedLemmas.{ArePassed-put}
 use Rattle.ordup_limits.proofs.totals.add.Goals as goal
+
+pub loop-rest-init : goal.loop-rest-init
+loop-rest-init g c = record { count = c.requires.count; totals = λ k lt. refl; passed = c.requires.passed }
 
 pub index-requires : goal.index-requires
 index-requires g c =
@@ -36,6 +39,12 @@ overflow_add-total g c =
       c.requires.weight,
     )
 
+pub with_bit-passed-requires : goal.with_bit-passed-requires
+with_bit-passed-requires g c =
+    let rest = c.loop-rest.rest in
+    let low = bit_at-trailing_zeros w64 rest (omega (arith, c.loop-rest-test.true)) (Fits-lt-pow c.loop-rest.auto.rest-fits) in
+    low.0
+
 pub loop-rest-smaller : goal.loop-rest-smaller
 loop-rest-smaller g c =
     let rest = c.loop-rest.rest in
@@ -61,3 +70,12 @@ loop-rest-preserved g c =
           (omega (arith, low.0, before.count)))))
           (λ k other. get_or-set_other added _ k _ 0 other) (λ k other. refl);
     }
+
+pub returns-clause-count : goal.returns-clause-count
+returns-clause-count g c = c.loop-rest.invariant.count
+
+pub returns-clause-totals : goal.returns-clause-totals
+returns-clause-totals g c = λ k lt. omega (arith, rw (c.loop-rest-test.false, bit_at-zero k) at (c.loop-rest.invariant.totals k lt))
+
+pub returns-clause-passed : goal.returns-clause-passed
+returns-clause-passed g c = c.loop-rest.invariant.passed

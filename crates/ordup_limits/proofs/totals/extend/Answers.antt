@@ -1,14 +1,38 @@
-use Rattle.std.proofs.Common.{arith, ap, inl, inr, ◌≡◌, ◌==◌, ◌-◌, ◌∙◌, length, sym}
+use Rattle.std.proofs.Common.{arith, ap, inl, inr, ◌==◌, ◌-◌, ◌∙◌, refl}
 use Rattle.std.specs.Prelude.{slice_index}
 use Rattle.std.specs.Int.{bit_at}
 use Rattle.std.proofs.lemmas.Bool.{cases_lt}
-use Rattle.std.proofs.lemmas.List.{get_or_past, length-map}
-use Rattle.ordup_objects.specs.Serial.{serial, set_at}
-use Rattle.ordup_objects.specs.Weights.{distance_by}
+use Rattle.std.proofs.lemmas.List.{get_or_past, drop_all}
 use Rattle.ordup_limits.specs.Sizes.{most_limits}
 use Rattle.ordup_limits.specs.Totals.{has_bit, share}
-use Rattle.ordup_limits.proofs.TotalLemmas.{distance-few, weight_of-next, weight_where-few}
+use Rattle.ordup_limits.proofs.TotalLemmas.{distance-few, weight_of-next, weight_where-few, distances-count, object-known}
 use Rattle.ordup_limits.proofs.totals.extend.Goals as goal
+
+pub set-requires : goal.set-requires
+set-requires g c = record { first = c.requires.first; last = c.requires.last }
+
+pub distances-distances-requires : goal.distances-distances-requires
+distances-distances-requires g c = record { first = c.requires.first; last = c.requires.last }
+
+pub loop-i-init : goal.loop-i-init
+loop-i-init g c = record {
+  count = c.requires.count;
+  totals = λ k lt. rw (c.changes-changes.ensures.changes, c.set.ensures.set, c.distances-distances.ensures.distances) refl;
+  passed = c.requires.passed;
+}
+
+pub bounds-masks-index : goal.bounds-masks-index
+bounds-masks-index g c =
+    let known = object-known c.args.log.now c.set.ensures.legal (c.args.place - 1) c.loop-i.i c.changes-changes.result.now
+    c.index-changes-i.result (omega (arith, c.requires.first, c.requires.last)) (c.changes-changes.ensures.changes ∙ c.set.ensures.set)
+    c.loop-i-test.true c.index-changes-i.is in
+    omega (arith, known, c.index.ensures, c.requires.masks, c.requires.objects)
+
+pub add-passed-requires-clause-count : goal.add-passed-requires-clause-count
+add-passed-requires-clause-count g c = c.loop-i.invariant.count
+
+pub add-passed-requires-clause-bounds : goal.add-passed-requires-clause-bounds
+add-passed-requires-clause-bounds g c = c.requires.bounds
 
 pub add-passed-requires-clause-weight : goal.add-passed-requires-clause-weight
 add-passed-requires-clause-weight g c =
@@ -28,16 +52,17 @@ add-passed-requires-clause-few g c = λ k. elim (cases_lt k most_limits) [
   | inr past ↦ omega (arith, get_or_past c.loop-i.added.items k 0 (omega (arith, past, c.loop-i.invariant.count)))
 ]
 
+pub add-passed-requires-clause-passed : goal.add-passed-requires-clause-passed
+add-passed-requires-clause-passed g c = c.loop-i.invariant.passed
+
 pub loop-i-preserved : goal.loop-i-preserved
 loop-i-preserved g c =
     let m = c.changes-changes.result.now in
     let ds = c.distances-distances.result.now in
     let i = c.loop-i.i in
     let before = c.loop-i.invariant in
-    let same : length ds ≡ length m =
-    ap length c.distances-distances.ensures.distances
-    ∙ length-map (set_at c.args.log.now c.args.place) (distance_by (serial c.args.log.now (c.args.place - 1)))
-    ∙ sym (ap length (c.changes-changes.ensures.changes ∙ c.set.ensures.set)) in
+    let same = distances-count c.args.log.now (c.args.place - 1) m ds (c.changes-changes.ensures.changes ∙ c.set.ensures.set)
+    c.distances-distances.ensures.distances in
     record {
       count = c.add-passed.ensures.count;
       totals = λ k lt. omega (
@@ -61,3 +86,14 @@ returns-clause-few g c = λ k. elim (cases_lt k most_limits) [
   )
   | inr past ↦ omega (arith, get_or_past c.loop-i.added.items k 0 (omega (arith, past, c.loop-i.invariant.count)))
 ]
+
+pub returns-clause-count : goal.returns-clause-count
+returns-clause-count g c = c.loop-i.invariant.count
+
+pub returns-clause-totals : goal.returns-clause-totals
+returns-clause-totals g c =
+    let none = drop_all c.loop-i.i c.changes-changes.result.now c.loop-i-test.false in
+    λ k lt. omega (arith, rw none at (c.loop-i.invariant.totals k lt))
+
+pub returns-clause-passed : goal.returns-clause-passed
+returns-clause-passed g c = c.loop-i.invariant.passed

@@ -1,3 +1,4 @@
+use Rattle.ordup_limits.specs.Entries.{put}
 use Rattle.std.proofs.Common.{arith, ap, refl, sym, length, ◌+◌, ◌∙◌}
 use Rattle.std.proofs.Math.ListN.{length-set}
 use Rattle.std.proofs.lemmas.Bool.{true≢false}
@@ -5,7 +6,7 @@ use Rattle.ordup_log.specs.Spans.{IsScopeKnown}
 use Rattle.ordup_limits.specs.declared.limit.Limit.{Limit}
 use Rattle.ordup_limits.specs.Ledgers.{LedgerState}
 use Rattle.ordup_limits.specs.LedgerInside.{ledger_of}
-use Rattle.ordup_limits.specs.Limits.{are_on_one_scope}
+use Rattle.ordup_limits.specs.Limits.{are_on_one_scope, Limits}
 use Rattle.ordup_limits.proofs.ChangeLemmas.{index-small, weighed-few, AreTotals-put, AreAllowed-put, AreMasks-put}
 use Rattle.ordup_limits.proofs.LedgerLemmas.{StandsFor-prepared}
 use Rattle.ordup_limits.specs.PassedLimits.{least_count}
@@ -139,3 +140,26 @@ invariant_of-self g c =
           (λ i other. get_or-set_other k.allowed.items index i (c.kept_amount.result + c.weighed.result) 0 other);
       fits = c.with_bit-self-inside.type_inv;
     }
+
+pub prepare-requires : goal.prepare-requires
+prepare-requires g c = record {
+  known = (length c.args.log.now.start, c.requires.stands.known);
+  masks = c.requires.stands.masks;
+}
+
+pub put_scope-requires-clause-count : goal.put_scope-requires-clause-count
+put_scope-requires-clause-count g c = c.self.invariant.ledger.masks
+
+pub put_scope-requires-clause-known : goal.put_scope-requires-clause-known
+put_scope-requires-clause-known g c = (length c.args.log.now.start, c.requires.known)
+
+pub returns-clause-limits : goal.returns-clause-limits
+returns-clause-limits g c =
+    let l : Limit = record { scope = c.args.scope; amount = c.args.amount } in
+    let same = ap (λ (k : LedgerState). k.limits) (rw (← c.self.view_is) at c.prepare.ensures.rest) in
+    c.put.ensures ∙ ap (λ (limits : Limits). put are_on_one_scope limits l) same
+
+pub returns-clause-places : goal.returns-clause-places
+returns-clause-places g c =
+    let rest = rw (← c.self.view_is) at c.prepare.ensures.rest in
+    (ap (λ (k : LedgerState). k.reported) rest, ap (λ (k : LedgerState). k.extended) rest)

@@ -1,17 +1,58 @@
 use Rattle.std.proofs.Common.{arith, ap, sym, ◌∙◌, ◌≡◌, ◌<◌, ◌≤◌, length, get_or, inl, inr}
 use Rattle.std.specs.Prelude.{min}
-use Rattle.std.proofs.Math.ListN.{set}
+use Rattle.std.proofs.Math.ListN.{set, length-set}
 use Rattle.std.proofs.lemmas.Bool.{cases_eq}
 use Rattle.std.proofs.lemmas.Grind.{get_or-set_at}
 use Rattle.std.proofs.lemmas.List.{get_or_default, get_or-set_other}
 use Rattle.ordup_log.specs.Spans.{span}
 use Rattle.ordup_limits.specs.declared.limit.Limit.{Limit}
-use Rattle.ordup_limits.specs.SiteLedgers.{allowed, scope_index, SiteLedgerState}
+use Rattle.ordup_limits.specs.SiteLedgers.{allowed, scope_index, LedgersState, SiteLedgerState}
 use Rattle.ordup_limits.specs.Sizes.{greatest_amount}
 use Rattle.ordup_limits.specs.LagLedgersInside.{ledgers_of}
 use Rattle.ordup_limits.proofs.OverLemmas.{HasLimits-put, StandFor-with_site}
 use Rattle.ordup_limits.proofs.SiteLemmas.{scope_index-small}
 use Rattle.ordup_limits.proofs.lag_ledgers.LagLedgers.change.Goals as goal
+
+pub index_mut-requires : goal.index_mut-requires
+index_mut-requires g c = omega (arith, c.index.ensures, rw (← c.self.view_is) at c.requires.site)
+
+pub put-requires : goal.put-requires
+put-requires g c =
+    let stands = rw (← c.self.view_is) at c.requires.stands in
+    scope_index-small (length c.args.log.now.start) c.args.groups.now c.args.scope stands.objects c.keeps.ensures.few c.requires.known
+
+pub index_mut-requires-2 : goal.index_mut-requires-2
+index_mut-requires-2 g c =
+    let stands = rw (← c.self.view_is) at c.requires.stands in
+    let small = scope_index-small (length c.args.log.now.start) c.args.groups.now c.args.scope stands.objects c.keeps.ensures.few c.requires.known in
+    omega (arith, c.scope_index.ensures, small, c.self.invariant.kept)
+
+pub invariant_of-self : goal.invariant_of-self
+invariant_of-self g c = record {
+  masks = c.self.invariant.masks;
+  few = rw (length-set c.self.inside.sites.items c.index.result c.put.new.self) c.self.invariant.few;
+  kept = length-set c.self.inside.kept.items c.scope_index.result 0 ∙ c.self.invariant.kept;
+}
+
+pub returns-clause-place : goal.returns-clause-place
+returns-clause-place g c = ap (λ (l : LedgersState). l.added) c.self.view_is
+
+pub returns-clause-count : goal.returns-clause-count
+returns-clause-count g c = rw (← c.self.view_is) (length-set c.self.inside.sites.items c.index.result c.put.new.self)
+
+pub returns-clause-others : goal.returns-clause-others
+returns-clause-others g c = λ s d other.
+    rw (← c.self.view_is)
+    (get_or-set_other c.self.inside.sites.items c.index.result s c.put.new.self d (λ e. other (e ∙ c.index.ensures)))
+
+pub returns-clause-reported : goal.returns-clause-reported
+returns-clause-reported g c = λ d.
+    (let sites = c.self.inside.sites.items in
+    let index = c.index.result in
+    let lt : index < length sites = omega (arith, c.index.ensures, rw (← c.self.view_is) at c.requires.site) in
+    let is = c.index_mut.ensures.value ∙ get_or_default sites index c.index_mut.result.now d lt in
+    rw (get_or-set_at sites index c.args.site c.put.new.self d (sym c.index.ensures) lt, ← c.self.view_is, ← c.index.ensures)
+    (ap (λ (site : SiteLedgerState). site.reported) c.put.ensures.put ∙ ap (λ (site : SiteLedgerState). site.reported) is))
 
 pub returns-clause-limits : goal.returns-clause-limits
 returns-clause-limits g c = λ limits d has.

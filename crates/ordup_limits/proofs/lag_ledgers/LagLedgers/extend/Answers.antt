@@ -1,15 +1,47 @@
+use Rattle.std.proofs.Common.{ap}
+use Rattle.ordup_limits.specs.SiteLedgers.{LedgersState}
 use Rattle.ordup_limits.proofs.OverLemmas.{over-exact}
 use Rattle.ordup_limits.proofs.lag_ledgers.LagLedgers.extend.Goals as goal
 
-pub sites_over-requires-clause-sites : goal.sites_over-requires-clause-sites
-sites_over-requires-clause-sites g c =
+pub extend-requires : goal.extend-requires
+extend-requires g c =
     let stands = rw (← c.self.view_is) at c.requires.stands in
-    rw c.as_slice-sites.ensures.value stands.sites
+    record {
+      forward = rw (← c.self.view_is) at c.requires.forward;
+      last = c.requires.last;
+      objects = stands.objects;
+      count = rw c.as_slice-masks.ensures.value c.self.invariant.masks;
+      masks = rw c.as_slice-masks.ensures.value stands.masks;
+      weights = stands.added;
+    }
 
-pub sites_over-requires-clause-kept : goal.sites_over-requires-clause-kept
-sites_over-requires-clause-kept g c =
+pub sites_over-requires : goal.sites_over-requires
+sites_over-requires g c =
     let stands = rw (← c.self.view_is) at c.requires.stands in
-    rw c.as_slice-sites.ensures.value stands.kept
+    record {
+      some = rw c.extend.ensures.place c.requires.some;
+      count = c.self.invariant.kept;
+      few = rw c.as_slice-sites.ensures.value c.self.invariant.few;
+      objects = stands.objects;
+      masks = rw c.as_slice-masks.ensures.value c.self.invariant.masks;
+      groups = rw c.as_slice-masks.ensures.value stands.masks;
+      added = c.extend.ensures.weights;
+      sites = rw c.as_slice-sites.ensures.value stands.sites;
+      kept = rw c.as_slice-sites.ensures.value stands.kept;
+    }
+
+pub invariant_of-self : goal.invariant_of-self
+invariant_of-self g c = record {
+  masks = c.self.invariant.masks;
+  few = c.self.invariant.few;
+  kept = c.sites_over.ensures.count;
+}
+
+pub returns-clause-place : goal.returns-clause-place
+returns-clause-place g c = c.extend.ensures.place
+
+pub returns-clause-sites : goal.returns-clause-sites
+returns-clause-sites g c = ap (λ (l : LedgersState). l.sites) c.self.view_is
 
 pub returns-clause-stands : goal.returns-clause-stands
 returns-clause-stands g c =

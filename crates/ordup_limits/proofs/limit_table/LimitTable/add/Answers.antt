@@ -8,6 +8,9 @@ use Rattle.ordup_limits.proofs.PutLemmas.{put-length}
 use Rattle.ordup_limits.proofs.EntryLemmas.{has_scope, changed-new, latest-changed, latest-first, AreEntries-changed}
 use Rattle.ordup_limits.proofs.limit_table.LimitTable.add.Goals as goal
 
+pub put_entry-requires : goal.put_entry-requires
+put_entry-requires g c = record { rising = c.self.invariant.entries.rising }
+
 pub put-requires : goal.put-requires
 put-requires g c =
     omega (
@@ -53,3 +56,6 @@ returns-clause-added g c =
     let none : has_scope c.args.scope (latest entries) ≡ false =
     rw (c.as_slice.ensures.limits, c.self.invariant.limits) at (sym c.if-has_scope.ensures) in
     rw (← c.self.view_is) (c.in_ok-put_entry.ensures.changed ∙ changed-new entries e none)
+
+pub returns-clause-known : goal.returns-clause-known
+returns-clause-known g c = c.in_ok-check_scope.ensures.known

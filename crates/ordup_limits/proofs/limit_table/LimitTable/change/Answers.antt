@@ -9,6 +9,12 @@ use Rattle.ordup_limits.proofs.PutLemmas.{All-put}
 use Rattle.ordup_limits.proofs.EntryLemmas.{change-allowed, latest-changed, AreEntries-changed}
 use Rattle.ordup_limits.proofs.limit_table.LimitTable.change.Goals as goal
 
+pub check_change-requires : goal.check_change-requires
+check_change-requires g c = c.requires.last
+
+pub put_entry-requires : goal.put_entry-requires
+put_entry-requires g c = record { rising = c.self.invariant.entries.rising }
+
 pub put-requires : goal.put-requires
 put-requires g c =
     let e = entry_of c.args.scope c.args.amount c.args.place in
@@ -40,3 +46,12 @@ pub returns-clause-last : goal.returns-clause-last
 returns-clause-last g c =
     rw c.in_ok-put_entry.ensures.changed (All-put (λ (e : LimitEntry). e.place ≤ c.args.place) are_one_entry c.self.inside.entries.items
     (entry_of c.args.scope c.args.amount c.args.place) (rw (← c.self.view_is) at c.requires.last) (omega arith))
+
+pub returns-clause-known : goal.returns-clause-known
+returns-clause-known g c = c.in_ok-check_change.ensures.known
+
+pub returns-clause-changed : goal.returns-clause-changed
+returns-clause-changed g c = rw (← c.self.view_is) c.in_ok-put_entry.ensures.changed
+
+pub returns-clause-allowed : goal.returns-clause-allowed
+returns-clause-allowed g c = c.in_ok-check_change.ensures.allowed

@@ -13,6 +13,9 @@ returns-then-from-to g c =
       within = (λ none. all, λ is. refl);
     }
 
+pub hold_from-requires : goal.hold_from-requires
+hold_from-requires g c = rw c.as_slice.ensures.value c.self.invariant.entries.rising
+
 pub first_passed-requires-clause-known : goal.first_passed-requires-clause-known
 first_passed-requires-clause-known g c =
     rw (c.as_slice-then-hold_from.ensures.limits, c.self.invariant.limits) (latest-known (length c.args.log.now.start) c.args.groups.now
@@ -31,6 +34,9 @@ returns-then-hold_from-clause-within g c =
     let hold = rw c.as_slice.ensures.value at (c.if-hold_from.ensures.0 refl) in
     let same = c.as_slice-then-hold_from.ensures.limits ∙ c.self.invariant.limits ∙ sym (in_force-latest entries c.args.to hold) in
     rw (← c.self.view_is) (rw same at c.first_passed.ensures.within)
+
+pub in_force-limits-requires-clause-rising : goal.in_force-limits-requires-clause-rising
+in_force-limits-requires-clause-rising g c = rw c.as_slice-2.ensures.value c.self.invariant.entries.rising
 
 pub first_passed-requires-2-clause-known : goal.first_passed-requires-2-clause-known
 first_passed-requires-2-clause-known g c =

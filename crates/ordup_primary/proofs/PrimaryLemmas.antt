@@ -27,16 +27,16 @@ use Rattle.ordup_limits.proofs.EntryLemmas.{in_force-latest, in_force-test}
 use Rattle.ordup_limits.specs.Limits.{within}
 use Rattle.ordup_limits.specs.Entries.{in_force, latest}
 use Rattle.ordup_primary.specs.Declarations.{Declared, AreDeclared, is_ready, start_refusal}
-use Rattle.ordup_primary.specs.Settling.{last_place}
+use Rattle.ordup_primary.specs.Settling.{last_place, where_below}
 use Rattle.ordup_primary.specs.Primaries.{SiteProgress, PrimaryState, first_progress, progress_at, reported_at, limits_at, is_within, forced_now}
 use Rattle.ordup_primary.specs.Primaries.{is_lag_within}
-use Rattle.ordup_primary.specs.Primaries.{waiting_now, acked_after, decided_at, send_refusal, settle_refusal, Decides, IsSiteSound}
+use Rattle.ordup_primary.specs.Primaries.{waiting_now, waits_for, acked_after, decided_at, send_refusal, settle_refusal, Decides, IsSiteSound}
 use Rattle.ordup_primary.specs.Primaries.{IsPrimary, HasFewestRounds, acked_or_round, acked_or_waiting, settled_as}
 use Rattle.ordup_primary.specs.declared.settled.Settled.TheVariants.{Acked, Round, Waiting}
 use Rattle.ordup_primary.specs.PrimaryInside.{progress_of, state_of}
 use Rattle.ordup_primary.specs.declared.primary.Primary.TheInside.{Inside}
 use Rattle.ordup_primary.specs.declared.progress.Progress.{Progress}
-use Rattle.ordup_primary.proofs.SettlingLemmas.{where_below-none, where_below-listed, last_round-forced}
+use Rattle.ordup_primary.proofs.SettlingLemmas.{where_below-same, where_below-none, where_below-listed, last_round-forced}
 
 -- ---- one site in the place of another
 
@@ -644,6 +644,11 @@ waits-by_last_round p s k is below later head late =
     let rounds = (is.sites s first_progress below).rounds ∙ ap (rounds_upto (is_within p s) (reported_at (progress_at p s))) decided in
     rw (rounds, lt-ltb (progress_at p s).reported k late, last_round-forced (is_within p s) (reported_at (progress_at p s)) k (omega arith))
     (sym (and-true (not (is_within p s (reported_at (progress_at p s) k) k))))
+
+-- the head, once it is decided, waits for the sites that it forced and that have not reported it
+pub waiting-below : (p : PrimaryState) (n : ℕ) → p.acked < p.decided → n ≡ length p.sites → where_below (waits_for p) n ≡ waiting_now p
+waiting-below p n later all =
+    rw all (where_below-same (waits_for p) _ (length p.sites) (λ s lt. rw (lt-ltb p.acked p.decided later) refl))
 
 -- ---- the fewest rounds
 

@@ -4,7 +4,7 @@ use Rattle.std.proofs.Common.{arith, refl, sym, ap, ◌∙◌, inl, inr}
 use Rattle.std.specs.Prelude.{Option, Some, None, nat_lt, if◌then◌else◌}
 use Rattle.std.specs.Option.{option_or}
 use Rattle.std.proofs.Math.ListN.{length-set}
-use Rattle.std.proofs.lemmas.Bool.{cases_Bool, cases_eq, ltb-false, le-leb, eqb-true}
+use Rattle.std.proofs.lemmas.Bool.{cases_Bool, cases_eq, ltb-false, le-leb, eqb-true, ne_eqb}
 use Rattle.std.proofs.lemmas.List.{get_or-set_other, length-map}
 use Rattle.std.proofs.lemmas.List.Elements.{All-set}
 use Rattle.std.proofs.lemmas.Grind.{get_or-set_at}
@@ -46,6 +46,17 @@ relimit-allowed p s scope amount allowed =
         | inr near ↦ (both.0, eqb-true p.acked p.decided settled, ltb-false amount weight near)
       ]
     ]
+
+-- why it is refused, by the tests in their order
+pub table-refused : (p : PrimaryState) (s : ℕ) (scope : Scope) (amount : ℕ) (r : Refusal)
+    → change_refusal (length p.setup.objects) p.setup.groups (limits_at p s) (entry_of scope amount (p.acked + 1)) ≡ Some r
+    → relimit_refusal p s scope amount ≡ Some r
+table-refused p s scope amount r refused = rw refused refl
+
+pub pending-refused : (p : PrimaryState) (s : ℕ) (scope : Scope) (amount : ℕ)
+    → change_refusal (length p.setup.objects) p.setup.groups (limits_at p s) (entry_of scope amount (p.acked + 1)) ≡ None
+    → (p.acked ≡ p.decided → ⊥) → relimit_refusal p s scope amount ≡ Some HeadPending
+pending-refused p s scope amount allowed pending = rw (allowed, ne_eqb p.acked p.decided pending) refl
 
 -- a scope that is there is so for the log
 pub known-in_log : (p : PrimaryState) (scope : Scope) → IsPrimary p → IsScopeKnown (length p.setup.objects) p.setup.groups scope

@@ -1,5 +1,5 @@
 -- Lists of the numbers for which a test passes, and rounds.
-use Rattle.std.proofs.Common.{◌≡◌, ℕ, zero, suc, ◌<◌, ◌≤◌, ◌==◌, Bool, false, not, List, [], ◌∷◌, ◌++◌, length, ◌-◌, arith, refl, sym}
+use Rattle.std.proofs.Common.{◌≡◌, ℕ, zero, suc, ◌+◌, ◌<◌, ◌≤◌, ◌==◌, Bool, true, false, not, List, [], ◌∷◌, ◌++◌, length, ◌-◌, add-one, arith, refl, sym}
 use Rattle.std.proofs.Common.{ap, ◌∙◌, inl, inr}
 use Rattle.std.specs.List.{list_any}
 use Rattle.std.proofs.Math.Bool.{or-false}
@@ -8,6 +8,16 @@ use Rattle.std.proofs.lemmas.List.{length_push, get_or_push}
 use Rattle.std.proofs.lemmas.List.Folds.{list_any-append}
 use Rattle.ordup_rounds.specs.Rounds.{rounds_upto}
 use Rattle.ordup_primary.specs.Settling.{where_below, last_place}
+
+-- a number more, for which the test passes
+pub where_below-more : (test : ℕ → Bool) (n : ℕ) (xs : List ℕ) → xs ≡ where_below test n → test n ≡ true
+    → xs ++ n ∷ [] ≡ where_below test (n + 1)
+where_below-more test n xs same passes = rw (add-one, passes, same) refl
+
+-- a number more, for which it fails
+pub where_below-kept : (test : ℕ → Bool) (n : ℕ) (xs : List ℕ) → xs ≡ where_below test n → test n ≡ false
+    → xs ≡ where_below test (n + 1)
+where_below-kept test n xs same fails = rw (add-one, fails, same) refl
 
 -- where none is listed, the test passes for none
 pub where_below-none : (test : ℕ → Bool) (n s : ℕ) → s < n → where_below test n ≡ [] → test s ≡ false

@@ -1,4 +1,5 @@
-use Rattle.std.proofs.Common.{length}
+use Rattle.std.proofs.Common.{arith, length}
+use Rattle.std.proofs.lemmas.Result.{err_from_is_err_and}
 use Rattle.ordup_primary.proofs.LedgerLemmas.{AreLedgers-first}
 use Rattle.ordup_primary.proofs.starting.first_ledgers.Goals as goal
 
@@ -13,3 +14,11 @@ returns-clause-ledgers g c =
     AreLedgers-first c.args.setup.now c.in_ok-ledgers.ledgers c.keeps.ensures.count (rw c.objects.ensures at c.keeps-2.ensures.few)
     c.keeps.ensures.known (rw c.requires at made.count) made.places (rw c.groups.ensures.groups at made.stands)
     (rw (c.requires, c.groups.ensures.groups) at made.sites)
+
+pub new-requires-clause-few : goal.new-requires-clause-few
+new-requires-clause-few g c = rw c.requires (omega (arith, c.keeps.ensures.few, c.keeps.ensures.count))
+
+pub returns-in_err-ledgers-clause-refused : goal.returns-in_err-ledgers-clause-refused
+returns-in_err-ledgers-clause-refused g c =
+    let failed = err_from_is_err_and c.from_residual.result c.from_residual.ensures.1 in
+    rw (failed.1, failed.2) c.in_err-ledgers.ensures.refused

@@ -1,4 +1,5 @@
 use Rattle.std.proofs.Common.{arith, ap, sym, ◌∙◌, length, ◌==◌}
+use Rattle.std.proofs.lemmas.Result.{err_from_is_err_and}
 use Rattle.ordup_primary.specs.PrimaryInside.{state_of}
 use Rattle.ordup_primary.proofs.PrimaryLemmas.{IsPrimary-decided, Decides-at, reports-few, reports-next, acked-none, acked-some}
 use Rattle.ordup_primary.proofs.PrimaryLemmas.{acked_or_round-none, acked_or_round-some}
@@ -95,3 +96,27 @@ returns-clause-answer g c =
     let forced = rw (← is) at c.forced_now-forced.ensures.sites in
     rw (← is, ← forced, ← rw (← is) at c.requires.head) (acked_or_round-some c.args.head c.forced_now-forced.result
     (c.if-is_empty.ensures ∙ ap (λ xs. length xs == 0) c.as_slice-2.ensures))
+
+pub forced_now-forced-requires : goal.forced_now-forced-requires
+forced_now-forced-requires g c = record {
+  head = c.requires.head;
+  some = c.requires.some;
+}
+
+pub put_down-requires-clause-few : goal.put_down-requires-clause-few
+put_down-requires-clause-few g c =
+    let is = c.self.view_is ∙ c.forced_now-forced.ensures.same in
+    omega (arith, rw (← is) at c.requires.some, c.self.invariant.primary.few)
+
+pub put_down-requires-clause-room : goal.put_down-requires-clause-room
+put_down-requires-clause-room g c = c.in_ok-reserve_decision.ensures.room
+
+pub returns-in_err-reserve_decision-clause-refused : goal.returns-in_err-reserve_decision-clause-refused
+returns-in_err-reserve_decision-clause-refused g c =
+    let failed = err_from_is_err_and c.from_residual.result c.from_residual.ensures.1 in
+    rw (failed.1, failed.2) c.in_err-reserve_decision.ensures.refused
+
+pub returns-in_err-reserve_decision-clause-err : goal.returns-in_err-reserve_decision-clause-err
+returns-in_err-reserve_decision-clause-err g c =
+    let failed = err_from_is_err_and c.from_residual.result c.from_residual.ensures.1 in
+    rw (failed.1, c.in_err-reserve_decision.ensures.same) (c.self.view_is ∙ c.forced_now-forced.ensures.same)

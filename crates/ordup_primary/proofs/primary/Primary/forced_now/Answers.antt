@@ -1,4 +1,4 @@
-use Rattle.std.proofs.Common.{◌∙◌, ap}
+use Rattle.std.proofs.Common.{arith, ◌∙◌, ap}
 use Rattle.std.specs.Prelude.{◌==◌}
 use Rattle.std.specs.Int.{bit_at}
 use Rattle.ordup_primary.specs.Settling.{where_below}
@@ -27,3 +27,18 @@ returns-clause-sites g c =
     (c.sites_among.ensures ∙ ap (where_below (λ s. bit_at c.extend-over.result s == 1)) c.count.ensures.count
     ∙ forced-by_ledgers p c.self.inside.ledgers c.args.head c.extend-over.result before.primary before.ledgers
     (rw (← c.self.view_is) at c.requires.head) (rw c.groups.ensures.groups at c.extend-over.ensures.over))
+
+pub extend-over-requires-clause-some : goal.extend-over-requires-clause-some
+extend-over-requires-clause-some g c = omega (arith, c.requires.head)
+
+pub extend-over-requires-clause-forward : goal.extend-over-requires-clause-forward
+extend-over-requires-clause-forward g c = omega (arith, c.self.invariant.ledgers.added, rw (← c.self.view_is) at c.requires.head)
+
+pub extend-over-requires-clause-last : goal.extend-over-requires-clause-last
+extend-over-requires-clause-last g c = rw (← c.self.view_is) at c.requires.some
+
+pub sites_among-requires : goal.sites_among-requires
+sites_among-requires g c = omega (arith, c.count.ensures.count, c.count.ensures.few)
+
+pub returns-clause-same : goal.returns-clause-same
+returns-clause-same g c = c.self.view_is

@@ -41,3 +41,21 @@ returns-in-Ok-clause-sound g c =
     }))
     c.keeps.ensures c.requires c.in-Ok.ensures.log c.in-Ok.ensures.legal
     refl refl c.in-Ok.ensures.sites c.in-Ok.ensures.limits
+
+pub begin-requires : goal.begin-requires
+begin-requires g c = record {
+  sites = c.new-sites.ensures.items;
+  limits = c.new-limits.ensures.items;
+}
+
+pub returns-in-Ok-clause-log : goal.returns-in-Ok-clause-log
+returns-in-Ok-clause-log g c = c.in-Ok.ensures.log
+
+pub returns-in-Ok-clause-sites : goal.returns-in-Ok-clause-sites
+returns-in-Ok-clause-sites g c = c.in-Ok.ensures.sites
+
+pub returns-in-Ok-clause-limits : goal.returns-in-Ok-clause-limits
+returns-in-Ok-clause-limits g c = c.in-Ok.ensures.limits
+
+pub returns-in-Err-clause-refused : goal.returns-in-Err-clause-refused
+returns-in-Err-clause-refused g c = c.in-Err.ensures.refused

@@ -1,7 +1,7 @@
-use Rattle.std.proofs.Common.{arith, ap, ◌≡◌, ◌<◌, ◌+◌, ◌∙◌, [], length, get_or}
+use Rattle.std.proofs.Common.{arith, ap, sym, subst, ◌≡◌, ◌<◌, ◌+◌, ◌∙◌, [], length, get_or}
 use Rattle.std.proofs.Math.ListN.{set}
 use Rattle.std.proofs.lemmas.List.{get_or_read, set-get_or}
-use Rattle.ordup_limits.specs.Entries.{Entries, entry_of, changed, AreEntries}
+use Rattle.ordup_limits.specs.Entries.{Entries, entry_of, changed, AreEntries, HoldFrom}
 use Rattle.ordup_primary.specs.Primaries.{PrimaryState, limits_at}
 use Rattle.ordup_primary.specs.PrimaryInside.{state_of}
 use Rattle.ordup_primary.proofs.RelimitLemmas.{known-in_log, IsPrimary-relimited, AreLedgers-relimited}
@@ -76,3 +76,27 @@ returns-clause-changed g c =
     ap (set tables c.index-index.result) (c.in-Ok.ensures.changed ∙ ap (λ (entries : Entries). changed entries e) old)
     ∙ ap (λ k. set tables k (changed (limits_at p c.args.site) e)) c.index-index.ensures in
     rw (← c.self.view_is) (ap (λ limits. let q : PrimaryState = record p { limits = limits } in q) stored)
+
+pub overflow_add-head : goal.overflow_add-head
+overflow_add-head g c =
+    let is = c.self.invariant.primary in
+    omega (arith, is.acked, is.decided, is.few)
+
+pub change-requires : goal.change-requires
+change-requires g c =
+    let is = c.self.invariant.primary in
+    let inside : c.index-index.result < length c.self.inside.limits.items =
+    omega (arith, rw (← c.self.view_is) at c.requires.site, c.index-index.ensures, is.tables) in
+    record {
+      begun = omega arith;
+      last = subst (HoldFrom (c.self.inside.acked + 1)) (sym c.index_mut.ensures.value)
+          (is.begun c.index-index.result c.index_mut.result.now inside);
+    }
+
+pub returns-in_default-clause-err : goal.returns-in_default-clause-err
+returns-in_default-clause-err g c =
+    let tables = c.self.inside.limits.items in
+    let same : set tables c.index-index.result c.change.new.self ≡ tables =
+    ap (set tables c.index-index.result) (c.in_default.ensures.err ∙ c.index_mut.ensures.value)
+    ∙ set-get_or tables c.index-index.result c.index_mut.result.now in
+    rw (← c.self.view_is) (ap (λ limits. let q : PrimaryState = record (state_of c.self.inside) { limits = limits } in q) same)

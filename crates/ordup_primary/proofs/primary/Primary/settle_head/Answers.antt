@@ -1,5 +1,6 @@
-use Rattle.std.proofs.Common.{◌≡◌, ◌∙◌, arith, None}
-use Rattle.std.proofs.lemmas.Result.{IfErr-weaker, IfOk-weaker}
+use Rattle.std.proofs.Common.{◌≡◌, ◌∙◌, arith, refl, None}
+use Rattle.std.proofs.lemmas.Bool.{eq-eqb}
+use Rattle.std.proofs.lemmas.Result.{IfErr-weaker, IfOk-weaker, on_ok_weaker}
 use Rattle.ordup_objects.specs.declared.refusal.Refusal.TheVariants.{NoMemory}
 use Rattle.ordup_primary.specs.Primaries.{settle_refusal}
 use Rattle.ordup_primary.proofs.PrimaryLemmas.{settle-allowed, settled-later}
@@ -41,3 +42,49 @@ returns-then-self-clause-only_first g c =
     let p = c.args.self.now in
     IfErr-weaker c.decide.result (λ e. e ≡ NoMemory) (λ e. p.acked ≡ p.decided)
     (λ e is. rw (← c.self.view_is) c.if-self.true) c.decide.ensures.refused
+
+pub overflow_add-head : goal.overflow_add-head
+overflow_add-head g c =
+    let is = c.self.invariant.primary in
+    omega (arith, is.acked, is.decided, is.few)
+
+pub decide-requires : goal.decide-requires
+decide-requires g c =
+    let is = c.self.invariant.primary in
+    rw (← c.self.view_is) (record {
+      first = c.if-self.true;
+      head = refl;
+      some = omega (arith, is.acked, is.decided, c.if-self-len.false, c.len.ensures.len);
+    })
+
+pub wait-requires : goal.wait-requires
+wait-requires g c =
+    let is = c.self.invariant.primary in
+    rw (← c.self.view_is) (record {
+      later = omega (arith, is.acked, c.if-self.false);
+      head = refl;
+      some = omega (arith, is.acked, is.decided, c.if-self-len.false, c.len.ensures.len);
+    })
+
+pub returns-then-self-len-clause-refused : goal.returns-then-self-len-clause-refused
+returns-then-self-len-clause-refused g c =
+    rw (← c.self.view_is, eq-eqb _ _ (c.if-self-len.true ∙ c.len.ensures.len)) refl
+
+pub returns-then-self-clause-answer : goal.returns-then-self-clause-answer
+returns-then-self-clause-answer g c =
+    rw (eq-eqb c.args.self.now.acked c.args.self.now.decided (rw (← c.self.view_is) c.if-self.true)) c.decide.ensures.answer
+
+pub returns-then-self-clause-first : goal.returns-then-self-clause-first
+returns-then-self-clause-first g c =
+    on_ok_weaker c.decide.result (λ decides first. decides) c.decide.ensures.decides
+
+pub returns-then-self-clause-later : goal.returns-then-self-clause-later
+returns-then-self-clause-later g c =
+    let first : c.args.self.now.acked ≡ c.args.self.now.decided = rw (← c.self.view_is) c.if-self.true in
+    on_ok_weaker c.decide.result (λ decides later. absurd (omega (arith, later, first))) c.decide.ensures.decides
+
+pub returns-then-self-clause-err : goal.returns-then-self-clause-err
+returns-then-self-clause-err g c = c.decide.ensures.err
+
+pub returns-else-self-clause-later : goal.returns-else-self-clause-later
+returns-else-self-clause-later g c = λ later. c.wait.ensures.later

@@ -1,4 +1,5 @@
 use Rattle.std.proofs.Common.{arith, refl, sym, subst, length, ◌<◌, ◌≤◌}
+use Rattle.std.proofs.lemmas.Result.{err_from_is_err_and}
 use Rattle.std.proofs.lemmas.List.Elements.{All-push}
 use Rattle.ordup_log.specs.Spans.{IsScopeKnown}
 use Rattle.ordup_limits.specs.declared.limit_entry.LimitEntry.{LimitEntry}
@@ -50,3 +51,26 @@ returns-clause-refused g c = grind (arith, common_steps)
 
 pub returns-clause-err : goal.returns-clause-err
 returns-clause-err g c = grind (arith, common_steps)
+
+pub returns-in_err-check_scope-clause-refused : goal.returns-in_err-check_scope-clause-refused
+returns-in_err-check_scope-clause-refused g c =
+    let failed = err_from_is_err_and c.from_residual.result c.from_residual.ensures.1 in
+    rw (failed.1, failed.2, ← c.self.view_is, c.in_err-check_scope.ensures.refused) refl
+
+pub returns-in_err-check_scope-clause-err : goal.returns-in_err-check_scope-clause-err
+returns-in_err-check_scope-clause-err g c =
+    let failed = err_from_is_err_and c.from_residual.result c.from_residual.ensures.1 in
+    rw failed.1 refl
+
+pub add-requires : goal.add-requires
+add-requires g c =
+    let here : c.index-2.result < length c.self.inside.limits.items =
+    omega (
+      arith,
+      c.index-2.ensures,
+      c.index.ensures,
+      c.if-index-sites.false,
+      rw (← c.self.view_is) at c.sites.ensures.sites,
+      c.self.invariant.count,
+    ) in
+    subst (HoldFrom 1) (sym c.index_mut.ensures.value) (c.self.invariant.first c.index-2.result c.index_mut.result.now here)

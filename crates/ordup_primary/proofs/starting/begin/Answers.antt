@@ -1,0 +1,39 @@
+use Rattle.std.proofs.Common.{◌∙◌}
+use Rattle.std.proofs.lemmas.Result.{err_from_is_err_and}
+use Rattle.ordup_primary.proofs.starting.begin.Goals as goal
+
+pub add_sites-requires : goal.add_sites-requires
+add_sites-requires g c = c.requires.sites
+
+pub returns-in_err-add_sites-clause-refused : goal.returns-in_err-add_sites-clause-refused
+returns-in_err-add_sites-clause-refused g c =
+    let failed = err_from_is_err_and c.from_residual.result c.from_residual.ensures.1 in
+    rw (failed.1, failed.2) c.in_err-add_sites.ensures.refused
+
+pub add_limits-requires : goal.add_limits-requires
+add_limits-requires g c = c.requires.limits
+
+pub returns-in_err-add_limits-clause-refused : goal.returns-in_err-add_limits-clause-refused
+returns-in_err-add_limits-clause-refused g c =
+    let failed = err_from_is_err_and c.from_residual-in_err-add_limits.result c.from_residual-in_err-add_limits.ensures.1 in
+    rw (failed.1, failed.2) c.in_err-add_limits.ensures.refused
+
+pub returns-in_err-log-clause-refused : goal.returns-in_err-log-clause-refused
+returns-in_err-log-clause-refused g c =
+    let failed = err_from_is_err_and c.from_residual-in_err-log.result c.from_residual-in_err-log.ensures.1 in
+    rw (failed.1, failed.2) c.in_err-log.ensures.refused
+
+pub first_ledgers-requires : goal.first_ledgers-requires
+first_ledgers-requires g c = c.as_slice.ensures.value ∙ c.in_ok-add_limits.ensures.limits
+
+pub returns-in-Ok-clause-log : goal.returns-in-Ok-clause-log
+returns-in-Ok-clause-log g c = rw (← c.objects.ensures) c.in_ok-log.ensures.empty
+
+pub returns-in-Ok-clause-sites : goal.returns-in-Ok-clause-sites
+returns-in-Ok-clause-sites g c = rw (← c.sites.ensures.sites) c.in_ok-add_sites.ensures.sites
+
+pub returns-in-Ok-clause-limits : goal.returns-in-Ok-clause-limits
+returns-in-Ok-clause-limits g c = c.in_ok-add_limits.ensures.limits
+
+pub returns-in-Ok-clause-ledgers : goal.returns-in-Ok-clause-ledgers
+returns-in-Ok-clause-ledgers g c = c.in-Ok.ensures.ledgers

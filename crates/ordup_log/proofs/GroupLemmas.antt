@@ -1,5 +1,5 @@
 -- Groups and their names.
-use Rattle.std.proofs.Common.{◌≡◌, ℕ, zero, suc, ◌+◌, ◌-◌, ◌≤◌}
+use Rattle.std.proofs.Common.{◌≡◌, ℕ, zero, suc, ◌+◌, ◌-◌, ◌<◌, ◌≤◌}
 use Rattle.std.proofs.Common.{false, List, [], ◌∷◌, ◌++◌, length, map, get_or}
 use Rattle.std.proofs.Common.{arith, refl, sym, ap, ◌∙◌, nat_eq, Vec}
 use Rattle.std.specs.Prelude.{true, Option, Some, None, is_some, option_map, slice_get, take, All}
@@ -10,7 +10,7 @@ use Rattle.ordup_objects.specs.Names.{is_name}
 use Rattle.std.proofs.Math.ListN.{length-set}
 use Rattle.std.proofs.lemmas.Cmp.{nat_eq_equiv}
 use Rattle.std.proofs.lemmas.List.{length_push, length-map, get_or-map, map-append}
-use Rattle.std.proofs.lemmas.List.Elements.{All-map, All-set}
+use Rattle.std.proofs.lemmas.List.Elements.{All-map, All-set, All-push}
 use Rattle.ordup_objects.specs.Tables.{names_of, index_of, with_entry, AreNames, AreDistinct}
 use Rattle.ordup_objects.proofs.TableLemmas.{take-next}
 use Rattle.ordup_objects.proofs.RepeatLemmas.{repeats-push, list_any-alike}
@@ -64,6 +64,33 @@ index_of-same {Z} name groups others e =
     sym (index_of-map (λ (v : Vec ℕ Z). v.items) name groups)
     ∙ ap (index_of name) e
     ∙ index_of-map (λ (v : Vec ℕ Z). v.items) name others
+
+-- callers see as many groups as there are
+pub groups_of-some : {Z : Type 0} (groups : List (List ℕ × Vec ℕ Z)) (view : List (List ℕ × List ℕ)) → groups_of groups ≡ view
+    → 0 < length view → 0 < length groups
+groups_of-some {Z} groups view e some =
+    let seen : List ℕ × Vec ℕ Z → List ℕ × List ℕ = λ g. (g.0, g.1.items) in
+    omega (arith, ap length e, length-map groups seen)
+
+-- callers see a group that was added
+pub groups_of-push : {Z : Type 0} (groups put : List (List ℕ × Vec ℕ Z)) (view : List (List ℕ × List ℕ)) (name given : List ℕ)
+    (members : Vec ℕ Z) (list : List ℕ) → groups_of groups ≡ view → put ≡ groups ++ (name, members) ∷ [] → name ≡ given
+    → members.items ≡ list → groups_of put ≡ view ++ (given, list) ∷ []
+groups_of-push {Z} groups put view name given members list e added named same =
+    let seen : List ℕ × Vec ℕ Z → List ℕ × List ℕ = λ g. (g.0, g.1.items) in
+    rw (added, map-append seen groups ((name, members) ∷ []), e, named, same) refl
+
+-- groups are kept with one more, if there is room
+pub are_groups-push : {Z : Type 0} (groups put : List (List ℕ × Vec ℕ Z)) (view : List (List ℕ × List ℕ)) (name : List ℕ)
+    (members : Vec ℕ Z) → (length groups ≤ most_groups) × All (λ g. IsGroup g.1.items) groups → groups_of groups ≡ view
+    → length view < most_groups → IsGroup members.items → put ≡ groups ++ (name, members) ∷ []
+    → (length put ≤ most_groups) × All (λ g. IsGroup g.1.items) put
+are_groups-push {Z} groups put view name members are e room is added =
+    let seen : List ℕ × Vec ℕ Z → List ℕ × List ℕ = λ g. (g.0, g.1.items) in
+    rw added (
+      omega (arith, ap length e, length-map groups seen, length_push groups (name, members)),
+      All-push (λ (g : List ℕ × Vec ℕ Z). IsGroup g.1.items) groups (name, members) are.1 is,
+    )
 
 -- callers see the same groups with one more, if they saw the same before
 pub groups_of-next : {Z : Type 0} (groups others : List (List ℕ × Vec ℕ Z)) (k : ℕ) (name : List ℕ)

@@ -2,7 +2,7 @@
 use Rattle.std.proofs.Common.{◌≡◌, ℕ, suc, ◌+◌, ◌-◌, ◌<◌, ◌≤◌, ◌^◌, true, sum}
 use Rattle.std.proofs.Common.{List, [], ◌∷◌, ◌++◌, length, take, drop, get_or}
 use Rattle.std.proofs.Common.{arith, refl, sym, ap, ◌∙◌, inl, inr, Vec, vec_len, ℤ}
-use Rattle.std.specs.Prelude.{◌==◌, false, None}
+use Rattle.std.specs.Prelude.{◌==◌, false, None, Some, All}
 use Rattle.std.proofs.Math.ListN.{get_or-append}
 use Rattle.std.proofs.Math.Seq.{get_or-append_seam, drop-append_seam, take-length}
 use Rattle.std.proofs.lemmas.Bool.{cases_lt, ne_eqb}
@@ -10,6 +10,7 @@ use Rattle.std.proofs.lemmas.List.{length_push, length-map, length-drop, get_or_
 use Rattle.std.proofs.lemmas.List.{take-append-le, drop-append-le, length-append}
 use Rattle.std.proofs.lemmas.List.Sums.{sum_by-le}
 use Rattle.ordup_objects.specs.declared.change.Change.{Change}
+use Rattle.ordup_objects.specs.declared.refusal.Refusal.TheVariants.{OutOfRange}
 use Rattle.ordup_objects.specs.Sizes.{most_updates, greatest_distance, greatest_weight}
 use Rattle.ordup_objects.specs.States.{State, after, is_legal, IsState}
 use Rattle.ordup_objects.specs.Sets.{IsSet, AreKnown}
@@ -36,8 +37,16 @@ take-drop-more n b xs ys le =
     rw (drop-append-le b xs ys (omega arith)) (take-append-le n (drop b xs) ys (omega (arith, length-drop b xs)))
 
 -- what comes after a list is the part from its end on
-pub take-drop-last : (n b : ℕ) (xs ys : List ℕ) → b ≡ length xs → n ≡ length ys → take n (drop b (xs ++ ys)) ≡ ys
+take-drop-last : (n b : ℕ) (xs ys : List ℕ) → b ≡ length xs → n ≡ length ys → take n (drop b (xs ++ ys)) ≡ ys
 take-drop-last n b xs ys at len = rw (at, len, drop-append_seam xs ys) (take-length ys)
+
+-- what is read back of the distances where those of a set were added at the end
+pub part-last : {A : Type 0} (v : State) (m : List Change) (begin : ℕ) (old new : Vec ℕ A) (all : List ℕ) (changes : List Change)
+    (part : List ℕ) → begin ≡ vec_len old → new.items ≡ old.items ++ distances_of v m → all ≡ new.items → changes ≡ m
+    → part ≡ take (length changes) (drop begin all) → part ≡ distances_of v m
+part-last v m begin old new all changes part at added is same e =
+    e ∙ rw (is, added, same) (take-drop-last (length m) begin old.items (distances_of v m) (at ∙ old.ok.0)
+    (sym (length-map m (distance_by v))))
 
 -- the running weights of a log that grows are those of its updates
 running-longer : (f g : ℕ → ℕ) (n : ℕ) (running : List ℕ) (before w : ℕ) → length running ≡ n
@@ -77,6 +86,41 @@ kept-longer h m distances begins ds same each last k lt = elim (cases_lt k (leng
       })
 ]
 
+-- a log without updates
+pub IsLog-empty : {A : Type 0} {results : List ℤ} (start end : State) (sets : Vec (List Change) A) (distances begins running : Vec ℕ A)
+    (postings : Vec (Vec (ℕ × ℕ) A) A) → IsState start → end ≡ start → sets.items ≡ [] → distances.items ≡ [] → begins.items ≡ []
+    → running.items ≡ [] → length postings.items ≡ length start → All (λ list. list.items ≡ []) postings.items
+    → IsLog (record {
+      start = start;
+      sets = sets;
+      distances = distances;
+      begins = begins;
+      postings = postings;
+      running = running;
+      end = end;
+      results = results;
+    })
+IsLog-empty start end sets distances begins running postings state at e f b g count none =
+    let len : vec_len sets ≡ 0 = sets.ok.0 ∙ ap length e in
+    record {
+      few = omega arith;
+      legal = rw e (record {
+        start = state;
+        sets = λ k d lt. absurd (omega arith);
+        known = λ k d lt. absurd (omega arith);
+        legal = λ k lt. absurd (omega arith);
+      });
+      same = ap length at;
+      kept = omega (arith, begins.ok.0, ap length b);
+      short = omega (arith, distances.ok.0, ap length f);
+      each = λ k lt. absurd (omega (arith, lt, ap length e));
+      count = count;
+      posted = λ x d lt. rw e (none x d (omega (arith, lt, count)));
+      counted = omega (arith, running.ok.0, ap length g);
+      running = λ k lt. absurd (omega (arith, lt, ap length e));
+      end = rw len at;
+    }
+
 module _ {A : Type 0} (l : Inside A) (is : IsLog l) where
   -- the values at the end are in range
   IsState-end : IsState l.end
@@ -89,6 +133,15 @@ module _ {A : Type 0} (l : Inside A) (is : IsLog l) where
       let other : (length l.sets.items == most_updates) ≡ false =
       ne_eqb (length l.sets.items) most_updates (λ e. omega (arith, e, few, l.sets.ok.0)) in
       let now : is_legal m (serial (history_of l) (length l.sets.items)) ≡ true = rw (← l.sets.ok.0, ← is.end) legal in
+      rw (← view, other, now) refl
+
+  -- and one that is not legal is
+  pub not_allowed : (h : History) (m : List Change) → history_of l ≡ h → vec_len l.sets < most_updates → is_legal m l.end ≡ false
+      → append_refusal h m ≡ Some OutOfRange
+  not_allowed h m view few illegal =
+      let other : (length l.sets.items == most_updates) ≡ false =
+      ne_eqb (length l.sets.items) most_updates (λ e. omega (arith, e, few, l.sets.ok.0)) in
+      let now : is_legal m (serial (history_of l) (length l.sets.items)) ≡ false = rw (← l.sets.ok.0, ← is.end) illegal in
       rw (← view, other, now) refl
 
   -- what all updates of a log weigh, by its fields

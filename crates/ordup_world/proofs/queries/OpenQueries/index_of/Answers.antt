@@ -1,4 +1,4 @@
-use Rattle.std.proofs.Common.{◌≡◌, ◌∙◌, sym, true, rules}
+use Rattle.std.proofs.Common.{◌≡◌, ◌∙◌, refl, sym, true}
 use Rattle.std.specs.Cmp.Lexicographic.{bytes_decides, nat_list_eq_equiv}
 use Rattle.ordup_world.specs.Events.{is_same}
 use Rattle.ordup_world.proofs.QueryLemmas.{is_open-at}
@@ -9,6 +9,6 @@ returns-then-eq-clause-at g c =
     let key : is_same c.in-Some.key.now c.args.name.now ≡ true = sym c.eq.ensures ∙ c.if-eq.true in
     let is : c.in-Some.key.now ≡ c.args.name.now = (bytes_decides c.in-Some.key.now c.args.name.now).0 key in
     is_open-at c.args.self.now c.args.name.now c.guess-guess.result (c.in-Some.key.now, c.in-Some.field-0-1.now)
-    (search rules)
+    (rw (← c.self.view_is, ← c.in-Some.ensures.entry) refl)
     (nat_list_eq_equiv.symm c.args.name.now c.in-Some.key.now ∙ key)
     (rw (← c.self.view_is) (rw is at c.in-Some.ensures.value))

@@ -1,7 +1,13 @@
+use Rattle.std.proofs.lemmas.Result.{err_from_is_err_and}
 use Rattle.ordup_world.specs.StoreInside.{state_of}
 use Rattle.ordup_world.proofs.StoreLemmas.{IsStore-start}
 use Rattle.ordup_world.proofs.AfterLemmas.{IsStoreAfter-start}
 use Rattle.ordup_world.proofs.store.Store.start.Goals as goal
+
+pub returns-in_err-primary : goal.returns-in_err-primary
+returns-in_err-primary g c =
+    let failed = err_from_is_err_and c.from_residual.result c.from_residual.ensures.1 in
+    rw (failed.1, failed.2) (record { state = tt; sound = tt; refused = c.in_err-primary.ensures.refused })
 
 pub returns-in-Ok-clause-state : goal.returns-in-Ok-clause-state
 returns-in-Ok-clause-state g c =

@@ -1,4 +1,5 @@
-use Rattle.std.proofs.Common.{[]}
+use Rattle.std.proofs.Common.{[], rules}
+use Rattle.std.proofs.lemmas.Result.{err_from_is_err_and}
 use Rattle.ordup_primary.proofs.PrimaryLemmas.{HasFewestRounds-sound}
 use Rattle.ordup_world.specs.Worlds.{with_queries}
 use Rattle.ordup_world.specs.StoreInside.{state_of}
@@ -6,20 +7,32 @@ use Rattle.ordup_world.proofs.StoreLemmas.{KeepsLimits-sound}
 use Rattle.ordup_world.proofs.WorldLemmas.{IsSound-start, StandsFor-start}
 use Rattle.ordup_world.proofs.world.World.start.Goals as goal
 
+pub returns-in_err-store : goal.returns-in_err-store
+returns-in_err-store g c =
+    let failed = err_from_is_err_and c.from_residual.result c.from_residual.ensures.1 in
+    rw (failed.1, failed.2, c.in_err-store.ensures.refused) (record {
+      setup = tt;
+      state = tt;
+      sound = tt;
+      limits = tt;
+      fewest = tt;
+      allowed = tt;
+      refused = search rules;
+    })
+
 pub invariant_of-result : goal.invariant_of-result
 invariant_of-result g c = rw c.new.ensures (IsSound-start (state_of c.in_ok-store.store) c.in_ok-store.ensures.sound)
 
-pub returns-clause-setup : goal.returns-clause-setup
-returns-clause-setup g c = c.in_ok-store.ensures.state.declared
-
-pub returns-clause-state : goal.returns-clause-state
-returns-clause-state g c = rw c.new.ensures (StandsFor-start c.args.setup (state_of c.in_ok-store.store) c.in_ok-store.ensures.state)
-
-pub returns-clause-sound : goal.returns-clause-sound
-returns-clause-sound g c = rw c.new.ensures (IsSound-start (state_of c.in_ok-store.store) c.in_ok-store.ensures.sound)
-
-pub returns-clause-limits : goal.returns-clause-limits
-returns-clause-limits g c = KeepsLimits-sound (with_queries (state_of c.in_ok-store.store) []) c.in_ok-store.ensures.sound
-
-pub returns-clause-fewest : goal.returns-clause-fewest
-returns-clause-fewest g c = HasFewestRounds-sound c.in_ok-store.store.primary c.in_ok-store.ensures.sound.primary
+pub returns : goal.returns
+returns g c =
+    let store = state_of c.in_ok-store.store in
+    let made = c.in_ok-store.ensures in
+    rw c.new.ensures (record {
+      setup = made.state.declared;
+      state = StandsFor-start c.args.setup store made.state;
+      sound = IsSound-start store made.sound;
+      limits = KeepsLimits-sound (with_queries store []) made.sound;
+      fewest = HasFewestRounds-sound c.in_ok-store.store.primary made.sound.primary;
+      allowed = search rules;
+      refused = tt;
+    })

@@ -3,6 +3,7 @@ use Rattle.std.proofs.Common.{◌≡◌, ℕ, List, [], Option, Some, None, true
 use Rattle.std.proofs.Common.{ap, subst, sym, ◌∙◌, inl, inr}
 use Rattle.std.specs.Prelude.{Result, Ok, Err}
 use Rattle.std.proofs.lemmas.Bool.{cases_Bool}
+use Rattle.std.proofs.lemmas.Result.{IfErr-at_err}
 use Rattle.ordup_objects.specs.declared.change.Change.{Change}
 use Rattle.ordup_objects.specs.declared.refusal.Refusal.{Refusal}
 use Rattle.ordup_objects.specs.declared.refusal.Refusal.TheVariants.{NoMemory, Syntax}
@@ -98,7 +99,7 @@ module _ {A : Type 0} where
       | inr no_memory ↦ absurd (other no_memory)
     ]
     | inr none ↦
-        let same : e ≡ Syntax = (let p = sym is ∙ syntax none in cc) in
+        let same : e ≡ Syntax = IfErr-at_err (λ e. e ≡ Syntax) (sym (syntax none) ∙ is) refl in
         left_by_no_command (IsWorldOf v) (command_by keyword.Propose words) Took (rw none refl)
         (subst (λ (e : Refusal). Took (refused_text e)) same took) s stands
   ]

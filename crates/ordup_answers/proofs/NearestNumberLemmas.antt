@@ -23,10 +23,9 @@ use Rattle.std.proofs.Common.{
   inr,
   arith,
 }
-use Rattle.std.specs.Prelude.{unsigned_abs, Result, Ok, Err, IfOk, IfErr}
+use Rattle.std.specs.Prelude.{pos, negsuc, unsigned_abs, Result, Ok, Err, IfOk, IfErr}
 use Rattle.std.specs.List.{list_any}
 use Rattle.std.proofs.lemmas.Bool.{cases_Bool, cases_lt, leb-true, lt-leb}
-use Rattle.std.proofs.lemmas.Int.{ints}
 use Rattle.std.proofs.lemmas.List.{length-map}
 use Rattle.ordup_objects.specs.declared.change.Change.{Change}
 use Rattle.ordup_objects.specs.declared.refusal.Refusal.{Refusal}
@@ -47,10 +46,12 @@ use Rattle.ordup_answers.specs.Refusals.{Gives}
 -- ---- numbers
 
 nearest-exact : (z : ℤ) → unsigned_abs z ≤ 1000000000 → nearest z ≡ z
-nearest-exact z close = grind (arith, ints)
+nearest-exact (pos n) close = ap pos (omega arith)
+nearest-exact (negsuc n) close = ap negsuc (omega arith)
 
 nearest-far : (z : ℤ) → 1000000000 < unsigned_abs z → 1000000000 < unsigned_abs (nearest z)
-nearest-far z far = grind (arith, ints)
+nearest-far (pos n) far = omega arith
+nearest-far (negsuc n) far = omega arith
 
 pub in_range-nearest : (z : ℤ) → in_range (nearest z) ≡ in_range z
 in_range-nearest z = elim (cases_lt 1000000000 (unsigned_abs z)) [

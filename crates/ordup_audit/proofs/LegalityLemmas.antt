@@ -1,7 +1,7 @@
 -- Updates that are legal up to one that is not.
-use Rattle.ordup_audit.proofs.Common.{◌++◌, ◌+◌, ◌<◌, ◌∙◌, ◌∷◌, ◌≡◌, ◌≤◌, [], All, ap, AreKnown, arith, Bool, cases_lt, Change, drop}
+use Rattle.ordup_audit.proofs.Common.{◌++◌, ◌+◌, ◌<◌, ◌∙◌, ◌∷◌, ◌≡◌, ◌≤◌, [], All, ap, AreKnown, arith, Bool, cases_lt, Change, drop, false}
 use Rattle.ordup_audit.proofs.Common.{get_or, get_or-map, greatest_value, History, history_of, in_range, inl, inr, IsLegalFront}
-use Rattle.ordup_audit.proofs.Common.{IsLegalHistory, le-leb, length, List, list_all, map, RecordState, refl, result_at}
+use Rattle.ordup_audit.proofs.Common.{IsLegalHistory, le-leb, length, lt-leb, List, list_all, map, RecordState, refl, result_at}
 use Rattle.ordup_audit.proofs.Common.{serial, serial-longer, State, subst, suc, sym, take-append-drop, take_all, true, with_more}
 use Rattle.ordup_audit.proofs.Common.{ℕ, ℤ}
 use Rattle.std.specs.Int.RustNames.{unsigned_abs}
@@ -33,6 +33,15 @@ results-more v changes i c z lt at is few before =
     let here : test c ≡ true = le-leb (unsigned_abs (result_at v c)) greatest_value (rw is at few) in
     passes-more (λ p. get_or (map test changes) p true) i before
     (get_or-map test changes i c true lt ∙ ap test (sym at) ∙ here)
+
+-- a result that is not in range
+pub result-fails : (v : State) (changes : List Change) (i : ℕ) (c : Change) (z : ℤ) → i < length changes → c ≡ get_or changes i c
+    → z ≡ result_at v c → greatest_value < unsigned_abs z
+    → get_or (map (λ d. in_range (result_at v d)) changes) i true ≡ false
+result-fails v changes i c z lt at is many =
+    let test : Change → Bool = λ d. in_range (result_at v d) in
+    get_or-map test changes i c true lt ∙ ap test (sym at)
+    ∙ lt-leb (unsigned_abs (result_at v c)) greatest_value (rw is at many)
 
 module _ (r : RecordState) (log : History) (front : IsLegalFront r log) where
   history-front : history_of r ≡ with_more log (drop (length log.sets) r.sets)

@@ -2,7 +2,12 @@
 use Rattle.ordup_audit.proofs.Common.{◌++◌, ◌<◌, ◌∙◌, ◌∷◌, ◌≡◌, [], ap, append-nil, AreParts, arith, Bool, Change, eqb-true, false}
 use Rattle.ordup_audit.proofs.Common.{false≢true, get_or, get_or-append_seam, History, history_of, is_legal, IsLegalHistory, IsTrue}
 use Rattle.ordup_audit.proofs.Common.{length, List, nil_from_length, refl, serial, serial-longer, state_of, sym, true, with_more}
-use Rattle.std.proofs.Common.{length-append}
+use Rattle.std.proofs.Common.{◌+◌, ◌-◌, ◌≤◌, length-append, take, ℕ}
+use Rattle.std.proofs.Math.ListN.{get_or-append}
+use Rattle.std.proofs.Math.Seq.{take-length}
+use Rattle.std.proofs.lemmas.List.{get_or-append_right, get_or-take, get_or_default, length-take-le}
+use Rattle.ordup_rounds.specs.declared.window.Window.{Window}
+use Rattle.ordup_audit.specs.declared.report_change.ReportChange.{ReportChange}
 use Rattle.std.specs.Prelude.{◌==◌}
 use Rattle.ordup_audit.specs.declared.record.RecordParts.{RecordParts}
 
@@ -39,3 +44,42 @@ module _ {A : Type 0} (p : RecordParts A) (are : AreParts p) where
     λ empty. rw (log-all (nil_from_length p.rest.items (eqb-true (length p.rest.items) 0 (sym e ∙ empty)))) at legal,
     λ whole. e ∙ ap (λ rest. length rest == 0) (none-left whole),
   )
+
+-- ---- its updates
+
+-- the first are those of the log
+pub first-of : (n k : ℕ) (log rest : List (List Change)) → n ≡ length log → 0 < k → k ≤ n
+    → get_or log (k - 1) [] ≡ get_or (log ++ rest) (k - 1) []
+first-of n k log rest count some upto = sym (get_or-append log rest [] (k - 1) (omega arith))
+
+-- and the others are the rest
+pub rest-of : (n k : ℕ) (log rest : List (List Change)) (d : List Change) → n ≡ length log → n < k → k ≤ length (log ++ rest)
+    → get_or rest ((k - n) - 1) d ≡ get_or (log ++ rest) (k - 1) []
+rest-of n k log rest d count past last =
+    let at : (k - n) - 1 ≡ (k - 1) - n = omega arith in
+    get_or_default rest ((k - n) - 1) d [] (omega (arith, length-append log rest)) ∙ ap (λ i. get_or rest i []) at
+    ∙ sym (get_or-append_right log rest n (k - 1) [] (sym count) (omega arith))
+
+-- ---- a record that is lent
+
+-- where all is lent, it is the record
+pub lent-whole : {A : Type 0} (p : RecordParts A) (n : ℕ) (rest : List (List Change)) (reports : List ReportChange) (rounds : List ℕ)
+    (windows : List Window) → n ≡ length p.log.sets → rest ≡ p.rest.items → reports ≡ p.reports.items → rounds ≡ p.rounds.items
+    → windows ≡ p.windows.items
+    → record (state_of p) { sets = take n p.log.sets ++ rest; reports = reports; rounds = rounds; windows = windows } ≡ state_of p
+lent-whole p n rest reports rounds windows all e f g h = rw (all, take-length p.log.sets, e, f, g, h) refl
+
+-- its first updates are those of the log
+pub lent-first : (n k : ℕ) (log rest : List (List Change)) → n ≤ length log → 0 < k → k ≤ n
+    → get_or log (k - 1) [] ≡ get_or (take n log ++ rest) (k - 1) []
+lent-first n k log rest le some upto =
+    sym (get_or-take n log (k - 1) [] (omega arith)) ∙ first-of n k (take n log) rest (sym (length-take-le n log le)) some upto
+
+-- and the others are the rest
+pub lent-rest : (n k : ℕ) (log rest : List (List Change)) (d : List Change) → n ≤ length log → n < k
+    → k ≤ length (take n log ++ rest)
+    → get_or rest ((k - n) - 1) d ≡ get_or (take n log ++ rest) (k - 1) []
+lent-rest n k log rest d le past last = rest-of n k (take n log) rest d (sym (length-take-le n log le)) past last
+
+pub lent-count : (n : ℕ) (log rest : List (List Change)) → n ≤ length log → length (take n log ++ rest) ≡ n + length rest
+lent-count n log rest le = length-append (take n log) rest ∙ ap (λ k. k + length rest) (length-take-le n log le)

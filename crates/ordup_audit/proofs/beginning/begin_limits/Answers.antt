@@ -7,8 +7,17 @@ use Rattle.ordup_limits.proofs.EntryLemmas.{later-drop, latest-take}
 use Rattle.ordup_audit.proofs.BeginningLemmas.{latest-next}
 use Rattle.ordup_audit.proofs.beginning.begin_limits.Goals as goal
 
-pub change-requires-clause-room : goal.change-requires-clause-room
-change-requires-clause-room g c =
+pub loop-count-init : goal.loop-count-init
+loop-count-init g c = record {
+  more = omega arith;
+  upto = c.requires.begun;
+  limits = c.requires.limits;
+  places = (refl, refl);
+  stands = c.requires.stands;
+}
+
+pub change-requires : goal.change-requires
+change-requires g c =
     let entries = c.args.entries.now in
     let i = c.loop-count.count in
     let lt = c.loop-count-test.true in
@@ -17,7 +26,11 @@ change-requires-clause-room g c =
     let next = latest-next entries i first c.loop-count.ledger.limits (get_or entries i first).limit.scope
     (get_or entries i second).limit.amount lt c.loop-count.invariant.limits refl
     (ap (λ (e : LimitEntry). e.limit.amount) (get_or_default entries i second first lt)) in
-    omega (arith, ap (λ (ls : Limits). length ls) next, latest-take entries (i + 1), c.requires.scopes)
+    record {
+      room = omega (arith, ap (λ (ls : Limits). length ls) next, latest-take entries (i + 1), c.requires.scopes);
+      known = c.requires.known i first lt;
+      stands = c.loop-count.invariant.stands;
+    }
 
 pub loop-count-preserved : goal.loop-count-preserved
 loop-count-preserved g c =
@@ -39,13 +52,20 @@ loop-count-preserved g c =
       stands = c.change.ensures.stands;
     }
 
-pub returns-else-entries-count-clause-begun : goal.returns-else-entries-count-clause-begun
-returns-else-entries-count-clause-begun g c =
+pub returns-else-entries-count : goal.returns-else-entries-count
+returns-else-entries-count g c =
+    let inside = c.loop-count.invariant in
     let entries = c.args.entries.now in
     let i = c.loop-count.count in
     let tested = c.index-entries-count.result in
     record {
-      upto = c.loop-count.invariant.upto;
-      later = later-drop entries c.args.place i (get_or entries i tested) c.requires.rising c.loop-count-test.true
-          (get_or_default entries i tested (get_or entries i tested) c.loop-count-test.true) c.if-entries-count.false;
+      more = inside.more;
+      begun = record {
+        upto = inside.upto;
+        later = later-drop entries c.args.place i (get_or entries i tested) c.requires.rising c.loop-count-test.true
+            (get_or_default entries i tested (get_or entries i tested) c.loop-count-test.true) c.if-entries-count.false;
+      };
+      limits = inside.limits;
+      places = inside.places;
+      stands = inside.stands;
     }

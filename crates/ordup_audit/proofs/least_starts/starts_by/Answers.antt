@@ -1,4 +1,4 @@
-use Rattle.ordup_audit.proofs.Common.{◌≡◌, ◌+◌, ◌∙◌, arith, eqb-true, history_of, is_within, take}
+use Rattle.ordup_audit.proofs.Common.{◌≡◌, ◌+◌, ◌∙◌, ap, arith, eqb-true, History, history_of, is_within, length, length-map, refl, take}
 use Rattle.std.proofs.lemmas.Bool.{not-false}
 use Rattle.ordup_limits.specs.Limits.{within}
 use Rattle.ordup_limits.specs.Entries.{latest}
@@ -7,6 +7,9 @@ use Rattle.ordup_audit.specs.Beginning.{HaveBegun}
 use Rattle.ordup_audit.specs.LeastStarts.{IsLeastStart}
 use Rattle.ordup_audit.proofs.LeastStartLemmas.{least-in_force, passes-longer, starts-first, starts-more}
 use Rattle.ordup_audit.proofs.least_starts.starts_by.Goals as goal
+
+pub push_reserved-requires : goal.push_reserved-requires
+push_reserved-requires g c = omega (arith, c.in-Ok.ensures.len, c.in-Ok.ensures.capacity)
 
 pub loop-place-init : goal.loop-place-init
 loop-place-init g c =
@@ -19,6 +22,48 @@ loop-place-init g c =
       begun = record { upto = λ i d lt. absurd (omega arith); later = is.limits.begun };
       before = λ k lt. absurd (omega arith);
       stands = c.requires.first;
+    }
+
+pub extend-requires : goal.extend-requires
+extend-requires g c =
+    let is = c.loop-place.invariant.stands in
+    let log = c.log-log.ensures.whole c.requires.legal in
+    record {
+      forward = omega (arith, is.to);
+      last = rw log (omega (arith, c.loop-place-test.true, c.decided-decided.ensures.decided));
+      stands = rw (log, c.groups-groups.ensures) is.stands;
+    }
+
+pub begin_limits-begun-requires : goal.begin_limits-begun-requires
+begin_limits-begun-requires g c =
+    let r = c.args.audited.now in
+    let is = c.decided-decided.ensures.sound in
+    let inside = c.loop-place.invariant in
+    let entries = c.entries-entries.ensures ∙ c.limits-2.ensures in
+    let start = ap (λ (h : History). length h.start) (c.log-log.ensures.whole c.requires.legal) ∙ length-map r.objects _ in
+    record {
+      scopes = rw entries is.limits.scopes;
+      rising = rw entries is.limits.rising;
+      known = rw (entries, start, c.groups-groups.ensures) is.scopes;
+      begun = rw entries (λ i d lt. omega (arith, inside.begun.upto i d lt));
+      limits = rw entries (c.extend.ensures.limits ∙ inside.stands.same);
+      stands = c.extend.ensures.stands;
+    }
+
+pub next_start-start-requires-clause-last : goal.next_start-start-requires-clause-last
+next_start-start-requires-clause-last g c =
+    rw (c.log-log.ensures.whole c.requires.legal) (omega (arith, c.loop-place-test.true, c.decided-decided.ensures.decided))
+
+pub next_start-start-requires-clause-stands : goal.next_start-start-requires-clause-stands
+next_start-start-requires-clause-stands g c =
+    let is = c.loop-place.invariant.stands in
+    let extended = c.extend.ensures.places in
+    let begun = c.begin_limits-begun.ensures.places in
+    record {
+      same = refl;
+      from = begun.0 ∙ extended.0 ∙ is.from;
+      to = begun.1 ∙ extended.1;
+      stands = c.begin_limits-begun.ensures.stands;
     }
 
 pub next_start-start-requires-clause-before : goal.next_start-start-requires-clause-before
@@ -54,3 +99,8 @@ loop-place-preserved g c =
       before = least.before;
       stands = rw (log, c.groups-groups.ensures, limits) at c.next_start-start.ensures.stands;
     }
+
+pub returns : goal.returns
+returns g c =
+    let all : c.loop-place.place ≡ length c.args.audited.now.sets = omega (arith, c.decided-decided.ensures.decided) in
+    rw all at c.loop-place.invariant.starts

@@ -1,4 +1,4 @@
-use Rattle.ordup_audit.proofs.Common.{◌+◌, ◌-◌, ◌<◌, ◌∙◌, ◌≡◌, [], ap, arith, Bool, cases_lt, false, false≢true, get_or, History}
+use Rattle.ordup_audit.proofs.Common.{◌+◌, ◌-◌, ◌<◌, ◌∙◌, ◌≡◌, [], ap, arith, Bool, Change, List, cases_lt, false, false≢true, get_or, History}
 use Rattle.ordup_audit.proofs.Common.{history_of, inl, inr, IsLegalFront, IsLegalHistory, IsTrue, length, length-map, RecordState, sym, ℕ}
 use Rattle.ordup_objects.proofs.SerialLemmas.{length-serial}
 use Rattle.ordup_audit.proofs.LegalityLemmas.{front-all, illegal-row, known-at}
@@ -12,29 +12,59 @@ not-all r log front n b count all none = elim (cases_lt n (length r.sets)) [
   | inr le ↦ absurd (false≢true (sym none ∙ all (front-all r log front (omega arith))))
 ]
 
-pub first_out_of_range-requires-clause-known : goal.first_out_of_range-requires-clause-known
-first_out_of_range-requires-clause-known g c =
+-- the update after those of the log
+next-set : (r : RecordState) (n : ℕ) (set changes : List Change) → changes ≡ set → set ≡ get_or r.sets ((n + 1) - 1) []
+    → changes ≡ get_or r.sets n []
+next-set r n set changes e at =
+    let same : (n + 1) - 1 ≡ n = omega arith in
+    e ∙ at ∙ ap (λ k. get_or r.sets k []) same
+
+pub returns-then-is_legal : goal.returns-then-is_legal
+returns-then-is_legal g c = record { none = (c.is_legal.ensures.0 c.if-is_legal.true).legal; some = tt }
+
+pub overflow_add-legal : goal.overflow_add-legal
+overflow_add-legal g c = omega (arith, c.len-legal.ensures.len, c.len-legal.ensures.few)
+
+pub set-requires : goal.set-requires
+set-requires g c =
     let r = c.args.audited.now in
-    let there : c.len-legal.result < length r.sets = not-all c.args.audited.now c.log-log.result.now c.log-log.ensures.front
-    c.len-legal.result c.is_legal.result c.len-legal.ensures.len
+    let there = not-all r c.log-log.result.now c.log-log.ensures.front c.len-legal.result c.is_legal.result c.len-legal.ensures.len
     c.is_legal.ensures.1 c.if-is_legal.false in
-    let at : (c.len-legal.result + 1) - 1 ≡ c.len-legal.result = omega arith in
-    let set : c.changes-changes.result.now ≡ get_or r.sets c.len-legal.result [] =
-    c.changes-changes.ensures.changes ∙ c.set.ensures ∙ ap (λ k. get_or r.sets k []) at in
+    record { first = omega arith; last = omega (arith, there) }
+
+pub first_out_of_range-requires : goal.first_out_of_range-requires
+first_out_of_range-requires g c =
+    let r = c.args.audited.now in
+    let there = not-all r c.log-log.result.now c.log-log.ensures.front c.len-legal.result c.is_legal.result c.len-legal.ensures.len
+    c.is_legal.ensures.1 c.if-is_legal.false in
+    let set = next-set r c.len-legal.result c.set.result.now c.changes-changes.result.now c.changes-changes.ensures.changes c.set.ensures in
     let log = c.log-log.result.now in
-    known-at (length r.objects) c.len-legal.result r.sets c.changes-changes.result.now c.end.result.now c.keeps.ensures.known there set
-    (ap length c.end.ensures ∙ length-serial log (length log.sets) (omega arith) ∙ ap length c.log-log.ensures.front.start
-    ∙ length-map r.objects _)
+    record {
+      known = known-at (length r.objects) c.len-legal.result r.sets c.changes-changes.result.now c.end.result.now c.keeps.ensures.known
+          there set
+          (ap length c.end.ensures ∙ length-serial log (length log.sets) (omega arith) ∙ ap length c.log-log.ensures.front.start
+          ∙ length-map r.objects _);
+      numbers = rw c.changes-changes.ensures.changes c.changes-changes.ensures.set.numbers;
+      illegal = rw (set, c.end.ensures, c.len-legal.ensures.len) (c.log-log.ensures.front.next (omega (arith, c.len-legal.ensures.len)));
+    }
+
+pub change_row-requires : goal.change_row-requires
+change_row-requires g c =
+    let r = c.args.audited.now in
+    let there = not-all r c.log-log.result.now c.log-log.ensures.front c.len-legal.result c.is_legal.result c.len-legal.ensures.len
+    c.is_legal.ensures.1 c.if-is_legal.false in
+    let few = c.changes-changes.ensures.set.few in
+    record {
+      updates = omega (arith, there);
+      index = omega (arith, c.first_out_of_range.ensures.there, ap length c.changes-changes.ensures.changes, few);
+    }
 
 pub returns-clause-some : goal.returns-clause-some
 returns-clause-some g c =
     let r = c.args.audited.now in
-    let there : c.len-legal.result < length r.sets = not-all c.args.audited.now c.log-log.result.now c.log-log.ensures.front
-    c.len-legal.result c.is_legal.result c.len-legal.ensures.len
+    let there = not-all r c.log-log.result.now c.log-log.ensures.front c.len-legal.result c.is_legal.result c.len-legal.ensures.len
     c.is_legal.ensures.1 c.if-is_legal.false in
-    let at : (c.len-legal.result + 1) - 1 ≡ c.len-legal.result = omega arith in
-    let set : c.changes-changes.result.now ≡ get_or r.sets c.len-legal.result [] =
-    c.changes-changes.ensures.changes ∙ c.set.ensures ∙ ap (λ k. get_or r.sets k []) at in
+    let set = next-set r c.len-legal.result c.set.result.now c.changes-changes.result.now c.changes-changes.ensures.changes c.set.ensures in
     illegal-row r c.log-log.result.now c.log-log.ensures.front c.len-legal.result c.first_out_of_range.result c.change_row.result
     c.changes-changes.result.now c.len-legal.ensures.len there set (rw c.end.ensures at c.first_out_of_range.ensures)
     c.change_row.ensures

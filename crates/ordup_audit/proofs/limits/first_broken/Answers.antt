@@ -1,4 +1,4 @@
-use Rattle.ordup_audit.proofs.Common.{◌+◌, ◌<◌, ◌∙◌, All-map, ap, arith, not}
+use Rattle.ordup_audit.proofs.Common.{◌+◌, ◌<◌, ◌∙◌, ◌≡◌, All-map, ap, arith, length, length-map, not}
 use Rattle.ordup_audit.specs.Cursors.{AreUpto}
 use Rattle.ordup_audit.specs.declared.report_change.ReportChange.{ReportChange}
 use Rattle.ordup_audit.specs.Passing.{is_place_within}
@@ -17,6 +17,54 @@ loop-updates-init g c =
       rounds = upto-none r.rounds (λ i d lt. (sound.rounds.each i d lt).0);
       within = λ k lt. absurd (omega arith);
     }
+
+pub pass_reports-reports_passed-requires : goal.pass_reports-reports_passed-requires
+pass_reports-reports_passed-requires g c = record {
+  some = omega arith;
+  ascending = rw c.reports.ensures c.decided-updates-end.ensures.sound.reports.places;
+  before = λ k next. (
+      let same : k ≡ c.loop-updates.updates = omega arith in
+      rw (same, c.reports.ensures) c.loop-updates.invariant.reports);
+}
+
+pub pass_rounds-rounds_passed-requires : goal.pass_rounds-rounds_passed-requires
+pass_rounds-rounds_passed-requires g c = record {
+  some = omega arith;
+  ascending = rw c.rounds.ensures c.decided-updates-end.ensures.sound.rounds.ascending;
+  before = λ k next. (
+      let same : k ≡ c.loop-updates.updates = omega arith in
+      rw (same, c.rounds.ensures) c.loop-updates.invariant.rounds);
+}
+
+pub reported-reported-requires : goal.reported-reported-requires
+reported-reported-requires g c =
+    let changes = c.reports.result.now in
+    let few = c.pass_reports-reports_passed.ensures.few in
+    omega (
+      arith,
+      few,
+      length-map changes (λ (c : ReportChange). c.place),
+      ap length c.reports.ensures,
+      ap length c.reports-in-loop-updates.ensures,
+    )
+
+pub awaited-requires : goal.awaited-requires
+awaited-requires g c =
+    let few = c.pass_rounds-rounds_passed.ensures.few in
+    record {
+      passed = omega (arith, few, ap length c.rounds.ensures, ap length c.rounds-in-loop-updates.ensures);
+      ascending = rw c.rounds-in-loop-updates.ensures c.decided-updates-end.ensures.sound.rounds.ascending;
+    }
+
+pub passes_a_limit-requires : goal.passes_a_limit-requires
+passes_a_limit-requires g c = record {
+  legal = c.requires.legal;
+  last = omega (arith, c.decided-updates-end.ensures.decided);
+  starts = c.requires.starts;
+}
+
+pub change_row-requires : goal.change_row-requires
+change_row-requires g c = record { updates = omega (arith, c.decided-updates-end.ensures.decided); index = omega arith }
 
 pub returns-then-passes_a_limit-clause-some : goal.returns-then-passes_a_limit-clause-some
 returns-then-passes_a_limit-clause-some g c =
@@ -51,3 +99,9 @@ loop-updates-preserved g c =
       within = passes-more (is_place_within r) c.loop-updates.updates c.loop-updates.invariant.within
           (tested ∙ ap not c.if-passes_a_limit.false);
     }
+
+pub returns : goal.returns
+returns g c = record {
+  none = λ k lt. c.loop-updates.invariant.within k (omega (arith, c.decided-updates-end.ensures.decided));
+  some = tt;
+}

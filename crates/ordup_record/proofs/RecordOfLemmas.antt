@@ -7,8 +7,9 @@ use Rattle.ordup_audit.proofs.Common.{List, ltb-true, most_groups, most_objects,
 use Rattle.ordup_audit.proofs.Common.{refl, report_at, state_of, suc, sym, take}
 use Rattle.ordup_audit.proofs.Common.{take-append-drop, true, with_more, zero, ℕ, ℤ}
 use Rattle.ordup_primary.specs.Primaries.{limits_at, progress_at, reported_at}
-use Rattle.ordup_record.specs.RecordsOf.{record_of, report_changes, reported_before_or_at}
-use Rattle.std.proofs.Common.{length-take}
+use Rattle.ordup_record.specs.RecordsOf.{record_of, record_refusal, report_changes, reported_before_or_at}
+use Rattle.std.proofs.Common.{length-take, None}
+use Rattle.std.proofs.lemmas.Bool.{lt-ltb}
 use Rattle.ordup_limits.specs.Limits.{within}
 use Rattle.ordup_limits.proofs.LimitLemmas.{within-longer}
 use Rattle.ordup_log.specs.Groups.{AreGroupsKnown}
@@ -20,6 +21,10 @@ use Rattle.ordup_audit.specs.declared.record_view.RecordView.TheInside.{Inside a
 use Rattle.ordup_audit.proofs.AscendingLemmas.{rounds-few}
 use Rattle.ordup_record.proofs.ChangeLemmas.{AreReportsRising, changes-are, report_at-changes}
 use Rattle.ordup_record.proofs.CertificateLemmas.{certificate-same}
+
+-- a record is given of a site that is declared
+pub not-refused : (p : PrimaryState) (s : ℕ) → s < length p.sites → record_refusal p s ≡ None
+not-refused p s there = rw (lt-ltb s (length p.sites) there) refl
 
 before-few : (reported_at : ℕ → ℕ) (d n : ℕ) → ((k : ℕ) → reported_at k ≤ n) → reported_before_or_at reported_at d ≤ n
 before-few reported_at zero n few = omega arith

@@ -1,5 +1,5 @@
 -- Rows that are written one by one.
-use Rattle.ordup_audit.proofs.Common.{◌++◌, ◌+◌, ◌<◌, ◌∙◌, ◌∷◌, ◌≡◌, [], ap, append_assoc, Change, drop, get_or, get_or_from_slice_get}
+use Rattle.ordup_audit.proofs.Common.{◌++◌, ◌+◌, ◌<◌, ◌∙◌, ◌∷◌, ◌≡◌, [], ap, append-nil, append_assoc, Change, drop, get_or, get_or_from_slice_get}
 use Rattle.ordup_audit.proofs.Common.{GroupList, length, List, map, names_of, None, Objects, Option, option_map, RecordState, refl}
 use Rattle.ordup_audit.proofs.Common.{slice_get, Some, sym, ℕ}
 use Rattle.std.proofs.Common.{add-one, drop-cons}
@@ -33,6 +33,18 @@ pub more_written : {A : Type 0} (mid new : Writer (Vec ℕ A)) (now rest next : 
 more_written mid new now rest next all upto clean text more =
     let whole = ap (λ rest. option_map (λ t. t ++ rest) (text_so_far mid)) (sym more) ∙ upto.1 in
     (clean, text_step (text_so_far mid) (text_so_far new) all now next text whole)
+
+nothing_left : (text : Option (List ℕ)) → text ≡ option_map (λ t. t ++ []) text
+nothing_left None = refl
+nothing_left (Some t) = ap (λ x. Some x) (sym (append-nil t))
+
+-- no row is left
+pub all_written : {A : Type 0} (old now : Writer (Vec ℕ A)) (rest all : List Row) → rest ≡ [] → IsUpto old now rest all
+    → record { clean : IsClean now; text : text_so_far now ≡ option_map (λ t. t ++ csv_text all) (text_so_far old) }
+all_written old now rest all none upto = record {
+  clean = upto.0;
+  text = nothing_left (text_so_far now) ∙ (rw none at upto.1);
+}
 
 pub csv_text-append : (rows more : List Row) → csv_text (rows ++ more) ≡ csv_text rows ++ csv_text more
 csv_text-append [] more = refl

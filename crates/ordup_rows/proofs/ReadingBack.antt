@@ -1,5 +1,5 @@
 -- The rows of a record are read back as it.
-use Rattle.ordup_audit.proofs.Common.{◌*◌, ◌++◌, ◌+◌, ◌<◌, ◌==◌, ◌^◌, ◌∙◌, ◌∷◌, ◌≡◌, ◌≤◌, [], All, All-cons, All-nil, All-tail, and_from}
+use Rattle.ordup_audit.proofs.Common.{◌*◌, ◌++◌, ◌+◌, ◌<◌, ◌==◌, ◌^◌, ◌∙◌, ◌∷◌, ◌≡◌, ◌≤◌, [], All, All-cons, All-nil, and_from}
 use Rattle.ordup_audit.proofs.Common.{ap, append-nil, append_assoc, are_of_one_object, AreEntries, AreEntriesKnown, AreGroups, AreKnown}
 use Rattle.ordup_audit.proofs.Common.{AreMembersKnown, AreReportChanges, AreRoundPlaces, arith, Bool, bytes_eq, Change, decimal, Entries, eq-eqb}
 use Rattle.ordup_audit.proofs.Common.{false, get_or, get_or-append_seam, greatest_amount, group_refusal, GroupList, IfSome, initial_state}

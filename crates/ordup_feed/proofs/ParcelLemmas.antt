@@ -1,11 +1,11 @@
 -- Lists of parcels that are in order, put together and cut.
-use Rattle.std.proofs.Common.{◌≡◌, ℕ, ◌+◌, ◌<◌, ◌≤◌, List, [], ◌∷◌, ◌++◌, length, map, arith, inl, inr}
+use Rattle.std.proofs.Common.{◌≡◌, ℕ, ◌+◌, ◌<◌, ◌≤◌, List, [], ◌∷◌, ◌++◌, length, map, arith, rules, inl, inr}
 use Rattle.std.proofs.Math.ListN.{get_or-append}
 use Rattle.std.proofs.Math.Seq.{get_or-append_seam}
 use Rattle.std.proofs.lemmas.Bool.{cases_lt}
 use Rattle.std.proofs.lemmas.List.{length-append, length-map, length_push, map-append}
 use Rattle.ordup_objects.specs.declared.change.Change.{Change}
-use Rattle.ordup_objects.specs.States.{State}
+use Rattle.ordup_objects.specs.States.{State, IsState}
 use Rattle.ordup_objects.specs.Sets.{IsSet}
 use Rattle.ordup_objects.specs.Serial.{History, with_more, IsLegalHistory}
 use Rattle.ordup_objects.proofs.SerialLemmas.{serial-longer, IsLegalHistory-longer}
@@ -36,6 +36,10 @@ legal-next h m more number is next few =
           rw (get_or-append_seam h.sets m more [], serial-longer h (m ∷ more) (length h.sets) (omega arith)) at
           (is.legal (length h.sets) inside);
     }
+
+-- no parcels
+pub in-order-none : (v : State) → IsState v → AreInOrder v []
+in-order-none v is = search rules
 
 -- one parcel more at the back
 pub in-order-push : (v : State) (ps : List PlainParcel) (p : PlainParcel) → AreInOrder v ps → IsNext v ps p → IsSet p.set

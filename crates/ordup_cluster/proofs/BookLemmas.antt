@@ -6,7 +6,7 @@ use Rattle.std.proofs.Math.Seq.{take-suc}
 use Rattle.std.proofs.Math.ListN.{length-set}
 use Rattle.std.proofs.lemmas.Bool.{cases_lt, lt-ltb}
 use Rattle.std.proofs.lemmas.Option.{slice_get_within}
-use Rattle.std.proofs.lemmas.List.{get_or-set_same, get_or-set_other, length-map, length-take-le, map-append, take-append-le}
+use Rattle.std.proofs.lemmas.List.{get_or-set_same, set-get_or, get_or-set_other, length-map, length-take-le, map-append, take-append-le}
 use Rattle.ordup_objects.specs.declared.change.Change.{Change}
 use Rattle.ordup_objects.specs.Serial.{History, set_at, with_update}
 use Rattle.ordup_primary.specs.Primaries.{PrimaryState, SiteProgress, IsPrimary, first_progress, progress_at, reported_at, is_within}
@@ -100,6 +100,10 @@ pub progress-same : (p q : PrimaryState) (s : ℕ) (x : SiteProgress) → q ≡ 
     → progress_at q s ≡ x
 progress-same p q s x is inside =
     ap (λ (t : PrimaryState). progress_at t s) is ∙ get_or-set_same p.sites s x first_progress inside
+
+-- what is known of a site, put where it is
+pub with-same : (p : PrimaryState) (s : ℕ) → p ≡ with_progress p s (progress_at p s)
+with-same p s = λ i. record p { sites = sym (set-get_or p.sites s first_progress) i }
 
 pub sites-count : (p q : PrimaryState) (s : ℕ) (x : SiteProgress) → q ≡ with_progress p s x → length q.sites ≡ length p.sites
 sites-count p q s x is = ap (λ (t : PrimaryState). length t.sites) is ∙ length-set p.sites s x
@@ -278,7 +282,7 @@ upto-some bound n b c upto = record {
   rest = upto.rest;
 }
 
-sent-none : (bound : ℕ → ℕ) (s : ℕ) (x : KeptSite) → Sent bound s x x
+pub sent-none : (bound : ℕ → ℕ) (s : ℕ) (x : KeptSite) → Sent bound s x x
 sent-none bound s x = record { pushed = refl; sent = refl; risen = omega arith; bounded = omega arith }
 
 -- where only the sites below n were sent something, nothing was sent to the others

@@ -1,5 +1,5 @@
 -- What a book and cells keep at the start.
-use Rattle.std.proofs.Common.{◌≡◌, ◌⊎◌, ℕ, zero, suc, ◌+◌, ◌<◌, List, [], ◌∷◌, ◌++◌, length, Some}
+use Rattle.std.proofs.Common.{◌≡◌, ◌⊎◌, ℕ, zero, suc, ◌+◌, ◌<◌, ◌≤◌, List, [], ◌∷◌, ◌++◌, length, Some}
 use Rattle.std.proofs.Common.{refl, sym, ap, ◌∙◌, arith, inl, inr, ⊎_elim}
 use Rattle.std.specs.Prelude.{slice_get}
 use Rattle.std.proofs.lemmas.Option.{slice_get_within}
@@ -30,6 +30,14 @@ at-before (x ∷ xs) a b (suc j) e = at-before xs a b j e
 pub at-end : {A : Type 0} → (l : List A) (a : A) → slice_get (l ++ a ∷ []) (length l) ≡ Some a
 at-end [] a = refl
 at-end (x ∷ xs) a = at-end xs a
+
+-- room for one element more
+pub has-room : (len room : ℕ) → len + 1 ≤ room → len < room
+has-room len room h = omega arith
+
+-- where a loop has ended
+pub at-last : (i n count : ℕ) → n ≤ i → i ≤ n → n ≡ count → i ≡ count
+at-last i n count past inside is = omega arith
 
 -- ---- the feeds
 

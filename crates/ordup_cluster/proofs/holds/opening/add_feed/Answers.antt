@@ -1,11 +1,26 @@
-use Rattle.std.proofs.Common.{rules, ◌≡◌, [], ◌∷◌, ◌++◌}
-use Rattle.ordup_cluster.proofs.OpeningLemmas.{feeds-more}
+use Rattle.std.proofs.Common.{◌∙◌, sym, ap}
+use Rattle.ordup_objects.specs.Tables.{initial_state}
+use Rattle.ordup_cluster.proofs.OpeningLemmas.{feeds-more, has-room}
 use Rattle.ordup_cluster.proofs.holds.opening.add_feed.Goals as goal
+
+pub capacity-requires : goal.capacity-requires
+capacity-requires c = c.requires.site
+
+pub push_reserved-requires : goal.push_reserved-requires
+push_reserved-requires c = has-room _ _ c.in_ok-reserve.ensures.ok
+
+pub new-requires-3 : goal.new-requires-3
+new-requires-3 c =
+    rw c.in-Ok.ensures.ends.taker
+    (c.in_ok-replica.ensures.start _ (ap initial_state (c.objects-2.ensures ∙ sym c.objects.ensures)))
+
+pub push_reserved-requires-2 : goal.push_reserved-requires-2
+push_reserved-requires-2 c = has-room _ _ c.in_ok-reserve-2.ensures.ok
 
 pub returns-clause-feeds : goal.returns-clause-feeds
 returns-clause-feeds c =
-    let ends : c.push_reserved.new.self.items ≡ c.args.ends.now.items ++ c.in-Ok.end ∷ [] = search rules in
-    let cells : c.push_reserved-2.new.self.items ≡ c.args.cells.now.items ++ c.new-3.result ∷ [] = search rules in
+    let ends = rw c.reserve.ensures.items at c.push_reserved.ensures.items in
+    let cells = rw c.reserve-2.ensures.items at c.push_reserved-2.ensures.items in
     let made = rw (c.objects-2.ensures, c.capacity.ensures.capacity) at c.in-Ok.ensures.ends in
     rw (ends, cells)
     (feeds-more c.args.setup.now c.args.site c.args.ends.now.items c.args.cells.now.items c.in-Ok.end c.new-3.result

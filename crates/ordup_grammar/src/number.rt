@@ -35,15 +35,17 @@ impl Number {
     pub fn parse(word: &[u8]) -> Option<Number>
         ensures { result ≡ number_of word.now }
     {
-        let (sign, digits) = match word {
-            [b'-', digits @ ..] => (-1, digits),
-            _ => (1, word),
+        let [b'-', digits @ ..] = word else {
+            let magnitude = parse_magnitude(word)?;
+            return Some(Number { sign: 1, magnitude });
         };
-        let magnitude = parse_magnitude(digits)?;
-        if sign < 0 && magnitude == 0 {
-            return None;
+        match parse_magnitude(digits)? {
+            0 => None,
+            magnitude => Some(Number {
+                sign: -1,
+                magnitude,
+            }),
         }
-        Some(Number { sign, magnitude })
     }
 
     /// The number where it fits, else the `i64` nearest to it.

@@ -1,9 +1,9 @@
 -- Places among rounds and windows.
-use Rattle.ordup_audit.proofs.Common.{◌&&◌, ◌+◌, ◌<◌, ◌==◌, ◌∷◌, ◌≡◌, ◌≤◌, [], AllPairs, AllPairs-from_increasing, ap, arith, Bool, cases_lt}
-use Rattle.ordup_audit.proofs.Common.{eq-eqb, false, get_or, get_or_default, inl, inr, IsStrictlyIncreasing, le-leb, length, List}
+use Rattle.ordup_audit.proofs.Common.{◌+◌, ◌<◌, ◌==◌, ◌∷◌, ◌≡◌, ◌≤◌, [], AllPairs, AllPairs-from_increasing, arith, cases_lt}
+use Rattle.ordup_audit.proofs.Common.{eq-eqb, false, get_or, inl, inr, IsStrictlyIncreasing, le-leb, length, List}
 use Rattle.ordup_audit.proofs.Common.{list_any, lt-leb, lt-ltb, ltb-true, None, nat_lt, or-true, refl, Some, suc, sym, true}
 use Rattle.ordup_audit.proofs.Common.{Window, zero, ℕ}
-use Rattle.std.specs.List.{AllAdjacentBelow, position, position_or_len}
+use Rattle.std.specs.List.{position, position_or_len}
 use Rattle.std.specs.List.Sorted.{IsNonDecreasingBy, IsPartitionPoint}
 use Rattle.std.proofs.lemmas.Bool.{and_right, cases_eq, le-ltb, ltb-false, ne_eqb}
 use Rattle.std.proofs.lemmas.List.Sorted.{IsNonDecreasingBy-from_all_adjacent}

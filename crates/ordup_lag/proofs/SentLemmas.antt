@@ -2,7 +2,6 @@
 use Rattle.ordup_audit.proofs.Common.{◌++◌, ◌∙◌, ◌≡◌, [], ap, append-nil, append_assoc, length, List, None, Option, RecordState}
 use Rattle.ordup_audit.proofs.Common.{refl, Some, sym, ◌+◌, ◌≤◌, ℕ}
 use Rattle.std.proofs.KnownBytes.{Appends-trans}
-use Rattle.std.specs.Io.KnownBytes.{Appends}
 use Rattle.ordup_text.specs.Fronts.{AppendsFront}
 use Rattle.ordup_limits.specs.Entries.{latest}
 use Rattle.ordup_lag.specs.Series.{row_at}

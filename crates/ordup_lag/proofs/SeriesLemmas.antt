@@ -1,5 +1,5 @@
 -- The limits in force at a place, and what a span uses of them.
-use Rattle.ordup_audit.proofs.Common.{◌+◌, ◌-◌, ◌<◌, ◌≤◌, ◌∙◌, ◌∷◌, ◌≡◌, ◌++◌, [], All, ap, append-nil, append_assoc, arith, cases_lt, Entries}
+use Rattle.ordup_audit.proofs.Common.{◌+◌, ◌-◌, ◌<◌, ◌≤◌, ◌∙◌, ◌∷◌, ◌≡◌, ◌++◌, [], ap, append-nil, append_assoc, arith, cases_lt}
 use Rattle.ordup_audit.proofs.Common.{get_or, GroupList, History, inl, inr, in_force, length, Limit, List, map, option_map, RecordState, refl}
 use Rattle.ordup_audit.proofs.Common.{slice_get, Some, None, suc, sym, zero, ℕ, Bool, codes, decimal, history_of, list_any, Objects, Option, report_at, ◌==◌}
 use Rattle.std.specs.Prelude.{min, nat_le, fold, if◌then◌else◌, Err, Ok, OnOk, Result}

@@ -3,7 +3,7 @@ use std::alloc::{AllocError, Global};
 use std::num::NonZeroU8;
 
 /// What the words ask the program to do.
-#[derive(Debug, Drop)]
+#[derive(Drop)]
 pub enum Job {
     /// Runs a script.
     Run,
@@ -30,24 +30,31 @@ pub fn job_of(alloc: Global, words: &[&str]) -> Result<Option<Job>, Error> {
     let matches = command(alloc)?.try_get_matches_from(words)?;
     let job = job_in(alloc, &matches);
     drop(matches);
-    job
+    Ok(job?)
 }
 
 /// The job that the words name, which were found to be right. None where they name no job.
-fn job_in(alloc: Global, matches: &ArgMatches<'_>) -> Result<Option<Job>, Error> {
-    match matches.subcommand() {
-        Some(("run", _)) => Ok(Some(Job::Run)),
-        Some(("record", words)) => match words.get_str("SITE") {
-            Some(site) => Ok(Some(Job::Record {
-                site: site.to_string(alloc)?,
-            })),
-            None => Ok(None),
-        },
-        Some(("check", _)) => Ok(Some(Job::Check)),
-        Some(("lag", _)) => Ok(Some(Job::Lag)),
-        Some(("threads", words)) => Ok(callers_of(words.get_one::<u8>("CLIENTS"))),
+fn job_in(alloc: Global, matches: &ArgMatches<'_>) -> Result<Option<Job>, AllocError> {
+    let Some((name, words)) = matches.subcommand() else {
+        return Ok(None);
+    };
+    match name {
+        "run" => Ok(Some(Job::Run)),
+        "record" => record_of(alloc, words.get_str("SITE")),
+        "check" => Ok(Some(Job::Check)),
+        "lag" => Ok(Some(Job::Lag)),
+        "threads" => Ok(callers_of(words.get_one::<u8>("CLIENTS"))),
         _ => Ok(None),
     }
+}
+
+/// The job of printing the record of this site. None for no site.
+fn record_of(alloc: Global, site: Option<&str>) -> Result<Option<Job>, AllocError> {
+    let Some(site) = site else {
+        return Ok(None);
+    };
+    let site = site.to_string(alloc)?;
+    Ok(Some(Job::Record { site }))
 }
 
 /// The job of running a plan by this many callers. None for no callers.
@@ -58,28 +65,33 @@ fn callers_of(callers: Option<u8>) -> Option<Job> {
 
 /// The words that the program takes, with their help.
 fn command<'a>(alloc: Global) -> Result<Command<'a>, AllocError> {
-    let ordup = Command::new(alloc, "ordup")
+    let ordup = program(alloc).subcommand(run(alloc));
+    let ordup = with_job(ordup, record(alloc));
+    let ordup = with_job(ordup, Ok(check(alloc)));
+    let ordup = with_job(ordup, Ok(lag(alloc)));
+    with_job(ordup, threads(alloc))
+}
+
+/// The words of the program before those of its jobs.
+fn program<'a>(alloc: Global) -> Command<'a> {
+    Command::new(alloc, "ordup")
         .about("A replicated store of whole numbers: every site applies the updates in one order")
         .version(VERSION)
         .after_help(HELP)
-        .subcommand_required(true);
-    let ordup = ordup.subcommand(run(alloc))?;
-    let ordup = with_job(ordup, record(alloc))?;
-    let ordup = ordup.subcommand(check(alloc))?;
-    let ordup = ordup.subcommand(lag(alloc))?;
-    with_job(ordup, threads(alloc))
+        .subcommand_required(true)
 }
 
 /// The words of a program with those of one job more.
 fn with_job<'a>(
-    program: Command<'a>,
+    program: Result<Command<'a>, AllocError>,
     job: Result<Command<'a>, AllocError>,
 ) -> Result<Command<'a>, AllocError> {
-    match job {
-        Ok(job) => program.subcommand(job),
-        Err(error) => {
+    match (program, job) {
+        (Ok(program), Ok(job)) => program.subcommand(job),
+        (program, job) => {
             drop(program);
-            Err(error)
+            drop(job);
+            Err(AllocError)
         }
     }
 }

@@ -4,7 +4,7 @@ ghost use Rattle.ordup_audit.specs.RecordViews.{changes_in};
 use crate::report_change::ReportChange;
 
 /// The report changes of a record, as the one who lends them keeps them.
-#[derive(Clone, Copy, Debug)]
+#[derive(Clone, Copy)]
 pub enum ReportChanges<'a> {
     /// As an auditor keeps them.
     Changes(&'a [ReportChange]),

@@ -7,7 +7,7 @@ use crate::words::Words;
 use std::marker::Model;
 
 /// A change of one object, as a word such as `add:x:5` or `take:x:y` spells it.
-#[derive(Debug, Drop)]
+#[derive(Drop)]
 pub struct ChangeWord<'a> {
     /// The object's name: at least one byte, and no colon.
     pub object: Word<'a>,
@@ -36,7 +36,7 @@ impl<'a> ChangeWord<'a> {
 }
 
 /// The changes of a proposal: each of its words spells one.
-#[derive(Debug, Drop)]
+#[derive(Drop)]
 pub struct ChangeWords<'a> {
     words: Words<'a>,
     count: usize,

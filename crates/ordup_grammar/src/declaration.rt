@@ -6,7 +6,7 @@ use crate::word::Word;
 use crate::words::Words;
 
 /// What is declared before the start.
-#[derive(Debug, Drop)]
+#[derive(Drop)]
 pub enum Declaration<'a> {
     /// `object N V`: an object of the name N, with the value V at the start.
     Object {
@@ -32,7 +32,7 @@ pub enum Declaration<'a> {
 }
 
 /// What a limit weighs.
-#[derive(Debug, Drop)]
+#[derive(Drop)]
 pub enum ScopeWord<'a> {
     /// `object X`: the object X.
     Object(Word<'a>),

@@ -8,7 +8,7 @@ use std::marker::Model;
 /// The first bytes of a text.
 ///
 /// The text goes on behind them, as a rule. So they are looked at sixteen at once, whatever their number: see `bytes`.
-#[derive(Debug, Drop)]
+#[derive(Drop)]
 pub(crate) struct Front<'a> {
     text: &'a [u8],
     len: usize,

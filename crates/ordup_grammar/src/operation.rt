@@ -7,7 +7,7 @@ use crate::word::Word;
 use ordup_objects::NumberOp;
 
 /// What a change does to its object's value.
-#[derive(Debug, Drop)]
+#[derive(Drop)]
 pub enum Operation<'a> {
     /// A change by a number, as `add:X:n`.
     WithNumber(NumberOp, Number),

@@ -9,7 +9,7 @@ use crate::word::Word;
 use crate::words::Words;
 
 /// What a line of a script is, before its first word is looked at.
-#[derive(Debug, Drop)]
+#[derive(Drop)]
 pub enum ScriptLine<'a> {
     /// It asks for nothing: it is a comment, or has no word.
     Nothing,

@@ -4,7 +4,7 @@ use crate::front::Front;
 use std::marker::Model;
 
 /// A word of a line, or the part of one that is a name. It may name nothing.
-#[derive(Debug, Drop)]
+#[derive(Drop)]
 pub struct Word<'a> {
     bytes: Front<'a>,
 }

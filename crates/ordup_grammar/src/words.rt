@@ -7,7 +7,7 @@ use crate::word::Word;
 use std::marker::Model;
 
 /// The words of a line, or those of them that are left. Words stand between spaces.
-#[derive(Debug, Drop)]
+#[derive(Drop)]
 pub struct Words<'a> {
     line: Front<'a>,
 }

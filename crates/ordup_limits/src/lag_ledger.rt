@@ -29,7 +29,7 @@ use std::marker::Model;
 ///
 /// All calls of a ledger take one log, as it grows, and the same groups. The cost of a call grows with the changes of the
 /// updates that it goes over, and not with the length of the span.
-#[derive(Debug, Drop)]
+#[derive(Drop)]
 pub struct LagLedger<A: Allocator + Copy = Global> {
     /// The last limit on each scope.
     limits: LimitList,

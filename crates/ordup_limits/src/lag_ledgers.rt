@@ -22,7 +22,7 @@ use std::marker::Model;
 /// They stand at one place of a log up to which updates were added, and for each site at the place up to which it has reported. An
 /// update is added once, for all sites. All calls take one log, as it grows, and the same groups. The cost of a call grows with
 /// the changes of the updates that it goes over, and not with the length of a span.
-#[derive(Debug, Drop)]
+#[derive(Drop)]
 pub struct LagLedgers<A: Allocator + Copy = Global> {
     /// For each object its groups, a bit for each.
     masks: Vec<u64, A>,

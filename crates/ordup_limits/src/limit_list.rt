@@ -10,7 +10,7 @@ use ordup_log::Scope;
 use std::marker::Model;
 
 /// At most 64 limits, each on a scope of its own. It takes no memory.
-#[derive(Debug, Drop)]
+#[derive(Drop)]
 pub(crate) struct LimitList {
     limits: [Limit; MOST_LIMITS],
     count: usize,

@@ -20,7 +20,7 @@ use std::marker::Model;
 /// A limit is a scope and an amount, in the unit of the values, or in updates where the scope is `Count`. A span passes the
 /// limit where it weighs more than the amount; equal is not over. The limit in force on a scope at a place is the last one that
 /// holds from that place or before.
-#[derive(Debug, Drop)]
+#[derive(Drop)]
 pub struct LimitTable<A: Allocator + Copy = Global> {
     entries: Vec<LimitEntry, A>,
     /// The last limit on each scope, in the order in which the scopes were declared.

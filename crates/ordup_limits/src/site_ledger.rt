@@ -19,7 +19,7 @@ use std::marker::Model;
 const MOST_SCOPES: usize = MOST_OBJECTS + MOST_GROUPS + 2;
 
 /// What is kept of a site: what the updates weigh that it has reported, and its limits.
-#[derive(Debug, Drop)]
+#[derive(Drop)]
 pub(crate) struct SiteLedger<A: Allocator + Copy = Global> {
     reported: Weights<A>,
     /// By the number of a scope the amount of the limit on it; without one the greatest amount, which no log passes.

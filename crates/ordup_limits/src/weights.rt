@@ -15,7 +15,7 @@ use std::marker::Model;
 /// What the updates up to a place of a log weigh on each scope.
 ///
 /// On objects, all objects and the count of updates the log tells it. So only what they weigh on each group is kept.
-#[derive(Debug, Drop)]
+#[derive(Drop)]
 pub(crate) struct Weights<A: Allocator + Copy = Global> {
     place: u64,
     /// For each group what the updates up to the place weigh on it.

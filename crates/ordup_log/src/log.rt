@@ -17,7 +17,7 @@ use std::marker::Model;
 /// The updates in their global order: each is a message set, legal on the serial result of those before it.
 ///
 /// Updates are numbered 1, 2, 3 and so on, at most 1,000,000, and never taken back. The number of an update is its place.
-#[derive(Debug, Drop)]
+#[derive(Drop)]
 pub struct Log<A: Allocator + Copy = Global> {
     start: Values<A>,
     sets: Vec<MessageSet<A>, A>,

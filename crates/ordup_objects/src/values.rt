@@ -16,7 +16,7 @@ use std::alloc::{AllocError, Allocator, Global};
 use std::marker::Model;
 
 /// A state: the value of each object, in order of declaration. Values lie from -1,000,000,000 to 1,000,000,000.
-#[derive(Debug, Drop)]
+#[derive(Drop)]
 pub struct Values<A: Allocator + Copy = Global> {
     values: Vec<i64, A>,
 }

@@ -21,7 +21,7 @@ use std::marker::Model;
 /// Its reference is a place of the log, and its marks are the weights on the objects of the updates up to that place. A read at
 /// a site that applied fewer updates, or more, imports the weight on the object of the updates between. That a query has an
 /// import limit is an idea of Ramamritham and Pu (TKDE 1995).
-#[derive(Debug, Drop)]
+#[derive(Drop)]
 pub struct Query<A: Allocator + Copy = Global> {
     place: u64,
     marks: Vec<u64, A>,

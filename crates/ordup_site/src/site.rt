@@ -16,7 +16,7 @@ use std::marker::Model;
 ///
 /// It keeps the values and not the sets. Beside each value stands how far it travelled, which is the weight on the object of
 /// all updates that the site applied: 3 up and 3 down are 6.
-#[derive(Debug, Drop)]
+#[derive(Drop)]
 pub struct Site<A: Allocator + Copy = Global> {
     applied: u64,
     values: Values<A>,

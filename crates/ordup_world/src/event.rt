@@ -5,7 +5,7 @@ use ordup_query::{QueryAnswer, ReadAnswer};
 use std::alloc::{Allocator, Global};
 
 /// What may happen to a store.
-#[derive(Debug, Drop)]
+#[derive(Drop)]
 pub enum Event<A: Allocator + Copy = Global> {
     /// The primary numbers a message set as the next update.
     Propose(MessageSet<A>),
@@ -43,7 +43,7 @@ pub enum Event<A: Allocator + Copy = Global> {
 }
 
 /// The answer to an event. Places count from 1, sites from 0.
-#[derive(Debug, Drop)]
+#[derive(Drop)]
 pub enum Answer<A: Allocator + Copy = Global> {
     /// The update has this number.
     Proposed(u64),

@@ -37,10 +37,10 @@ pub(crate) fn hand_out<A: Allocator + Copy, W: Write>(
     let Ok(mut text) = formed.into_inner() else {
         return Err(WriteFault);
     };
-    send(output, text.as_slice())?;
+    let sent = send(output, text.as_slice());
     text.clear();
     *rows = WriterBuilder::new().from_writer(text);
-    Ok(())
+    sent
 }
 
 /// Sends the rows once they have as many bytes as a piece.

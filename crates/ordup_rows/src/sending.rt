@@ -1,17 +1,17 @@
 //! Rows that go to a writer as they are formed, a piece at a time.
-ghost use Rattle.std.specs.Prelude.{◌≡◌, ◌++◌, [], OnErr, OnOk, map};
+ghost use Rattle.std.specs.Prelude.{◌≡◌, ◌++◌, ◌+◌, ◌<◌, [], OnErr, OnOk, get_or, length, map};
 ghost use Rattle.std.specs.Io.KnownBytes.{Appends};
 ghost use Rattle.ordup_text.specs.Fronts.{AppendsFront};
 ghost use Rattle.ordup_audit.specs.RecordViews.{changes_in};
-ghost use Rattle.ordup_rows.specs.Forming.{IsClean, SendsUpto, csv_text, unsent};
-ghost use Rattle.ordup_rows.specs.Rows.{change_rows, counted, report_row, round_row, window_row};
+ghost use Rattle.ordup_rows.specs.Forming.{AddsRows, IsClean, SendsUpto, csv_text, unsent};
+ghost use Rattle.ordup_rows.specs.Rows.{change_row, change_rows, counted, report_row, round_row, window_row};
 
 use crate::forming::{push_report, push_round, push_set, push_window};
 use csv::{Writer, WriterBuilder};
 use ordup_audit::{RecordView, ReportChanges};
 use ordup_rounds::Window;
 use ordup_text::{WriteFault, send};
-use std::alloc::Allocator;
+use std::alloc::{AllocError, Allocator};
 use std::io::Write;
 use std::mem;
 
@@ -60,6 +60,23 @@ fn hand_out_many<A: Allocator + Copy, W: Write>(
     hand_out(rows, output)
 }
 
+/// Forms the rows of the decided update after this place.
+fn push_update<A: Allocator + Copy>(
+    rows: &mut Writer<Vec<u8, A>>,
+    column: &mut Vec<u8, A>,
+    whole: &RecordView<'_, A>,
+    place: u64,
+) -> Result<(), AllocError>
+    requires clean { IsClean rows.old }
+    requires there { place < length whole.now.sets }
+    ensures clean { OnOk result (IsClean rows.new) }
+    ensures text { OnOk result (AddsRows rows.old rows.new (counted (change_row whole.now.objects (place + 1)) 1 (get_or whole.now.sets place []))) }
+{
+    whole.keeps();
+    let changes = whole.set(place + 1).changes();
+    push_set(rows, column, whole.objects(), place + 1, changes)
+}
+
 /// Forms the rows of the decided updates, and sends most of them.
 pub(crate) fn send_sets<A: Allocator + Copy, W: Write>(
     rows: &mut Writer<Vec<u8, A>>,
@@ -74,8 +91,7 @@ pub(crate) fn send_sets<A: Allocator + Copy, W: Write>(
 {
     whole.keeps();
     for place in 0..whole.decided() {
-        let changes = whole.set(place + 1).changes();
-        let Ok(()) = push_set(rows, column, whole.objects(), place + 1, changes) else {
+        let Ok(()) = push_update(rows, column, whole, place) else {
             return Err(WriteFault);
         };
         hand_out_many(rows, output)?;

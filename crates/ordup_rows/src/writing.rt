@@ -1,4 +1,4 @@
-ghost use Rattle.std.specs.Prelude.{◌≡◌, ◌++◌, IfErr, IfOk, OnErr, OnOk};
+ghost use Rattle.std.specs.Prelude.{◌≡◌, ◌++◌, IfErr, OnErr, OnOk};
 ghost use Rattle.std.specs.Io.KnownBytes.{Appends};
 ghost use Rattle.ordup_text.specs.Fronts.{AppendsFront};
 ghost use Rattle.ordup_rows.specs.Forming.{IsClean, csv_text, first_rows, last_rows, unsent};
@@ -55,29 +55,50 @@ pub fn write_view<A: Allocator + Copy, W: Write>(
     ensures front { AppendsFront (W.contents output.old) (W.contents output.new) (rows_text (rows_of whole.now)) }
     ensures refused { IfErr result (λ e. e ≡ RecordWriteFault.NoMemory → output.new ≡ output.old) }
 {
+    let mut column = Vec::new(alloc);
+    let mut rows = WriterBuilder::new().from_writer(Vec::new(alloc));
+    let written = write_rows(&mut rows, &mut column, whole, output);
+    // By calls: where they go out of scope, the proof takes them apart.
+    drop(rows);
+    drop(column);
+    written
+}
+
+/// Writes a record as [`write_view`] does, in the memory of these rows and this column.
+fn write_rows<A: Allocator + Copy, W: Write>(
+    rows: &mut Writer<Vec<u8, A>>,
+    column: &mut Vec<u8, A>,
+    whole: &RecordView<'_, A>,
+    output: &mut W,
+) -> Result<(), RecordWriteFault>
+    ensures written { OnOk result (Appends (W.contents output.old) (W.contents output.new) (rows_text (rows_of whole.now))) }
+    ensures front { AppendsFront (W.contents output.old) (W.contents output.new) (rows_text (rows_of whole.now)) }
+    ensures refused { IfErr result (λ e. e ≡ RecordWriteFault.NoMemory → output.new ≡ output.old) }
+{
     whole.keeps();
-    let Ok((mut rows, mut column)) = form_first_rows(alloc, whole) else {
+    let Ok(()) = form_first_rows(rows, column, whole) else {
         return Err(RecordWriteFault::NoMemory);
     };
-    match send_rows(&mut rows, &mut column, whole, output) {
+    match send_rows(rows, column, whole, output) {
         Ok(()) => Ok(()),
         Err(_) => Err(RecordWriteFault::Write),
     }
 }
 
-/// The rows that stand before those of the changes, and the memory that all further rows need: so none of them is refused any.
+/// Forms the rows that stand before those of the changes. It takes the memory that all further rows need, so none of them is
+/// refused any.
 fn form_first_rows<A: Allocator + Copy>(
-    alloc: A,
+    rows: &mut Writer<Vec<u8, A>>,
+    column: &mut Vec<u8, A>,
     whole: &RecordView<'_, A>,
-) -> Result<(Writer<Vec<u8, A>>, Vec<u8, A>), AllocError>
-    ensures clean { IfOk result (λ formed. IsClean formed.0) }
-    ensures text { IfOk result (λ formed. unsent formed.0 ≡ csv_text (first_rows (version_for whole.now.limits) whole.now)) }
+) -> Result<(), AllocError>
+    ensures clean { OnOk result (IsClean rows.new) }
+    ensures text { OnOk result (unsent rows.new ≡ csv_text (first_rows (version_for whole.now.limits) whole.now)) }
 {
-    let mut column = Vec::with_capacity(alloc, MOST_COLUMN_BYTES)?;
-    let text = Vec::with_capacity(alloc, MOST_UNSENT_BYTES)?;
-    let mut rows = WriterBuilder::new().from_writer(text);
-    push_first_rows(&mut rows, &mut column, whole)?;
-    Ok((rows, column))
+    let alloc = *column.allocator();
+    column.reserve(MOST_COLUMN_BYTES)?;
+    *rows = WriterBuilder::new().from_writer(Vec::with_capacity(alloc, MOST_UNSENT_BYTES)?);
+    push_first_rows(rows, column, whole)
 }
 
 /// Sends the first rows, and all further ones as they are formed.

@@ -1,5 +1,5 @@
 use Rattle.ordup_rows.proofs.SentLemmas.{whole_text}
-use Rattle.ordup_rows.proofs.writing.write_view.Goals as goal
+use Rattle.ordup_rows.proofs.writing.write_rows.Goals as goal
 
 pub returns-in-Ok-send_rows-clause-written : goal.returns-in-Ok-send_rows-clause-written
 returns-in-Ok-send_rows-clause-written g c =
@@ -9,5 +9,5 @@ pub returns-in-Ok-send_rows-clause-front : goal.returns-in-Ok-send_rows-clause-f
 returns-in-Ok-send_rows-clause-front g c =
     rw (whole_text c.args.whole.now _ c.keeps.ensures c.in-Ok.ensures.text) at c.in-Ok-send_rows.ensures.front
 
-pub returns-clause-front : goal.returns-clause-front
-returns-clause-front g c = rw (whole_text c.args.whole.now _ c.keeps.ensures c.in-Ok.ensures.text) at c.send_rows.ensures.front
+pub returns-in-Err-clause-front : goal.returns-in-Err-clause-front
+returns-in-Err-clause-front g c = rw (whole_text c.args.whole.now _ c.keeps.ensures c.in-Ok.ensures.text) at c.send_rows.ensures.front

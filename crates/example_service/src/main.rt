@@ -128,7 +128,11 @@ fn look<R: Wait + Print>(rt: &R, cluster: &Cluster, name: &str, shop: u8) -> Res
 /// Compares each shop with the log.
 fn close(rt: &impl Print, cluster: Cluster) -> Result<()> {
     match cluster.close() {
-        Ok(closed) => show(rt, &closed),
+        Ok(closed) => {
+            let shown = show(rt, &closed);
+            drop(closed);
+            shown
+        }
         Err(refusal) => bail!("a shop does not agree with the log: {refusal}"),
     }
 }

@@ -17,17 +17,25 @@ struct Stock {
 
 fn main(rt: HostRuntime) -> Result<()> {
     let mut stock = Stock::open(rt.alloc())?;
-    stock.sell(&rt)
+    let sold = stock.sell(&rt);
+    drop(stock);
+    sold
+}
+
+/// 40 bags of tea and two shops. The north has no limit.
+fn declare(setup: &mut Setup) -> Result<(ObjectId, SiteId, SiteId), Refusal> {
+    let tea = setup.object(b"tea", 40)?;
+    let north = setup.site(b"north", 8)?;
+    let south = setup.site(b"south", 8)?;
+    setup.limit(south, Scope::Object(tea), 6)?;
+    Ok((tea, north, south))
 }
 
 impl Stock {
-    /// 40 bags of tea and two shops. The north has no limit.
+    /// The stock, in which nothing has happened.
     fn open(alloc: Global) -> Result<Self, Refusal> {
         let mut setup = Setup::new(alloc);
-        let tea = setup.object(b"tea", 40)?;
-        let north = setup.site(b"north", 8)?;
-        let south = setup.site(b"south", 8)?;
-        setup.limit(south, Scope::Object(tea), 6)?;
+        let (tea, north, south) = declare(&mut setup)?;
         let world = World::start(alloc, setup)?;
         Ok(Stock {
             world,

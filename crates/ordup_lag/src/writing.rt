@@ -14,9 +14,8 @@ ghost use Rattle.ordup_lag.specs.Texts.{head_text, rows_upto, series_text};
 use crate::row_text::{push_head, push_row};
 use ordup_audit::{Record, begin_limits, first_ledger};
 use ordup_limits::LagLedger;
-use ordup_objects::Refusal;
 use ordup_text::{TextBuffer, WriteFault, send};
-use std::alloc::Allocator;
+use std::alloc::{AllocError, Allocator};
 use std::io::Write;
 
 /// Why not all of a series was written.
@@ -50,28 +49,49 @@ pub fn write_series<A: Allocator + Copy, W: Write>(
     ensures front { AppendsFront (W.contents output.old) (W.contents output.new) (series_text audited.now) }
     ensures refused { IfErr result (λ e. e ≡ SeriesFault.NoMemory → output.new ≡ output.old) }
 {
-    let Ok((mut out, mut ledger)) = form_head(alloc, audited) else {
+    let Ok(mut ledger) = first_ledger(alloc, audited) else {
         return Err(SeriesFault::NoMemory);
     };
-    match send_rows(&mut out, &mut ledger, audited, output) {
+    let mut out = TextBuffer::new(alloc);
+    let written = write_rows(&mut out, &mut ledger, audited, output);
+    // By calls: where they go out of scope, the proof takes them apart.
+    drop(out);
+    drop(ledger);
+    written
+}
+
+/// Writes the series as [`write_series`] does, by a buffer that is empty and a first ledger.
+fn write_rows<A: Allocator + Copy, W: Write>(
+    out: &mut TextBuffer<A>,
+    ledger: &mut LagLedger<A>,
+    audited: &Record<A>,
+    output: &mut W,
+) -> Result<(), SeriesFault>
+    requires valid { IsValid audited.now }
+    requires empty { out.old.text ≡ [] }
+    requires first { StandsAt (history_of audited.now) audited.now.groups [] 0 0 ledger.old }
+    ensures written { OnOk result (Appends (W.contents output.old) (W.contents output.new) (series_text audited.now)) }
+    ensures front { AppendsFront (W.contents output.old) (W.contents output.new) (series_text audited.now) }
+    ensures refused { IfErr result (λ e. e ≡ SeriesFault.NoMemory → output.new ≡ output.old) }
+{
+    let Ok(()) = form_head(out, audited) else {
+        return Err(SeriesFault::NoMemory);
+    };
+    match send_rows(out, ledger, audited, output) {
         Ok(()) => Ok(()),
         Err(_) => Err(SeriesFault::Write),
     }
 }
 
-/// The header, a first ledger, and the memory that all rows need: so none of them is refused any.
+/// Adds the header. It takes the memory that all rows need, so none of them is refused any.
 fn form_head<A: Allocator + Copy>(
-    alloc: A,
+    out: &mut TextBuffer<A>,
     audited: &Record<A>,
-) -> Result<(TextBuffer<A>, LagLedger<A>), Refusal>
-    ensures head { IfOk result (λ formed. formed.0.text ≡ head_text audited.now) }
-    ensures ledger { IfOk result (λ formed. StandsAt (history_of audited.now) audited.now.groups [] 0 0 formed.1) }
+) -> Result<(), AllocError>
+    ensures { OnOk result (out.new.text ≡ out.old.text ++ head_text audited.now) }
 {
-    let ledger = first_ledger(alloc, audited)?;
-    let mut out = TextBuffer::new(alloc);
     out.reserve(MOST_UNSENT_BYTES)?;
-    push_head(&mut out, audited)?;
-    Ok((out, ledger))
+    push_head(out, audited)
 }
 
 /// Sends what is formed, and the row of each decided place after it.

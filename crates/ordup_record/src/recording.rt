@@ -86,9 +86,41 @@ fn copy_parts<A: Allocator + Copy>(
     ensures refused { IfErr result (λ e. e ≡ Refusal.NoMemory) }
 {
     lent.keeps();
+    copy_declared(alloc, lent, parts)?;
+    copy_decided(alloc, lent, parts)?;
+    Ok(())
+}
+
+/// Copies what is declared. It is refused `NoMemory` alone.
+fn copy_declared<A: Allocator + Copy>(
+    alloc: A,
+    lent: &RecordView<'_, A>,
+    parts: &mut RecordParts<A>,
+) -> Result<(), Refusal>
+    ensures objects { OnOk result (parts.new.objects ≡ lent.now.objects) }
+    ensures groups { OnOk result (parts.new.groups ≡ lent.now.groups) }
+    ensures limits { OnOk result (parts.new.limits ≡ lent.now.limits) }
+    ensures kept { OnOk result (parts.new ≡ record parts.old { objects = parts.new.objects; groups = parts.new.groups; limits = parts.new.limits }) }
+    ensures refused { IfErr result (λ e. e ≡ Refusal.NoMemory) }
+{
     parts.objects = lent.objects().copy(alloc)?;
     parts.groups = lent.groups().copy(alloc)?;
     parts.limits = lent.limits().copy(alloc)?;
+    Ok(())
+}
+
+/// Copies what came of the decisions: the reports, the rounds and the windows. It is refused `NoMemory` alone.
+fn copy_decided<A: Allocator + Copy>(
+    alloc: A,
+    lent: &RecordView<'_, A>,
+    parts: &mut RecordParts<A>,
+) -> Result<(), Refusal>
+    ensures reports { OnOk result (parts.new.reports.items ≡ lent.now.reports) }
+    ensures rounds { OnOk result (parts.new.rounds.items ≡ lent.now.rounds) }
+    ensures windows { OnOk result (parts.new.windows.items ≡ lent.now.windows) }
+    ensures kept { OnOk result (parts.new ≡ record parts.old { reports = parts.new.reports; rounds = parts.new.rounds; windows = parts.new.windows }) }
+    ensures refused { IfErr result (λ e. e ≡ Refusal.NoMemory) }
+{
     parts.reports = copy_changes(alloc, lent.reports())?;
     let Ok(rounds) = Vec::from_slice(alloc, lent.rounds()) else {
         return Err(Refusal::NoMemory);

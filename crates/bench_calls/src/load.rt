@@ -63,17 +63,17 @@ impl<A: Allocator + Copy> Load<A> {
     /// One update: it is proposed, sent to every site, applied there and settled, and then sites report.
     fn update(&mut self) -> Result<(), Refusal> {
         let set = self.draw_set()?;
-        self.step(Event::Propose(set))?;
+        self.take(Event::Propose(set))?;
         for place in 0..SITE_COUNT {
             let site = SiteId::new(place);
-            self.step(Event::Send(site))?;
-            self.step(Event::Apply(site))?;
+            self.take(Event::Send(site))?;
+            self.take(Event::Apply(site))?;
         }
         self.settle()?;
         for place in 0..SITE_COUNT {
             let site = SiteId::new(place);
             if self.is_time_to_report(site) {
-                self.step(Event::Report(site))?;
+                self.take(Event::Report(site))?;
             }
         }
         Ok(())
@@ -99,9 +99,9 @@ impl<A: Allocator + Copy> Load<A> {
     fn settle(&mut self) -> Result<(), Refusal> {
         if let Answer::Settlement(Settled::Round { sites, .. }) = self.step(Event::Settle)? {
             for site in sites.as_slice() {
-                self.step(Event::Report(*site))?;
+                self.take(Event::Report(*site))?;
             }
-            self.step(Event::Settle)?;
+            self.take(Event::Settle)?;
         }
         Ok(())
     }
@@ -112,6 +112,14 @@ impl<A: Allocator + Copy> Load<A> {
         } else {
             self.random.one_in(2)
         }
+    }
+
+    /// Steps the store by an event, which is not to be refused, and passes its answer over.
+    fn take(&mut self, event: Event<A>) -> Result<(), Refusal> {
+        let answer = self.step(event)?;
+        // By a call: where it goes out of scope, the proof takes it apart.
+        drop(answer);
+        Ok(())
     }
 
     /// Steps the store by an event, which is not to be refused.

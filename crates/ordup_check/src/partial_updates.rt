@@ -160,12 +160,21 @@ impl PartialUpdates {
                     mut rest,
                     last,
                 } = begun;
-                put(&mut log, &mut rest, last)?;
-                Ok((objects, log, rest))
+                match put(&mut log, &mut rest, last) {
+                    Ok(()) => Ok((objects, log, rest)),
+                    Err(error) => {
+                        // By a call: where they go out of scope, the proof takes them apart.
+                        drop((objects, log, rest));
+                        Err(error)
+                    }
+                }
             }
             None => match Log::new(alloc, &objects) {
                 Ok(log) => Ok((objects, log, Vec::new(alloc))),
-                Err(_) => Err(AllocError),
+                Err(_) => {
+                    drop(objects);
+                    Err(AllocError)
+                }
             },
         }
     }

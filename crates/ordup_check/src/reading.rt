@@ -50,18 +50,24 @@ fn whole_record(read: PartialRecord) -> Result<Record, AllocError>
         rounds,
         windows,
     } = read;
-    let (objects, log, rest) = updates.into_parts()?;
-    Ok(Record::from_parts(RecordParts {
-        site,
-        objects,
-        groups,
-        limits,
-        log,
-        rest,
-        reports,
-        rounds,
-        windows,
-    }))
+    match updates.into_parts() {
+        Ok((objects, log, rest)) => Ok(Record::from_parts(RecordParts {
+            site,
+            objects,
+            groups,
+            limits,
+            log,
+            rest,
+            reports,
+            rounds,
+            windows,
+        })),
+        Err(error) => {
+            // By a call: where they go out of scope, the proof takes them apart.
+            drop((groups, limits, reports, rounds, windows));
+            Err(error)
+        }
+    }
 }
 
 /// The record, if no row is missing.

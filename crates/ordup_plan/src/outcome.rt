@@ -1,4 +1,4 @@
-ghost use Rattle.std.specs.Prelude.{◌≡◌, ◌++◌, ◌<◌, IfOk, OnOk, length};
+ghost use Rattle.std.specs.Prelude.{◌≡◌, ◌++◌, ◌<◌, [], IfOk, OnOk, length};
 ghost use Rattle.ordup_cluster.specs.Clusters.{IsClosed};
 ghost use Rattle.ordup_primary.specs.Primaries.{IsPrimary};
 ghost use Rattle.ordup_plan.specs.Outcomes.{outcome_text, site_text, certified_text};
@@ -19,20 +19,35 @@ pub(crate) fn outcome_of(
 ) -> Result<TextBuffer, AllocError>
     ensures { IfOk result (λ out. out.text ≡ outcome_text closed.now tally.refused tally.pending) }
 {
+    let mut out = TextBuffer::new(alloc);
+    match push_outcome(&mut out, closed, tally) {
+        Ok(()) => Ok(out),
+        Err(error) => {
+            // By a call: where it goes out of scope, the proof takes it apart.
+            drop(out);
+            Err(error)
+        }
+    }
+}
+
+/// Adds the outcome to a text that is empty.
+fn push_outcome(out: &mut TextBuffer, closed: &Closed, tally: Tally) -> Result<(), AllocError>
+    requires { out.old.text ≡ [] }
+    ensures { OnOk result (out.new.text ≡ outcome_text closed.now tally.refused tally.pending) }
+{
     let primary = closed.primary();
     primary.keeps();
-    let mut out = TextBuffer::new(alloc);
-    push_done(&mut out, b"log ", primary.log().len())?;
-    push_done(&mut out, b"refused ", tally.refused)?;
-    push_done(&mut out, b"pending ", tally.pending)?;
+    push_done(out, b"log ", primary.log().len())?;
+    push_done(out, b"refused ", tally.refused)?;
+    push_done(out, b"pending ", tally.pending)?;
     for index in 0..primary.setup().sites() {
         let site = SiteId::new(index as u8);
-        push_site(&mut out, primary, site, closed.site(site))?;
+        push_site(out, primary, site, closed.site(site))?;
     }
     for index in 0..primary.setup().sites() {
-        push_certified(&mut out, primary, SiteId::new(index as u8))?;
+        push_certified(out, primary, SiteId::new(index as u8))?;
     }
-    Ok(out)
+    Ok(())
 }
 
 /// Adds what a site applied, how many rounds it had, and what it holds.

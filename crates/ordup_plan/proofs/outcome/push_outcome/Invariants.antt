@@ -1,6 +1,6 @@
 use Rattle.std.proofs.Common.{◌≡◌, ◌++◌, slice_get}
 use Rattle.ordup_plan.specs.Outcomes.{certified_text, text_of_site, texts_below}
-use Rattle.ordup_plan.proofs.outcome.outcome_of.Given as goal
+use Rattle.ordup_plan.proofs.outcome.push_outcome.Given as goal
 
 -- the sites so far are shown
 abbrev pub invariant-loop-index : goal.invariant-loop-index

@@ -2,7 +2,7 @@ use Rattle.std.proofs.Common.{◌∙◌, ap, sym}
 use Rattle.std.specs.Prelude.{slice_get}
 use Rattle.ordup_plan.specs.Outcomes.{certified_text, text_of_site}
 use Rattle.ordup_plan.proofs.OutcomeLemmas.{texts_more}
-use Rattle.ordup_plan.proofs.outcome.outcome_of.Goals as goal
+use Rattle.ordup_plan.proofs.outcome.push_outcome.Goals as goal
 
 pub loop-index-preserved : goal.loop-index-preserved
 loop-index-preserved c =

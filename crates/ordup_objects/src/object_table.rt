@@ -108,11 +108,11 @@ impl<A: Allocator + Copy> ObjectTable<A> {
     fn refusal_of(&self, name: &Name, initial: i64) -> Option<Refusal>
         ensures { result ≡ object_refusal self.now name.now initial }
     {
-        if self.objects.find(name.as_bytes()).is_some() {
+        if self.find(name.as_bytes()).is_some() {
             Some(Refusal::NameTaken)
         } else if !is_in_range(initial) {
             Some(Refusal::OutOfRange)
-        } else if self.objects.len() == MOST_OBJECTS {
+        } else if self.len() == MOST_OBJECTS {
             Some(Refusal::TooMany)
         } else {
             None

@@ -1,3 +1,4 @@
+pub mod ListLemmas
 pub mod NameLemmas
 pub mod RepeatLemmas
 pub mod SumLemmas

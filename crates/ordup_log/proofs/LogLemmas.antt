@@ -1,5 +1,5 @@
 -- The fields of a log that grows.
-use Rattle.std.proofs.Common.{◌≡◌, ℕ, suc, ◌+◌, ◌-◌, ◌<◌, ◌≤◌, ◌^◌, true, sum}
+use Rattle.std.proofs.Common.{◌≡◌, ℕ, zero, suc, ◌+◌, ◌-◌, ◌<◌, ◌≤◌, ◌^◌, true, sum}
 use Rattle.std.proofs.Common.{List, [], ◌∷◌, ◌++◌, length, take, drop, get_or}
 use Rattle.std.proofs.Common.{arith, refl, sym, ap, ◌∙◌, inl, inr, Vec, vec_len, ℤ}
 use Rattle.std.specs.Prelude.{◌==◌, false, None, Some, All}
@@ -21,7 +21,7 @@ use Rattle.ordup_log.specs.declared.log.Log.TheInside.{Inside}
 use Rattle.ordup_log.specs.declared.scope.Scope.TheVariants.{All as Everything}
 use Rattle.ordup_log.specs.Appending.{append_refusal}
 use Rattle.ordup_log.specs.Spans.{weight, span}
-use Rattle.ordup_log.specs.Postings.{last_weight, posted}
+use Rattle.ordup_log.specs.Postings.{last_number, last_of, last_weight, posted}
 use Rattle.ordup_log.specs.LogInside.{IsLog, IsKept, history_of}
 use Rattle.ordup_objects.proofs.SumLemmas.{sum_from-few, sum_from-same}
 use Rattle.ordup_objects.proofs.SetLemmas.{distances_of-few, distance_beside-few}
@@ -40,13 +40,35 @@ take-drop-more n b xs ys le =
 take-drop-last : (n b : ℕ) (xs ys : List ℕ) → b ≡ length xs → n ≡ length ys → take n (drop b (xs ++ ys)) ≡ ys
 take-drop-last n b xs ys at len = rw (at, len, drop-append_seam xs ys) (take-length ys)
 
--- what is read back of the distances where those of a set were added at the end
-pub part-last : {A : Type 0} (v : State) (m : List Change) (begin : ℕ) (old new : Vec ℕ A) (all : List ℕ) (changes : List Change)
-    (part : List ℕ) → begin ≡ vec_len old → new.items ≡ old.items ++ distances_of v m → all ≡ new.items → changes ≡ m
-    → part ≡ take (length changes) (drop begin all) → part ≡ distances_of v m
-part-last v m begin old new all changes part at added is same e =
-    e ∙ rw (is, added, same) (take-drop-last (length m) begin old.items (distances_of v m) (at ∙ old.ok.0)
-    (sym (length-map m (distance_by v))))
+-- the part of a list from a place to its end
+pub rest-is : (b : ℕ) (xs : List ℕ) → take (length xs - b) (drop b xs) ≡ drop b xs
+rest-is b xs = rw (← length-drop b xs) (take-length (drop b xs))
+
+-- where the distances of a set were added, they are the last ones
+pub last-are : (v : State) (m : List Change) (old new all : List ℕ) → new ≡ old ++ distances_of v m → all ≡ new
+    → last_of (length m) all ≡ distances_of v m
+last-are v m old new all added is =
+    let len : length (distances_of v m) ≡ length m = length-map m (distance_by v) in
+    let begin : length (old ++ distances_of v m) - length m ≡ length old =
+    omega (arith, len, length-append old (distances_of v m)) in
+    rw (is, added, begin) (drop-append_seam old (distances_of v m))
+
+-- and begin where those before them end
+pub last-begin : (v : State) (m : List Change) (old new all : List ℕ) → new ≡ old ++ distances_of v m → all ≡ new
+    → (length all ≡ length old + length m) × (length all - length m ≡ length old)
+last-begin v m old new all added is =
+    let len : length (distances_of v m) ≡ length m = length-map m (distance_by v) in
+    let sum : length all ≡ length old + length m = omega (arith, ap length (is ∙ added), len, length-append old (distances_of v m)) in
+    (sum, omega (arith, sum))
+
+-- the last running weight is that of all updates
+running-last : (f : ℕ → ℕ) (running : List ℕ) (n : ℕ) → length running ≡ n
+    → ((k : ℕ) → k < n → get_or running k 0 ≡ sum_from f 0 (suc k)) → last_number running ≡ sum_from f 0 n
+running-last f [] zero len each = refl
+running-last f (x ∷ running) zero len each = absurd (omega (arith, len))
+running-last f running (suc n) len each =
+    let at : length running - 1 ≡ n = omega (arith, len) in
+    ap (λ k. get_or running k 0) at ∙ each n (omega arith)
 
 -- the running weights of a log that grows are those of its updates
 running-longer : (f g : ℕ → ℕ) (n : ℕ) (running : List ℕ) (before w : ℕ) → length running ≡ n
@@ -145,12 +167,10 @@ module _ {A : Type 0} (l : Inside A) (is : IsLog l) where
       rw (← view, other, now) refl
 
   -- what all updates of a log weigh, by its fields
-  pub weighed-before : (h : History) (count before : ℕ) → history_of l ≡ h → count ≡ length h.sets → before ≡ span h [] Everything 0 count
-      → before ≡ sum_from (weight (history_of l) [] Everything) 0 (length l.sets.items)
-  weighed-before h count before view at weighs =
-      let all : count - 0 ≡ length h.sets = omega (arith, at) in
-      weighs ∙ ap (sum_from (weight h [] Everything) 0) all
-      ∙ ap (λ (k : History). sum_from (weight k [] Everything) 0 (length k.sets)) (sym view)
+  pub weighed-last : last_number l.running.items ≡ sum_from (weight (history_of l) [] Everything) 0 (length l.sets.items)
+  weighed-last =
+      running-last (weight (history_of l) [] Everything) l.running.items (length l.sets.items)
+      (omega (arith, l.sets.ok.0, l.running.ok.0, is.counted)) is.running
 
   -- a log keeps its invariant where its lists only get room
   pub IsLog-same : {results : List ℤ} (sets : Vec (List Change) A) (distances begins : Vec ℕ A) (postings : Vec (Vec (ℕ × ℕ) A) A)

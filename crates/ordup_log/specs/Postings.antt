@@ -1,6 +1,6 @@
 -- Postings: the places that weigh something, each with the running weight.
 use Rattle.std.specs.Prelude.{ℕ, zero, suc, ◌+◌, ◌-◌, ◌<◌, ◌==◌, if◌then◌else◌, List, [], ◌∷◌, ◌++◌}
-use Rattle.std.specs.Prelude.{length, slice_index_or, Vec, vec_len, vec_capacity}
+use Rattle.std.specs.Prelude.{length, drop, slice_index_or, Vec, vec_len, vec_capacity}
 use Rattle.ordup_objects.specs.Sums.{sum_from}
 
 -- the places from 1 to n with a weight above 0, each with the weight of the span from 0 to it, by what the update after the first j
@@ -17,6 +17,14 @@ last_weight postings = (slice_index_or postings (length postings - 1) (0, 0)).1
 -- postings with those of one place more, which weighs so much
 abbrev pub posted : List (ℕ × ℕ) → ℕ → ℕ → List (ℕ × ℕ)
 posted postings place weight = if weight == 0 then postings else postings ++ (place, last_weight postings + weight) ∷ []
+
+-- the last n numbers of a list
+abbrev pub last_of : ℕ → List ℕ → List ℕ
+last_of n xs = drop (length xs - n) xs
+
+-- the last number of a list, and 0 where there is none
+abbrev pub last_number : List ℕ → ℕ
+last_number xs = slice_index_or xs (length xs - 1) 0
 
 -- the list at x has spare capacity for one entry more
 abbrev pub HasRoomAt : {X A : Type 0} → List (Vec X A) → ℕ → Type 0

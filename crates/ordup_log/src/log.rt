@@ -1,9 +1,11 @@
 ghost use Rattle.std.specs.Prelude.{◌≡◌, ◌≤◌, ◌+◌, ◌-◌, ℕ, ◌<◌, None, IfOk, IfErr, OnOk, List, [], ◌∷◌, ◌++◌, length, take, drop, sum, sum_by, ◌^◌, ◌*◌};
-ghost use Rattle.std.specs.Prelude.{All, Vec, slice_index_or, vec_len, vec_capacity};
+ghost use Rattle.std.specs.Prelude.{false, All, Vec, slice_index_or, vec_len, vec_capacity};
 ghost use Rattle.ordup_objects.specs.Sizes.{greatest_distance, most_members, most_updates, greatest_weight};
 ghost use Rattle.ordup_objects.specs.Tables.{initial_state};
-ghost use Rattle.ordup_objects.specs.Weights.{distances_of, object_weight, object_span};
-ghost use Rattle.ordup_log.specs.Postings.{HasRoomAt};
+ghost use Rattle.ordup_objects.specs.Weights.{distances_of, distance_beside, object_weight, object_span};
+ghost use Rattle.ordup_objects.specs.Repeats.{repeats};
+ghost use Rattle.ordup_objects.specs.Sets.{are_of_one_object};
+ghost use Rattle.ordup_log.specs.Postings.{last_of, last_number, last_weight, posted, HasRoomAt};
 
 use crate::groups::Groups;
 use crate::postings::{no_postings, post_all, reserve_postings};
@@ -168,7 +170,6 @@ impl<A: Allocator + Copy> Log<A> {
         ensures returned { IfErr result (λ e. e.1 ≡ set) }
         ensures err { IfErr result (λ _. self.new ≡ self.old) }
     {
-        let before = self.running_weight_on_all(self.len());
         if self.sets.len() == MOST_UPDATES {
             return Err((Refusal::LogFull, set));
         }
@@ -186,16 +187,18 @@ impl<A: Allocator + Copy> Log<A> {
             return Err((Refusal::NoMemory, set));
         };
         let number = self.sets.len() as u64 + 1;
-        let begin = self.distances.len();
-        let count = set.changes().len();
         self.end
             .push_distances(&set, &self.results, &mut self.distances);
-        let distances = part(self.distances.as_slice(), begin, count);
-        post_all(&mut self.postings, set.changes(), distances, number);
-        self.running.push_reserved(before + total(distances));
+        post_update(
+            &mut self.begins,
+            &mut self.running,
+            &mut self.postings,
+            set.changes(),
+            self.distances.as_slice(),
+            number,
+        );
         self.end.put(&set, &self.results);
         self.sets.push_reserved(set);
-        self.begins.push_reserved(begin as u32);
         Ok(number)
     }
 
@@ -366,6 +369,42 @@ fn reserve_update<A: Allocator + Copy>(
     begins.reserve(1)?;
     running.reserve(1)?;
     reserve_postings(postings, changes)
+}
+
+/// Posts an update whose distances are the last ones: where they begin, and what it weighs on each object and on all together.
+fn post_update<A: Allocator + Copy>(
+    begins: &mut Vec<u32, A>,
+    running: &mut Vec<u64, A>,
+    postings: &mut Vec<Vec<(u64, u64), A>, A>,
+    changes: &[Change],
+    distances: &[u64],
+    number: u64,
+)
+    requires known { All (λ c. c.object < length postings.old.items) changes.now }
+    requires len { length changes.now ≤ length distances.now }
+    requires short { length distances.now < 2 ^ 32 }
+    requires distinct { repeats are_of_one_object changes.now ≡ false }
+    requires begin_room { vec_len begins.old < vec_capacity begins.old }
+    requires running_room { vec_len running.old < vec_capacity running.old }
+    requires room { All (λ c. HasRoomAt postings.old.items c.object) changes.now }
+    requires few { last_number running.old.items + sum (last_of (length changes.now) distances.now) < 2 ^ 64 }
+    requires few_on_each { (x : ℕ) (d : Vec (ℕ × ℕ) A) → x < length postings.old.items →
+        last_weight (slice_index_or postings.old.items x d).items + distance_beside changes.now (last_of (length changes.now) distances.now) x < 2 ^ 64 }
+    ensures begins { begins.new.items ≡ begins.old.items ++ (length distances.now - length changes.now) ∷ [] }
+    ensures running { running.new.items ≡ running.old.items ++ (last_number running.old.items + sum (last_of (length changes.now) distances.now)) ∷ [] }
+    ensures count { length postings.new.items ≡ length postings.old.items }
+    ensures each { (x : ℕ) (d : Vec (ℕ × ℕ) A) → x < length postings.old.items →
+        (slice_index_or postings.new.items x d).items ≡ posted (slice_index_or postings.old.items x d).items number (distance_beside changes.now (last_of (length changes.now) distances.now) x) }
+{
+    let begin = distances.len() - changes.len();
+    let distances = &distances[begin..];
+    let before = match running.last() {
+        Some(last) => *last,
+        None => 0,
+    };
+    begins.push_reserved(begin as u32);
+    running.push_reserved(before + total(distances));
+    post_all(postings, changes, distances, number);
 }
 
 /// `count` numbers of a list, from `begin` on.

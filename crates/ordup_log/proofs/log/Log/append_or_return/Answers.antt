@@ -1,17 +1,12 @@
-use Rattle.std.proofs.Common.{arith, ◌∙◌, ◌≡◌, ◌∷◌, [], ◌++◌, ◌+◌, ap, refl, true, length, sym}
+use Rattle.std.proofs.Common.{arith, ◌∙◌, ◌≡◌, ◌∷◌, [], ◌++◌, ◌+◌, ◌-◌, ap, refl, true, length, sum, sym}
 use Rattle.std.specs.Prelude.{slice_index_or}
-use Rattle.std.proofs.Math.Nat.{le_of_eq}
-use Rattle.std.proofs.lemmas.List.{length-append, length-map}
 use Rattle.ordup_objects.specs.States.{is_legal}
 use Rattle.ordup_objects.specs.Serial.{History}
 use Rattle.ordup_objects.specs.Sets.{IsSet, AreKnown}
-use Rattle.ordup_objects.specs.Weights.{distance_by, distance_beside, distances_of}
-use Rattle.ordup_log.specs.Postings.{posted}
-use Rattle.ordup_log.proofs.LogLemmas.{allowed, not_allowed, weighed-before, IsLog-same, IsLog-longer, total-few, posted-fits, all-fits, part-last}
+use Rattle.ordup_objects.specs.Weights.{distance_beside, distances_of}
+use Rattle.ordup_log.specs.Postings.{last_number, last_of, posted}
+use Rattle.ordup_log.proofs.LogLemmas.{allowed, not_allowed, weighed-last, IsLog-same, IsLog-longer, posted-fits, all-fits, last-are, last-begin}
 use Rattle.ordup_log.proofs.log.Log.append_or_return.Goals as goal
-
-pub running_weight_on_all-before-requires : goal.running_weight_on_all-before-requires
-running_weight_on_all-before-requires g c = le_of_eq c.len.ensures.len
 
 pub results-requires : goal.results-requires
 results-requires g c =
@@ -70,86 +65,39 @@ push_distances-requires-clause-results g c = c.in-Ok.ensures.results
 pub push_distances-requires-clause-room : goal.push_distances-requires-clause-room
 push_distances-requires-clause-room g c = rw c.changes.ensures.changes at c.in-Ok-reserve_update.ensures.distance_room
 
-pub part-distances-requires : goal.part-distances-requires
-part-distances-requires g c =
-    omega (
-      arith,
-      ap length (c.as_slice.ensures.value ∙ c.push_distances.ensures),
-      length-append c.reserve_update.new.distances.items (distances_of c.self.inside.end c.args.set),
-      length-map c.args.set (distance_by c.self.inside.end),
-      ap length c.changes-count.ensures.changes,
-      c.reserve_update.new.distances.ok.0,
-    )
-
-pub post_all-requires-clause-known : goal.post_all-requires-clause-known
-post_all-requires-clause-known g c =
-    let known : AreKnown (length c.self.inside.start) c.args.set = rw (← c.self.view_is) at c.requires in
-    rw (c.changes-2.ensures.changes, c.reserve_update.ensures.count, c.self.invariant.count) (λ k d lt. (known k d lt).0)
-
-pub post_all-requires-clause-len : goal.post_all-requires-clause-len
-post_all-requires-clause-len g c =
-    let ds = c.part-distances.result.now in
-    let are : ds ≡ distances_of c.self.inside.end c.args.set =
-    part-last c.self.inside.end c.args.set c.len-begin.result c.reserve_update.new.distances c.push_distances.new.distances
-    c.as_slice.result.now c.changes-count.result.now ds c.len-begin.ensures c.push_distances.ensures c.as_slice.ensures.value
-    c.changes-count.ensures.changes c.part-distances.ensures in
-    ap length are ∙ length-map c.args.set (distance_by c.self.inside.end) ∙ sym (ap length c.changes-2.ensures.changes)
-
-pub post_all-requires-clause-distinct : goal.post_all-requires-clause-distinct
-post_all-requires-clause-distinct g c = rw c.changes-2.ensures.changes c.changes-2.ensures.set.distinct
-
-pub post_all-requires-clause-room : goal.post_all-requires-clause-room
-post_all-requires-clause-room g c = rw c.changes-2.ensures.changes (rw c.changes.ensures.changes at c.in-Ok-reserve_update.ensures.room)
-
-pub post_all-requires-clause-few : goal.post_all-requires-clause-few
-post_all-requires-clause-few g c =
-    let legal : is_legal c.args.set c.self.inside.end ≡ true = sym c.in-Ok.ensures.legal in
+pub post_update-requires : goal.post_update-requires
+post_update-requires g c =
+    let l = c.self.inside in
+    let is = c.self.invariant in
+    let room = c.reserve_update.ensures in
+    let known : AreKnown (length l.start) c.args.set = rw (← c.self.view_is) at c.requires in
+    let legal : is_legal c.args.set l.end ≡ true = sym c.in-Ok.ensures.legal in
     let set : IsSet c.args.set = c.changes.ensures.set in
-    let ds = c.part-distances.result.now in
-    let are : ds ≡ distances_of c.self.inside.end c.args.set =
-    part-last c.self.inside.end c.args.set c.len-begin.result c.reserve_update.new.distances c.push_distances.new.distances
-    c.as_slice.result.now c.changes-count.result.now ds c.len-begin.ensures c.push_distances.ensures c.as_slice.ensures.value
-    c.changes-count.ensures.changes c.part-distances.ensures in
-    λ x d lt.
-    rw c.changes-2.ensures.changes (posted-fits c.self.inside c.self.invariant c.args.set ds set legal are x d
-    (slice_index_or c.reserve_update.new.postings.items x d)
-    (omega (arith, lt, c.reserve_update.ensures.count, c.self.invariant.count)) (c.reserve_update.ensures.same x d))
-
-pub total-requires : goal.total-requires
-total-requires g c =
-    let legal : is_legal c.args.set c.self.inside.end ≡ true = sym c.in-Ok.ensures.legal in
-    let set : IsSet c.args.set = c.changes.ensures.set in
-    let ds = c.part-distances.result.now in
-    let are : ds ≡ distances_of c.self.inside.end c.args.set =
-    part-last c.self.inside.end c.args.set c.len-begin.result c.reserve_update.new.distances c.push_distances.new.distances
-    c.as_slice.result.now c.changes-count.result.now ds c.len-begin.ensures c.push_distances.ensures c.as_slice.ensures.value
-    c.changes-count.ensures.changes c.part-distances.ensures in
-    omega (arith, total-few c.self.inside c.self.invariant c.args.set ds set legal are)
-
-pub overflow_add-before : goal.overflow_add-before
-overflow_add-before g c =
-    let legal : is_legal c.args.set c.self.inside.end ≡ true = sym c.in-Ok.ensures.legal in
-    let set : IsSet c.args.set = c.changes.ensures.set in
-    let ds = c.part-distances.result.now in
-    let are : ds ≡ distances_of c.self.inside.end c.args.set =
-    part-last c.self.inside.end c.args.set c.len-begin.result c.reserve_update.new.distances c.push_distances.new.distances
-    c.as_slice.result.now c.changes-count.result.now ds c.len-begin.ensures c.push_distances.ensures c.as_slice.ensures.value
-    c.changes-count.ensures.changes c.part-distances.ensures in
-    omega (
-      arith,
-      c.total.ensures,
-      all-fits c.self.inside c.self.invariant c.args.set ds set legal are
-          c.running_weight_on_all-before.result (weighed-before c.self.inside c.self.invariant c.args.self.now c.len.result
-          c.running_weight_on_all-before.result c.self.view_is c.len.ensures.len c.running_weight_on_all-before.ensures),
-    )
+    let changes = c.changes-2.ensures.changes in
+    let ds = last_of (length c.args.set) c.as_slice.result.now in
+    let are : ds ≡ distances_of l.end c.args.set =
+    last-are l.end c.args.set c.reserve_update.new.distances.items c.push_distances.new.distances.items c.as_slice.result.now
+    c.push_distances.ensures c.as_slice.ensures.value in
+    let begin = last-begin l.end c.args.set c.reserve_update.new.distances.items c.push_distances.new.distances.items
+    c.as_slice.result.now c.push_distances.ensures c.as_slice.ensures.value in
+    record {
+      known = rw (changes, room.count, is.count) (λ k d lt. (known k d lt).0);
+      len = rw changes (omega (arith, begin.0));
+      short = omega (arith, begin.0, ap length room.distances, l.distances.ok.0, is.short, set.few);
+      distinct = rw changes set.distinct;
+      begin_room = c.in-Ok-reserve_update.ensures.begin_room;
+      running_room = c.in-Ok-reserve_update.ensures.running_room;
+      room = rw changes (rw c.changes.ensures.changes at c.in-Ok-reserve_update.ensures.room);
+      few = rw (changes, room.running) (all-fits l is c.args.set ds set legal are (last_number l.running.items) (weighed-last l is));
+      few_on_each = λ x d lt.
+          rw changes (posted-fits l is c.args.set ds set legal are x d (slice_index_or c.reserve_update.new.postings.items x d)
+          (omega (arith, lt, room.count, is.count)) (room.same x d));
+    }
 
 pub put-requires-clause-known : goal.put-requires-clause-known
 put-requires-clause-known g c =
     let known : AreKnown (length c.self.inside.start) c.args.set = rw (← c.self.view_is) at c.requires in
     rw c.self.invariant.same known
-
-pub push_reserved-requires : goal.push_reserved-requires
-push_reserved-requires g c = c.in-Ok-reserve_update.ensures.running_room
 
 pub put-requires-clause-legal : goal.put-requires-clause-legal
 put-requires-clause-legal g c = sym c.in-Ok.ensures.legal
@@ -157,55 +105,47 @@ put-requires-clause-legal g c = sym c.in-Ok.ensures.legal
 pub put-requires-clause-results : goal.put-requires-clause-results
 put-requires-clause-results g c = c.in-Ok.ensures.results
 
-pub push_reserved-requires-2 : goal.push_reserved-requires-2
-push_reserved-requires-2 g c = c.in-Ok-reserve_update.ensures.set_room
-
-pub overflow_cast-begin : goal.overflow_cast-begin
-overflow_cast-begin g c =
-    omega (arith, c.reserve_update.new.distances.ok.0, ap length c.reserve_update.ensures.distances, c.self.inside.distances.ok.0)
-
-pub push_reserved-requires-3 : goal.push_reserved-requires-3
-push_reserved-requires-3 g c = c.in-Ok-reserve_update.ensures.begin_room
+pub push_reserved-requires : goal.push_reserved-requires
+push_reserved-requires g c = c.in-Ok-reserve_update.ensures.set_room
 
 pub invariant_of-self-2 : goal.invariant_of-self-2
 invariant_of-self-2 g c =
-    let legal : is_legal c.args.set c.self.inside.end ≡ true = sym c.in-Ok.ensures.legal in
+    let l = c.self.inside in
+    let room = c.reserve_update.ensures in
+    let posts = rw c.changes-2.ensures.changes at c.post_update.ensures in
+    let legal : is_legal c.args.set l.end ≡ true = sym c.in-Ok.ensures.legal in
     let set : IsSet c.args.set = c.changes.ensures.set in
-    let ds = c.part-distances.result.now in
-    let are : ds ≡ distances_of c.self.inside.end c.args.set =
-    part-last c.self.inside.end c.args.set c.len-begin.result c.reserve_update.new.distances c.push_distances.new.distances
-    c.as_slice.result.now c.changes-count.result.now ds c.len-begin.ensures c.push_distances.ensures c.as_slice.ensures.value
-    c.changes-count.ensures.changes c.part-distances.ensures in
-    let posts = rw c.changes-2.ensures.changes at c.post_all.ensures in
-    IsLog-longer c.self.inside c.self.invariant c.args.set ds set legal are c.push_reserved-2.new.self c.push_distances.new.distances
-    c.push_reserved-3.new.self c.post_all.new.postings c.push_reserved.new.self c.put.new.self (c.len-3.result + 1)
-    c.running_weight_on_all-before.result
+    let ds = last_of (length c.args.set) c.as_slice.result.now in
+    let are : ds ≡ distances_of l.end c.args.set =
+    last-are l.end c.args.set c.reserve_update.new.distances.items c.push_distances.new.distances.items c.as_slice.result.now
+    c.push_distances.ensures c.as_slice.ensures.value in
+    let begin = last-begin l.end c.args.set c.reserve_update.new.distances.items c.push_distances.new.distances.items
+    c.as_slice.result.now c.push_distances.ensures c.as_slice.ensures.value in
+    IsLog-longer l c.self.invariant c.args.set ds set legal are c.push_reserved.new.self c.push_distances.new.distances
+    c.post_update.new.begins c.post_update.new.postings c.post_update.new.running c.put.new.self (c.len-2.result + 1)
+    (last_number l.running.items)
     (rw (← c.self.view_is) at c.requires)
     (omega arith)
-    (omega (arith, ap length c.reserve_update.ensures.sets, c.self.inside.sets.ok.0, c.reserve_update.new.sets.ok.0))
-    (c.push_reserved-2.ensures.items ∙ ap (λ xs. xs ++ c.args.set ∷ []) c.reserve_update.ensures.sets)
-    (c.push_distances.ensures ∙ ap (λ xs. xs ++ distances_of c.self.inside.end c.args.set) c.reserve_update.ensures.distances
-    ∙ ap (λ xs. c.self.inside.distances.items ++ xs) (sym are))
-    (c.push_reserved-3.ensures.items
-    ∙ ap (λ xs. xs ++ c.len-begin.result ∷ []) c.reserve_update.ensures.begins
-    ∙ ap (λ n. c.self.inside.begins.items ++ n ∷ [])
-    (omega (arith, c.reserve_update.new.distances.ok.0, ap length c.reserve_update.ensures.distances)))
-    (posts.count ∙ c.reserve_update.ensures.count)
+    (omega (arith, ap length room.sets, l.sets.ok.0, c.reserve_update.new.sets.ok.0))
+    (c.push_reserved.ensures.items ∙ ap (λ xs. xs ++ c.args.set ∷ []) room.sets)
+    (c.push_distances.ensures ∙ ap (λ xs. xs ++ distances_of l.end c.args.set) room.distances
+    ∙ ap (λ xs. l.distances.items ++ xs) (sym are))
+    (posts.begins
+    ∙ ap (λ xs. xs ++ (length c.as_slice.result.now - length c.args.set) ∷ []) room.begins
+    ∙ ap (λ n. l.begins.items ++ n ∷ []) (begin.1 ∙ ap length room.distances))
+    (posts.count ∙ room.count)
     (λ x d lt.
-    posts.each x d (omega (arith, lt, c.reserve_update.ensures.count))
-    ∙ ap (λ p. posted p (c.len-3.result + 1) (distance_beside c.args.set ds x)) (c.reserve_update.ensures.same x d))
-    (weighed-before c.self.inside c.self.invariant c.args.self.now c.len.result
-    c.running_weight_on_all-before.result c.self.view_is c.len.ensures.len c.running_weight_on_all-before.ensures)
-    (c.push_reserved.ensures.items
-    ∙ ap (λ xs. xs ++ (c.running_weight_on_all-before.result + c.total.result) ∷ []) c.reserve_update.ensures.running
-    ∙ ap (λ n. c.self.inside.running.items ++ (c.running_weight_on_all-before.result + n) ∷ []) c.total.ensures)
+    posts.each x d (omega (arith, lt, room.count))
+    ∙ ap (λ p. posted p (c.len-2.result + 1) (distance_beside c.args.set ds x)) (room.same x d))
+    (weighed-last l c.self.invariant)
+    (posts.running ∙ ap (λ xs. xs ++ (last_number xs + sum ds) ∷ []) room.running)
     c.put.ensures.after
 
 pub returns : goal.returns
 returns g c = record {
-  number = ap (λ n. n + 1) (c.len-3.ensures ∙ c.reserve_update.new.sets.ok.0 ∙ ap length c.reserve_update.ensures.sets)
+  number = ap (λ n. n + 1) (c.len-2.ensures ∙ c.reserve_update.new.sets.ok.0 ∙ ap length c.reserve_update.ensures.sets)
       ∙ ap (λ (h : History). length h.sets + 1) c.self.view_is;
-  added = rw (c.push_reserved-2.ensures.items, c.reserve_update.ensures.sets, ← c.self.view_is) refl;
+  added = rw (c.push_reserved.ensures.items, c.reserve_update.ensures.sets, ← c.self.view_is) refl;
   allowed = allowed c.self.inside c.self.invariant c.args.self.now c.args.set c.self.view_is (omega arith) (sym c.in-Ok.ensures.legal);
   refused = tt;
   returned = tt;

@@ -302,20 +302,25 @@ impl Cluster {
         let mut count = 0u64;
         for _ in rt.forever() {
             let stopping = self.stopped.load(Ordering::SeqCst);
-            let next = self.cells[site.index()].lock(rt).next();
-            gate.before_apply(rt, site, next);
-            let mut cell = self.cells[site.index()].lock(rt);
-            let next = cell.next();
-            gate.at_apply(rt, site, next);
-            let taken = take(rt, &mut cell);
-            drop(cell);
-            match taken {
+            match self.apply_next(rt, site, gate) {
                 Some(_) => count = count.saturating_add(1),
                 None if stopping => break,
                 None => thread::yield_now(),
             }
         }
         count
+    }
+
+    /// One turn of an applier: the site applies the next update of its feed, if there is one, and the answer is its number.
+    fn apply_next<G: Gate, R: Wait>(&self, rt: &R, site: SiteId, gate: &G) -> Option<u64>
+        requires { site < self.now.sites }
+    {
+        let next = self.cells[site.index()].lock(rt).next();
+        gate.before_apply(rt, site, next);
+        let mut cell = self.cells[site.index()].lock(rt);
+        let next = cell.next();
+        gate.at_apply(rt, site, next);
+        take(rt, &mut cell)
     }
 
     /// Ends the appliers once their feeds are empty. Proposals are refused from now on.

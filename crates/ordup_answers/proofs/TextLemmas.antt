@@ -1,9 +1,11 @@
 -- Texts that are added part by part.
-use Rattle.std.proofs.Common.{◌≡◌, List, [], ◌∷◌, ◌++◌, ℕ, append_assoc, codes}
+use Rattle.std.proofs.Common.{◌≡◌, List, [], ◌∷◌, ◌++◌, ℕ, ℤ, append_assoc, codes}
 use Rattle.std.specs.Fmt.{decimal, signed_decimal}
+use Rattle.ordup_rounds.specs.declared.window.Window.{Window}
 use Rattle.ordup_query.specs.declared.answer.ReadAnswer.{ReadAnswer}
 use Rattle.ordup_query.specs.declared.answer.QueryAnswer.{QueryAnswer}
-use Rattle.ordup_answers.specs.Texts.{read_text, ended_text}
+use Rattle.ordup_text.specs.Lines.{values_text}
+use Rattle.ordup_answers.specs.Texts.{ShownNumbers, shown_text, read_text, ended_text, windows_text, certified_text}
 
 pub read_parts : (old query object : List ℕ) (a : ReadAnswer)
     → ((((((((((old ++ codes "ok read ") ++ query) ++ 32 ∷ []) ++ object) ++ codes " value ") ++ signed_decimal a.value)
@@ -16,3 +18,14 @@ pub ended_parts : (old query : List ℕ) (a : QueryAnswer)
     ++ (codes " total " ++ decimal a.total)) ++ (codes " reads " ++ decimal a.reads)) ++ 10 ∷ []
     ≡ old ++ ended_text query a
 ended_parts old query a = simp append_assoc
+
+pub shown_parts : (old site : List ℕ) (n : ShownNumbers) (objects : List (List ℕ × ℤ)) (values : List ℤ)
+    → (((((((old ++ codes "ok show ") ++ site) ++ (codes " sent " ++ decimal n.sent)) ++ (codes " applied " ++ decimal n.applied))
+    ++ (codes " reported " ++ decimal n.reported)) ++ (codes " rounds " ++ decimal n.rounds)) ++ values_text objects values) ++ 10 ∷ []
+    ≡ old ++ shown_text site n objects values
+shown_parts old site n objects values = simp append_assoc
+
+pub certified_parts : (old site : List ℕ) (rounds : ℕ) (windows : List Window)
+    → (((((old ++ codes "ok certified ") ++ site) ++ 32 ∷ []) ++ decimal rounds) ++ windows_text windows) ++ 10 ∷ []
+    ≡ old ++ certified_text site rounds windows
+certified_parts old site rounds windows = simp append_assoc

@@ -1,4 +1,4 @@
-use Rattle.std.proofs.Common.{arith, rules, ap, ◌∙◌, ◌≡◌, ◌<◌, ◌-◌, ◌+◌, length, get_or, take, []}
+use Rattle.std.proofs.Common.{arith, rules, ap, ◌∙◌, ◌≡◌, ◌<◌, ◌-◌, ◌+◌, length, get_or, take, take_all, []}
 use Rattle.ordup_objects.specs.Serial.{set_at}
 use Rattle.ordup_log.specs.declared.scope.Scope.TheVariants.{All as Everything, Count}
 use Rattle.ordup_limits.specs.Limits.{is_same_scope}
@@ -17,8 +17,8 @@ loop-change-init g c =
           (λ s known is. may_weigh-start groups s is);
     }
 
-pub over_with-over-requires-clause-mask : goal.over_with-over-requires-clause-mask
-over_with-over-requires-clause-mask g c =
+pub over_with-over-requires : goal.over_with-over-requires
+over_with-over-requires g c =
     let h = c.args.log.now in
     let k = c.loop-change.change-index in
     let items = c.changes-change-items.result.now in
@@ -28,8 +28,19 @@ over_with-over-requires-clause-mask g c =
     let there : c.change-item.result.object < length h.start =
     rw (← at) at ((c.keeps.ensures.legal.known (c.args.added.now.place - 1) [] (omega (arith, c.requires.some, c.requires.added.last)) k
     c.change-item.result lt).0) in
-    λ b few. rw c.index.ensures
-    (mask-at c.args.groups.now c.args.masks.now c.change-item.result.object b c.requires.groups (omega (arith, there, c.requires.objects)) few)
+    record {
+      count = c.loop-change.invariant.count;
+      few = c.requires.few;
+      objects = c.requires.objects;
+      object = there;
+      mask =
+          λ b few. rw c.index.ensures
+          (mask-at c.args.groups.now c.args.masks.now c.change-item.result.object b c.requires.groups
+          (omega (arith, there, c.requires.objects)) few);
+      added = c.requires.added;
+      sites = c.requires.sites;
+      kept = c.loop-change.invariant.kept;
+    }
 
 pub loop-change-preserved : goal.loop-change-preserved
 loop-change-preserved g c =
@@ -47,6 +58,18 @@ loop-change-preserved g c =
           (counts_within groups c.change-item.result.object) (may_weigh groups (take (k + 1) (set_at h place))) c.loop-change.over
           c.over_with-over.result c.loop-change.invariant.over c.over_with-over.ensures.over
           (λ s known is. may_weigh-next groups (set_at h place) k c.change-item.result s lt at is);
+    }
+
+pub returns : goal.returns
+returns g c =
+    let h = c.args.log.now in
+    let set = set_at h c.args.added.now.place in
+    let same = c.changes-change-items.ensures.changes ∙ c.set.ensures.set ∙ ap (set_at h) c.place.ensures in
+    let end = rw same at c.loop-change-test.false in
+    record {
+      count = c.loop-change.invariant.count;
+      kept = c.loop-change.invariant.kept;
+      over = rw (take_all c.loop-change.change-index set (omega (arith, end))) at c.loop-change.invariant.over;
     }
 
 pub over_on-over-requires : goal.over_on-over-requires

@@ -109,6 +109,14 @@ fn index_in(text: &[u8], wanted: u8) -> usize
     }
 }
 
+/// Whether a word is this one.
+#[inline(always)]
+pub(crate) fn is_word(word: &[u8], wanted: &[u8]) -> bool
+    ensures { result ≡ bytes_eq word.now wanted.now }
+{
+    word == wanted
+}
+
 /// Whether a word is spelled as this keyword.
 #[inline(always)]
 pub(crate) fn is_spelled(word: &[u8], keyword: &[u8]) -> bool

@@ -1,6 +1,7 @@
 ghost use Rattle.std.specs.Prelude.{◌≡◌};
 ghost use Rattle.ordup_grammar.specs.Declarations.{declaration_of, limit_of, scope_and_amount};
 
+use crate::bytes::is_word;
 use crate::number::Number;
 use crate::word::Word;
 use crate::words::Words;
@@ -50,16 +51,16 @@ impl<'a> Declaration<'a> {
         ensures { result ≡ declaration_of first.now rest.now }
     {
         let first = first.as_bytes();
-        if first == b"object".as_slice() {
+        if is_word(first, b"object") {
             let (name, initial) = rest.name_and_number()?;
             Some(Declaration::Object { name, initial })
-        } else if first == b"group".as_slice() {
+        } else if is_word(first, b"group") {
             let (name, members) = rest.split_first()?;
             Some(Declaration::Group { name, members })
-        } else if first == b"site".as_slice() {
+        } else if is_word(first, b"site") {
             let (name, capacity) = rest.name_and_number()?;
             Some(Declaration::Site { name, capacity })
-        } else if first == b"limit".as_slice() {
+        } else if is_word(first, b"limit") {
             let (site, scope, amount) = ScopeWord::parse_limit(rest)?;
             Some(Declaration::Limit {
                 site,
@@ -88,16 +89,26 @@ impl<'a> ScopeWord<'a> {
         ensures { result ≡ scope_and_amount kind.now rest.now }
     {
         let kind = kind.as_bytes();
-        if kind == b"object".as_slice() {
-            let (object, amount) = rest.name_and_number()?;
-            Some((ScopeWord::Object(object), amount))
-        } else if kind == b"group".as_slice() {
-            let (group, amount) = rest.name_and_number()?;
-            Some((ScopeWord::Group(group), amount))
-        } else if kind == b"all".as_slice() {
-            Some((ScopeWord::All, rest.only_number()?))
-        } else if kind == b"count".as_slice() {
-            Some((ScopeWord::Count, rest.only_number()?))
+        if is_word(kind, b"object") {
+            match rest.name_and_number() {
+                Some((object, amount)) => Some((ScopeWord::Object(object), amount)),
+                None => None,
+            }
+        } else if is_word(kind, b"group") {
+            match rest.name_and_number() {
+                Some((group, amount)) => Some((ScopeWord::Group(group), amount)),
+                None => None,
+            }
+        } else if is_word(kind, b"all") {
+            match rest.only_number() {
+                Some(amount) => Some((ScopeWord::All, amount)),
+                None => None,
+            }
+        } else if is_word(kind, b"count") {
+            match rest.only_number() {
+                Some(amount) => Some((ScopeWord::Count, amount)),
+                None => None,
+            }
         } else {
             None
         }

@@ -1,7 +1,7 @@
 ghost use Rattle.std.specs.Prelude.{◌≡◌};
 ghost use Rattle.ordup_grammar.specs.Keywords.{keyword_of};
 
-use crate::bytes::is_spelled;
+use crate::bytes::{is_spelled, is_word};
 use crate::word::Word;
 
 /// The first word of a command that is no declaration.
@@ -61,7 +61,7 @@ impl Keyword {
             Some(Keyword::Begin)
         } else if is_spelled(word, b"read") {
             Some(Keyword::Read)
-        } else if word == b"end".as_slice() {
+        } else if is_word(word, b"end") {
             Some(Keyword::End)
         } else if is_spelled(word, b"abandon") {
             Some(Keyword::Abandon)

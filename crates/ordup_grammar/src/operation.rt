@@ -1,6 +1,7 @@
 ghost use Rattle.std.specs.Prelude.{◌≡◌, ◌==◌, None, is_some, position, if◌then◌else◌};
 ghost use Rattle.ordup_grammar.specs.Operations.{number_op_of, operation_of};
 
+use crate::bytes::is_word;
 use crate::front::Front;
 use crate::number::Number;
 use crate::word::Word;
@@ -21,7 +22,7 @@ impl<'a> Operation<'a> {
     pub(crate) fn parse(kind: &[u8], operand: Front<'a>) -> Option<Operation<'a>>
         ensures { result ≡ (if is_some (position (λ byte. byte == 58) operand.entry) then None else operation_of kind.now operand.entry) }
     {
-        if kind == b"take".as_slice() {
+        if is_word(kind, b"take") {
             return if operand.len() == 0 || operand.index_of(b':') < operand.len() {
                 None
             } else {
@@ -38,15 +39,15 @@ impl<'a> Operation<'a> {
 fn number_op(kind: &[u8]) -> Option<NumberOp>
     ensures { result ≡ number_op_of kind.now }
 {
-    if kind == b"add".as_slice() {
+    if is_word(kind, b"add") {
         Some(NumberOp::Add)
-    } else if kind == b"set".as_slice() {
+    } else if is_word(kind, b"set") {
         Some(NumberOp::Set)
-    } else if kind == b"mul".as_slice() {
+    } else if is_word(kind, b"mul") {
         Some(NumberOp::Mul)
-    } else if kind == b"max".as_slice() {
+    } else if is_word(kind, b"max") {
         Some(NumberOp::Max)
-    } else if kind == b"min".as_slice() {
+    } else if is_word(kind, b"min") {
         Some(NumberOp::Min)
     } else {
         None

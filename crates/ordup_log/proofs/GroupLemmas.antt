@@ -2,19 +2,22 @@
 use Rattle.std.proofs.Common.{◌≡◌, ℕ, zero, suc, ◌+◌, ◌-◌, ◌<◌, ◌≤◌}
 use Rattle.std.proofs.Common.{false, List, [], ◌∷◌, ◌++◌, length, map, get_or}
 use Rattle.std.proofs.Common.{arith, refl, sym, ap, ◌∙◌, nat_eq, Vec}
-use Rattle.std.specs.Prelude.{true, Option, Some, None, is_some, option_map, slice_get, take, All}
+use Rattle.std.specs.Prelude.{true, Option, Some, None, is_some, nat_lt, option_map, slice_get, take, All}
 use Rattle.std.specs.List.{list_any, position}
 use Rattle.std.specs.Cmp.Lexicographic.{pointwise}
 use Rattle.ordup_objects.specs.Sizes.{most_groups, most_members}
 use Rattle.ordup_objects.specs.Names.{is_name}
 use Rattle.std.proofs.Math.ListN.{length-set}
+use Rattle.std.proofs.lemmas.Bool.{ltb-true}
+use Rattle.std.proofs.lemmas.Bool.Decides.{nat_tests}
 use Rattle.std.proofs.lemmas.Cmp.{nat_eq_equiv}
 use Rattle.std.proofs.lemmas.List.{length_push, length-map, get_or-map, map-append}
 use Rattle.std.proofs.lemmas.List.Elements.{All-map, All-set, All-push}
+use Rattle.std.proofs.lemmas.List.Sums.{AllPass-from_list_all}
 use Rattle.ordup_objects.specs.Tables.{names_of, index_of, with_entry, AreNames, AreDistinct}
 use Rattle.ordup_objects.proofs.TableLemmas.{take-next}
 use Rattle.ordup_objects.proofs.RepeatLemmas.{repeats-push, list_any-alike}
-use Rattle.ordup_log.specs.Groups.{IsGroup, members_at, last_members, with_member}
+use Rattle.ordup_log.specs.Groups.{GroupList, IsGroup, AreMembersKnown, are_members_known, group_refusal, members_at, last_members, with_member}
 
 -- what is beside the names does not change them
 names_of-map : {V W : Type 0} (f : V → W) (table : List (List ℕ × V)) → names_of (map (λ e. (e.0, f e.1)) table) ≡ names_of table
@@ -30,12 +33,6 @@ index_of-map f name table = ap (position (pointwise nat_eq name)) (names_of-map 
 pub index_of-view : {V W : Type 0} (f : V → W) (name : List ℕ) (table : List (List ℕ × V)) (view : List (List ℕ × W))
     → map (λ e. (e.0, f e.1)) table ≡ view → index_of name view ≡ index_of name table
 index_of-view f name table view e = rw (← e) (index_of-map f name table)
-
--- what is not found is not there
-pub index_of-none : (found : Option ℕ) (place : Option ℕ) → option_map (λ x. x) found ≡ place → is_some found ≡ false
-    → place ≡ None
-index_of-none None place e none = sym e
-index_of-none (Some x) place e none = cc
 
 -- what callers see of groups are groups
 pub are_groups-view : {Z : Type 0} (groups : List (List ℕ × Vec ℕ Z)) (view : List (List ℕ × List ℕ))
@@ -72,6 +69,13 @@ groups_of-some {Z} groups view e some =
     let seen : List ℕ × Vec ℕ Z → List ℕ × List ℕ = λ g. (g.0, g.1.items) in
     omega (arith, ap length e, length-map groups seen)
 
+-- and no more
+pub groups_of-few : {Z : Type 0} (groups : List (List ℕ × Vec ℕ Z)) (view : List (List ℕ × List ℕ)) → groups_of groups ≡ view
+    → length groups ≤ most_groups → length view ≤ most_groups
+groups_of-few {Z} groups view e few =
+    let seen : List ℕ × Vec ℕ Z → List ℕ × List ℕ = λ g. (g.0, g.1.items) in
+    omega (arith, ap length e, length-map groups seen)
+
 -- callers see a group that was added
 pub groups_of-push : {Z : Type 0} (groups put : List (List ℕ × Vec ℕ Z)) (view : List (List ℕ × List ℕ)) (name given : List ℕ)
     (members : Vec ℕ Z) (list : List ℕ) → groups_of groups ≡ view → put ≡ groups ++ (name, members) ∷ [] → name ≡ given
@@ -79,6 +83,28 @@ pub groups_of-push : {Z : Type 0} (groups put : List (List ℕ × Vec ℕ Z)) (v
 groups_of-push {Z} groups put view name given members list e added named same =
     let seen : List ℕ × Vec ℕ Z → List ℕ × List ℕ = λ g. (g.0, g.1.items) in
     rw (added, map-append seen groups ((name, members) ∷ []), e, named, same) refl
+
+-- what holds of a group that is not refused
+pub record MayBeDeclared (n : ℕ) (groups : GroupList) (name members : List ℕ) : Type 0 where
+  pub free : index_of name groups ≡ None
+  pub known : AreMembersKnown n members
+  pub group : IsGroup members
+  pub room : length groups < most_groups
+
+pub group_allowed : (n : ℕ) (groups : GroupList) (name members : List ℕ) → length groups ≤ most_groups
+    → group_refusal n groups name members ≡ None → MayBeDeclared n groups name members
+group_allowed n groups name members few allowed =
+    let known : are_members_known n members ≡ true = grind (arith, nat_tests) in
+    record {
+      free = grind (arith, nat_tests);
+      known = λ k d lt. ltb-true (get_or members k d) n (AllPass-from_list_all (λ x. nat_lt x n) members known k d lt);
+      group = record {
+        some = grind (arith, nat_tests);
+        few = grind (arith, nat_tests);
+        distinct = grind (arith, nat_tests);
+      };
+      room = grind (arith, nat_tests);
+    }
 
 -- groups are kept with one more, if there is room
 pub are_groups-push : {Z : Type 0} (groups put : List (List ℕ × Vec ℕ Z)) (view : List (List ℕ × List ℕ)) (name : List ℕ)

@@ -87,30 +87,33 @@ impl<A: Allocator + Copy> Groups<A> {
         members: &[ObjectId],
     ) -> Result<Name, Refusal>
         ensures name { IfOk result (λ n. n ≡ name.now) }
-        ensures not_taken { IfOk result (λ n. index_of n self.now ≡ None) }
-        ensures known { IfOk result (λ _. AreMembersKnown objects members.now) }
-        ensures group { IfOk result (λ _. IsGroup members.now) }
-        ensures room { IfOk result (λ _. length self.now < most_groups) }
         ensures allowed { IfOk result (λ _. group_refusal objects self.now name.now members.now ≡ None) }
         ensures refused { IfErr result (λ e. group_refusal objects self.now name.now members.now ≡ Some e) }
     {
         let name = Name::new(name)?;
+        match self.refusal_of_group(objects, &name, members) {
+            Some(refusal) => Err(refusal),
+            None => Ok(name),
+        }
+    }
+
+    /// Why a group of this name over this many objects is refused, if it is.
+    fn refusal_of_group(&self, objects: usize, name: &Name, members: &[ObjectId]) -> Option<Refusal>
+        ensures { result ≡ group_refusal objects self.now name.now members.now }
+    {
         if self.find(name.as_bytes()).is_some() {
-            return Err(Refusal::NameTaken);
+            Some(Refusal::NameTaken)
+        } else if !are_known(objects, members) {
+            Some(Refusal::UnknownObject)
+        } else if self.len() == MOST_GROUPS || members.len() > MOST_MEMBERS {
+            Some(Refusal::TooMany)
+        } else if members.is_empty() {
+            Some(Refusal::Empty)
+        } else if has_repeat(members) {
+            Some(Refusal::Repeated)
+        } else {
+            None
         }
-        if !are_known(objects, members) {
-            return Err(Refusal::UnknownObject);
-        }
-        if self.len() == MOST_GROUPS || members.len() > MOST_MEMBERS {
-            return Err(Refusal::TooMany);
-        }
-        if members.is_empty() {
-            return Err(Refusal::Empty);
-        }
-        if has_repeat(members) {
-            return Err(Refusal::Repeated);
-        }
-        Ok(name)
     }
 
     /// Adds a member to the last group.

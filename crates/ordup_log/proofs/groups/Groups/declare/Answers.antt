@@ -1,6 +1,6 @@
 use Rattle.std.proofs.Common.{◌∙◌, refl, sym}
 use Rattle.std.proofs.lemmas.Result.{IfOk-from_err, err_from_is_err_and}
-use Rattle.ordup_log.proofs.GroupLemmas.{index_of-view, groups_of-push, are_groups-push}
+use Rattle.ordup_log.proofs.GroupLemmas.{index_of-view, group_allowed, groups_of-few, groups_of-push, are_groups-push}
 use Rattle.ordup_log.proofs.groups.Groups.declare.Goals as goal
 
 pub returns-in_err-name : goal.returns-in_err-name
@@ -29,8 +29,10 @@ returns-in_err-members g c =
 
 pub push-requires : goal.push-requires
 push-requires g c =
-    let e = index_of-view (λ v. v.items) c.in_ok-name.name c.self.inside.groups c.args.self.now c.self.view_is in
-    sym e ∙ c.in_ok-name.ensures.not_taken
+    let e = index_of-view (λ v. v.items) c.args.name.now c.self.inside.groups c.args.self.now c.self.view_is in
+    let may = group_allowed c.len.result c.args.self.now c.args.name.now c.args.members.now
+    (groups_of-few c.self.inside.groups c.args.self.now c.self.view_is c.self.invariant.0) c.in_ok-name.ensures.allowed in
+    rw c.in_ok-name.ensures.name (sym e ∙ may.free)
 
 pub invariant_of-self : goal.invariant_of-self
 invariant_of-self g c = rw c.in_err-push.ensures.err c.self.invariant
@@ -49,13 +51,18 @@ returns-in_err-push g c =
 
 pub invariant_of-self-2 : goal.invariant_of-self-2
 invariant_of-self-2 g c =
+    let may = group_allowed c.len.result c.args.self.now c.args.name.now c.args.members.now
+    (groups_of-few c.self.inside.groups c.args.self.now c.self.view_is c.self.invariant.0) c.in_ok-name.ensures.allowed in
     are_groups-push c.self.inside.groups c.push.new.self c.args.self.now c.in_ok-name.name c.in_ok-members.members c.self.invariant
-    c.self.view_is c.in_ok-name.ensures.room (rw c.in_ok-members.ensures.items c.in_ok-name.ensures.group) c.in_ok-push.ensures.ok
+    c.self.view_is may.room (rw c.in_ok-members.ensures.items may.group) c.in_ok-push.ensures.ok
 
 pub returns : goal.returns
 returns g c = record {
   group = c.new.ensures ∙ c.len-index.ensures.len;
-  known = rw (← c.len.ensures.len) c.in_ok-name.ensures.known;
+  known =
+      let may = group_allowed c.len.result c.args.self.now c.args.name.now c.args.members.now
+      (groups_of-few c.self.inside.groups c.args.self.now c.self.view_is c.self.invariant.0) c.in_ok-name.ensures.allowed in
+      rw (← c.len.ensures.len) may.known;
   declared = groups_of-push c.self.inside.groups c.push.new.self c.args.self.now c.in_ok-name.name c.args.name.now
       c.in_ok-members.members c.args.members.now c.self.view_is c.in_ok-push.ensures.ok c.in_ok-name.ensures.name
       c.in_ok-members.ensures.items;

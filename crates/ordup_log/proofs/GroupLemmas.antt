@@ -63,18 +63,19 @@ index_of-same {Z} name groups others e =
     ∙ index_of-map (λ (v : Vec ℕ Z). v.items) name others
 
 -- callers see as many groups as there are
+pub groups_of-length : {Z : Type 0} (groups : List (List ℕ × Vec ℕ Z)) (view : List (List ℕ × List ℕ)) → groups_of groups ≡ view
+    → length view ≡ length groups
+groups_of-length {Z} groups view e =
+    let seen : List ℕ × Vec ℕ Z → List ℕ × List ℕ = λ g. (g.0, g.1.items) in
+    ap length (sym e) ∙ length-map groups seen
+
 pub groups_of-some : {Z : Type 0} (groups : List (List ℕ × Vec ℕ Z)) (view : List (List ℕ × List ℕ)) → groups_of groups ≡ view
     → 0 < length view → 0 < length groups
-groups_of-some {Z} groups view e some =
-    let seen : List ℕ × Vec ℕ Z → List ℕ × List ℕ = λ g. (g.0, g.1.items) in
-    omega (arith, ap length e, length-map groups seen)
+groups_of-some groups view e some = omega (arith, groups_of-length groups view e)
 
--- and no more
 pub groups_of-few : {Z : Type 0} (groups : List (List ℕ × Vec ℕ Z)) (view : List (List ℕ × List ℕ)) → groups_of groups ≡ view
     → length groups ≤ most_groups → length view ≤ most_groups
-groups_of-few {Z} groups view e few =
-    let seen : List ℕ × Vec ℕ Z → List ℕ × List ℕ = λ g. (g.0, g.1.items) in
-    omega (arith, ap length e, length-map groups seen)
+groups_of-few groups view e few = omega (arith, groups_of-length groups view e)
 
 -- callers see a group that was added
 pub groups_of-push : {Z : Type 0} (groups put : List (List ℕ × Vec ℕ Z)) (view : List (List ℕ × List ℕ)) (name given : List ℕ)

@@ -1,4 +1,4 @@
-use Rattle.std.proofs.Common.{◌≡◌, ℕ, ◌+◌, None, Result, Ok, Err, ap}
+use Rattle.std.proofs.Common.{◌≡◌, ℕ, ◌+◌, None, Result, Ok, Err, ap, arith}
 use Rattle.std.specs.Prelude.{IfOk, OnOk}
 use Rattle.std.proofs.lemmas.List.{get_or_read}
 use Rattle.std.proofs.lemmas.Result.{on_err_weaker}
@@ -52,3 +52,9 @@ returns g c =
       refused = read.refused;
       err = on_err_weaker c.read.result (ap (of_query o)) read.err;
     })
+
+pub bounds-sites-index : goal.bounds-sites-index
+bounds-sites-index g c = rw c.index.ensures (rw (← c.self.view_is) at c.requires.site)
+
+pub offset_bounds-sites-index : goal.offset_bounds-sites-index
+offset_bounds-sites-index g c = omega (arith, bounds-sites-index g c)

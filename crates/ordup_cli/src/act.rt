@@ -35,7 +35,12 @@ pub fn act<T: Threads + Wait + Sync, R: Read, W: Write, E: Write>(
     match job_of(alloc, words) {
         Ok(Some(job)) => end(do_job(rt, alloc, &job, input, output), faults),
         Ok(None) => WRONG_WORDS,
-        Err(error) => show_usage(output, faults, &error),
+        Err(error) => {
+            let status = show_usage(output, faults, &error);
+            // By a call: where it goes out of scope, the proof takes it apart.
+            drop(error);
+            status
+        }
     }
 }
 

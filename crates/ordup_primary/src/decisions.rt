@@ -77,16 +77,25 @@ pub(crate) fn put_down<A: Allocator + Copy>(
 {
     for index in 0..sites.len() {
         let is_forced = is_among(index, forced);
-        let site = &mut sites[index];
-        site.reports.push_reserved(number, site.reported);
-        if is_forced {
-            let window = Window {
-                from: site.reported,
-                to: number,
-            };
-            site.windows.push_reserved(window);
-            site.rounds.push_reserved(number);
-        }
+        put_down_at(&mut sites[index], is_forced, number);
+    }
+}
+
+fn put_down_at<A: Allocator + Copy>(site: &mut Progress<A>, is_forced: bool, number: u64)
+    requires room { HasRoom site.old }
+    requires next { number ≡ length site.old.reports.reports + 1 }
+    requires few { number ≤ most_updates }
+    requires reported { site.old.reported ≤ most_updates }
+    ensures { progress_of site.new ≡ decided_at (not is_forced) number (progress_of site.old) }
+{
+    site.reports.push_reserved(number, site.reported);
+    if is_forced {
+        let window = Window {
+            from: site.reported,
+            to: number,
+        };
+        site.windows.push_reserved(window);
+        site.rounds.push_reserved(number);
     }
 }
 

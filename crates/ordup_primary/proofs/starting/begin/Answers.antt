@@ -1,27 +1,48 @@
 use Rattle.std.proofs.Common.{◌∙◌}
-use Rattle.std.proofs.lemmas.Result.{err_from_is_err_and}
+use Rattle.std.proofs.lemmas.Result.{err_from_is_err_and, IfOk-from_err}
 use Rattle.ordup_primary.proofs.starting.begin.Goals as goal
 
 pub add_sites-requires : goal.add_sites-requires
 add_sites-requires g c = c.requires.sites
 
-pub returns-in_err-add_sites-clause-refused : goal.returns-in_err-add_sites-clause-refused
-returns-in_err-add_sites-clause-refused g c =
+pub returns-in_err-add_sites : goal.returns-in_err-add_sites
+returns-in_err-add_sites g c =
     let failed = err_from_is_err_and c.from_residual.result c.from_residual.ensures.1 in
-    rw (failed.1, failed.2) c.in_err-add_sites.ensures.refused
+    record {
+      log = IfOk-from_err _ _ c.from_residual.ensures.0;
+      legal = IfOk-from_err _ _ c.from_residual.ensures.0;
+      sites = rw failed.1 tt;
+      limits = rw failed.1 tt;
+      ledgers = IfOk-from_err _ _ c.from_residual.ensures.0;
+      refused = rw (failed.1, failed.2) c.in_err-add_sites.ensures.refused;
+    }
 
 pub add_limits-requires : goal.add_limits-requires
 add_limits-requires g c = c.requires.limits
 
-pub returns-in_err-add_limits-clause-refused : goal.returns-in_err-add_limits-clause-refused
-returns-in_err-add_limits-clause-refused g c =
+pub returns-in_err-add_limits : goal.returns-in_err-add_limits
+returns-in_err-add_limits g c =
     let failed = err_from_is_err_and c.from_residual-in_err-add_limits.result c.from_residual-in_err-add_limits.ensures.1 in
-    rw (failed.1, failed.2) c.in_err-add_limits.ensures.refused
+    record {
+      log = IfOk-from_err _ _ c.from_residual-in_err-add_limits.ensures.0;
+      legal = IfOk-from_err _ _ c.from_residual-in_err-add_limits.ensures.0;
+      sites = rw failed.1 tt;
+      limits = rw failed.1 tt;
+      ledgers = IfOk-from_err _ _ c.from_residual-in_err-add_limits.ensures.0;
+      refused = rw (failed.1, failed.2) c.in_err-add_limits.ensures.refused;
+    }
 
-pub returns-in_err-log-clause-refused : goal.returns-in_err-log-clause-refused
-returns-in_err-log-clause-refused g c =
+pub returns-in_err-log : goal.returns-in_err-log
+returns-in_err-log g c =
     let failed = err_from_is_err_and c.from_residual-in_err-log.result c.from_residual-in_err-log.ensures.1 in
-    rw (failed.1, failed.2) c.in_err-log.ensures.refused
+    record {
+      log = IfOk-from_err _ _ c.from_residual-in_err-log.ensures.0;
+      legal = IfOk-from_err _ _ c.from_residual-in_err-log.ensures.0;
+      sites = rw failed.1 tt;
+      limits = rw failed.1 tt;
+      ledgers = IfOk-from_err _ _ c.from_residual-in_err-log.ensures.0;
+      refused = rw (failed.1, failed.2) c.in_err-log.ensures.refused;
+    }
 
 pub first_ledgers-requires : goal.first_ledgers-requires
 first_ledgers-requires g c = c.as_slice.ensures.value ∙ c.in_ok-add_limits.ensures.limits
@@ -37,3 +58,13 @@ returns-in-Ok-clause-limits g c = c.in_ok-add_limits.ensures.limits
 
 pub returns-in-Ok-clause-ledgers : goal.returns-in-Ok-clause-ledgers
 returns-in-Ok-clause-ledgers g c = c.in-Ok.ensures.ledgers
+
+pub returns-in-Err : goal.returns-in-Err
+returns-in-Err g c = record {
+  log = tt;
+  legal = tt;
+  sites = tt;
+  limits = tt;
+  ledgers = tt;
+  refused = c.in-Err.ensures.refused;
+}

@@ -1,4 +1,4 @@
-use Rattle.std.proofs.Common.{arith, ap, sym, subst, ◌≡◌, ◌<◌, ◌+◌, ◌∙◌, [], length, get_or}
+use Rattle.std.proofs.Common.{arith, ap, refl, sym, subst, ◌≡◌, ◌<◌, ◌+◌, ◌∙◌, [], length, get_or}
 use Rattle.std.proofs.Math.ListN.{set}
 use Rattle.std.proofs.lemmas.List.{get_or_read, set-get_or}
 use Rattle.ordup_limits.specs.Entries.{Entries, entry_of, changed, AreEntries, HoldFrom}
@@ -57,8 +57,8 @@ invariant_of-self-2 g c =
           made.reported (rw c.groups-groups.ensures.groups at made.limits));
     }
 
-pub returns-clause-changed : goal.returns-clause-changed
-returns-clause-changed g c =
+pub returns : goal.returns
+returns g c =
     let p = state_of c.self.inside in
     let tables = c.self.inside.limits.items in
     let sound = c.self.invariant.primary in
@@ -75,7 +75,11 @@ returns-clause-changed g c =
     let stored : set tables c.index-index.result c.change.new.self ≡ set tables c.args.site (changed (limits_at p c.args.site) e) =
     ap (set tables c.index-index.result) (c.in-Ok.ensures.changed ∙ ap (λ (entries : Entries). changed entries e) old)
     ∙ ap (λ k. set tables k (changed (limits_at p c.args.site) e)) c.index-index.ensures in
-    rw (← c.self.view_is) (ap (λ limits. let q : PrimaryState = record p { limits = limits } in q) stored)
+    record {
+      changed = rw (← c.self.view_is) (ap (λ limits. let q : PrimaryState = record p { limits = limits } in q) stored);
+      refused = tt;
+      err = tt;
+    }
 
 pub overflow_add-head : goal.overflow_add-head
 overflow_add-head g c =
@@ -93,10 +97,23 @@ change-requires g c =
           (is.begun c.index-index.result c.index_mut.result.now inside);
     }
 
-pub returns-in_default-clause-err : goal.returns-in_default-clause-err
-returns-in_default-clause-err g c =
+pub returns-in_default : goal.returns-in_default
+returns-in_default g c =
     let tables = c.self.inside.limits.items in
     let same : set tables c.index-index.result c.change.new.self ≡ tables =
     ap (set tables c.index-index.result) (c.in_default.ensures.err ∙ c.index_mut.ensures.value)
     ∙ set-get_or tables c.index-index.result c.index_mut.result.now in
-    rw (← c.self.view_is) (ap (λ limits. let q : PrimaryState = record (state_of c.self.inside) { limits = limits } in q) same)
+    record {
+      changed = tt;
+      refused = refl;
+      err =
+          rw (← c.self.view_is) (ap (λ limits. let q : PrimaryState = record (state_of c.self.inside) { limits = limits } in q) same);
+    }
+
+pub index-requires : goal.index-requires
+index-requires g c =
+    omega (arith, rw (← c.self.view_is) at c.requires.site, c.index-index.ensures, c.self.invariant.primary.tables)
+
+pub index_mut-requires : goal.index_mut-requires
+index_mut-requires g c =
+    omega (arith, rw (← c.self.view_is) at c.requires.site, c.index-index.ensures, c.self.invariant.primary.tables)

@@ -1,4 +1,5 @@
-use Rattle.std.proofs.Common.{arith, refl, sym, subst, length, ◌<◌, ◌≤◌}
+use Rattle.std.proofs.Common.{arith, false, nat_lt, refl, sym, subst, length, ◌≡◌, ◌<◌, ◌≤◌}
+use Rattle.std.proofs.lemmas.Bool.{le-ltb}
 use Rattle.std.proofs.lemmas.Result.{err_from_is_err_and}
 use Rattle.std.proofs.lemmas.List.Elements.{All-push}
 use Rattle.ordup_log.specs.Spans.{IsScopeKnown}
@@ -40,6 +41,33 @@ invariant_of-self g c =
     (kept-added (AreEntriesKnown n groups) c.add.result old c.add.new.self e known
     (All-push (λ (f : LimitEntry). IsScopeKnown n groups f.limit.scope) old e known c.in_ok-check_scope.ensures.known) c.add.ensures.added c.add.ensures.err)
 
+pub returns-in_err-check_scope : goal.returns-in_err-check_scope
+returns-in_err-check_scope g c =
+    let failed = err_from_is_err_and c.from_residual.result c.from_residual.ensures.1 in
+    record {
+      declared = rw failed.1 tt;
+      allowed = rw failed.1 tt;
+      refused = rw (failed.1, failed.2, ← c.self.view_is, c.in_err-check_scope.ensures.refused) refl;
+      err = rw failed.1 refl;
+    }
+
+pub returns-then-index-sites : goal.returns-then-index-sites
+returns-then-index-sites g c =
+    let sites = rw (← c.self.view_is) at c.sites.ensures.sites in
+    let beyond : nat_lt c.args.site (length c.self.inside.capacities) ≡ false =
+    le-ltb c.args.site (length c.self.inside.capacities) (omega (arith, sites, c.index.ensures, c.if-index-sites.true)) in
+    record {
+      declared = tt;
+      allowed = tt;
+      refused = rw (← c.self.view_is, c.in_ok-check_scope.ensures.allowed, beyond) refl;
+      err = refl;
+    }
+
+pub index_mut-requires : goal.index_mut-requires
+index_mut-requires g c =
+    let sites = rw (← c.self.view_is) at c.sites.ensures.sites in
+    omega (arith, c.index-2.ensures, c.index.ensures, c.if-index-sites.false, sites, c.self.invariant.count)
+
 pub returns-clause-declared : goal.returns-clause-declared
 returns-clause-declared g c = grind (arith, common_steps)
 
@@ -51,16 +79,6 @@ returns-clause-refused g c = grind (arith, common_steps)
 
 pub returns-clause-err : goal.returns-clause-err
 returns-clause-err g c = grind (arith, common_steps)
-
-pub returns-in_err-check_scope-clause-refused : goal.returns-in_err-check_scope-clause-refused
-returns-in_err-check_scope-clause-refused g c =
-    let failed = err_from_is_err_and c.from_residual.result c.from_residual.ensures.1 in
-    rw (failed.1, failed.2, ← c.self.view_is, c.in_err-check_scope.ensures.refused) refl
-
-pub returns-in_err-check_scope-clause-err : goal.returns-in_err-check_scope-clause-err
-returns-in_err-check_scope-clause-err g c =
-    let failed = err_from_is_err_and c.from_residual.result c.from_residual.ensures.1 in
-    rw failed.1 refl
 
 pub add-requires : goal.add-requires
 add-requires g c =

@@ -1,5 +1,5 @@
 use Rattle.std.proofs.Common.{arith, refl, ◌∙◌}
-use Rattle.std.proofs.lemmas.Result.{err_from_is_err_and}
+use Rattle.std.proofs.lemmas.Result.{err_from_is_err_and, IfOk-from_err}
 use Rattle.ordup_primary.specs.Declarations.{Declared}
 use Rattle.ordup_primary.proofs.SetupLemmas.{AreDeclared-site, site_allowed, name-free}
 use Rattle.ordup_primary.proofs.setup.Setup.site.Goals as goal
@@ -28,44 +28,50 @@ push-requires g c =
 pub push_reserved-requires : goal.push_reserved-requires
 push_reserved-requires g c = omega (arith, c.in_ok-reserve.ensures.ok)
 
-pub returns-in_err-name-clause-refused : goal.returns-in_err-name-clause-refused
-returns-in_err-name-clause-refused g c =
+pub returns-in_err-name : goal.returns-in_err-name
+returns-in_err-name g c =
     let failed = err_from_is_err_and c.from_residual.result c.from_residual.ensures.1 in
-    rw (failed.1, failed.2, c.in_err-name.ensures.refused) refl
+    record {
+      site = IfOk-from_err _ _ c.from_residual.ensures.0;
+      declared = IfOk-from_err _ _ c.from_residual.ensures.0;
+      allowed = IfOk-from_err _ _ c.from_residual.ensures.0;
+      refused = rw (failed.1, failed.2, c.in_err-name.ensures.refused) refl;
+      err = rw failed.1 refl;
+    }
 
-pub returns-in_err-name-clause-err : goal.returns-in_err-name-clause-err
-returns-in_err-name-clause-err g c =
-    let failed = err_from_is_err_and c.from_residual.result c.from_residual.ensures.1 in
-    rw failed.1 refl
-
-pub returns-in_err-reserve-clause-refused : goal.returns-in_err-reserve-clause-refused
-returns-in_err-reserve-clause-refused g c =
+pub returns-in_err-reserve : goal.returns-in_err-reserve
+returns-in_err-reserve g c =
     let failed = err_from_is_err_and c.from_residual-in_err-reserve.result c.from_residual-in_err-reserve.ensures.1 in
-    rw (failed.1, c.in_ok-name.ensures.allowed) failed.2
+    record {
+      site = IfOk-from_err _ _ c.from_residual-in_err-reserve.ensures.0;
+      declared = IfOk-from_err _ _ c.from_residual-in_err-reserve.ensures.0;
+      allowed = IfOk-from_err _ _ c.from_residual-in_err-reserve.ensures.0;
+      refused = rw (failed.1, c.in_ok-name.ensures.allowed) failed.2;
+      err = rw (failed.1, c.in_err-reserve.ensures.items) c.self.view_is;
+    }
 
-pub returns-in_err-reserve-clause-err : goal.returns-in_err-reserve-clause-err
-returns-in_err-reserve-clause-err g c =
-    let failed = err_from_is_err_and c.from_residual-in_err-reserve.result c.from_residual-in_err-reserve.ensures.1 in
-    rw (failed.1, c.in_err-reserve.ensures.items) c.self.view_is
+pub invariant_of-self-in_err-push : goal.invariant_of-self-in_err-push
+invariant_of-self-in_err-push g c = rw (c.in_err-push.ensures.err, c.in_ok-reserve.ensures.items) c.self.invariant
 
-pub returns-in_err-push-clause-refused : goal.returns-in_err-push-clause-refused
-returns-in_err-push-clause-refused g c =
+pub returns-in_err-push : goal.returns-in_err-push
+returns-in_err-push g c =
     let failed = err_from_is_err_and c.from_residual-in_err-push.result c.from_residual-in_err-push.ensures.1 in
-    rw (failed.1, c.in_ok-name.ensures.allowed) failed.2
+    record {
+      site = IfOk-from_err _ _ c.from_residual-in_err-push.ensures.0;
+      declared = IfOk-from_err _ _ c.from_residual-in_err-push.ensures.0;
+      allowed = IfOk-from_err _ _ c.from_residual-in_err-push.ensures.0;
+      refused = rw (failed.1, c.in_ok-name.ensures.allowed) failed.2;
+      err = rw (failed.1, c.in_err-push.ensures.err, c.in_ok-reserve.ensures.items) c.self.view_is;
+    }
 
-pub returns-in_err-push-clause-err : goal.returns-in_err-push-clause-err
-returns-in_err-push-clause-err g c =
-    let failed = err_from_is_err_and c.from_residual-in_err-push.result c.from_residual-in_err-push.ensures.1 in
-    rw (failed.1, c.in_err-push.ensures.err, c.in_ok-reserve.ensures.items) c.self.view_is
-
-pub returns-clause-site : goal.returns-clause-site
-returns-clause-site g c = c.new-2.ensures ∙ c.sites-index.ensures.sites
-
-pub returns-clause-declared : goal.returns-clause-declared
-returns-clause-declared g c =
+pub returns : goal.returns
+returns g c =
     let sites = rw c.in_ok-name.ensures.name at c.in_ok-push.ensures.ok in
     let limits = rw (c.new.ensures, c.in_ok-reserve.ensures.items) at c.push_reserved.ensures.items in
-    rw (← c.self.view_is, sites, limits) refl
-
-pub returns-clause-allowed : goal.returns-clause-allowed
-returns-clause-allowed g c = c.in_ok-name.ensures.allowed
+    record {
+      site = c.new-2.ensures ∙ c.sites-index.ensures.sites;
+      declared = rw (← c.self.view_is, sites, limits) refl;
+      allowed = c.in_ok-name.ensures.allowed;
+      refused = tt;
+      err = tt;
+    }

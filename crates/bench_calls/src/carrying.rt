@@ -27,8 +27,8 @@ pub(crate) fn carry<R: Threads + Wait + Sync>(
     requires { count ≤ most_updates }
 {
     let objects = one_object(alloc)?;
-    let (sender, taker) = Feed::new(alloc, &objects, capacity)?;
     let set = first_to_one(&objects)?;
+    let (sender, taker) = Feed::new(alloc, &objects, capacity)?;
     let set = &set;
     let (sent, taken) = thread::join(
         rt,

@@ -26,4 +26,6 @@ mod fixtures;
 #[cfg(test)]
 mod holds;
 #[cfg(test)]
+mod promises;
+#[cfg(test)]
 mod threads;

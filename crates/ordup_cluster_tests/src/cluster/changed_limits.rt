@@ -3,6 +3,7 @@ use super::fixtures::{
     add, apply_at, expect_closed, expect_proposed, expect_settled, opened, opened_pair,
 };
 use crate::fixtures::{a, b, seen, x, z};
+use crate::promises::relimit;
 use ordup_audit::{Verdict, check};
 use ordup_cluster::{Cluster, Session};
 use ordup_limits::{GroupId, Limit, LimitEntry, Scope};
@@ -23,7 +24,7 @@ fn expect_changed<R: Wait + Abort>(
     amount: u64,
     answer: Result<u64, Refusal>,
 ) {
-    expect_eq!(rt; cluster.relimit(rt, site, scope, amount), answer);
+    expect_eq!(rt; relimit(rt, cluster, site, scope, amount), answer);
 }
 
 /// The scope of x.

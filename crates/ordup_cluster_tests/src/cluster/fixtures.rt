@@ -2,6 +2,7 @@
 ghost use Rattle.std.specs.Prelude.{◌≤◌};
 
 use crate::fixtures::{self, a, declared, seen, x, x_y_and_z};
+use crate::promises::{propose, settle};
 use ordup_cluster::{Closed, Cluster, OpenGate, SeenValue, Session};
 use ordup_limits::Scope;
 use ordup_objects::{MessageSet, ObjectId, Refusal, SiteId};
@@ -72,7 +73,7 @@ pub fn expect_proposed<R: Wait + Abort>(
 )
     requires { 1 ≤ turns }
 {
-    expect_eq!(rt; cluster.propose(rt, session, set, turns), answer);
+    expect_eq!(rt; propose(rt, cluster, session, set, turns), answer);
 }
 
 /// Waits for an update in a session for this count of turns, and sees this answer.
@@ -86,7 +87,7 @@ pub fn expect_settled<R: Wait + Abort>(
 )
     requires { 1 ≤ turns }
 {
-    expect_eq!(rt; cluster.settle(rt, session, number, turns), answer);
+    expect_eq!(rt; settle(rt, cluster, session, number, turns), answer);
 }
 
 /// Applies at a site of a stopped cluster, and sees how many updates were applied.

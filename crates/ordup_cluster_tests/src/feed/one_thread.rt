@@ -1,6 +1,7 @@
 //! A feed with both ends in one thread.
 use super::fixtures::parcel;
 use crate::fixtures::x_y_and_z;
+use crate::promises::new_feed;
 use ordup_feed::Feed;
 use ordup_objects::Refusal;
 use std::test::Fail;
@@ -16,7 +17,7 @@ fn a_feed_has_room_for_1_to_1024_parcels(rt: HostRuntime) -> Result<(), Fail> {
         (1_024, None),
         (1_025, Some(Refusal::OutOfRange)),
     ] {
-        expect_eq!(&rt; Feed::new(alloc, &objects, capacity).err(), refusal);
+        expect_eq!(&rt; new_feed(alloc, &objects, capacity).err(), refusal);
     }
     // Dropped by a call, which is proved once for all tests: docs/DECISIONS.md, Tests.
     drop(objects);

@@ -1,6 +1,7 @@
 //! Two callers and a site that they wait for, with a capacity of one update, which may lag by three.
 use super::fixtures::{adding, apply_at, closed, expect_fewest, opened, propose, set_of, x_and_y};
 use crate::fixtures::{a, x, y};
+use crate::promises::end_value;
 use ordup_cluster::{Cluster, OpenGate, Session};
 use ordup_limits::Scope;
 use ordup_log::Log;
@@ -75,7 +76,7 @@ fn expect_both(rt: &impl Abort, log: &Log) {
     expect_eq!(rt; log.len(), 40);
     expect_eq!(rt; (sets_on(log, x()), sets_on(log, y())), (20, 20));
     expect!(rt; log.objects() == 2);
-    expect_eq!(rt; (log.end_value(x()), log.end_value(y())), (20, 30));
+    expect_eq!(rt; (end_value(log, x()), end_value(log, y())), (20, 30));
 }
 
 /// The log has all sets, and the site at most three fewer.

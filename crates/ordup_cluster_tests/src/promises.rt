@@ -1,0 +1,108 @@
+//! Public calls whose clauses no proof above them cites. Each function makes one of these calls, and its contract has the same
+//! clauses, so the prover refuses the function where the call promises less. Tests make the calls by them.
+ghost use Rattle.std.specs.Prelude.{◌≡◌, ◌<◌, ◌≤◌, ◌+◌, [], None, length, max, IfOk, IfErr, OnOk, OnErr};
+ghost use Rattle.ordup_objects.specs.Refusals.{IsRefusal};
+ghost use Rattle.ordup_objects.specs.Serial.{serial};
+ghost use Rattle.ordup_objects.specs.States.{value_at};
+ghost use Rattle.ordup_objects.specs.Tables.{initial_state};
+ghost use Rattle.ordup_feed.specs.Parcels.{feed_refusal};
+ghost use Rattle.ordup_primary.specs.LimitChanges.{limit_change_refusal};
+ghost use Rattle.ordup_primary.specs.Primaries.{site_view};
+ghost use Rattle.ordup_cluster.specs.Refusals.{IsNumber, IsProposalRefusal, IsSettlementRefusal, IsLimitPlace, IsLimitChangeRefusal};
+ghost use Rattle.ordup_cluster.specs.Relimiting.{with_changed_limit};
+
+use ordup_cluster::holds::{self, Book};
+use ordup_cluster::{Cluster, Session};
+use ordup_feed::{Feed, SendEnd, TakeEnd};
+use ordup_limits::Scope;
+use ordup_log::Log;
+use ordup_objects::{MessageSet, ObjectId, ObjectTable, Refusal, SiteId};
+use std::alloc::Global;
+use std::sync::Wait;
+
+/// `Log::end_value`.
+pub fn end_value(log: &Log, object: ObjectId) -> i64
+    requires { object < length log.now.start }
+    ensures { result ≡ value_at (serial log.now (length log.now.sets)) object }
+{
+    log.end_value(object)
+}
+
+/// `Feed::new`. Both ends are of one feed.
+pub fn new_feed(
+    alloc: Global,
+    objects: &ObjectTable,
+    capacity: u64,
+) -> Result<(SendEnd, TakeEnd), Refusal>
+    ensures sender { IfOk result (λ ends. ends.0 ≡ record { feed = ends.0.feed; start = initial_state objects.now; pushed = []; known = 0 }) }
+    ensures taker { IfOk result (λ ends. ends.1 ≡ record { feed = ends.0.feed; start = initial_state objects.now; taken = []; told = 0 }) }
+    ensures room { IfOk result (λ ends. ends.0.feed.capacity ≡ capacity) }
+    ensures allowed { IfOk result (λ _. feed_refusal capacity ≡ None) }
+    ensures refused { IfErr result (λ e. IsRefusal (feed_refusal capacity) e) }
+{
+    Feed::new(alloc, objects, capacity)
+}
+
+/// `holds::relimit`.
+pub fn relimit_in_hold(
+    book: &mut Book,
+    site: SiteId,
+    scope: Scope,
+    amount: u64,
+) -> Result<u64, Refusal>
+    ensures place { IfOk result (λ k. k ≡ book.old.primary.acked + 1) }
+    ensures changed { IfOk result (λ _. book.new ≡ with_changed_limit book.old site scope amount) }
+    ensures allowed { IfOk result (λ _. limit_change_refusal (site_view book.old.primary site) scope amount ≡ None) }
+    ensures refused { IfErr result (λ e. IsRefusal (limit_change_refusal (site_view book.old.primary site) scope amount) e) }
+    ensures err { OnErr result (book.new ≡ book.old) }
+{
+    holds::relimit(book, site, scope, amount)
+}
+
+/// `Cluster::propose`.
+pub fn propose<R: Wait>(
+    rt: &R,
+    cluster: &Cluster,
+    session: &mut Session,
+    set: MessageSet,
+    turns: u64,
+) -> Result<u64, Refusal>
+    requires { 1 ≤ turns }
+    ensures seen { IfOk result (λ number. session.new.seen ≡ max session.old.seen number) }
+    ensures some { IfOk result IsNumber }
+    ensures refused { IfErr result IsProposalRefusal }
+    ensures err { OnErr result (session.new ≡ session.old) }
+{
+    cluster.propose(rt, session, set, turns)
+}
+
+/// `Cluster::settle`.
+pub fn settle<R: Wait>(
+    rt: &R,
+    cluster: &Cluster,
+    session: &mut Session,
+    number: u64,
+    turns: u64,
+) -> Result<(), Refusal>
+    requires { 1 ≤ turns }
+    ensures seen { OnOk result (session.new.seen ≡ max session.old.seen number) }
+    ensures some { OnOk result (IsNumber number) }
+    ensures refused { IfErr result (IsSettlementRefusal number) }
+    ensures err { OnErr result (session.new ≡ session.old) }
+{
+    cluster.settle(rt, session, number, turns)
+}
+
+/// `Cluster::relimit`.
+pub fn relimit<R: Wait>(
+    rt: &R,
+    cluster: &Cluster,
+    site: SiteId,
+    scope: Scope,
+    amount: u64,
+) -> Result<u64, Refusal>
+    ensures place { IfOk result (IsLimitPlace site scope amount) }
+    ensures refused { IfErr result (IsLimitChangeRefusal site scope amount) }
+{
+    cluster.relimit(rt, site, scope, amount)
+}

@@ -26,6 +26,8 @@ mod calls;
 #[cfg(test)]
 mod expect;
 #[cfg(test)]
+mod promises;
+#[cfg(test)]
 mod readers;
 #[cfg(test)]
 mod records;

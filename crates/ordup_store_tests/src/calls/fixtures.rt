@@ -3,9 +3,10 @@
 //! Tests drop by a call what a run left, which is proved once for all of them: docs/DECISIONS.md, Tests.
 ghost use Rattle.std.specs.Prelude.{◌≡◌};
 
+use crate::promises::run;
 use ordup_limits::Scope;
 use ordup_objects::{Change, MessageSet, ObjectId, ObjectTable, Op, Refusal, SiteId};
-use ordup_world::{Event, Run, Setup, run};
+use ordup_world::{Event, Run, Setup};
 use std::alloc::Global;
 use std::process::Abort;
 

@@ -1,4 +1,5 @@
 //! A new primary, and a run of events, each with each of its growths refused in turn.
+use crate::promises::run;
 use crate::scripts::scarce::{Heap, Scarce};
 use crate::scripts::sets::set_of_x;
 use ordup_answers::push_answer;
@@ -6,7 +7,7 @@ use ordup_limits::Scope;
 use ordup_objects::{ObjectId, ObjectTable, Refusal, SiteId};
 use ordup_primary::Primary;
 use ordup_text::TextBuffer;
-use ordup_world::{Event, Run, Setup, run};
+use ordup_world::{Event, Run, Setup};
 use std::alloc::AllocError;
 use std::process::Abort;
 

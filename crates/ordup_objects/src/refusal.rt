@@ -70,12 +70,13 @@ pub enum Refusal {
 impl fmt::Display for Refusal {
     fn fmt<W: fmt::Write>(&self, f: &mut fmt::Formatter<W>) -> fmt::Result {
         f.write_str(self.name())?;
-        match self {
-            Refusal::Behind { applied } => write!(f, " {applied}"),
-            Refusal::NotYet { number } => write!(f, " {number}"),
-            Refusal::Mixed { site } => write!(f, " {}", site.index()),
-            _ => Ok(()),
-        }
+        let told = match self {
+            Refusal::Behind { applied } => *applied,
+            Refusal::NotYet { number } => *number,
+            Refusal::Mixed { site } => site.index() as u64,
+            _ => return Ok(()),
+        };
+        write!(f, " {told}")
     }
 }
 

@@ -5,7 +5,7 @@ use crate::bytes::{is_spelled, is_word};
 use crate::word::Word;
 
 /// The first word of a command that is no declaration.
-#[derive(Clone, Copy, PartialEq, Eq)]
+#[derive(Clone, Copy)]
 pub enum Keyword {
     /// `start`: the declarations are complete.
     Start,

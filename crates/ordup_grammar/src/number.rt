@@ -7,7 +7,7 @@ use crate::sizes::MOST_DIGITS;
 use std::marker::Model;
 
 /// A whole number as a script writes it: at most 19 digits, so between -(10^19 - 1) and 10^19 - 1. Zero has no sign.
-#[derive(Clone, Copy, PartialEq, Eq)]
+#[derive(Clone, Copy)]
 pub struct Number {
     // -1 below zero, else 1. It is as wide as the magnitude, so that no bytes lie between the fields. Such bytes would be written
     // with each request that can hold a number, which takes a tenth of the time of a short line.

@@ -1,5 +1,5 @@
 use Rattle.std.proofs.Common.{◌+◌, ◌≤◌, ◌∙◌, ap, arith, get_or, length, refl}
-use Rattle.std.proofs.lemmas.List.{get_or_default}
+use Rattle.std.proofs.lemmas.List.{get_or_default, length-drop}
 use Rattle.std.proofs.lemmas.List.Elements.{All-more}
 use Rattle.ordup_limits.specs.declared.limit_entry.LimitEntry.{LimitEntry}
 use Rattle.ordup_limits.specs.Limits.{Limits}
@@ -64,6 +64,25 @@ returns-else-entries-count g c =
         upto = inside.upto;
         later = later-drop entries c.args.place i (get_or entries i tested) c.requires.rising c.loop-count-test.true
             (get_or_default entries i tested (get_or entries i tested) c.loop-count-test.true) c.if-entries-count.false;
+      };
+      limits = inside.limits;
+      places = inside.places;
+      stands = inside.stands;
+    }
+
+pub returns-after-loop-count : goal.returns-after-loop-count
+returns-after-loop-count g c =
+    let inside = c.loop-count.invariant in
+    record {
+      more = inside.more;
+      begun = record {
+        upto = inside.upto;
+        later = λ k d lt. absurd (omega (
+          arith,
+          lt,
+          length-drop c.loop-count.count c.args.entries.now,
+          c.loop-count-test.false,
+        ));
       };
       limits = inside.limits;
       places = inside.places;

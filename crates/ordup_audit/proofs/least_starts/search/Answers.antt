@@ -36,3 +36,17 @@ loop-low-preserved-then-over g c =
       same = c.stand_at.ensures.limits ∙ before.same;
       stands = c.stand_at.ensures.stands;
     }
+
+pub stand_at-requires : goal.stand_at-requires
+stand_at-requires g c = record {
+  reported = omega (arith, c.loop-low-test.true, c.loop-low.invariant.last, c.requires.last);
+  extended = c.requires.last;
+  stands = c.loop-low.invariant.stands;
+}
+
+pub stand_at-requires-2 : goal.stand_at-requires-2
+stand_at-requires-2 g c = record {
+  reported = omega (arith, c.loop-low.invariant.order, c.loop-low.invariant.last, c.requires.last);
+  extended = c.requires.last;
+  stands = c.loop-low.invariant.stands;
+}

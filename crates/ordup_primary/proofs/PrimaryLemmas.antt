@@ -1,7 +1,7 @@
 -- What a call does to a primary.
 use Rattle.std.proofs.Common.{◌≡◌, ℕ, zero, suc, ◌+◌, ◌-◌, ◌<◌, ◌≤◌, ◌==◌, Bool, true, false, not, List, [], ◌∷◌, ◌++◌, length, map, get_or}
-use Rattle.std.proofs.Common.{replicate, arith, refl, sym, ap, ◌∙◌, inl, inr, ◌⊎◌}
-use Rattle.std.specs.Prelude.{Some, None, All, nat_lt, ◌&&◌}
+use Rattle.std.proofs.Common.{replicate, arith, refl, sym, ap, ◌∙◌, inl, inr, ◌⊎◌, subst}
+use Rattle.std.specs.Prelude.{Some, None, Result, Ok, Err, IfOk, IfErr, All, nat_lt, ◌&&◌}
 use Rattle.std.specs.List.{list_any}
 use Rattle.std.proofs.Math.Bool.{and-true}
 use Rattle.std.proofs.Math.ListN.{set, length-set, get_or-append}
@@ -15,6 +15,7 @@ use Rattle.ordup_objects.specs.Tables.{initial_state}
 use Rattle.ordup_objects.specs.Sets.{IsSet, AreKnown}
 use Rattle.ordup_objects.specs.Sizes.{most_updates}
 use Rattle.ordup_objects.specs.Serial.{History, serial, with_update, IsLegalHistory}
+use Rattle.ordup_objects.specs.declared.refusal.Refusal.{Refusal}
 use Rattle.ordup_objects.specs.declared.refusal.Refusal.TheVariants.{LogFull, OutOfRange, Empty}
 use Rattle.ordup_log.specs.Appending.{append_refusal}
 use Rattle.ordup_objects.proofs.SerialLemmas.{IsLegalHistory-longer}
@@ -123,6 +124,13 @@ room-from_allowed log m few allowed = elim (cases_eq (length log.sets) 1000000) 
 is_within-proposed : (p : PrimaryState) (m : List Change) (s a b : ℕ) → b ≤ length p.log.sets
     → is_within (record p { log = with_update p.log m }) s a b ≡ is_within p s a b
 is_within-proposed p m s a b le = within-longer p.log (m ∷ []) p.setup.groups (in_force (limits_at p s) b) a b le
+
+-- what holds of a log, and of the log with an update more where it is not refused, holds after the call
+pub kept-appended : (P : History → Type 0) (r : Result ℕ Refusal) (old new : History) (m : List Change) → P old
+    → (append_refusal old m ≡ None → P (with_update old m)) → IfOk r (λ _. new ≡ with_update old m)
+    → IfOk r (λ _. append_refusal old m ≡ None) → IfErr r (λ _. new ≡ old) → P new
+kept-appended P (Ok k) old new m is more added allowed same = subst P (sym added) (more allowed)
+kept-appended P (Err e) old new m is more added allowed same = subst P (sym same) is
 
 -- a primary with one update more
 pub IsPrimary-proposed : (p : PrimaryState) (m : List Change) → IsPrimary p → IsSet m → AreKnown (length p.log.start) m

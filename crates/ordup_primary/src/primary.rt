@@ -108,9 +108,9 @@ impl<A: Allocator + Copy> Primary<A> {
         ensures err { IfErr result (λ _. self.new ≡ self.old) }
         ensures sound { IsPrimary self.new }
     {
-        let number = self.log.append(set)?;
+        let appended = self.log.append(set);
         self.keeps();
-        Ok(number)
+        appended
     }
 
     /// A copy of the first update that was not sent to a site.

@@ -1,7 +1,9 @@
 ghost use Rattle.std.specs.Prelude.{◌≡◌, ◌≢◌, ◌<◌, ◌≤◌, ◌⊎◌, ℕ, None, Some, pos, length, max, slice_get, vec_len, IfOk, OnOk, IfErr, OnErr, IfSome, IfNone};
 ghost use Rattle.std.specs.Vec.{vec_capacity};
 ghost use Rattle.ordup_objects.specs.Refusals.{IsRefusal};
+ghost use Rattle.ordup_objects.specs.Sizes.{most_updates};
 ghost use Rattle.ordup_primary.specs.Declarations.{start_refusal};
+ghost use Rattle.ordup_query.specs.Queries.{begin_refusal};
 ghost use Rattle.ordup_site.specs.Sites.{SiteState};
 ghost use Rattle.ordup_cluster.specs.Books.{AreSpareValues};
 ghost use Rattle.ordup_cluster.specs.Agreement.{Agrees};
@@ -22,6 +24,7 @@ use crate::site_query::SiteQuery;
 use ordup_log::Scope;
 use ordup_objects::{MessageSet, ObjectId, ObjectTable, Refusal, SiteId, Values};
 use ordup_primary::{Primary, Setup};
+use ordup_query::Query;
 use ordup_site::Site;
 use std::alloc::Global;
 use std::marker::Model;
@@ -196,10 +199,7 @@ impl Cluster {
         ensures refused { IfErr result (IsSettlementRefusal number) }
         ensures err { OnErr result (session.new ≡ session.old) }
     {
-        let book = self.book.lock(rt);
-        let last = book.primary().log().len();
-        let acked = book.primary().acked();
-        drop(book);
+        let (last, acked) = self.last_and_acked(rt);
         if number == 0 || number > last {
             return Err(Refusal::OutOfRange);
         }
@@ -207,6 +207,15 @@ impl Cluster {
         until(rt, &mut made, number, turns)?;
         session.see(number);
         Ok(())
+    }
+
+    /// The first hold of a settlement: how many updates the log has, and how many are acknowledged.
+    fn last_and_acked<R: Wait>(&self, rt: &R) -> (u64, u64)
+        ensures { result.0 ≤ most_updates }
+    {
+        let book = self.book.lock(rt);
+        let primary = book.primary();
+        (primary.log().len(), primary.acked())
     }
 
     /// Reads the value of an object at a site, with how many updates the site had applied.
@@ -236,8 +245,7 @@ impl Cluster {
         if site.index() >= self.cells.len() {
             return Err(Refusal::UnknownSite);
         }
-        let cell = self.cells[site.index()].lock(rt);
-        let read = view(&cell, object)?;
+        let read = self.view(rt, site, object)?;
         if read.applied < session.seen() {
             return Err(Refusal::Behind {
                 applied: read.applied,
@@ -245,6 +253,15 @@ impl Cluster {
         }
         session.see(read.applied);
         Ok(read)
+    }
+
+    /// The hold of a read.
+    fn view<R: Wait>(&self, rt: &R, site: SiteId, object: ObjectId) -> Result<SeenValue, Refusal>
+        requires { site < self.now.sites }
+        ensures { IfErr result (λ e. e ≡ Refusal.UnknownObject) }
+    {
+        let cell = self.cells[site.index()].lock(rt);
+        view(&cell, object)
     }
 
     /// Begins a query at a site with this import limit, from 0 to 10^18. Its reference is what is acknowledged now.
@@ -260,13 +277,21 @@ impl Cluster {
         if site.index() >= self.cells.len() {
             return Err(Refusal::UnknownSite);
         }
-        let book = self.book.lock(rt);
-        let query = begin(&book, limit)?;
-        drop(book);
+        let query = self.begin_query(rt, limit)?;
         Ok(SiteQuery {
             cell: &self.cells[site.index()],
             query,
         })
+    }
+
+    /// The hold in which a query begins.
+    fn begin_query<R: Wait>(&self, rt: &R, limit: u64) -> Result<Query, Refusal>
+        ensures query { IfOk result (λ q. q ≡ record { place = q.place; marks = q.marks; limit = limit; sum = pos 0; total = 0; reads = 0 }) }
+        ensures allowed { IfOk result (λ _. begin_refusal limit ≡ None) }
+        ensures refused { IfErr result (λ e. IsRefusal (begin_refusal limit) e) }
+    {
+        let book = self.book.lock(rt);
+        begin(&book, limit)
     }
 
     /// Changes the limit of a site on a scope from the head on, or begins one there. The amount lies from 0 to 10^18. The updates
@@ -290,7 +315,6 @@ impl Cluster {
         ensures refused { IfErr result (IsLimitChangeRefusal site scope amount) }
     {
         let mut book = self.book.lock(rt);
-        book.primary().keeps();
         relimit(&mut book, site, scope, amount)
     }
 

@@ -1,7 +1,7 @@
 ghost use Rattle.std.specs.Prelude.{◌≡◌, ◌+◌, None, IfOk, IfErr, OnErr};
 ghost use Rattle.ordup_objects.specs.Refusals.{IsRefusal};
 ghost use Rattle.ordup_primary.specs.LimitChanges.{limit_change_refusal};
-ghost use Rattle.ordup_primary.specs.Primaries.{site_view};
+ghost use Rattle.ordup_primary.specs.Primaries.{IsPrimary, site_view};
 ghost use Rattle.ordup_cluster.specs.Relimiting.{with_changed_limit};
 
 use crate::holds::book::Book;
@@ -22,6 +22,8 @@ pub fn relimit(book: &mut Book, site: SiteId, scope: Scope, amount: u64) -> Resu
     ensures allowed { IfOk result (λ _. limit_change_refusal (site_view book.old.primary site) scope amount ≡ None) }
     ensures refused { IfErr result (λ e. IsRefusal (limit_change_refusal (site_view book.old.primary site) scope amount) e) }
     ensures err { OnErr result (book.new ≡ book.old) }
+    // What each book keeps: its primary is sound.
+    ensures sound { IsPrimary book.old.primary }
 {
     // The prover joins branches over a borrowed scope, not over a copied one.
     let scope = &scope;

@@ -404,10 +404,13 @@ fn number_unless_stopped<R: Wait>(
     ensures refused { IfErr result (λ e. IsRefusal (proposal_refusal stopped book.old.primary.log set) e) }
     ensures err { OnErr result (book.new ≡ book.old) }
 {
+    // What is large is dropped by a call: where it goes out of scope, the proof takes it apart.
     if stopped {
+        drop(set);
         return Err(Refusal::Stopped);
     }
     if !set.are_known(book.primary().log().objects()) {
+        drop(set);
         return Err(Refusal::UnknownObject);
     }
     number_and_turn(rt, book, set)

@@ -48,10 +48,11 @@ impl SiteQuery<'_> {
             return Err(Refusal::UnknownObject);
         }
         let cell = self.cell.lock(rt);
-        if object.index() >= cell.site().len() {
+        let site = cell.site();
+        if object.index() >= site.len() {
             return Err(Refusal::UnknownObject);
         }
-        self.query.read(cell.site(), object)
+        self.query.read(site, object)
     }
 
     /// Ends the query, and answers what its accepted reads added up to. It takes no lock.

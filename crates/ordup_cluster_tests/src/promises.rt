@@ -7,7 +7,7 @@ ghost use Rattle.ordup_objects.specs.States.{value_at};
 ghost use Rattle.ordup_objects.specs.Tables.{initial_state};
 ghost use Rattle.ordup_feed.specs.Parcels.{feed_refusal};
 ghost use Rattle.ordup_primary.specs.LimitChanges.{limit_change_refusal};
-ghost use Rattle.ordup_primary.specs.Primaries.{site_view};
+ghost use Rattle.ordup_primary.specs.Primaries.{IsPrimary, site_view};
 ghost use Rattle.ordup_cluster.specs.Refusals.{IsNumber, IsProposalRefusal, IsSettlementRefusal, IsLimitPlace, IsLimitChangeRefusal};
 ghost use Rattle.ordup_cluster.specs.Relimiting.{with_changed_limit};
 
@@ -55,6 +55,7 @@ pub fn relimit_in_hold(
     ensures allowed { IfOk result (λ _. limit_change_refusal (site_view book.old.primary site) scope amount ≡ None) }
     ensures refused { IfErr result (λ e. IsRefusal (limit_change_refusal (site_view book.old.primary site) scope amount) e) }
     ensures err { OnErr result (book.new ≡ book.old) }
+    ensures sound { IsPrimary book.old.primary }
 {
     holds::relimit(book, site, scope, amount)
 }

@@ -81,6 +81,7 @@ pub(crate) fn put_down<A: Allocator + Copy>(
     }
 }
 
+/// Puts down the decision of an update at one site: what the site had reported, and its round and window where it is forced.
 fn put_down_at<A: Allocator + Copy>(site: &mut Progress<A>, is_forced: bool, number: u64)
     requires room { HasRoom site.old }
     requires next { number ≡ length site.old.reports.reports + 1 }

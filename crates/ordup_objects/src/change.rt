@@ -5,7 +5,7 @@ ghost use Rattle.ordup_objects.specs.States.{State, value_at, result_of, IsInRan
 use crate::ids::ObjectId;
 
 /// What a change by a number does to its object's value.
-#[derive(Clone, Copy, Debug)]
+#[derive(Clone, Copy, Debug, PartialEq, Eq)]
 pub enum NumberOp {
     /// `add`: the number is added to the value.
     Add,

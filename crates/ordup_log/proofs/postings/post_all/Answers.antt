@@ -36,3 +36,13 @@ loop-i-preserved g c =
           rest-room lists changes c.loop-i.i c.index.result c.index-changes-i.result c.post.new.postings c.loop-i-test.true
           c.index-changes-i.is c.index.ensures c.requires.distinct before.room;
     }
+
+pub index_mut-requires : goal.index_mut-requires
+index_mut-requires g c =
+    omega (
+      arith,
+      next-known (length c.args.postings.now.items) c.args.changes.now c.loop-i.i c.index-changes-i.result c.requires.known
+          c.loop-i-test.true c.index-changes-i.is,
+      c.index.ensures,
+      c.loop-i.invariant.count,
+    )

@@ -1,2 +1,4 @@
 pub mod TravelLemmas
 pub mod SiteLemmas
+pub mod ImportLemmas
+mod Examples

@@ -1,2 +1,0 @@
-pub mod ImportLemmas
-mod Examples

@@ -1,4 +1,0 @@
-pub mod Sizes
-pub mod Imports
-pub mod Queries
-pub mod QueryInside

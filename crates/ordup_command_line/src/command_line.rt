@@ -65,20 +65,23 @@ fn callers_of(callers: Option<u8>) -> Option<Job> {
 
 /// The words that the program takes, with their help.
 fn command<'a>(alloc: Global) -> Result<Command<'a>, AllocError> {
-    let ordup = program(alloc).subcommand(run(alloc));
+    let ordup = with_words(Ok(program(alloc)), run(alloc));
     let ordup = with_job(ordup, record(alloc));
-    let ordup = with_job(ordup, Ok(check(alloc)));
-    let ordup = with_job(ordup, Ok(lag(alloc)));
+    let ordup = with_words(ordup, check(alloc));
+    let ordup = with_words(ordup, lag(alloc));
     with_job(ordup, threads(alloc))
 }
 
 /// The words of the program before those of its jobs.
 fn program<'a>(alloc: Global) -> Command<'a> {
-    Command::new(alloc, "ordup")
-        .about("A replicated store of whole numbers: every site applies the updates in one order")
-        .version(VERSION)
-        .after_help(HELP)
-        .subcommand_required(true)
+    words_of(
+        alloc,
+        "ordup",
+        "A replicated store of whole numbers: every site applies the updates in one order",
+        HELP,
+    )
+    .version(VERSION)
+    .subcommand_required(true)
 }
 
 /// The words of a program with those of one job more.
@@ -86,60 +89,93 @@ fn with_job<'a>(
     program: Result<Command<'a>, AllocError>,
     job: Result<Command<'a>, AllocError>,
 ) -> Result<Command<'a>, AllocError> {
-    match (program, job) {
-        (Ok(program), Ok(job)) => program.subcommand(job),
-        (program, job) => {
+    match job {
+        Ok(job) => with_words(program, job),
+        Err(error) => {
             drop(program);
+            Err(error)
+        }
+    }
+}
+
+/// The same, where the words of the job could be made.
+fn with_words<'a>(
+    program: Result<Command<'a>, AllocError>,
+    job: Command<'a>,
+) -> Result<Command<'a>, AllocError> {
+    match program {
+        Ok(program) => program.subcommand(job),
+        Err(error) => {
             drop(job);
-            Err(AllocError)
+            Err(error)
         }
     }
 }
 
 /// The words of `ordup run`.
 fn run<'a>(alloc: Global) -> Command<'a> {
-    Command::new(alloc, "run")
-        .about("Runs a script: answers each command that it reads")
-        .after_help(RUN_HELP)
-}
-
-/// The words of `ordup record`.
-fn record<'a>(alloc: Global) -> Result<Command<'a>, AllocError> {
-    Command::new(alloc, "record")
-        .about("Runs a script and prints the record of a site: what an auditor checks")
-        .after_help(RECORD_HELP)
-        .arg(
-            Arg::new(alloc, "SITE")
-                .required(true)
-                .help("The site's name"),
-        )
+    words_of(
+        alloc,
+        "run",
+        "Runs a script: answers each command that it reads",
+        RUN_HELP,
+    )
 }
 
 /// The words of `ordup check`.
 fn check<'a>(alloc: Global) -> Command<'a> {
-    Command::new(alloc, "check")
-        .about("Checks whether a record shows that the site's forced rounds are the fewest")
-        .after_help(CHECK_HELP)
+    words_of(
+        alloc,
+        "check",
+        "Checks whether a record shows that the site's forced rounds are the fewest",
+        CHECK_HELP,
+    )
 }
 
 /// The words of `ordup lag`.
 fn lag<'a>(alloc: Global) -> Command<'a> {
-    Command::new(alloc, "lag")
-        .about("Prints the lag of a site at each decision, as its record tells it")
-        .after_help(LAG_HELP)
+    words_of(
+        alloc,
+        "lag",
+        "Prints the lag of a site at each decision, as its record tells it",
+        LAG_HELP,
+    )
+}
+
+/// The words of `ordup record`.
+fn record<'a>(alloc: Global) -> Result<Command<'a>, AllocError> {
+    words_of(
+        alloc,
+        "record",
+        "Runs a script and prints the record of a site: what an auditor checks",
+        RECORD_HELP,
+    )
+    .arg(
+        Arg::new(alloc, "SITE")
+            .required(true)
+            .help("The site's name"),
+    )
 }
 
 /// The words of `ordup threads`.
 fn threads<'a>(alloc: Global) -> Result<Command<'a>, AllocError> {
-    Command::new(alloc, "threads")
-        .about("Runs a plan by callers in threads, and prints what came of it")
-        .after_help(THREADS_HELP)
-        .arg(
-            Arg::new(alloc, "CLIENTS")
-                .required(true)
-                .value_parser(value_parser!(u8).range(1..=16))
-                .help("How many callers there are, 1 to 16"),
-        )
+    words_of(
+        alloc,
+        "threads",
+        "Runs a plan by callers in threads, and prints what came of it",
+        THREADS_HELP,
+    )
+    .arg(
+        Arg::new(alloc, "CLIENTS")
+            .required(true)
+            .value_parser(value_parser!(u8).range(1..=16))
+            .help("How many callers there are, 1 to 16"),
+    )
+}
+
+/// The words of this name, without those of arguments: what they are about, and the help on them.
+fn words_of<'a>(alloc: Global, name: &'a str, about: &'a str, help: &'a str) -> Command<'a> {
+    Command::new(alloc, name).about(about).after_help(help)
 }
 
 /// What `ordup --version` shows after the program's name.

@@ -1,5 +1,5 @@
 -- Rows that are read one after another.
-use Rattle.std.specs.Prelude.{ℕ, ℤ, ◌+◌, ◌-◌, ◌==◌, ◌&&◌, not, Bool, List, [], ◌∷◌, ◌++◌, length, map, nat_lt, nat_le, slice_index}
+use Rattle.std.specs.Prelude.{ℕ, ℤ, ◌+◌, ◌-◌, ◌==◌, ◌&&◌, not, Bool, List, [], ◌∷◌, ◌++◌, length, map, nat_lt, nat_le}
 use Rattle.std.specs.Prelude.{slice_index_or, slice_set, Option, Some, None, option_map, option_and_then, codes, if◌then◌else◌}
 use Rattle.std.specs.Bool.{then_some}
 use Rattle.std.specs.List.{list_any}
@@ -13,6 +13,7 @@ use Rattle.ordup_objects.specs.Tables.{index_of, object_refusal}
 use Rattle.ordup_objects.specs.declared.change.Change.{Change}
 use Rattle.ordup_objects.specs.declared.refusal.Refusal.{Refusal}
 use Rattle.ordup_log.specs.Groups.{GroupList, group_refusal, last_members, member_refusal, with_member}
+use Rattle.ordup_log.specs.Postings.{last_number}
 use Rattle.ordup_limits.specs.Entries.{Entries, are_one_entry, change_refusal, entry_of}
 use Rattle.ordup_limits.specs.declared.limit_entry.LimitEntry.{LimitEntry}
 use Rattle.ordup_audit.specs.Records.{RecordState}
@@ -95,10 +96,6 @@ with_member_row r c = do
       (is_before_limits r && writes c.first (member_count r.groups + 1) && is_none
       (membership_refusal (length r.objects) r.groups c.second x))
       (record r { groups = with_membership r.groups c.second x })
-
--- the last of ascending numbers, 0 where there is none
-abbrev pub last_number : List ℕ → ℕ
-last_number numbers = slice_index numbers (length numbers - 1)
 
 -- the place from which the last of these limits holds, 0 where there is none
 abbrev pub last_place : Entries → ℕ

@@ -1,6 +1,6 @@
 //! Public calls whose clauses no proof above them cites. Each function makes one of these calls, and its contract has the same
 //! clauses, so the prover refuses the function where the call promises less. Tests make the calls by them.
-ghost use Rattle.std.specs.Prelude.{◌≡◌, ◌<◌, ◌≤◌, ◌+◌, [], None, length, max, IfOk, IfErr, OnOk, OnErr};
+ghost use Rattle.std.specs.Prelude.{◌≡◌, ◌<◌, ◌≤◌, ◌+◌, ◌+ℤ◌, pos, List, ◌∷◌, [], None, length, map, max, IfOk, IfErr, OnOk, OnErr};
 ghost use Rattle.ordup_objects.specs.Refusals.{IsRefusal};
 ghost use Rattle.ordup_objects.specs.Serial.{serial};
 ghost use Rattle.ordup_objects.specs.States.{value_at};
@@ -8,15 +8,19 @@ ghost use Rattle.ordup_objects.specs.Tables.{initial_state};
 ghost use Rattle.ordup_feed.specs.Parcels.{feed_refusal};
 ghost use Rattle.ordup_primary.specs.LimitChanges.{limit_change_refusal};
 ghost use Rattle.ordup_primary.specs.Primaries.{IsPrimary, site_view};
+ghost use Rattle.ordup_site.specs.Queries.{HasRead, import_sum, read_refusal, value_sum};
+ghost use Rattle.ordup_site.specs.declared.answer.ReadAnswer.{ReadAnswer};
 ghost use Rattle.ordup_cluster.specs.Refusals.{IsNumber, IsProposalRefusal, IsSettlementRefusal, IsLimitPlace, IsLimitChangeRefusal};
+ghost use Rattle.ordup_cluster.specs.Refusals.{IsQueryRefusal, site_query_refusal};
 ghost use Rattle.ordup_cluster.specs.Relimiting.{with_changed_limit};
 
 use ordup_cluster::holds::{self, Book};
-use ordup_cluster::{Cluster, Session};
+use ordup_cluster::{Cluster, Session, SiteQuery};
 use ordup_feed::{Feed, SendEnd, TakeEnd};
 use ordup_limits::Scope;
 use ordup_log::Log;
 use ordup_objects::{MessageSet, ObjectId, ObjectTable, Refusal, SiteId};
+use ordup_site::{QueryAnswer, ReadAnswer};
 use std::alloc::Global;
 use std::sync::Wait;
 
@@ -106,4 +110,44 @@ pub fn relimit<R: Wait>(
     ensures refused { IfErr result (IsLimitChangeRefusal site scope amount) }
 {
     cluster.relimit(rt, site, scope, amount)
+}
+
+/// `Cluster::begin`.
+pub fn begin<'a, R: Wait>(
+    rt: &R,
+    cluster: &'a Cluster,
+    site: SiteId,
+    limit: u64,
+) -> Result<SiteQuery<'a>, Refusal>
+    ensures query { IfOk result (λ q. q ≡ record { place = q.place; marks = q.marks; limit = limit; sum = pos 0; total = 0; reads = 0 }) }
+    ensures allowed { IfOk result (λ _. site_query_refusal cluster.now.sites site limit ≡ None) }
+    ensures refused { IfErr result (λ e. IsRefusal (site_query_refusal cluster.now.sites site limit) e) }
+{
+    cluster.begin(rt, site, limit)
+}
+
+/// `SiteQuery::read`.
+pub fn read<R: Wait>(
+    rt: &R,
+    query: &mut SiteQuery<'_>,
+    object: ObjectId,
+) -> Result<ReadAnswer, Refusal>
+    ensures total { IfOk result (λ a. a.total ≡ query.old.total + a.import) }
+    ensures query { IfOk result (λ a. query.new ≡ record query.old { sum = query.old.sum +ℤ a.value; total = a.total; reads = query.old.reads + 1 }) }
+    ensures reads { (answers : List ReadAnswer) → HasRead query.old answers → IfOk result (λ a. HasRead query.new (a ∷ answers)) }
+    ensures marked { IfOk result (λ _. object < length query.old.marks) }
+    ensures allowed { IfOk result (λ a. read_refusal query.old.reads query.old.limit query.old.total a.import ≡ None) }
+    ensures refused { IfErr result (IsQueryRefusal query.old object) }
+    ensures err { OnErr result (query.new ≡ query.old) }
+{
+    query.read(rt, object)
+}
+
+/// `SiteQuery::end`.
+pub fn end(query: SiteQuery<'_>) -> QueryAnswer
+    ensures answer { result ≡ record { place = query.entry.place; sum = query.entry.sum; total = query.entry.total; reads = query.entry.reads } }
+    ensures reads { (answers : List ReadAnswer) → HasRead query.entry answers → result ≡ record { place = query.entry.place; sum = value_sum (map (λ a. a.value) answers); total = import_sum (map (λ a. a.import) answers); reads = length answers } }
+    ensures within { result.total ≤ query.entry.limit }
+{
+    query.end()
 }

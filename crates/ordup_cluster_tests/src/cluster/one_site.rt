@@ -4,6 +4,7 @@ use super::fixtures::{
     opened,
 };
 use crate::fixtures::{a, seen, x};
+use crate::promises::{begin, end, read};
 use ordup_cluster::{Cluster, Session, SiteQuery};
 use ordup_limits::Scope;
 use ordup_objects::{MessageSet, Refusal};
@@ -33,10 +34,10 @@ fn query_meanwhile<R: Wait + Abort>(
     session: &mut Session,
     set: MessageSet,
 ) {
-    expect_eq!(rt; query.read(rt, x()), Ok(ReadAnswer { value: 0, import: 3, total: 3, }));
+    expect_eq!(rt; read(rt, &mut query, x()), Ok(ReadAnswer { value: 0, import: 3, total: 3, }));
     stop_and_apply(rt, cluster, session, set);
-    expect_eq!(rt; query.read(rt, x()), Ok(ReadAnswer { value: 3, import: 0, total: 3, }));
-    expect_eq!(rt; query.end(), QueryAnswer { place: 1, sum: 3, total: 3, reads: 2, });
+    expect_eq!(rt; read(rt, &mut query, x()), Ok(ReadAnswer { value: 3, import: 0, total: 3, }));
+    expect_eq!(rt; end(query), QueryAnswer { place: 1, sum: 3, total: 3, reads: 2, });
 }
 
 /// The update that adds 3 to x is acknowledged before the site a has applied it.
@@ -44,7 +45,7 @@ fn follow<R: Wait + Abort>(rt: &R, cluster: &Cluster, set: MessageSet, other: Me
     let mut session = Session::new();
     expect_proposed(rt, cluster, &mut session, set, 1, Ok(1));
     expect_behind(rt, cluster, &mut session, a(), 0);
-    let Ok(query) = cluster.begin(rt, a(), 4) else {
+    let Ok(query) = begin(rt, cluster, a(), 4) else {
         panic!(rt; "the query is refused")
     };
     query_meanwhile(rt, cluster, query, &mut session, other);

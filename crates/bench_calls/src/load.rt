@@ -27,8 +27,7 @@ impl<A: Allocator + Copy> Load<A> {
     pub(crate) fn start(alloc: A, kind: Kind, events: u64) -> Result<Self, Refusal> {
         let mut setup = Setup::new(alloc);
         if let Err(refusal) = declare(&mut setup, kind) {
-            // By a call, as the load itself: where it goes out of scope, the proof takes it apart.
-            drop(setup);
+            setup.discard();
             return Err(refusal);
         }
         let world = World::start(alloc, setup)?;
@@ -166,5 +165,10 @@ impl<A: Allocator + Copy> Load<A> {
         }
         println!(rt; "{line}")?;
         Ok(())
+    }
+
+    /// Gives the memory of the store back.
+    pub(crate) fn discard(self) {
+        self.world.discard();
     }
 }

@@ -40,7 +40,7 @@ fn main(rt: HostRuntime) -> Result<()> {
 fn step(rt: &impl Print, alloc: Global, kind: Kind, events: u64) -> Result<()> {
     let mut load = Load::start(alloc, kind, events)?;
     let printed = load.run_and_print(rt);
-    drop(load);
+    load.discard();
     printed
 }
 

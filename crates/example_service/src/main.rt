@@ -130,7 +130,7 @@ fn close(rt: &impl Print, cluster: Cluster) -> Result<()> {
     match cluster.close() {
         Ok(closed) => {
             let shown = show(rt, &closed);
-            drop(closed);
+            closed.discard();
             shown
         }
         Err(refusal) => bail!("a shop does not agree with the log: {refusal}"),

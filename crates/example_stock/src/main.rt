@@ -18,7 +18,7 @@ struct Stock {
 fn main(rt: HostRuntime) -> Result<()> {
     let mut stock = Stock::open(rt.alloc())?;
     let sold = stock.sell(&rt);
-    drop(stock);
+    stock.world.discard();
     sold
 }
 

@@ -14,8 +14,7 @@ pub(crate) fn close(rt: &impl Print, cluster: Cluster) -> io::Result<()> {
     match cluster.close() {
         Ok(closed) => {
             let printed = print_closed(rt, &closed);
-            // By a call: where it goes out of scope, the proof takes it apart.
-            drop(closed);
+            closed.discard();
             printed
         }
         Err(refusal) => print_refused(rt, "close", refusal),

@@ -107,7 +107,7 @@ fn opened(rt: &impl Print, cluster: Cluster) -> Result<Cluster, Stop> {
     match println!(rt; "cluster ok") {
         Ok(()) => Ok(cluster),
         Err(_) => {
-            drop(cluster);
+            cluster.discard();
             Err(Stop::Unprinted)
         }
     }

@@ -42,7 +42,7 @@ pub(crate) fn declare_without_limits(alloc: Global) -> Result<Setup, Refusal> {
     match add_two_sites(&mut setup) {
         Ok(()) => Ok(setup),
         Err(refusal) => {
-            drop(setup);
+            setup.discard();
             Err(refusal)
         }
     }
@@ -62,7 +62,7 @@ pub(crate) fn declare_without_lag(alloc: Global) -> Result<Setup, Refusal> {
     match add_site_without_lag(&mut setup) {
         Ok(()) => Ok(setup),
         Err(refusal) => {
-            drop(setup);
+            setup.discard();
             Err(refusal)
         }
     }

@@ -27,7 +27,14 @@ impl<A: Allocator + Copy> ScriptEnd<A> {
     pub(crate) fn run(&mut self, world: World<A>)
         ensures { self.new ≡ ScriptEnd.Running world }
     {
-        // By a call: where the declarations go out of scope, the proof takes them apart.
-        drop(mem::replace(self, ScriptEnd::Running(world)));
+        mem::replace(self, ScriptEnd::Running(world)).discard();
+    }
+
+    /// Gives its memory back, as where it goes out of scope.
+    pub fn discard(self) {
+        match self {
+            ScriptEnd::Declared(setup) => setup.discard(),
+            ScriptEnd::Running(world) => world.discard(),
+        }
     }
 }

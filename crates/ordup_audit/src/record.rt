@@ -55,6 +55,11 @@ impl<A: Allocator + Copy> Model for Record<A> {
     ghost invariant = { λ r. AreParts r.parts };
 }
 
+impl<A: Allocator + Copy> RecordParts<A> {
+    /// Gives the memory of the parts back, as where they go out of scope.
+    pub fn discard(self) {}
+}
+
 impl<A: Allocator + Copy> Record<A> {
     ghost use Rattle.ordup_objects.specs.Serial.{set_at, IsLegalHistory};
     ghost use Rattle.ordup_audit.specs.Records.{IsRecord, history_of, report_at};
@@ -239,4 +244,7 @@ impl<A: Allocator + Copy> Record<A> {
         }
         true
     }
+
+    /// Gives its memory back, as where it goes out of scope.
+    pub fn discard(self) {}
 }

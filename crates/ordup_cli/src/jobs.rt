@@ -56,8 +56,6 @@ pub(crate) fn do_job<T: Threads + Wait + Sync, R: Read, W: Write>(
 /// Runs a script and prints its answers.
 ///
 /// The script was run over these streams (`Runs`), and the outcome is that of its end: done, or its fault.
-// The end of the script is dropped by a call, and so is what the jobs below make: where such a value goes out of scope, the proof
-// takes it apart.
 fn run<R: Read, W: Write>(alloc: Global, input: &mut R, output: &mut W) -> Outcome
     ensures { Answers (record {
       had = R.remaining input.old;
@@ -68,7 +66,7 @@ fn run<R: Read, W: Write>(alloc: Global, input: &mut R, output: &mut W) -> Outco
 {
     match run_script(alloc, input, output) {
         Ok(end) => {
-            drop(end);
+            end.discard();
             Ok(DONE)
         }
         Err(fault) => Err(Fault::of_script(fault)),
@@ -95,11 +93,11 @@ fn print_record<R: Read, W: Write>(
     match follow_script(alloc, input) {
         Ok(ScriptEnd::Running(world)) => {
             let printed = print_site(alloc, site, world.primary(), output);
-            drop(world);
+            world.discard();
             printed
         }
         Ok(ScriptEnd::Declared(setup)) => {
-            drop(setup);
+            setup.discard();
             Err(Fault::NotStarted)
         }
         Err(fault) => Err(Fault::of_script(fault)),
@@ -143,7 +141,7 @@ fn check_record<R: Read, W: Write>(alloc: Global, input: &mut R, output: &mut W)
     match read_record(alloc, input) {
         Ok(read) => {
             let verdict = check(&read);
-            drop(read);
+            read.discard();
             print_verdict(alloc, verdict, output)
         }
         Err(fault) => Err(Fault::of_reading(fault)),
@@ -197,7 +195,7 @@ fn print_lag<R: Read, W: Write>(alloc: Global, input: &mut R, output: &mut W) ->
         Ok(read) => {
             let verdict = check(&read);
             let printed = print_judged(alloc, &read, verdict, output);
-            drop(read);
+            read.discard();
             printed
         }
         Err(fault) => Err(Fault::of_reading(fault)),

@@ -41,4 +41,11 @@ impl Closed {
     {
         &self.sites[site.index()]
     }
+
+    /// Gives its memory back, as where it goes out of scope.
+    pub fn discard(self) {
+        let Closed { primary, sites } = self;
+        primary.discard();
+        drop(sites);
+    }
 }

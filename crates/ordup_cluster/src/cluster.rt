@@ -74,8 +74,7 @@ impl Cluster {
         match Room::new(alloc, &book, cells.len()) {
             Ok(room) => Ok(Cluster::under_locks(book, cells, room)),
             Err(refusal) => {
-                // By calls: where it goes out of scope, the proof takes it apart.
-                drop(book);
+                book.discard();
                 drop(cells);
                 Err(refusal)
             }
@@ -378,12 +377,27 @@ impl Cluster {
         drop(spare_values);
         match mixed {
             Some(site) => {
-                drop(primary);
+                primary.discard();
                 drop(sites);
                 Err(Refusal::Mixed { site })
             }
             None => Ok(Closed { primary, sites }),
         }
+    }
+
+    /// Gives its memory back, as where it goes out of scope. No site is compared with the log.
+    pub fn discard(self) {
+        let Cluster {
+            book,
+            cells,
+            objects,
+            room,
+            stopped: _,
+        } = self;
+        book.into_inner().discard();
+        drop(cells);
+        drop(objects);
+        drop(room);
     }
 }
 

@@ -51,18 +51,17 @@ pub fn run_threads<R: Threads + Wait + Sync>(
 {
     setup.keeps();
     let cluster = Cluster::new(alloc, setup)?;
-    // A cluster is dropped by a call: where it goes out of scope, the proof takes it apart.
     let Ok(hands) = deal(alloc, sets, callers.get()) else {
-        drop(cluster);
+        cluster.discard();
         return Err(Refusal::NoMemory);
     };
     let Some(tally) = with_appliers(rt, alloc, &cluster, hands) else {
-        drop(cluster);
+        cluster.discard();
         return Err(Refusal::NoMemory);
     };
     let closed = cluster.close()?;
     let outcome = outcome_of(alloc, &closed, tally);
-    drop(closed);
+    closed.discard();
     Ok(outcome?)
 }
 

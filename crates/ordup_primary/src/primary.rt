@@ -88,7 +88,7 @@ impl<A: Allocator + Copy> Primary<A> {
             }),
             Err(refusal) => {
                 // By calls: where these go out of scope, the proof takes them apart.
-                drop(setup);
+                setup.discard();
                 drop(sites);
                 drop(limits);
                 Err(refusal)
@@ -495,4 +495,7 @@ impl<A: Allocator + Copy> Primary<A> {
         }
         waiting
     }
+
+    /// Gives its memory back, as where it goes out of scope.
+    pub fn discard(self) {}
 }

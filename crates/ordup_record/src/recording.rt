@@ -38,7 +38,7 @@ pub fn record_of<A: Allocator + Copy>(
     match copy_parts(alloc, &lent_by(primary, site), &mut parts) {
         Ok(()) => Ok(Record::from_parts(parts)),
         Err(refusal) => {
-            drop(parts);
+            parts.discard();
             Err(refusal)
         }
     }

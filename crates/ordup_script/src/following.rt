@@ -87,7 +87,7 @@ pub fn follow_script<A: Allocator + Copy, R: Read>(
     match follow_lines(&mut follower, input, MOST_SCRIPT_BYTES) {
         Ok(()) => Ok(follower.store),
         Err(fault) => {
-            drop(follower);
+            follower.store.discard();
             Err(fault)
         }
     }

@@ -57,7 +57,9 @@ pub fn read_plan_within<A: Allocator + Copy, R: Read>(
     match read_into(&mut planning, input, limit) {
         Ok(()) => Ok(planning.plan),
         Err(fault) => {
-            drop(planning);
+            let Plan { setup, sets } = planning.plan;
+            setup.discard();
+            drop(sets);
             Err(fault)
         }
     }

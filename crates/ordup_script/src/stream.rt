@@ -142,7 +142,7 @@ pub fn run_script_within<A: Allocator + Copy, R: Read, W: Write>(
     match ran {
         Ok(()) => Ok(store),
         Err(fault) => {
-            drop(store);
+            store.discard();
             Err(fault)
         }
     }

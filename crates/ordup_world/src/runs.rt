@@ -73,7 +73,7 @@ fn start<A: Allocator + Copy>(
     match Vec::with_capacity(alloc, count) {
         Ok(answers) => Ok((world, answers)),
         Err(_) => {
-            drop(world);
+            world.discard();
             Err(Refusal::NoMemory)
         }
     }

@@ -33,10 +33,17 @@ impl<A: Allocator + Copy> Store<A> {
         match first_sites(alloc, primary.setup()) {
             Ok(sites) => Ok(Store { primary, sites }),
             Err(refusal) => {
-                drop(primary);
+                primary.discard();
                 Err(refusal)
             }
         }
+    }
+
+    /// Gives its memory back, as where it goes out of scope.
+    pub(crate) fn discard(self) {
+        let Store { primary, sites } = self;
+        primary.discard();
+        drop(sites);
     }
 
     /// The primary numbers a message set as the next update.

@@ -49,7 +49,7 @@ impl<A: Allocator + Copy> World<A> {
         ensures refused { IfErr result (λ e. IsRefusal (start_refusal setup) e) }
     {
         if !setup.is_ready() {
-            drop(setup);
+            setup.discard();
             return Err(Refusal::Empty);
         }
         let store = Store::start(alloc, setup)?;
@@ -109,5 +109,12 @@ impl<A: Allocator + Copy> World<A> {
         ensures fewest { HasFewestRounds self.now.primary }
     {
         &self.store.primary
+    }
+
+    /// Gives its memory back, as where it goes out of scope.
+    pub fn discard(self) {
+        let World { store, queries } = self;
+        store.discard();
+        drop(queries);
     }
 }

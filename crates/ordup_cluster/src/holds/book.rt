@@ -77,4 +77,16 @@ impl Book {
         drop(ends);
         (primary, spare_values)
     }
+
+    /// Gives its memory back, as where it goes out of scope.
+    pub(crate) fn discard(self) {
+        let Book {
+            primary,
+            ends,
+            spare_values,
+        } = self;
+        primary.discard();
+        drop(ends);
+        drop(spare_values);
+    }
 }

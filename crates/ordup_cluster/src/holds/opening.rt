@@ -22,17 +22,17 @@ pub fn open(alloc: Global, setup: Setup) -> Result<(Book, Vec<SiteCell>), Refusa
 {
     // What is large is dropped by a call: where it goes out of scope, the proof takes it apart.
     if !setup.is_ready() {
-        drop(setup);
+        setup.discard();
         return Err(Refusal::Empty);
     }
     let primary = Primary::new(alloc, setup)?;
     let Ok(spare_values) = first_spare_values(alloc, primary.setup()) else {
-        drop(primary);
+        primary.discard();
         return Err(Refusal::NoMemory);
     };
     let Ok((ends, cells)) = first_feeds(alloc, primary.setup()) else {
         drop(spare_values);
-        drop(primary);
+        primary.discard();
         return Err(Refusal::NoMemory);
     };
     Ok((Book::new(primary, ends, spare_values), cells))

@@ -57,8 +57,7 @@ fn expect_lowered(rt: &impl Abort, alloc: Global, primary: &Primary) {
         panic!(rt; "there is no memory for a record")
     };
     expect!(rt; matches!(check(&record), Verdict::Fewest(0)));
-    // Dropped by a call, which is proved once for all tests: docs/DECISIONS.md, Tests.
-    drop(record);
+    record.discard();
 }
 
 fn close_lowered(rt: &impl Abort, alloc: Global, cluster: Cluster) {
@@ -66,7 +65,7 @@ fn close_lowered(rt: &impl Abort, alloc: Global, cluster: Cluster) {
         panic!(rt; "a site does not agree with the log")
     };
     expect_lowered(rt, alloc, closed.primary());
-    drop(closed);
+    closed.discard();
 }
 
 /// What a scope names is looked at first, then the site, then the amount.

@@ -128,6 +128,5 @@ pub fn expect_closed(
     let site = closed.site(a());
     expect!(rt; site.len() > 0);
     expect_eq!(rt; (site.value(x()), site.applied()), (at_a.value, at_a.applied));
-    // Dropped by a call, which is proved once for all tests: docs/DECISIONS.md, Tests.
-    drop(closed);
+    closed.discard();
 }

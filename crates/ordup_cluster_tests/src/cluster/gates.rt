@@ -81,7 +81,7 @@ fn a_gate_gets_the_site_and_what_it_applies_next(rt: HostRuntime) -> Result<(), 
     expect_calls(&rt, &cluster, b(), false, 2, 111_211_112_212_113_213);
     // Both updates are applied between the two calls of a turn, which finds nothing then.
     expect_calls(&rt, &cluster, a(), true, 0, 101_203);
-    drop(cluster);
+    cluster.discard();
     Ok(())
 }
 
@@ -91,6 +91,6 @@ fn an_applier_ends_in_a_turn_that_began_after_the_stop(rt: HostRuntime) -> Resul
     let cluster = opened(&rt, rt.alloc(), Scope::All, 0)?;
     // The first turn finds nothing, but began before the cluster was stopped.
     expect_calls(&rt, &cluster, a(), false, 0, 101_201_101_201);
-    drop(cluster);
+    cluster.discard();
     Ok(())
 }

@@ -79,7 +79,7 @@ fn an_unknown_object_comes_before_an_unknown_site(rt: HostRuntime) -> Result<(),
     expect_read(&rt, &cluster, a(), z(), Err(Refusal::UnknownObject));
     expect_read(&rt, &cluster, b(), y(), Err(Refusal::UnknownSite));
     expect_read(&rt, &cluster, a(), y(), Ok(seen(10, 0)));
-    drop(cluster);
+    cluster.discard();
     Ok(())
 }
 
@@ -92,7 +92,7 @@ fn an_unknown_site_comes_before_an_import_limit(rt: HostRuntime) -> Result<(), F
     expect_begun(&rt, &cluster, a(), greatest + 1, Some(Refusal::OutOfRange));
     expect_begun(&rt, &cluster, b(), greatest, Some(Refusal::UnknownSite));
     expect_begun(&rt, &cluster, a(), greatest, None);
-    drop(cluster);
+    cluster.discard();
     Ok(())
 }
 
@@ -110,7 +110,7 @@ fn what_is_refused_has_no_number(rt: HostRuntime) -> Result<(), Fail> {
     expect_proposed(&rt, &cluster, set, Ok(1));
     expect_settled(&rt, &cluster, 0, Err(Refusal::OutOfRange));
     expect_settled(&rt, &cluster, 1, Ok(()));
-    drop(cluster);
+    cluster.discard();
     Ok(())
 }
 
@@ -128,7 +128,7 @@ fn a_stopped_cluster_says_so_of_each_proposal(rt: HostRuntime) -> Result<(), Fai
     expect_proposed(&rt, &cluster, set, Err(Refusal::Stopped));
     // Nothing was numbered.
     expect_settled(&rt, &cluster, 1, Err(Refusal::OutOfRange));
-    drop(cluster);
+    cluster.discard();
     Ok(())
 }
 
@@ -140,6 +140,6 @@ fn a_query_reads_within_its_limit(rt: HostRuntime) -> Result<(), Fail> {
     let set = add(&rt, alloc, x(), 3);
     expect_proposed(&rt, &cluster, set, Ok(1));
     read_within_2(&rt, &cluster);
-    drop(cluster);
+    cluster.discard();
     Ok(())
 }

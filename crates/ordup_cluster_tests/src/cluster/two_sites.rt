@@ -55,7 +55,7 @@ fn close(rt: &impl Abort, cluster: Cluster) {
     expect!(rt; primary.setup().sites() == 2);
     expect_held(rt, &closed, a(), 1);
     expect_held(rt, &closed, b(), 1);
-    drop(closed);
+    closed.discard();
 }
 
 /// Reads at two sites, one of which lags.

@@ -84,6 +84,6 @@ fn the_updates_of_a_primary_go_through_a_feed(rt: HostRuntime) -> Result<(), Fai
     expect_sent(&rt, &mut primary, &mut sender, Err(Refusal::NothingToSend));
     drop(taker);
     drop(sender);
-    drop(primary);
+    primary.discard();
     Ok(())
 }

@@ -65,7 +65,7 @@ fn a_site_agrees_where_it_holds_what_it_applied(rt: HostRuntime) -> Result<(), F
     expect!(&rt; !agrees(&rt, alloc, &primary, &replica));
     // Dropped by a call, which is proved once for all tests: docs/DECISIONS.md, Tests.
     drop(replica);
-    drop(primary);
+    primary.discard();
     Ok(())
 }
 
@@ -81,6 +81,6 @@ fn a_site_agrees_only_up_to_what_it_was_sent(rt: HostRuntime) -> Result<(), Fail
     apply(&rt, &primary, &mut replica, 3);
     expect!(&rt; !agrees(&rt, alloc, &primary, &replica));
     drop(replica);
-    drop(primary);
+    primary.discard();
     Ok(())
 }

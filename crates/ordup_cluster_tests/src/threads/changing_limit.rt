@@ -277,7 +277,7 @@ fn expect_certified(rt: &impl Abort, alloc: Global, primary: &Primary) {
 fn close(rt: &impl Abort, alloc: Global, cluster: Cluster) {
     let closed = closed(rt, cluster);
     expect_certified(rt, alloc, closed.primary());
-    drop(closed);
+    closed.discard();
 }
 
 /// Compares each acknowledgement with the limit in force.

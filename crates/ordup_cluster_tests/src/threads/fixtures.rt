@@ -36,7 +36,7 @@ pub fn expect_fewest(rt: &impl Abort, alloc: Global, primary: &Primary) {
         panic!(rt; "there is no memory for a record")
     };
     expect!(rt; matches!(check(&record), Verdict::Fewest(_)));
-    drop(record);
+    record.discard();
 }
 
 /// The objects of the clusters.

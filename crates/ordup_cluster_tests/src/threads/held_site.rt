@@ -131,7 +131,7 @@ fn close(rt: &impl Abort, cluster: Cluster) {
     expect!(rt; primary.setup().sites() == 2);
     expect_eq!(rt; closed.site(a()).applied(), 1);
     expect_eq!(rt; closed.site(b()).applied(), 1);
-    drop(closed);
+    closed.discard();
 }
 
 /// Holds a site before its lock, while another one applies.

@@ -87,7 +87,7 @@ fn close(rt: &impl Abort, cluster: Cluster) {
     let site = closed.site(a());
     expect!(rt; site.len() > 0);
     expect_eq!(rt; (site.value(x()), site.applied()), (4, 4));
-    drop(closed);
+    closed.discard();
 }
 
 /// Proposes four updates to a site that is held.

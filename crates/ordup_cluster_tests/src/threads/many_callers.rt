@@ -193,7 +193,7 @@ fn close(rt: &impl Abort, cluster: Cluster) {
     expect!(rt; primary.setup().sites() == 4);
     expect!(rt; closed.site(a()).applied() >= 4 * SETS - 64);
     expect!(rt; closed.site(b()).applied() >= 4 * SETS - 50);
-    drop(closed);
+    closed.discard();
 }
 
 /// Reads beside four callers and four sites.

@@ -146,7 +146,7 @@ fn close(rt: &impl Abort, cluster: Cluster) {
     expect!(rt; primary.setup().sites() > 0);
     expect_eq!(rt; primary.rounds(a()).len(), 3_000);
     expect_eq!(rt; closed.site(a()).applied(), 3_000);
-    drop(closed);
+    closed.discard();
 }
 
 /// Calls with one turn while the site applies.

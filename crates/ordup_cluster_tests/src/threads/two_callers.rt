@@ -90,7 +90,7 @@ fn close(rt: &impl Abort, alloc: Global, cluster: Cluster) {
     expect!(rt; 37 <= applied);
     expect!(rt; applied <= 40);
     expect_fewest(rt, alloc, primary);
-    drop(closed);
+    closed.discard();
 }
 
 /// Proposes from two threads, with one site.

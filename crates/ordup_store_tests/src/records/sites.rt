@@ -32,5 +32,5 @@ fn a_site_that_is_not_there_has_no_record(rt: HostRuntime) {
         let refusal = refusal_of(rt.alloc(), &primary, place);
         expect_eq!(&rt; refusal, Some(Refusal::UnknownSite), place);
     }
-    drop(primary);
+    primary.discard();
 }

@@ -197,7 +197,7 @@ fn record_again<'a>(
 ) -> Result<bool, Refusal> {
     let record = record_of(heap, primary, SiteId::new(0))?;
     let is_same = record.same(wanted);
-    drop(record);
+    record.discard();
     Ok(is_same)
 }
 
@@ -301,7 +301,7 @@ fn make_each<'a>(rt: &(impl Abort + AllocGlobal), heap: Heap<'a>, primary: &Prim
         expect!(rt; growths > 0, call);
     }
     drop(values);
-    drop(record);
+    record.discard();
 }
 
 /// Refuses each growth of each call over a primary in turn.

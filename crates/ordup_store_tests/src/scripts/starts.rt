@@ -32,7 +32,7 @@ fn primary_refusal(rt: &impl Abort, heap: Heap<'_>, allowed: u64) -> Option<Refu
         Ok(primary) => {
             expect!(rt; primary.acked() == 0);
             expect!(rt; primary.log().len() == 0);
-            drop(primary);
+            primary.discard();
             None
         }
         Err(refusal) => Some(refusal),

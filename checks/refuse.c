@@ -2,6 +2,9 @@
    those from REFUSE_FROM to REFUSE_TO are refused. To the descriptor ALLOCATIONS goes one byte for each: '!' where it is
    refused, and '.' where it is given.
 
+   At the program's end goes to the descriptor HELD, where there is one, one byte for each block of memory that the program
+   was given and has not given back: '+', or '-' for each that it gave back without having been given it.
+
    Only calls from the program's own code count: what the C library takes for itself it is given. There is no header here,
    so that a compiler builds it without the system's. */
 
@@ -12,6 +15,7 @@ void *__libc_malloc(size);
 void *__libc_calloc(size, size);
 void *__libc_realloc(void *, size);
 void *__libc_memalign(size, size);
+void __libc_free(void *);
 
 /* What dladdr tells of a place (Dl_info): the base is that of the program or of the library in which it lies. */
 struct place {
@@ -26,8 +30,9 @@ unsigned long getauxval(unsigned long);
 char *getenv(const char *);
 int atoi(const char *);
 long write(int, const void *, size);
+long syscall(long, ...);
 
-enum { ENTRY_OF_PROGRAM = 9, NO_MEMORY = 12 };
+enum { ENTRY_OF_PROGRAM = 9, NO_MEMORY = 12, EXIT_GROUP = 231 };
 
 static int is_of_program(const void *caller) {
     struct place here, entry;
@@ -49,26 +54,66 @@ static int is_refused(const void *caller) {
     return refused;
 }
 
+/* How many blocks the program holds. */
+static long held;
+
+/* A block that the program is given, or none. */
+static void *give(const void *caller, void *block) {
+    if (block && is_of_program(caller))
+        __atomic_add_fetch(&held, 1, __ATOMIC_RELAXED);
+    return block;
+}
+
 void *malloc(size bytes) {
-    return is_refused(__builtin_return_address(0)) ? 0 : __libc_malloc(bytes);
+    const void *caller = __builtin_return_address(0);
+    return is_refused(caller) ? 0 : give(caller, __libc_malloc(bytes));
 }
 
 void *calloc(size count, size bytes) {
-    return is_refused(__builtin_return_address(0)) ? 0 : __libc_calloc(count, bytes);
+    const void *caller = __builtin_return_address(0);
+    return is_refused(caller) ? 0 : give(caller, __libc_calloc(count, bytes));
 }
 
 void *realloc(void *old, size bytes) {
-    return is_refused(__builtin_return_address(0)) ? 0 : __libc_realloc(old, bytes);
+    const void *caller = __builtin_return_address(0);
+    if (is_refused(caller))
+        return 0;
+    void *made = __libc_realloc(old, bytes);
+    return old ? made : give(caller, made);
 }
 
 void *aligned_alloc(size alignment, size bytes) {
-    return is_refused(__builtin_return_address(0)) ? 0 : __libc_memalign(alignment, bytes);
+    const void *caller = __builtin_return_address(0);
+    return is_refused(caller) ? 0 : give(caller, __libc_memalign(alignment, bytes));
 }
 
 int posix_memalign(void **block, size alignment, size bytes) {
-    void *made = is_refused(__builtin_return_address(0)) ? 0 : __libc_memalign(alignment, bytes);
+    const void *caller = __builtin_return_address(0);
+    void *made = is_refused(caller) ? 0 : give(caller, __libc_memalign(alignment, bytes));
     if (!made)
         return NO_MEMORY;
     *block = made;
     return 0;
+}
+
+void free(void *block) {
+    if (block && is_of_program(__builtin_return_address(0)))
+        __atomic_sub_fetch(&held, 1, __ATOMIC_RELAXED);
+    __libc_free(block);
+}
+
+static void tell_held(void) {
+    if (!getenv("HELD"))
+        return;
+    for (; held > 0; held--)
+        write(number("HELD"), "+", 1);
+    for (; held < 0; held++)
+        write(number("HELD"), "-", 1);
+}
+
+/* The program ends by this call. */
+void _exit(int status) {
+    tell_held();
+    for (;;)
+        syscall(EXIT_GROUP, status);
 }

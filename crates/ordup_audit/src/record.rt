@@ -57,7 +57,9 @@ impl<A: Allocator + Copy> Model for Record<A> {
 
 impl<A: Allocator + Copy> RecordParts<A> {
     /// Gives the memory of the parts back, as where they go out of scope.
-    pub fn discard(self) {}
+    pub fn discard(self) {
+        drop(self);
+    }
 }
 
 impl<A: Allocator + Copy> Record<A> {
@@ -246,5 +248,8 @@ impl<A: Allocator + Copy> Record<A> {
     }
 
     /// Gives its memory back, as where it goes out of scope.
-    pub fn discard(self) {}
+    pub fn discard(self) {
+        let Record { parts } = self;
+        parts.discard();
+    }
 }

@@ -56,8 +56,7 @@ impl<A: Allocator + Copy> Primary<A> {
     ghost use Rattle.ordup_log.specs.Appending.{append_refusal};
     ghost use Rattle.ordup_log.specs.Spans.{span, IsScopeKnown};
     ghost use Rattle.ordup_limits.specs.Entries.{AreEntriesKnown};
-    ghost use Rattle.ordup_primary.specs.Primaries.{PrimaryState, IsPrimary, progress_at, limits_at, reported_at, send_refusal, settle_refusal, forced_now, waiting_now, waits_for, settled_as, acked_or_round, acked_or_waiting, acked_after, Decides, relimit_refusal, relimited};
-    ghost use Rattle.ordup_primary.specs.Primaries.{HasFewestRounds};
+    ghost use Rattle.ordup_primary.specs.Primaries.{PrimaryState, IsPrimary, progress_at, limits_at, reported_at, send_refusal, settle_refusal, forced_now, waiting_now, waits_for, settled_as, acked_or_round, acked_or_waiting, acked_after, Decides, relimit_refusal, relimited, HasFewestRounds};
     ghost use Rattle.ordup_primary.specs.Reports.{changes_of};
 
     /// A primary with an empty log, to which no site has reported.
@@ -87,7 +86,6 @@ impl<A: Allocator + Copy> Primary<A> {
                 ledgers,
             }),
             Err(refusal) => {
-                // By calls: where these go out of scope, the proof takes them apart.
                 setup.discard();
                 drop(sites);
                 drop(limits);
@@ -344,15 +342,10 @@ impl<A: Allocator + Copy> Primary<A> {
     {
         // The prover joins branches over a borrowed scope, not over a copied one.
         let scope = &scope;
+        let setup = &self.setup;
         let limits = &self.limits[site.index()];
         let head = self.acked + 1;
-        limits.check_change(
-            self.setup.objects(),
-            self.setup.groups(),
-            *scope,
-            amount,
-            head,
-        )?;
+        limits.check_change(setup.objects(), setup.groups(), *scope, amount, head)?;
         if self.acked != self.decided {
             return Err(Refusal::HeadPending);
         }
@@ -497,5 +490,7 @@ impl<A: Allocator + Copy> Primary<A> {
     }
 
     /// Gives its memory back, as where it goes out of scope.
-    pub fn discard(self) {}
+    pub fn discard(self) {
+        drop(self);
+    }
 }

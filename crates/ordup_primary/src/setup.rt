@@ -218,8 +218,9 @@ impl<A: Allocator + Copy> Setup<A> {
     }
 
     /// Gives its memory back, as where it goes out of scope.
-    // A crate that lets a value go out of scope proves how each part of it is dropped. One that calls this proves none of that.
-    pub fn discard(self) {}
+    pub fn discard(self) {
+        drop(self);
+    }
 }
 
 /// Whether a feed may have this capacity.

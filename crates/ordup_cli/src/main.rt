@@ -6,6 +6,7 @@ mod act;
 mod fault;
 mod jobs;
 mod plans;
+mod promises;
 
 pub use act::act;
 use fault::{Fault, WRONG_WORDS, tell};
@@ -26,7 +27,7 @@ fn main(rt: HostRuntime) -> ExitCode {
     let Ok(words) = texts(alloc, words.as_slice()) else {
         return ExitCode::from(tell(&mut faults, Fault::NoMemory));
     };
-    ExitCode::from(act(
+    ExitCode::from(promises::act(
         &rt,
         alloc,
         words.as_slice(),

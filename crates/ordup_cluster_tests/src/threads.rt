@@ -8,4 +8,5 @@ mod holding_gate;
 mod lagging_site;
 mod many_callers;
 mod one_turn;
+mod together;
 mod two_callers;

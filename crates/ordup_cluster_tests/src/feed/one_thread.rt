@@ -2,9 +2,18 @@
 use super::fixtures::parcel;
 use crate::fixtures::x_y_and_z;
 use crate::promises::new_feed;
-use ordup_feed::Feed;
+use ordup_feed::{Feed, TakeEnd};
 use ordup_objects::Refusal;
+use std::sync::Wait;
 use std::test::Fail;
+
+/// Pops a parcel, if there is one, and answers its number.
+fn pop(rt: &impl Wait, taker: &mut TakeEnd) -> Option<u64> {
+    match taker.pop(rt) {
+        Some(parcel) => Some(parcel.number),
+        None => None,
+    }
+}
 
 /// Makes feeds at the edges of their capacity.
 #[test]
@@ -37,13 +46,13 @@ fn a_full_feed_hands_the_parcel_back(rt: HostRuntime) -> Result<(), Fail> {
         panic!(rt; "the feed has room for a second parcel")
     };
     expect_eq!(&rt; (back.refusal.number(), back.parcel.number), (15, 2));
-    expect_eq!(&rt; taker.pop(&rt).map(|p| p.number), Some(1));
-    expect_eq!(&rt; taker.pop(&rt).map(|p| p.number), None);
+    expect_eq!(&rt; pop(&rt, &mut taker), Some(1));
+    expect_eq!(&rt; pop(&rt, &mut taker), None);
     expect_eq!(&rt; sender.look(&rt), 0);
     taker.tell(&rt);
     expect_eq!(&rt; sender.look(&rt), 1);
     expect!(&rt; sender.push(&rt, back.parcel).is_ok());
-    expect_eq!(&rt; taker.pop(&rt).map(|p| p.number), Some(2));
+    expect_eq!(&rt; pop(&rt, &mut taker), Some(2));
     drop(taker);
     drop(sender);
     drop(objects);
@@ -58,7 +67,7 @@ fn a_feed_with_a_parcel_in_its_only_slot_is_full(rt: HostRuntime) -> Result<(), 
     let (mut sender, mut taker) = Feed::new(alloc, &objects, 1)?;
     expect!(&rt; sender.push(&rt, parcel(&rt, &objects, 1)).is_ok());
     expect!(&rt; sender.is_full());
-    expect_eq!(&rt; taker.pop(&rt).map(|p| p.number), Some(1));
+    expect_eq!(&rt; pop(&rt, &mut taker), Some(1));
     expect!(&rt; !sender.is_full());
     drop(taker);
     drop(sender);

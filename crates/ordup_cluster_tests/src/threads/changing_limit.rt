@@ -6,6 +6,7 @@
 use super::fixtures::{
     TRIES, adding, apply_at, closed, expect_fewest, opened, propose, set_of, x_and_y,
 };
+use super::together::{Parts, do_eight};
 use crate::fixtures::{Site, a, x};
 use ordup_cluster::{Cluster, OpenGate, SeenValue, Session};
 use ordup_limits::Scope;
@@ -17,7 +18,6 @@ use std::sync::Wait;
 use std::sync::atomic::{AtomicBool, AtomicU64, Ordering};
 use std::test::Fail;
 use std::thread;
-use std::thread::Threads;
 
 /// By how many updates the site a may lag, by turns. The low limit is as many as there are callers.
 const LOW: u64 = 4;
@@ -194,74 +194,27 @@ fn watch<R: Wait + Abort>(rt: &R, cluster: &Cluster, shared: &Shared) {
     panic!(rt; "the callers do not end")
 }
 
-/// The two appliers, each in a thread of its own.
-fn apply<R: Threads + Wait + Abort + Sync>(rt: &R, cluster: &Cluster) {
-    thread::join(
-        rt,
-        move || apply_at(rt, cluster, 0, &OpenGate),
-        move || apply_at(rt, cluster, 1, &OpenGate),
-    );
-}
-
-/// Two callers, each in a thread of its own.
-fn call_two<R: Threads + Wait + Abort + Sync>(
-    rt: &R,
+/// What the threads share.
+#[derive(Clone, Copy)]
+struct All<'a> {
     alloc: Global,
-    objects: &ObjectTable,
-    cluster: &Cluster,
-    shared: &Shared,
-) {
-    thread::join(
-        rt,
-        move || call(rt, alloc, objects, cluster, shared),
-        move || call(rt, alloc, objects, cluster, shared),
-    );
+    objects: &'a ObjectTable,
+    cluster: &'a Cluster,
+    shared: &'a Shared,
 }
 
-/// The four callers.
-fn call_four<R: Threads + Wait + Abort + Sync>(
-    rt: &R,
-    alloc: Global,
-    cluster: &Cluster,
-    shared: &Shared,
-) {
-    let table = x_and_y(rt, alloc);
-    let objects = &table;
-    thread::join(
-        rt,
-        move || call_two(rt, alloc, objects, cluster, shared),
-        move || call_two(rt, alloc, objects, cluster, shared),
-    );
-    drop(table);
-}
-
-/// The thread that changes the limit, and the reader.
-fn change_and_watch<R: Threads + Wait + Abort + Sync>(rt: &R, cluster: &Cluster, shared: &Shared) {
-    thread::join(
-        rt,
-        move || change(rt, cluster, shared),
-        move || watch(rt, cluster, shared),
-    );
-}
-
-/// All eight threads.
-fn run<R: Threads + Wait + Abort + Sync>(
-    rt: &R,
-    alloc: Global,
-    cluster: &Cluster,
-    shared: &Shared,
-) {
-    thread::join(
-        rt,
-        move || apply(rt, cluster),
-        move || {
-            thread::join(
-                rt,
-                move || change_and_watch(rt, cluster, shared),
-                move || call_four(rt, alloc, cluster, shared),
-            )
-        },
-    );
+/// The two appliers, the thread that changes the limit, the reader, and the four callers.
+impl Parts for All<'_> {
+    fn part<R: Wait + Abort>(&self, rt: &R, number: u8) {
+        match number {
+            0 | 1 => {
+                apply_at(rt, self.cluster, number, &OpenGate);
+            }
+            2 => change(rt, self.cluster, self.shared),
+            3 => watch(rt, self.cluster, self.shared),
+            _ => call(rt, self.alloc, self.objects, self.cluster, self.shared),
+        }
+    }
 }
 
 /// All updates are acknowledged, the last limit is the high one, and the check accepts the record of a.
@@ -284,6 +237,7 @@ fn close(rt: &impl Abort, alloc: Global, cluster: Cluster) {
 #[test]
 fn a_changing_limit_is_kept(rt: HostRuntime) -> Result<(), Fail> {
     let cluster = opened(&rt, rt.alloc(), &SITES)?;
+    let objects = x_and_y(&rt, rt.alloc());
     let shared = Shared {
         changes: AtomicU64::new(0),
         compared: AtomicU64::new(0),
@@ -291,7 +245,14 @@ fn a_changing_limit_is_kept(rt: HostRuntime) -> Result<(), Fail> {
         changed: AtomicBool::new(false),
         ended: AtomicU64::new(0),
     };
-    run(&rt, rt.alloc(), &cluster, &shared);
+    let all = All {
+        alloc: rt.alloc(),
+        objects: &objects,
+        cluster: &cluster,
+        shared: &shared,
+    };
+    do_eight(&rt, &all);
+    drop(objects);
     close(&rt, rt.alloc(), cluster);
     Ok(())
 }

@@ -3,6 +3,7 @@ use super::fixtures::{
     TRIES, adding, apply_at, closed, is_raised_within, opened, propose, set_of, x_and_y,
 };
 use super::holding_gate::{Held, HoldingGate};
+use super::together::{Parts, do_four, do_two};
 use crate::fixtures::{Site, a, b, x};
 use ordup_cluster::{Cluster, OpenGate, SeenValue, Session};
 use ordup_objects::{ObjectTable, Refusal};
@@ -68,6 +69,31 @@ fn call<R: Wait + Abort>(
     cluster.stop();
 }
 
+/// What the threads share.
+#[derive(Clone, Copy)]
+struct All<'a> {
+    alloc: Global,
+    objects: &'a ObjectTable,
+    cluster: &'a Cluster,
+    gate: &'a HoldingGate,
+}
+
+/// The two appliers and the caller.
+impl Parts for All<'_> {
+    fn part<R: Wait + Abort>(&self, rt: &R, number: u8) {
+        match number {
+            0 => {
+                apply_at(rt, self.cluster, 0, self.gate);
+            }
+            1 => {
+                apply_at(rt, self.cluster, 1, &OpenGate);
+            }
+            2 => call(rt, self.alloc, self.objects, self.cluster, self.gate),
+            _ => {}
+        }
+    }
+}
+
 /// The two appliers and the caller, each in a thread of its own.
 fn run<R: Threads + Wait + Abort + Sync>(
     rt: &R,
@@ -75,21 +101,16 @@ fn run<R: Threads + Wait + Abort + Sync>(
     cluster: &Cluster,
     gate: &HoldingGate,
 ) {
-    let table = x_and_y(rt, alloc);
-    let objects = &table;
-    thread::join(
-        rt,
-        move || apply_at(rt, cluster, 0, gate),
-        move || {
-            thread::join(
-                rt,
-                move || apply_at(rt, cluster, 1, &OpenGate),
-                move || call(rt, alloc, objects, cluster, gate),
-            )
-        },
-    );
+    let objects = x_and_y(rt, alloc);
+    let all = All {
+        alloc,
+        objects: &objects,
+        cluster,
+        gate,
+    };
+    do_four(rt, &all, 0);
     // Dropped by a call, which is proved once for all tests: docs/DECISIONS.md, Tests.
-    drop(table);
+    drop(objects);
 }
 
 /// Proposes the update, which is sent to both sites, and stops the cluster.
@@ -112,13 +133,26 @@ fn read_at_a<R: Wait + Abort>(rt: &R, cluster: &Cluster, gate: &HoldingGate) {
     expect_eq!(rt; at_a, Ok(applied));
 }
 
+/// The applier of a, and a reader there.
+#[derive(Clone, Copy)]
+struct Reading<'a> {
+    cluster: &'a Cluster,
+    gate: &'a HoldingGate,
+}
+
+impl Parts for Reading<'_> {
+    fn part<R: Wait + Abort>(&self, rt: &R, number: u8) {
+        if number == 0 {
+            apply_at(rt, self.cluster, 0, self.gate);
+        } else {
+            read_at_a(rt, self.cluster, self.gate);
+        }
+    }
+}
+
 /// The applier of a and the reader, each in a thread of its own. Then b applies the update too.
 fn apply_and_read<R: Threads + Wait + Abort + Sync>(rt: &R, cluster: &Cluster, gate: &HoldingGate) {
-    thread::join(
-        rt,
-        move || apply_at(rt, cluster, 0, gate),
-        move || read_at_a(rt, cluster, gate),
-    );
+    do_two(rt, &Reading { cluster, gate }, 0);
     expect_eq!(rt; apply_at(rt, cluster, 1, &OpenGate), 1);
 }
 

@@ -2,6 +2,7 @@
 //! it.
 use super::fixtures::{TRIES, adding, apply_at, closed, opened, set_of, x_and_y};
 use super::holding_gate::{Held, HoldingGate};
+use super::together::{Parts, do_two};
 use crate::fixtures::{a, x};
 use ordup_cluster::{Cluster, SeenValue, Session};
 use ordup_limits::Scope;
@@ -11,8 +12,6 @@ use std::alloc::Global;
 use std::process::Abort;
 use std::sync::Wait;
 use std::test::Fail;
-use std::thread;
-use std::thread::Threads;
 
 /// Adds 1 to x four times, with 100 turns each. The fourth update waits for a.
 fn propose_four<R: Wait + Abort>(
@@ -60,21 +59,24 @@ fn call<R: Wait + Abort>(
     cluster.stop();
 }
 
-/// The applier and the caller, each in a thread of its own.
-fn run<R: Threads + Wait + Abort + Sync>(
-    rt: &R,
+/// What the threads share.
+#[derive(Clone, Copy)]
+struct All<'a> {
     alloc: Global,
-    cluster: &Cluster,
-    gate: &HoldingGate,
-) {
-    let table = x_and_y(rt, alloc);
-    let objects = &table;
-    thread::join(
-        rt,
-        move || apply_at(rt, cluster, 0, gate),
-        move || call(rt, alloc, objects, cluster, gate),
-    );
-    drop(table);
+    objects: &'a ObjectTable,
+    cluster: &'a Cluster,
+    gate: &'a HoldingGate,
+}
+
+/// The applier and the caller.
+impl Parts for All<'_> {
+    fn part<R: Wait + Abort>(&self, rt: &R, number: u8) {
+        if number == 0 {
+            apply_at(rt, self.cluster, 0, self.gate);
+        } else {
+            call(rt, self.alloc, self.objects, self.cluster, self.gate);
+        }
+    }
 }
 
 /// The site has applied all four updates, in one round.
@@ -96,7 +98,15 @@ fn the_fourth_proposal_waits_for_a_site_that_may_lag_by_three(rt: HostRuntime) -
     let gate = HoldingGate::new(Held::BeforeApply, TRIES);
     let sites = [("a", 1, Some((Scope::Count, 3)))];
     let cluster = opened(&rt, rt.alloc(), &sites)?;
-    run(&rt, rt.alloc(), &cluster, &gate);
+    let objects = x_and_y(&rt, rt.alloc());
+    let all = All {
+        alloc: rt.alloc(),
+        objects: &objects,
+        cluster: &cluster,
+        gate: &gate,
+    };
+    do_two(&rt, &all, 0);
+    drop(objects);
     expect!(&rt; !gate.gave_up());
     close(&rt, cluster);
     Ok(())

@@ -1,6 +1,7 @@
 //! Four callers, four sites and two readers. Each update adds 1 to x and takes 2 from y, so after k updates x is k and y is 10 -
 //! 2k.
 use super::fixtures::{TRIES, adding, apply_at, closed, opened, propose, set_of, x_and_y};
+use super::together::{Parts, do_ten};
 use crate::fixtures::{Site, a, b, x, y};
 use ordup_cluster::{Cluster, OpenGate, SeenValue, Session};
 use ordup_limits::Scope;
@@ -12,7 +13,6 @@ use std::sync::Wait;
 use std::sync::atomic::{AtomicU64, Ordering};
 use std::test::Fail;
 use std::thread;
-use std::thread::Threads;
 
 /// How many sets each of the four callers proposes.
 const SETS: u64 = 5_000;
@@ -104,75 +104,28 @@ fn watch<R: Wait + Abort>(rt: &R, cluster: &Cluster, object: ObjectId, ended: &A
     panic!(rt; "the callers do not end")
 }
 
-/// Two appliers, each in a thread of its own.
-fn apply_two<R: Threads + Wait + Abort + Sync>(rt: &R, cluster: &Cluster, first: u8, second: u8) {
-    thread::join(
-        rt,
-        move || apply_at(rt, cluster, first, &OpenGate),
-        move || apply_at(rt, cluster, second, &OpenGate),
-    );
-}
-
-/// Two callers, each in a thread of its own.
-fn call_two<R: Threads + Wait + Abort + Sync>(
-    rt: &R,
+/// What the threads share.
+#[derive(Clone, Copy)]
+struct All<'a> {
     alloc: Global,
-    objects: &ObjectTable,
-    cluster: &Cluster,
-    ended: &AtomicU64,
-) {
-    thread::join(
-        rt,
-        move || call(rt, alloc, objects, cluster, ended),
-        move || call(rt, alloc, objects, cluster, ended),
-    );
+    objects: &'a ObjectTable,
+    cluster: &'a Cluster,
+    /// How many callers have ended.
+    ended: &'a AtomicU64,
 }
 
-/// Two readers, each in a thread of its own.
-fn watch_two<R: Threads + Wait + Abort + Sync>(rt: &R, cluster: &Cluster, ended: &AtomicU64) {
-    thread::join(
-        rt,
-        move || watch(rt, cluster, x(), ended),
-        move || watch(rt, cluster, y(), ended),
-    );
-}
-
-/// The four appliers.
-fn apply<R: Threads + Wait + Abort + Sync>(rt: &R, cluster: &Cluster) {
-    thread::join(
-        rt,
-        move || apply_two(rt, cluster, 0, 1),
-        move || apply_two(rt, cluster, 2, 3),
-    );
-}
-
-/// The four callers and the two readers.
-fn call_and_watch<R: Threads + Wait + Abort + Sync>(rt: &R, alloc: Global, cluster: &Cluster) {
-    let table = x_and_y(rt, alloc);
-    let objects = &table;
-    let ended = AtomicU64::new(0);
-    let ended = &ended;
-    thread::join(
-        rt,
-        move || watch_two(rt, cluster, ended),
-        move || {
-            thread::join(
-                rt,
-                move || call_two(rt, alloc, objects, cluster, ended),
-                move || call_two(rt, alloc, objects, cluster, ended),
-            )
-        },
-    );
-    drop(table);
-}
-
-/// All ten threads.
-fn run<R: Threads + Wait + Abort + Sync>(rt: &R, alloc: Global, cluster: &Cluster) {
-    thread::join(
-        rt,
-        move || apply(rt, cluster),
-        move || call_and_watch(rt, alloc, cluster),
-    );
+/// The four appliers, the two readers and the four callers.
+impl Parts for All<'_> {
+    fn part<R: Wait + Abort>(&self, rt: &R, number: u8) {
+        match number {
+            0..=3 => {
+                apply_at(rt, self.cluster, number, &OpenGate);
+            }
+            4 => watch(rt, self.cluster, x(), self.ended),
+            5 => watch(rt, self.cluster, y(), self.ended),
+            _ => call(rt, self.alloc, self.objects, self.cluster, self.ended),
+        }
+    }
 }
 
 /// The log has all sets, in whatever order.
@@ -200,7 +153,15 @@ fn close(rt: &impl Abort, cluster: Cluster) {
 #[test]
 fn each_read_is_the_value_of_a_prefix(rt: HostRuntime) -> Result<(), Fail> {
     let cluster = opened(&rt, rt.alloc(), &sites())?;
-    run(&rt, rt.alloc(), &cluster);
+    let objects = x_and_y(&rt, rt.alloc());
+    let all = All {
+        alloc: rt.alloc(),
+        objects: &objects,
+        cluster: &cluster,
+        ended: &AtomicU64::new(0),
+    };
+    do_ten(&rt, &all);
+    drop(objects);
     close(&rt, cluster);
     Ok(())
 }

@@ -6,6 +6,7 @@ ghost use Rattle.std.specs.Prelude.{◌≤◌};
 
 use super::fixtures::{TRIES, TURNS, adding, apply_at, closed, opened, set_of, x_and_y};
 use super::holding_gate::{Held, HoldingGate};
+use super::together::{Parts, do_two};
 use crate::fixtures::{Site, a, x};
 use ordup_cluster::{Cluster, Session};
 use ordup_limits::Scope;
@@ -15,7 +16,6 @@ use std::process::Abort;
 use std::sync::Wait;
 use std::test::Fail;
 use std::thread;
-use std::thread::Threads;
 
 /// How many updates are proposed while the site is held, and how many after that.
 const UPDATES: u64 = 1_500;
@@ -121,21 +121,24 @@ fn call<R: Wait + Abort>(
     cluster.stop();
 }
 
-/// The applier of a and the caller, each in a thread of its own.
-fn run<R: Threads + Wait + Abort + Sync>(
-    rt: &R,
+/// What the threads share.
+#[derive(Clone, Copy)]
+struct All<'a> {
     alloc: Global,
-    cluster: &Cluster,
-    gate: &HoldingGate,
-) {
-    let table = x_and_y(rt, alloc);
-    let objects = &table;
-    thread::join(
-        rt,
-        move || apply_at(rt, cluster, 0, gate),
-        move || call(rt, alloc, objects, cluster, gate),
-    );
-    drop(table);
+    objects: &'a ObjectTable,
+    cluster: &'a Cluster,
+    gate: &'a HoldingGate,
+}
+
+/// The applier of a and the caller.
+impl Parts for All<'_> {
+    fn part<R: Wait + Abort>(&self, rt: &R, number: u8) {
+        if number == 0 {
+            apply_at(rt, self.cluster, 0, self.gate);
+        } else {
+            call(rt, self.alloc, self.objects, self.cluster, self.gate);
+        }
+    }
 }
 
 /// The site a has applied all updates, each in a round of its own.
@@ -154,7 +157,15 @@ fn close(rt: &impl Abort, cluster: Cluster) {
 fn a_call_with_one_turn_makes_no_turn_more(rt: HostRuntime) -> Result<(), Fail> {
     let gate = HoldingGate::new(Held::BeforeApply, TRIES);
     let cluster = opened(&rt, rt.alloc(), &SITES)?;
-    run(&rt, rt.alloc(), &cluster, &gate);
+    let objects = x_and_y(&rt, rt.alloc());
+    let all = All {
+        alloc: rt.alloc(),
+        objects: &objects,
+        cluster: &cluster,
+        gate: &gate,
+    };
+    do_two(&rt, &all, 0);
+    drop(objects);
     expect!(&rt; !gate.gave_up());
     close(&rt, cluster);
     Ok(())

@@ -1,5 +1,6 @@
 //! Two callers and a site that they wait for, with a capacity of one update, which may lag by three.
 use super::fixtures::{adding, apply_at, closed, expect_fewest, opened, propose, set_of, x_and_y};
+use super::together::{Parts, do_four};
 use crate::fixtures::{a, x, y};
 use crate::promises::end_value;
 use ordup_cluster::{Cluster, OpenGate, Session};
@@ -11,8 +12,6 @@ use std::process::Abort;
 use std::sync::Wait;
 use std::sync::atomic::{AtomicU64, Ordering};
 use std::test::Fail;
-use std::thread;
-use std::thread::Threads;
 
 /// Adds 1 to an object twenty times. The caller that ends last stops the cluster.
 fn call<R: Wait + Abort>(
@@ -36,36 +35,38 @@ fn call<R: Wait + Abort>(
     }
 }
 
-/// The applier and the two callers, each in a thread of its own.
-fn run<R: Threads + Wait + Abort + Sync>(rt: &R, alloc: Global, cluster: &Cluster) {
-    let table = x_and_y(rt, alloc);
-    let objects = &table;
-    let ended = AtomicU64::new(0);
-    let ended = &ended;
-    thread::join(
-        rt,
-        move || apply_at(rt, cluster, 0, &OpenGate),
-        move || {
-            thread::join(
-                rt,
-                move || call(rt, alloc, objects, cluster, x(), ended),
-                move || call(rt, alloc, objects, cluster, y(), ended),
-            )
-        },
-    );
-    drop(table);
+/// What the threads share.
+#[derive(Clone, Copy)]
+struct All<'a> {
+    alloc: Global,
+    objects: &'a ObjectTable,
+    cluster: &'a Cluster,
+    /// How many callers have ended.
+    ended: &'a AtomicU64,
+}
+
+/// The applier and the two callers.
+impl Parts for All<'_> {
+    fn part<R: Wait + Abort>(&self, rt: &R, number: u8) {
+        match number {
+            0 => {
+                apply_at(rt, self.cluster, 0, &OpenGate);
+            }
+            1 => call(rt, self.alloc, self.objects, self.cluster, x(), self.ended),
+            2 => call(rt, self.alloc, self.objects, self.cluster, y(), self.ended),
+            _ => {}
+        }
+    }
 }
 
 /// How many sets of the log change this object first.
 fn sets_on(log: &Log, object: ObjectId) -> u64 {
     let mut count = 0u64;
     for number in 1..=log.len() {
-        let changes = log.set(number).changes();
-        if changes
-            .first()
-            .is_some_and(|change| change.object == object)
-        {
-            count = count.saturating_add(1);
+        if let Some(change) = log.set(number).changes().first() {
+            if change.object == object {
+                count = count.saturating_add(1);
+            }
         }
     }
     count
@@ -98,7 +99,15 @@ fn close(rt: &impl Abort, alloc: Global, cluster: Cluster) {
 fn two_callers_wait_for_one_site(rt: HostRuntime) -> Result<(), Fail> {
     let sites = [("a", 1, Some((Scope::Count, 3)))];
     let cluster = opened(&rt, rt.alloc(), &sites)?;
-    run(&rt, rt.alloc(), &cluster);
+    let objects = x_and_y(&rt, rt.alloc());
+    let all = All {
+        alloc: rt.alloc(),
+        objects: &objects,
+        cluster: &cluster,
+        ended: &AtomicU64::new(0),
+    };
+    do_four(&rt, &all, 0);
+    drop(objects);
     close(&rt, rt.alloc(), cluster);
     Ok(())
 }

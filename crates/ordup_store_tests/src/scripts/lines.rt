@@ -1,15 +1,13 @@
 //! The lines of a script, each with each of its growths refused in turn.
 //!
-//! The store takes its memory from one allocator, which gives a count of allocations, and the text of the answers and the
-//! records from another, which gives all.
+//! The store takes its memory from one allocator, which gives a count of allocations, and the text of the answers from another,
+//! which gives all.
 use crate::scripts::digests::{Digest, add_primary, add_setup};
 use crate::scripts::growths::TRANSCRIPTS;
 use crate::scripts::scarce::{Heap, Scarce};
 use ordup_answers::{ScriptEnd, answer};
-use ordup_audit::Record;
 use ordup_grammar::{LinePart, ScriptLine};
 use ordup_objects::SiteId;
-use ordup_record::record_of;
 use ordup_text::TextBuffer;
 use ordup_world::{Answer, Event, World};
 use std::alloc::AllocError;
@@ -98,14 +96,6 @@ fn answer_lines(rt: &impl Abort, session: &mut Session<'_>, script: &str, from: 
     }
 }
 
-/// What a store shows: what its readers answer, what its sites hold, and the record of each of its sites.
-#[derive(Drop)]
-struct Shown<'a> {
-    digest: Digest,
-    sites: Digest,
-    records: Vec<Record<Heap<'a>>, Heap<'a>>,
-}
-
 /// What the readers of a store answer. They take no memory.
 fn digest_of(store: &ScriptEnd<Heap<'_>>) -> Digest {
     let mut digest = Digest::new();
@@ -137,32 +127,10 @@ fn add_held(rt: &impl Abort, digest: &mut Digest, world: &mut World<Heap<'_>>, s
     }
 }
 
-/// The record of a site goes into a list.
-fn add_record<'a>(
-    rt: &impl Abort,
-    records: &mut Vec<Record<Heap<'a>>, Heap<'a>>,
-    ample: Heap<'a>,
-    world: &World<Heap<'a>>,
-    site: SiteId,
-) {
-    let Ok(record) = record_of(ample, world.primary(), site) else {
-        panic!(rt; "there is no record")
-    };
-    expect!(rt; records.push(record).is_ok());
-}
-
-/// What the sites of a store hold, and their records.
-fn add_sites<'a>(
-    rt: &impl Abort,
-    sites: &mut Digest,
-    records: &mut Vec<Record<Heap<'a>>, Heap<'a>>,
-    ample: Heap<'a>,
-    world: &mut World<Heap<'a>>,
-) {
+/// What the sites of a store hold.
+fn add_sites(rt: &impl Abort, digest: &mut Digest, world: &mut World<Heap<'_>>) {
     for index in 0..world.primary().setup().sites() as u8 {
-        let site = SiteId::new(index);
-        add_held(rt, sites, world, site);
-        add_record(rt, records, ample, world, site);
+        add_held(rt, digest, world, SiteId::new(index));
     }
 }
 
@@ -175,51 +143,13 @@ fn digest_without_memory(rt: &impl Abort, session: &Session<'_>) -> Digest {
     digest
 }
 
-/// What a store shows.
-fn show<'a>(rt: &impl Abort, session: &mut Session<'a>) -> Shown<'a> {
-    let digest = digest_without_memory(rt, session);
-    let mut sites = Digest::new();
-    let mut records = Vec::new(session.ample);
+/// What a store shows: what its readers answer, and what its sites hold.
+fn show(rt: &impl Abort, session: &mut Session<'_>) -> Digest {
+    let mut digest = digest_without_memory(rt, session);
     if let ScriptEnd::Running(world) = &mut session.store {
-        add_sites(rt, &mut sites, &mut records, session.ample, world);
+        add_sites(rt, &mut digest, world);
     }
-    Shown {
-        digest,
-        sites,
-        records,
-    }
-}
-
-/// Whether two lists have the same records.
-fn are_same_records<'a>(before: &[Record<Heap<'a>>], after: &[Record<Heap<'a>>]) -> bool {
-    if before.len() != after.len() {
-        return false;
-    }
-    for index in 0..before.len() {
-        if !before[index].same(&after[index]) {
-            return false;
-        }
-    }
-    true
-}
-
-/// Whether two stores show the same. The records are compared with nothing allowed.
-fn are_same<'a>(rt: &impl Abort, ample: Heap<'a>, before: &Shown<'a>, after: &Shown<'a>) -> bool {
-    ample.allow(0);
-    let same = before.digest == after.digest
-        && before.sites == after.sites
-        && are_same_records(before.records.as_slice(), after.records.as_slice());
-    expect!(rt; !ample.has_refused());
-    ample.allow_all();
-    same
-}
-
-/// Whether a store shows the same as before.
-fn is_same<'a>(rt: &impl Abort, session: &mut Session<'a>, before: &Shown<'a>) -> bool {
-    let after = show(rt, session);
-    let same = are_same(rt, session.ample, before, &after);
-    drop(after);
-    same
+    digest
 }
 
 /// Answers a line with this count of growths allowed: whether one was refused.
@@ -233,31 +163,18 @@ fn answer_within(rt: &impl Abort, session: &mut Session<'_>, step: Step<'_>, all
 
 /// Answers a line with this count of growths allowed: whether one was refused. Then there is no answer, and the store shows what it
 /// did before.
-fn is_refused_since<'a>(
-    rt: &impl Abort,
-    session: &mut Session<'a>,
-    step: Step<'_>,
-    allowed: u64,
-    before: &Shown<'a>,
-) -> bool {
+fn is_refused(rt: &impl Abort, session: &mut Session<'_>, step: Step<'_>, allowed: u64) -> bool {
     let line = step.line;
+    let before = show(rt, session);
     let refused = answer_within(rt, session, step, allowed);
     if refused {
         expect!(rt; session.out.as_slice().is_empty(), (line, allowed));
         // What a refused start took is given up: nothing is declared any more.
-        let same = is_same(rt, session, before);
+        let same = show(rt, session) == before;
         expect!(rt; same == (line != "start"), (line, allowed));
     } else {
         expect!(rt; is_answered(session, step), (line, allowed));
     }
-    refused
-}
-
-/// Answers a line with this count of growths allowed, and compares what the store shows: whether one was refused.
-fn is_refused(rt: &impl Abort, session: &mut Session<'_>, step: Step<'_>, allowed: u64) -> bool {
-    let before = show(rt, session);
-    let refused = is_refused_since(rt, session, step, allowed, &before);
-    drop(before);
     refused
 }
 

@@ -17,6 +17,24 @@ loop-change-init g c =
           (λ s known is. may_weigh-start groups s is);
     }
 
+pub set-requires : goal.set-requires
+set-requires g c = record {
+  first = omega (arith, c.place.ensures, c.requires.some);
+  last = omega (arith, c.place.ensures, c.requires.added.last);
+}
+
+pub bounds-masks-index : goal.bounds-masks-index
+bounds-masks-index g c =
+    let h = c.args.log.now in
+    let k = c.loop-change.change-index in
+    let same = c.changes-change-items.ensures.changes ∙ c.set.ensures.set ∙ ap (set_at h) c.place.ensures in
+    let lt : k < length (set_at h c.args.added.now.place) = rw same at c.loop-change-test.true in
+    let at : c.change-item.result ≡ get_or (set_at h c.args.added.now.place) k c.change-item.result = rw same at c.change-item.is in
+    let there : c.change-item.result.object < length h.start =
+    rw (← at) at ((c.keeps.ensures.legal.known (c.args.added.now.place - 1) [] (omega (arith, c.requires.some, c.requires.added.last)) k
+    c.change-item.result lt).0) in
+    omega (arith, there, c.index.ensures, c.requires.objects, c.requires.masks)
+
 pub over_with-over-requires : goal.over_with-over-requires
 over_with-over-requires g c =
     let h = c.args.log.now in

@@ -14,6 +14,15 @@ loop-site-init g c =
 pub sent-requires : goal.sent-requires
 sent-requires g c = c.loop-site.invariant.inside
 
+pub returns-then-is_full-clause-tied : goal.returns-then-is_full-clause-tied
+returns-then-is_full-clause-tied g c = rw c.is_full.ensures.same c.loop-site.invariant.tied
+
+pub returns-then-is_full-clause-site : goal.returns-then-is_full-clause-site
+returns-then-is_full-clause-site g c = c.loop-site.invariant.site
+
+pub returns-then-is_full-clause-sent : goal.returns-then-is_full-clause-sent
+returns-then-is_full-clause-sent g c = rw c.is_full.ensures.same c.loop-site.invariant.sent
+
 pub next_for-requires : goal.next_for-requires
 next_for-requires g c = c.loop-site.invariant.inside
 

@@ -1,0 +1,179 @@
+//! Public calls whose clauses no proof above them cites. Each function makes one of these calls, and its contract has the same
+//! clauses, so the prover refuses the function where the call promises less. Tests make the calls by them.
+ghost use Rattle.std.specs.Prelude.{◌≡◌, ◌<◌, ◌≤◌, ◌+◌, ◌+ℤ◌, pos, List, ◌∷◌, [], None, length, map, max, IfOk, IfErr, OnOk, OnErr};
+ghost use Rattle.ordup_objects.specs.Refusals.{IsRefusal};
+ghost use Rattle.ordup_objects.specs.Serial.{serial};
+ghost use Rattle.ordup_objects.specs.States.{value_at};
+ghost use Rattle.ordup_objects.specs.Tables.{initial_state};
+ghost use Rattle.ordup_feed.specs.Parcels.{feed_refusal};
+ghost use Rattle.ordup_primary.specs.Declarations.{start_refusal};
+ghost use Rattle.ordup_primary.specs.LimitChanges.{limit_change_refusal};
+ghost use Rattle.ordup_primary.specs.Primaries.{IsPrimary, site_view, HasFewestRounds};
+ghost use Rattle.ordup_site.specs.Queries.{HasRead, import_sum, read_refusal, value_sum};
+ghost use Rattle.ordup_site.specs.declared.answer.ReadAnswer.{ReadAnswer};
+ghost use Rattle.ordup_world.specs.Along.{Along, KeepSites, HaveFewest};
+ghost use Rattle.ordup_world.specs.Events.{AreAnswers, past_after};
+ghost use Rattle.ordup_world.specs.Imports.{KeepImports};
+ghost use Rattle.ordup_world.specs.Worlds.{StandsFor, IsSound, KeepsLimits};
+ghost use Rattle.ordup_cluster.specs.Refusals.{IsNumber, IsProposalRefusal, IsSettlementRefusal, IsLimitPlace, IsLimitChangeRefusal, IsQueryRefusal, site_query_refusal};
+ghost use Rattle.ordup_cluster.specs.Relimiting.{with_changed_limit};
+
+use ordup_cluster::holds::{self, Book};
+use ordup_cluster::{Cluster, Session, SiteQuery};
+use ordup_feed::{Feed, SendEnd, TakeEnd};
+use ordup_limits::Scope;
+use ordup_log::Log;
+use ordup_objects::{MessageSet, ObjectId, ObjectTable, Refusal, SiteId};
+use ordup_site::{QueryAnswer, ReadAnswer};
+use ordup_world::{Event, Run, Setup};
+use std::alloc::{Allocator, Global};
+use std::sync::Wait;
+
+/// `ordup_world::run`.
+pub fn run<A: Allocator + Copy>(
+    alloc: A,
+    setup: Setup<A>,
+    events: Vec<Event<A>, A>,
+) -> Result<Run<A>, Refusal>
+    ensures answers { IfOk result (λ run. AreAnswers setup [] events.items run.answers.items) }
+    ensures state { IfOk result (λ run. StandsFor setup run.world (past_after [] events.items run.answers.items)) }
+    ensures setup { IfOk result (λ run. run.world.primary.setup ≡ setup) }
+    ensures sound { IfOk result (λ run. IsSound run.world) }
+    ensures limits { IfOk result (λ run. KeepsLimits run.world) }
+    ensures rounds { IfOk result (λ run. HasFewestRounds run.world.primary) }
+    ensures imports { IfOk result (λ run. Along (KeepImports setup) [] events.items run.answers.items) }
+    ensures along { IfOk result (λ run. Along (KeepSites setup) [] events.items run.answers.items) }
+    ensures fewest { IfOk result (λ run. Along (HaveFewest setup) [] events.items run.answers.items) }
+    ensures allowed { IfOk result (λ _. start_refusal setup ≡ None) }
+    ensures refused { IfErr result (λ e. IsRefusal (start_refusal setup) e) }
+{
+    ordup_world::run(alloc, setup, events)
+}
+
+/// `Log::end_value`.
+pub fn end_value(log: &Log, object: ObjectId) -> i64
+    requires { object < length log.now.start }
+    ensures { result ≡ value_at (serial log.now (length log.now.sets)) object }
+{
+    log.end_value(object)
+}
+
+/// `Feed::new`. Both ends are of one feed.
+pub fn new_feed(
+    alloc: Global,
+    objects: &ObjectTable,
+    capacity: u64,
+) -> Result<(SendEnd, TakeEnd), Refusal>
+    ensures sender { IfOk result (λ ends. ends.0 ≡ record { feed = ends.0.feed; start = initial_state objects.now; pushed = []; known = 0 }) }
+    ensures taker { IfOk result (λ ends. ends.1 ≡ record { feed = ends.0.feed; start = initial_state objects.now; taken = []; told = 0 }) }
+    ensures room { IfOk result (λ ends. ends.0.feed.capacity ≡ capacity) }
+    ensures allowed { IfOk result (λ _. feed_refusal capacity ≡ None) }
+    ensures refused { IfErr result (λ e. IsRefusal (feed_refusal capacity) e) }
+{
+    Feed::new(alloc, objects, capacity)
+}
+
+/// `holds::relimit`.
+pub fn relimit_in_hold(
+    book: &mut Book,
+    site: SiteId,
+    scope: Scope,
+    amount: u64,
+) -> Result<u64, Refusal>
+    ensures place { IfOk result (λ k. k ≡ book.old.primary.acked + 1) }
+    ensures changed { IfOk result (λ _. book.new ≡ with_changed_limit book.old site scope amount) }
+    ensures allowed { IfOk result (λ _. limit_change_refusal (site_view book.old.primary site) scope amount ≡ None) }
+    ensures refused { IfErr result (λ e. IsRefusal (limit_change_refusal (site_view book.old.primary site) scope amount) e) }
+    ensures err { OnErr result (book.new ≡ book.old) }
+    ensures sound { IsPrimary book.old.primary }
+{
+    holds::relimit(book, site, scope, amount)
+}
+
+/// `Cluster::propose`.
+pub fn propose<R: Wait>(
+    rt: &R,
+    cluster: &Cluster,
+    session: &mut Session,
+    set: MessageSet,
+    turns: u64,
+) -> Result<u64, Refusal>
+    requires { 1 ≤ turns }
+    ensures seen { IfOk result (λ number. session.new.seen ≡ max session.old.seen number) }
+    ensures some { IfOk result IsNumber }
+    ensures refused { IfErr result IsProposalRefusal }
+    ensures err { OnErr result (session.new ≡ session.old) }
+{
+    cluster.propose(rt, session, set, turns)
+}
+
+/// `Cluster::settle`.
+pub fn settle<R: Wait>(
+    rt: &R,
+    cluster: &Cluster,
+    session: &mut Session,
+    number: u64,
+    turns: u64,
+) -> Result<(), Refusal>
+    requires { 1 ≤ turns }
+    ensures seen { OnOk result (session.new.seen ≡ max session.old.seen number) }
+    ensures some { OnOk result (IsNumber number) }
+    ensures refused { IfErr result (IsSettlementRefusal number) }
+    ensures err { OnErr result (session.new ≡ session.old) }
+{
+    cluster.settle(rt, session, number, turns)
+}
+
+/// `Cluster::relimit`.
+pub fn relimit<R: Wait>(
+    rt: &R,
+    cluster: &Cluster,
+    site: SiteId,
+    scope: Scope,
+    amount: u64,
+) -> Result<u64, Refusal>
+    ensures place { IfOk result (IsLimitPlace site scope amount) }
+    ensures refused { IfErr result (IsLimitChangeRefusal site scope amount) }
+{
+    cluster.relimit(rt, site, scope, amount)
+}
+
+/// `Cluster::begin`.
+pub fn begin<'a, R: Wait>(
+    rt: &R,
+    cluster: &'a Cluster,
+    site: SiteId,
+    limit: u64,
+) -> Result<SiteQuery<'a>, Refusal>
+    ensures query { IfOk result (λ q. q ≡ record { place = q.place; marks = q.marks; limit = limit; sum = pos 0; total = 0; reads = 0 }) }
+    ensures allowed { IfOk result (λ _. site_query_refusal cluster.now.sites site limit ≡ None) }
+    ensures refused { IfErr result (λ e. IsRefusal (site_query_refusal cluster.now.sites site limit) e) }
+{
+    cluster.begin(rt, site, limit)
+}
+
+/// `SiteQuery::read`.
+pub fn read<R: Wait>(
+    rt: &R,
+    query: &mut SiteQuery<'_>,
+    object: ObjectId,
+) -> Result<ReadAnswer, Refusal>
+    ensures total { IfOk result (λ a. a.total ≡ query.old.total + a.import) }
+    ensures query { IfOk result (λ a. query.new ≡ record query.old { sum = query.old.sum +ℤ a.value; total = a.total; reads = query.old.reads + 1 }) }
+    ensures reads { (answers : List ReadAnswer) → HasRead query.old answers → IfOk result (λ a. HasRead query.new (a ∷ answers)) }
+    ensures marked { IfOk result (λ _. object < length query.old.marks) }
+    ensures allowed { IfOk result (λ a. read_refusal query.old.reads query.old.limit query.old.total a.import ≡ None) }
+    ensures refused { IfErr result (IsQueryRefusal query.old object) }
+    ensures err { OnErr result (query.new ≡ query.old) }
+{
+    query.read(rt, object)
+}
+
+/// `SiteQuery::end`.
+pub fn end(query: SiteQuery<'_>) -> QueryAnswer
+    ensures answer { result ≡ record { place = query.entry.place; sum = query.entry.sum; total = query.entry.total; reads = query.entry.reads } }
+    ensures reads { (answers : List ReadAnswer) → HasRead query.entry answers → result ≡ record { place = query.entry.place; sum = value_sum (map (λ a. a.value) answers); total = import_sum (map (λ a. a.import) answers); reads = length answers } }
+    ensures within { result.total ≤ query.entry.limit }
+{
+    query.end()
+}

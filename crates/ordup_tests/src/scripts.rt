@@ -1,0 +1,12 @@
+//! Scripts and plans over streams that fail and limits of bytes, and all calls where memory is refused.
+mod additions;
+mod copies;
+mod digests;
+mod growths;
+mod lines;
+mod memory;
+mod plans;
+mod scarce;
+mod script;
+mod starts;
+mod transcripts;

@@ -3,7 +3,8 @@
    refused, and '.' where it is given.
 
    At the program's end goes to the descriptor HELD, where there is one, one byte for each block of memory that the program
-   was given and has not given back: '+', or '-' for each that it gave back without having been given it.
+   was given and has not given back: '+', or '-' for each that it gave back without having been given it. Then comes '.', so
+   that an end that tells nothing is noticed.
 
    Only calls from the program's own code count: what the C library takes for itself it is given. There is no header here,
    so that a compiler builds it without the system's. */
@@ -102,16 +103,18 @@ void free(void *block) {
     __libc_free(block);
 }
 
-static void tell_held(void) {
+/* It is called where main returns, and by the call below. */
+__attribute__((destructor)) static void tell_held(void) {
     if (!getenv("HELD"))
         return;
     for (; held > 0; held--)
         write(number("HELD"), "+", 1);
     for (; held < 0; held++)
         write(number("HELD"), "-", 1);
+    write(number("HELD"), ".", 1);
 }
 
-/* The program ends by this call. */
+/* A program that names it ends by this call, after which nothing else is called. */
 void _exit(int status) {
     tell_held();
     for (;;)

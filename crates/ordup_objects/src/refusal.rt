@@ -2,13 +2,13 @@ ghost use Rattle.std.specs.Prelude.{◌≡◌};
 
 use crate::ids::SiteId;
 use std::alloc::{AllocError, AllocFailed};
-use std::error::Error;
-use std::fmt;
+use thiserror::Error;
 
 /// Why a call was refused. A refused call leaves everything as it was.
 ///
-/// Answers show a refusal by its number and its name.
-#[derive(Clone, Copy, Debug, PartialEq, Eq)]
+/// Answers show a refusal by its number and its name. As an error it is its name, and what it tells.
+#[derive(Clone, Copy, Debug, PartialEq, Eq, Error)]
+#[error("{}", self.name())]
 pub enum Refusal {
     /// The line is no command.
     Syntax,
@@ -51,8 +51,10 @@ pub enum Refusal {
     /// The read would bring the query over its import limit.
     OverImport,
     /// The site has applied only this many updates, fewer than the session has seen.
+    #[error("{} {applied}", self.name())]
     Behind { applied: u64 },
     /// The update with this number is not acknowledged yet.
+    #[error("{} {number}", self.name())]
     NotYet { number: u64 },
     /// The store was stopped.
     Stopped,
@@ -63,24 +65,9 @@ pub enum Refusal {
     /// Memory was refused.
     NoMemory,
     /// The site does not hold what its log says.
+    #[error("{} {}", self.name(), .site.index())]
     Mixed { site: SiteId },
 }
-
-/// The name of the refusal, and what it tells.
-impl fmt::Display for Refusal {
-    fn fmt<W: fmt::Write>(&self, f: &mut fmt::Formatter<W>) -> fmt::Result {
-        f.write_str(self.name())?;
-        let told = match self {
-            Refusal::Behind { applied } => *applied,
-            Refusal::NotYet { number } => *number,
-            Refusal::Mixed { site } => site.index() as u64,
-            _ => return Ok(()),
-        };
-        write!(f, " {told}")
-    }
-}
-
-impl Error for Refusal {}
 
 impl From<AllocError> for Refusal {
     ghost use Rattle.ordup_objects.specs.declared.refusal.Refusal.TheVariants.{NoMemory};

@@ -2,8 +2,8 @@
 use Rattle.std.proofs.Common.{◌≡◌, List, [], ◌∷◌, ◌++◌, ℕ, ℤ, append_assoc, codes, subst, sym}
 use Rattle.std.specs.Fmt.{decimal, signed_decimal}
 use Rattle.ordup_rounds.specs.declared.window.Window.{Window}
-use Rattle.ordup_site.specs.declared.answer.ReadAnswer.{ReadAnswer}
-use Rattle.ordup_site.specs.declared.answer.QueryAnswer.{QueryAnswer}
+use Rattle.ordup_query.specs.declared.answer.ReadAnswer.{ReadAnswer}
+use Rattle.ordup_query.specs.declared.answer.QueryAnswer.{QueryAnswer}
 use Rattle.ordup_text.specs.Lines.{values_text}
 use Rattle.ordup_objects.specs.declared.refusal.Refusal.TheVariants.{NoMemory}
 use Rattle.ordup_primary.specs.Declarations.{Declared}

@@ -7,8 +7,8 @@ use Rattle.ordup_rounds.specs.declared.window.Window.{Window}
 use Rattle.ordup_primary.specs.Declarations.{Declared}
 use Rattle.ordup_primary.specs.declared.settled.Settled.{Settled}
 use Rattle.ordup_primary.specs.declared.settled.Settled.TheVariants.{Acked, Round, Waiting}
-use Rattle.ordup_site.specs.declared.answer.ReadAnswer.{ReadAnswer}
-use Rattle.ordup_site.specs.declared.answer.QueryAnswer.{QueryAnswer}
+use Rattle.ordup_query.specs.declared.answer.ReadAnswer.{ReadAnswer}
+use Rattle.ordup_query.specs.declared.answer.QueryAnswer.{QueryAnswer}
 use Rattle.ordup_text.specs.Lines.{named_text, done_text, numbered_text, values_text}
 use Rattle.ordup_world.specs.declared.event.Answer.{Answer}
 use Rattle.ordup_world.specs.declared.event.Answer.TheVariants.{Proposed, Sent, Applied, Reported, Settlement, Relimited, Begun}

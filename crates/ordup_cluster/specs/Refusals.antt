@@ -13,7 +13,7 @@ use Rattle.ordup_log.specs.declared.scope.Scope.{Scope}
 use Rattle.ordup_primary.specs.LimitChanges.{limit_change_refusal}
 use Rattle.ordup_primary.specs.Primaries.{PrimaryState, IsPrimary, site_view}
 use Rattle.ordup_cluster.specs.Clusters.{ClusterState}
-use Rattle.ordup_site.specs.Queries.{QueryState, begin_refusal, read_refusal}
+use Rattle.ordup_query.specs.Queries.{QueryState, begin_refusal, read_refusal}
 
 -- the number of an update in a log
 abbrev pub IsNumber : ℕ → Type 0

@@ -1,11 +1,11 @@
 ghost use Rattle.std.specs.Prelude.{◌≡◌, ◌<◌, ◌≤◌, ◌+◌, ◌+ℤ◌, None, List, ◌∷◌, length, map, IfOk, IfErr, OnErr};
-ghost use Rattle.ordup_site.specs.declared.answer.ReadAnswer.{ReadAnswer};
-ghost use Rattle.ordup_site.specs.Queries.{HasRead, read_refusal, value_sum, import_sum};
+ghost use Rattle.ordup_query.specs.declared.answer.ReadAnswer.{ReadAnswer};
+ghost use Rattle.ordup_query.specs.Queries.{HasRead, read_refusal, value_sum, import_sum};
 ghost use Rattle.ordup_cluster.specs.Refusals.{IsQueryRefusal};
 
 use crate::holds::SiteCell;
 use ordup_objects::{ObjectId, Refusal};
-use ordup_site::{Query, QueryAnswer, ReadAnswer};
+use ordup_query::{Query, QueryAnswer, ReadAnswer};
 use std::marker::Model;
 use std::sync::{Mutex, Wait};
 
@@ -17,7 +17,7 @@ pub struct SiteQuery<'a> {
 }
 
 impl<'a> Model for SiteQuery<'a> {
-    ghost use Rattle.ordup_site.specs.Queries.{QueryState};
+    ghost use Rattle.ordup_query.specs.Queries.{QueryState};
 
     ghost Value = { QueryState };
 

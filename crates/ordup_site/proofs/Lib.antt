@@ -1,4 +1,2 @@
 pub mod TravelLemmas
 pub mod SiteLemmas
-pub mod ImportLemmas
-mod Examples

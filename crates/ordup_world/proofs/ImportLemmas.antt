@@ -13,11 +13,11 @@ use Rattle.ordup_objects.specs.Weights.{distance}
 use Rattle.ordup_objects.proofs.SerialLemmas.{serial-longer}
 use Rattle.ordup_primary.specs.Declarations.{Declared}
 use Rattle.ordup_primary.specs.Primaries.{acked_after}
-use Rattle.ordup_site.proofs.ImportLemmas.{moved_between}
+use Rattle.ordup_query.proofs.ImportLemmas.{moved_between}
 use Rattle.ordup_world.specs.Queries.{ReadMade, Opened, import_total, values_read, refusal_now}
 use Rattle.ordup_world.specs.Events.{Past, Decisions, is_same, sets_of, log_of, applied, decisions, settled, read_now, with_read, opened}
 use Rattle.ordup_world.specs.Events.{reply, refused_or, is_refused, later, IsAnswer, AreAnswers}
-use Rattle.ordup_site.specs.Queries.{value_sum}
+use Rattle.ordup_query.specs.Queries.{value_sum}
 use Rattle.ordup_world.specs.Imports.{KeepsImport, values_on, AreAccepted, KeepImports}
 use Rattle.ordup_world.specs.Along.{Along}
 use Rattle.ordup_world.specs.declared.event.Event.{Event}

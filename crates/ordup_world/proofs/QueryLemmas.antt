@@ -11,8 +11,8 @@ use Rattle.indexmap.specs.IndexMap.{set_value_at}
 use Rattle.ordup_objects.specs.declared.refusal.Refusal.{Refusal}
 use Rattle.ordup_objects.specs.declared.refusal.Refusal.TheVariants.{TooMany, OverImport}
 use Rattle.ordup_site.specs.Sites.{SiteState}
-use Rattle.ordup_site.specs.Queries.{refusal_at, read_refusal}
-use Rattle.ordup_site.specs.declared.answer.ReadAnswer.{ReadAnswer}
+use Rattle.ordup_query.specs.Queries.{refusal_at, read_refusal}
+use Rattle.ordup_query.specs.declared.answer.ReadAnswer.{ReadAnswer}
 use Rattle.ordup_world.specs.Events.{is_same}
 use Rattle.ordup_world.specs.Worlds.{OpenState, Queries, find_query}
 use Rattle.ordup_world.specs.OpenQueries.{site_at, refusal_of, with_answer, IsAnswered, IsRead, IsOpenAt}

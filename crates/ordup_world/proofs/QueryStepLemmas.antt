@@ -8,11 +8,11 @@ use Rattle.ordup_objects.specs.declared.refusal.Refusal.{Refusal}
 use Rattle.ordup_objects.specs.declared.refusal.Refusal.TheVariants.{UnknownObject, UnknownSite, OutOfRange, TooMany, QueryOpen}
 use Rattle.ordup_objects.specs.declared.refusal.Refusal.TheVariants.{UnknownQuery}
 use Rattle.ordup_primary.specs.Declarations.{Declared}
-use Rattle.ordup_site.specs.Imports.{charge}
-use Rattle.ordup_site.specs.Queries.{refusal_at, value_sum}
-use Rattle.ordup_site.specs.declared.answer.ReadAnswer.{ReadAnswer}
-use Rattle.ordup_site.specs.declared.answer.QueryAnswer.{QueryAnswer}
-use Rattle.ordup_site.proofs.ImportLemmas.{charge-import_of}
+use Rattle.ordup_query.specs.Imports.{charge}
+use Rattle.ordup_query.specs.Queries.{refusal_at, value_sum}
+use Rattle.ordup_query.specs.declared.answer.ReadAnswer.{ReadAnswer}
+use Rattle.ordup_query.specs.declared.answer.QueryAnswer.{QueryAnswer}
+use Rattle.ordup_query.proofs.ImportLemmas.{charge-import_of}
 use Rattle.ordup_world.specs.Queries.{ReadMade, Opened, import_total, values_read, refusal_now}
 use Rattle.ordup_world.specs.Events.{Past, is_same, is_refused, opened, open_count, read_now, with_read, read_reply, reply, IsAnswer}
 use Rattle.ordup_world.specs.Worlds.{StoreState, OpenState, OpenNumbers, Queries, WorldState, store_of, with_queries, find_query}

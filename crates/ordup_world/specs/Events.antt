@@ -22,9 +22,9 @@ use Rattle.ordup_primary.specs.LimitChanges.{SiteView, limit_change_refusal}
 use Rattle.ordup_primary.specs.Settling.{forced_sites, waiting_sites, report_at}
 use Rattle.ordup_primary.specs.Primaries.{acked_after, acked_or_round, acked_or_waiting}
 use Rattle.ordup_primary.specs.declared.settled.Settled.{Settled}
-use Rattle.ordup_site.specs.Sizes.{greatest_import_limit}
-use Rattle.ordup_site.specs.Imports.{import_of}
-use Rattle.ordup_site.specs.Queries.{value_sum}
+use Rattle.ordup_query.specs.Sizes.{greatest_import_limit}
+use Rattle.ordup_query.specs.Imports.{import_of}
+use Rattle.ordup_query.specs.Queries.{value_sum}
 use Rattle.ordup_world.specs.Sizes.{most_queries}
 use Rattle.ordup_world.specs.Queries.{ReadMade, Opened, import_total, values_read, refusal_now}
 use Rattle.ordup_world.specs.declared.event.Event.{Event}

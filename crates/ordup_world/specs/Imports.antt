@@ -4,7 +4,7 @@ use Rattle.ordup_objects.specs.States.{State, value_at}
 use Rattle.ordup_objects.specs.Serial.{serial}
 use Rattle.ordup_objects.specs.Weights.{distance}
 use Rattle.ordup_primary.specs.Declarations.{Declared}
-use Rattle.ordup_site.specs.Queries.{value_sum}
+use Rattle.ordup_query.specs.Queries.{value_sum}
 use Rattle.ordup_world.specs.Queries.{ReadMade, Opened, import_total, values_read}
 use Rattle.ordup_world.specs.Events.{Past, log_of, opened, reply, is_refused}
 

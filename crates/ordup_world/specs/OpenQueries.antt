@@ -5,10 +5,10 @@ use Rattle.ordup_objects.specs.declared.refusal.Refusal.TheVariants.{UnknownQuer
 use Rattle.ordup_objects.specs.States.{value_at}
 use Rattle.ordup_site.specs.Sites.{SiteState}
 use Rattle.ordup_primary.specs.Primaries.{PrimaryState}
-use Rattle.ordup_site.specs.Imports.{charge}
+use Rattle.ordup_query.specs.Imports.{charge}
 use Rattle.ordup_objects.specs.Marks.{AreMarks}
-use Rattle.ordup_site.specs.Queries.{refusal_at}
-use Rattle.ordup_site.specs.declared.answer.ReadAnswer.{ReadAnswer}
+use Rattle.ordup_query.specs.Queries.{refusal_at}
+use Rattle.ordup_query.specs.declared.answer.ReadAnswer.{ReadAnswer}
 use Rattle.ordup_world.specs.Events.{is_same}
 use Rattle.ordup_world.specs.Worlds.{OpenState, Queries, find_query}
 

@@ -1,7 +1,7 @@
 -- Queries of a list of accepted events.
 use Rattle.std.specs.Prelude.{ℕ, ℤ, Option, List, length, map}
 use Rattle.ordup_objects.specs.declared.refusal.Refusal.{Refusal}
-use Rattle.ordup_site.specs.Queries.{read_refusal, import_sum}
+use Rattle.ordup_query.specs.Queries.{read_refusal, import_sum}
 
 -- an accepted read: the object, its value at the site, and what the read imported
 pub record ReadMade : Type 0 where

@@ -8,7 +8,7 @@ use Rattle.ordup_primary.specs.Declarations.{Declared, capacity_of}
 use Rattle.ordup_primary.specs.Primaries.{PrimaryState, SiteProgress, IsPrimary, progress_at, is_lag_within}
 use Rattle.ordup_site.specs.Sites.{SiteState, HoldsPrefix}
 use Rattle.ordup_objects.specs.Marks.{AreMarks}
-use Rattle.ordup_site.specs.Queries.{QueryState, value_sum}
+use Rattle.ordup_query.specs.Queries.{QueryState, value_sum}
 use Rattle.ordup_world.specs.Sizes.{most_queries}
 use Rattle.ordup_world.specs.Queries.{Opened, import_total, values_read}
 use Rattle.ordup_world.specs.Events.{Past, is_same, sent, applied, reported, log_of, decisions, rounds, windows, opened, open_count}

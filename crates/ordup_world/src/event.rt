@@ -1,7 +1,7 @@
 use ordup_limits::Scope;
 use ordup_objects::{MessageSet, Name, ObjectId, Refusal, SiteId, Values};
 use ordup_primary::Settled;
-use ordup_site::{QueryAnswer, ReadAnswer};
+use ordup_query::{QueryAnswer, ReadAnswer};
 use std::alloc::{Allocator, Global};
 
 /// What may happen to a store.

@@ -44,7 +44,7 @@ mod world;
 pub use event::{Answer, Event};
 pub use laws::{changes_leave_decided_places, changes_leave_rounds};
 pub use ordup_primary::{Primary, Settled, Setup, SiteList};
-pub use ordup_site::{QueryAnswer, ReadAnswer};
+pub use ordup_query::{QueryAnswer, ReadAnswer};
 pub use outcome::Run;
 pub use runs::run;
 pub use world::World;

@@ -1,6 +1,6 @@
 ghost use Rattle.std.specs.Prelude.{◌≡◌, ℕ, ◌+◌, ◌<◌, ◌≤◌, None, Some, List, [], cond, length, option_map, slice_index_or, IfOk, IfErr, IfSome, IfNone, OnErr, IsSome, is_some};
 ghost use Rattle.ordup_site.specs.Sites.{SiteState};
-ghost use Rattle.ordup_site.specs.Sizes.{greatest_import_limit};
+ghost use Rattle.ordup_query.specs.Sizes.{greatest_import_limit};
 ghost use Rattle.ordup_world.specs.Events.{is_same};
 ghost use Rattle.ordup_world.specs.Worlds.{find_query};
 ghost use Rattle.ordup_world.specs.OpenQueries.{refusal_of, IsRead, IsBegun, IsOpenAt};
@@ -11,8 +11,9 @@ use crate::store::Store;
 use indexmap::IndexMap;
 use ordup_objects::{Hints, Name, ObjectId, Refusal, SiteId};
 use ordup_primary::Primary;
-use ordup_site::sizes::GREATEST_IMPORT_LIMIT;
-use ordup_site::{Query, ReadAnswer, Site};
+use ordup_query::sizes::GREATEST_IMPORT_LIMIT;
+use ordup_query::{Query, ReadAnswer};
+use ordup_site::Site;
 use std::alloc::{AllocError, Allocator, Global};
 use std::hash::{BuildHasherDefault, FoldHasher};
 use std::marker::Model;
@@ -34,7 +35,7 @@ impl<A: Allocator + Copy> Model for OpenQuery<A> {
 
 impl<A: Allocator + Copy> OpenQuery<A> {
     ghost use Rattle.ordup_site.specs.Sites.{SiteState};
-    ghost use Rattle.ordup_site.specs.Queries.{refusal_at};
+    ghost use Rattle.ordup_query.specs.Queries.{refusal_at};
     ghost use Rattle.ordup_world.specs.OpenQueries.{site_at, with_answer, IsAnswered};
 
     /// Reads an object at the site of the query.

@@ -4,14 +4,14 @@ ghost use Rattle.ordup_objects.specs.Marks.{AreMarks};
 ghost use Rattle.ordup_objects.specs.Serial.{with_update};
 ghost use Rattle.ordup_objects.specs.Sets.{AreKnown};
 ghost use Rattle.ordup_log.specs.Appending.{append_refusal};
-ghost use Rattle.ordup_site.specs.Queries.{begin_refusal};
+ghost use Rattle.ordup_query.specs.Queries.{begin_refusal};
 ghost use Rattle.ordup_cluster.specs.Numbering.{IsTurn, with_numbered};
 
 use crate::holds::book::Book;
 use crate::holds::turning::turn;
 use ordup_objects::{MessageSet, Refusal};
-use ordup_site::Query;
-use ordup_site::sizes::GREATEST_IMPORT_LIMIT;
+use ordup_query::Query;
+use ordup_query::sizes::GREATEST_IMPORT_LIMIT;
 use std::sync::Wait;
 
 /// Numbers a message set as the next update of a book's log, and answers its number.

@@ -9,7 +9,7 @@ use ordup_cluster::{Cluster, Session, SiteQuery};
 use ordup_limits::Scope;
 use ordup_objects::{MessageSet, Refusal};
 use ordup_primary::Window;
-use ordup_site::{QueryAnswer, ReadAnswer};
+use ordup_query::{QueryAnswer, ReadAnswer};
 use std::process::Abort;
 use std::sync::Wait;
 use std::test::Fail;

@@ -5,7 +5,7 @@ use ordup_cluster::{Cluster, SeenValue, Session};
 use ordup_limits::Scope;
 use ordup_objects::{MessageSet, ObjectId, Refusal, SiteId};
 use ordup_primary::Setup;
-use ordup_site::{QueryAnswer, ReadAnswer};
+use ordup_query::{QueryAnswer, ReadAnswer};
 use std::process::Abort;
 use std::sync::Wait;
 use std::test::Fail;

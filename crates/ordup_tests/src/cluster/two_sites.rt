@@ -6,7 +6,7 @@ use super::fixtures::{
 use crate::fixtures::{a, b, x};
 use ordup_cluster::{Cluster, Session};
 use ordup_objects::MessageSet;
-use ordup_site::ReadAnswer;
+use ordup_query::ReadAnswer;
 use std::process::Abort;
 use std::sync::Wait;
 use std::test::Fail;

@@ -5,9 +5,9 @@ use Rattle.std.proofs.lemmas.Result.{on_err_weaker}
 use Rattle.ordup_objects.specs.States.{value_at}
 use Rattle.ordup_objects.specs.declared.refusal.Refusal.{Refusal}
 use Rattle.ordup_site.specs.Sites.{SiteState}
-use Rattle.ordup_site.specs.Imports.{charge}
-use Rattle.ordup_site.specs.Queries.{QueryState, refusal_at}
-use Rattle.ordup_site.specs.declared.answer.ReadAnswer.{ReadAnswer}
+use Rattle.ordup_query.specs.Imports.{charge}
+use Rattle.ordup_query.specs.Queries.{QueryState, refusal_at}
+use Rattle.ordup_query.specs.declared.answer.ReadAnswer.{ReadAnswer}
 use Rattle.ordup_world.specs.Worlds.{OpenState}
 use Rattle.ordup_world.specs.OpenQueries.{IsAnswered, with_answer}
 use Rattle.ordup_world.proofs.StoreLemmas.{no_site}

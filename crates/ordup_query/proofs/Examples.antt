@@ -6,8 +6,8 @@ use Rattle.ordup_objects.specs.declared.change.Op.TheVariants.{Add}
 use Rattle.ordup_objects.specs.declared.refusal.Refusal.TheVariants.{OutOfRange, TooMany, OverImport}
 use Rattle.ordup_objects.specs.Serial.{History}
 use Rattle.ordup_site.specs.Sites.{SiteState}
-use Rattle.ordup_site.specs.Imports.{import_of, charge}
-use Rattle.ordup_site.specs.Queries.{QueryState, begin_refusal, refusal_at, value_sum, import_sum}
+use Rattle.ordup_query.specs.Imports.{import_of, charge}
+use Rattle.ordup_query.specs.Queries.{QueryState, begin_refusal, refusal_at, value_sum, import_sum}
 
 abbrev add : ℤ → List Change
 add n = record { object = 0; op = Add n } ∷ []

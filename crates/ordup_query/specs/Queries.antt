@@ -4,9 +4,9 @@ use Rattle.std.specs.Prelude.{Option, Some, None, List, [], ◌∷◌, length, m
 use Rattle.ordup_objects.specs.declared.refusal.Refusal.{Refusal}
 use Rattle.ordup_objects.specs.declared.refusal.Refusal.TheVariants.{OutOfRange, TooMany, OverImport}
 use Rattle.ordup_site.specs.Sites.{SiteState}
-use Rattle.ordup_site.specs.declared.answer.ReadAnswer.{ReadAnswer}
-use Rattle.ordup_site.specs.Sizes.{most_reads, greatest_import_limit}
-use Rattle.ordup_site.specs.Imports.{charge}
+use Rattle.ordup_query.specs.declared.answer.ReadAnswer.{ReadAnswer}
+use Rattle.ordup_query.specs.Sizes.{most_reads, greatest_import_limit}
+use Rattle.ordup_query.specs.Imports.{charge}
 
 -- the reference, the marks of the objects there, the limit, and what the accepted reads added up to
 pub record QueryState : Type 0 where

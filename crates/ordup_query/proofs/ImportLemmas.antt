@@ -9,7 +9,7 @@ use Rattle.ordup_objects.specs.Weights.{distance, object_span}
 use Rattle.ordup_objects.proofs.SpanLemmas.{object_span-add, moved}
 use Rattle.ordup_site.specs.Sites.{SiteState, HasApplied}
 use Rattle.ordup_objects.specs.Marks.{AreMarks}
-use Rattle.ordup_site.specs.Imports.{import_of, charge, ChargesAreImports}
+use Rattle.ordup_query.specs.Imports.{import_of, charge, ChargesAreImports}
 
 distance-other : (a b : ℤ) → distance a b ≡ distance b a
 distance-other a b = grind (arith, ints)

@@ -2,8 +2,8 @@
 use Rattle.std.specs.Prelude.{◌≤◌, ◌*◌}
 use Rattle.std.specs.Int.RustNames.{unsigned_abs}
 use Rattle.ordup_objects.specs.Sizes.{greatest_value}
-use Rattle.ordup_site.specs.Sizes.{most_reads, greatest_import_limit}
-use Rattle.ordup_site.specs.declared.query.Query.TheInside.{Inside}
+use Rattle.ordup_query.specs.Sizes.{most_reads, greatest_import_limit}
+use Rattle.ordup_query.specs.declared.query.Query.TheInside.{Inside}
 
 -- the total is within the limit, and the sums fit
 module _ {A : Type 0} where

@@ -3,16 +3,16 @@ ghost use Rattle.ordup_objects.specs.States.{value_at};
 ghost use Rattle.ordup_objects.specs.Serial.{History, serial};
 ghost use Rattle.ordup_objects.specs.Weights.{distance};
 ghost use Rattle.ordup_site.specs.Sites.{HasApplied};
-ghost use Rattle.ordup_site.specs.declared.answer.ReadAnswer.{ReadAnswer};
-ghost use Rattle.ordup_site.specs.Sizes.{most_reads};
-ghost use Rattle.ordup_site.specs.Imports.{import_of, charge};
+ghost use Rattle.ordup_query.specs.declared.answer.ReadAnswer.{ReadAnswer};
+ghost use Rattle.ordup_query.specs.Sizes.{most_reads};
+ghost use Rattle.ordup_query.specs.Imports.{import_of, charge};
 ghost use Rattle.ordup_objects.specs.Marks.{mark_at, AreMarks};
-ghost use Rattle.ordup_site.specs.Queries.{begin_refusal, refusal_at, value_sum, import_sum, HasRead};
+ghost use Rattle.ordup_query.specs.Queries.{begin_refusal, refusal_at, value_sum, import_sum, HasRead};
 
 use crate::answer::{QueryAnswer, ReadAnswer};
-use crate::site::Site;
 use crate::sizes::{GREATEST_IMPORT_LIMIT, MOST_READS};
 use ordup_objects::{ObjectId, Refusal};
+use ordup_site::Site;
 use std::alloc::{Allocator, Global};
 use std::marker::Model;
 
@@ -32,13 +32,13 @@ pub struct Query<A: Allocator + Copy = Global> {
 }
 
 impl<A: Allocator + Copy> Model for Query<A> {
-    ghost use Rattle.ordup_site.specs.Queries.{QueryState};
+    ghost use Rattle.ordup_query.specs.Queries.{QueryState};
 
     ghost Value = { QueryState };
 
     ghost view = { λ q. record { place = q.place; marks = q.marks.items; limit = q.limit; sum = q.sum; total = q.total; reads = q.reads } };
 
-    ghost use Rattle.ordup_site.specs.QueryInside.{IsQuery};
+    ghost use Rattle.ordup_query.specs.QueryInside.{IsQuery};
 
     ghost invariant = { IsQuery };
 }

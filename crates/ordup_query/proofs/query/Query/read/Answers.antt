@@ -1,8 +1,8 @@
 use Rattle.std.proofs.Common.{arith, to_z, of_z, w64}
 use Rattle.std.proofs.lemmas.Grind.{common_steps}
 use Rattle.std.proofs.lemmas.Int.{to_z-of_z}
-use Rattle.ordup_site.proofs.ImportLemmas.{import-import_of, import-near}
-use Rattle.ordup_site.proofs.query.Query.read.Goals as goal
+use Rattle.ordup_query.proofs.ImportLemmas.{import-import_of, import-near}
+use Rattle.ordup_query.proofs.query.Query.read.Goals as goal
 
 pub returns-clause-imported : goal.returns-clause-imported
 returns-clause-imported g c =

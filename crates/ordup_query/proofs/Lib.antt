@@ -1,0 +1,2 @@
+pub mod ImportLemmas
+mod Examples

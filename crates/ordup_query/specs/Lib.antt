@@ -1,0 +1,4 @@
+pub mod Sizes
+pub mod Imports
+pub mod Queries
+pub mod QueryInside

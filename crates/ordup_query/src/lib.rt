@@ -1,0 +1,15 @@
+//! Queries: reads at a site that may lag or lead, and what they import.
+//!
+//! What the layers above rely on: a query's total is within its limit, and each read is charged what it imports by the
+//! query's reference.
+#![tactic(auto)]
+
+mod answer;
+mod laws;
+mod query;
+pub mod sizes;
+
+pub use answer::{QueryAnswer, ReadAnswer};
+pub use laws::charges_are_imports;
+pub use ordup_objects::longer_histories_keep_marks;
+pub use query::Query;

@@ -1,5 +1,0 @@
-use Rattle.ordup_site.proofs.ImportLemmas.{charge-import_of}
-use Rattle.ordup_site.proofs.laws.charges_are_imports.Goals as goal
-
-pub returns : goal.returns
-returns c = charge-import_of

@@ -1,6 +1,7 @@
 //! The log: the updates in their global order, groups of objects, and what updates weigh.
 //!
-//! What the layers above rely on: each place of the log holds a set that is legal there, and spans are sums of weights.
+//! What the layers above rely on: each place of the log holds a set that is legal there, so each prefix of a log is a log; and
+//! spans are sums of weights.
 #![tactic(auto)]
 
 mod groups;
@@ -15,5 +16,6 @@ pub use groups::Groups;
 pub use ids::GroupId;
 pub use laws::{inner_spans_weigh_less, longer_histories_keep_spans, values_move_by_spans};
 pub use log::Log;
+pub use ordup_objects::prefixes_of_legal_histories_are_legal;
 pub use scope::Scope;
 pub use steps::as_of;

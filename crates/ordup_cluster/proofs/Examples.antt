@@ -4,18 +4,18 @@ use Rattle.std.specs.Prelude.{Some, None, codes, true, false, if◌then◌else�
 use Rattle.std.specs.Option.{option_or}
 use Rattle.ordup_objects.specs.declared.change.Change.{Change}
 use Rattle.ordup_objects.specs.declared.change.Op.TheVariants.{Add}
-use Rattle.ordup_objects.specs.declared.refusal.Refusal.TheVariants.{UnknownObject, UnknownSite, OutOfRange, TooMany}
+use Rattle.ordup_objects.specs.declared.refusal.Refusal.TheVariants.{UnknownObject, UnknownGroup, UnknownSite, OutOfRange, TooMany}
 use Rattle.ordup_objects.specs.declared.refusal.Refusal.TheVariants.{Behind, Stopped, HeadPending, LagOver}
 use Rattle.ordup_objects.specs.Refusals.{IsRefusal}
 use Rattle.ordup_objects.specs.Serial.{History}
-use Rattle.ordup_log.specs.declared.scope.Scope.TheVariants.{Count}
+use Rattle.ordup_log.specs.declared.scope.Scope.TheVariants.{Object, Group, Count}
 use Rattle.ordup_cluster.specs.Clusters.{ClusterState}
-use Rattle.ordup_cluster.specs.Refusals.{ReadRequest, IsReadRefusal, IsLimitPlace, IsLimitChangeRefusal, proposal_refusal}
+use Rattle.ordup_cluster.specs.Refusals.{ReadRequest, IsReadRefusal, IsLimitPlace, IsLimitChangeRefusal, proposal_refusal, undeclared_refusal}
 
 -- ---- a read of the one object at the one site, by a session that has seen 1 update
 
 abbrev one_of_each : ClusterState
-one_of_each = record { objects = (codes "x", pos 0) ∷ []; sites = 1 }
+one_of_each = record { objects = (codes "x", pos 0) ∷ []; groups = (codes "g", 0 ∷ []) ∷ []; sites = 1 }
 
 abbrev of_both : ReadRequest
 of_both = record { object = 0; site = 0; seen = 1 }
@@ -63,7 +63,13 @@ proposals : (proposal_refusal true full of_no_object ≡ Some Stopped) × (propo
     × (proposal_refusal true full [] ≡ Some Stopped) × (proposal_refusal false full [] ≡ None)
 proposals = (refl, refl, refl, refl, refl, refl)
 
--- ---- a change of the limit on the count of updates to 0
+-- ---- a change of the limit on the count of updates to 0, in the cluster of one object, one group and one site
+
+-- the scope is looked at before the site, and both before the lock is taken
+undeclared : (undeclared_refusal one_of_each 1 (Object 1) ≡ Some UnknownObject) × (undeclared_refusal one_of_each 1 (Group 1) ≡ Some UnknownGroup)
+    × (undeclared_refusal one_of_each 1 (Group 0) ≡ Some UnknownSite) × (undeclared_refusal one_of_each 1 Count ≡ Some UnknownSite)
+    × (undeclared_refusal one_of_each 0 (Object 0) ≡ None) × (undeclared_refusal one_of_each 0 (Group 0) ≡ None)
+undeclared = (refl, refl, refl, refl, refl, refl)
 
 -- a limit holds from place 1 at the earliest
 changed-from_0 : IsLimitPlace 0 Count 0 0 → ⊥
@@ -79,5 +85,8 @@ is-not-stopped false true true over e = absurd cc
 is-not-stopped false true false true e = absurd cc
 is-not-stopped false true false false e = absurd cc
 
-changed-after_stop : IsLimitChangeRefusal 0 Count 0 Stopped → ⊥
-changed-after_stop refused = is-not-stopped _ _ _ _ refused.2
+changed-after_stop : IsLimitChangeRefusal one_of_each 0 Count 0 Stopped → ⊥
+changed-after_stop refused = elim refused [
+  | inl h ↦ absurd (let is : None ≡ Some Stopped = h in cc)
+  | inr h ↦ is-not-stopped _ _ _ _ h.3
+]

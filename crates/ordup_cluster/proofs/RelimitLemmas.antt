@@ -6,7 +6,7 @@ use Rattle.ordup_objects.specs.Refusals.{IsRefusal}
 use Rattle.ordup_log.specs.declared.scope.Scope.{Scope}
 use Rattle.ordup_primary.specs.LimitChanges.{limit_change_refusal}
 use Rattle.ordup_primary.specs.Primaries.{PrimaryState, IsPrimary, site_view}
-use Rattle.ordup_cluster.specs.Refusals.{IsLimitPlace, IsLimitChangeRefusal}
+use Rattle.ordup_cluster.specs.Refusals.{IsLimitPlace, IsBookRefusal}
 
 pub place-by : (p : PrimaryState) (site : ℕ) (scope : Scope) (amount : ℕ) (r : Result ℕ Refusal) → IsPrimary p
     → IfOk r (λ k. k ≡ p.acked + 1) → IfOk r (λ k. limit_change_refusal (site_view p site) scope amount ≡ None)
@@ -15,6 +15,6 @@ place-by p site scope amount (Ok k) sound place allowed = (p, sound, place, allo
 place-by p site scope amount (Err e) sound place allowed = tt
 
 pub refusal-by : (p : PrimaryState) (site : ℕ) (scope : Scope) (amount : ℕ) (r : Result ℕ Refusal) → IsPrimary p
-    → IfErr r (λ e. IsRefusal (limit_change_refusal (site_view p site) scope amount) e) → IfErr r (IsLimitChangeRefusal site scope amount)
+    → IfErr r (λ e. IsRefusal (limit_change_refusal (site_view p site) scope amount) e) → IfErr r (IsBookRefusal site scope amount)
 refusal-by p site scope amount (Ok k) sound refused = tt
 refusal-by p site scope amount (Err e) sound refused = (p, sound, refused)

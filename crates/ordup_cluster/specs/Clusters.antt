@@ -1,13 +1,15 @@
 -- What contracts see of a cluster, and of what is left of it.
 use Rattle.std.specs.Prelude.{◌≡◌, ℕ, ◌<◌, Some, List, length, slice_get, true}
 use Rattle.ordup_objects.specs.Tables.{Objects}
+use Rattle.ordup_log.specs.Groups.{GroupList}
 use Rattle.ordup_primary.specs.Primaries.{PrimaryState, IsPrimary, is_lag_within}
 use Rattle.ordup_site.specs.Sites.{SiteState}
 use Rattle.ordup_cluster.specs.Agreement.{Agrees}
 
--- The objects that were declared, and how many sites there are. What lies under a lock no contract sees.
+-- The objects and groups that were declared, and how many sites there are. What lies under a lock no contract sees.
 pub record ClusterState : Type 0 where
   pub objects : Objects
+  pub groups : GroupList
   pub sites : ℕ
 
 -- the primary and the sites of a closed cluster

@@ -1,5 +1,6 @@
 -- Which refusals the calls of a cluster answer.
 use Rattle.std.specs.Prelude.{◌≡◌, ℕ, ◌+◌, ◌<◌, ◌≤◌, ◌⊎◌, Bool, List, Option, Some, None, length, if◌then◌else◌, not, nat_lt}
+use Rattle.std.specs.Option.{option_or}
 use Rattle.ordup_objects.specs.declared.change.Change.{Change}
 use Rattle.ordup_objects.specs.Sizes.{most_updates}
 use Rattle.ordup_objects.specs.declared.refusal.Refusal.{Refusal}
@@ -10,6 +11,7 @@ use Rattle.ordup_objects.specs.Serial.{History}
 use Rattle.ordup_objects.specs.Sets.{are_known}
 use Rattle.ordup_log.specs.Appending.{append_refusal}
 use Rattle.ordup_log.specs.declared.scope.Scope.{Scope}
+use Rattle.ordup_limits.specs.Limits.{scope_refusal}
 use Rattle.ordup_primary.specs.LimitChanges.{limit_change_refusal}
 use Rattle.ordup_primary.specs.Primaries.{PrimaryState, IsPrimary, site_view}
 use Rattle.ordup_cluster.specs.Clusters.{ClusterState}
@@ -42,9 +44,21 @@ abbrev pub IsLimitPlace : ℕ → Scope → ℕ → ℕ → Type 0
 IsLimitPlace site scope amount place =
     (p : PrimaryState) × IsPrimary p × (place ≡ p.acked + 1) × (limit_change_refusal (site_view p site) scope amount ≡ None)
 
--- of a change of a limit: what that primary refuses, or else that there is no memory
-abbrev pub IsLimitChangeRefusal : ℕ → Scope → ℕ → Refusal → Type 0
-IsLimitChangeRefusal site scope amount e = (p : PrimaryState) × IsPrimary p × IsRefusal (limit_change_refusal (site_view p site) scope amount) e
+-- of the hold in which a limit is changed: what that primary refuses, or else that there is no memory
+abbrev pub IsBookRefusal : ℕ → Scope → ℕ → Refusal → Type 0
+IsBookRefusal site scope amount e = (p : PrimaryState) × IsPrimary p × IsRefusal (limit_change_refusal (site_view p site) scope amount) e
+
+-- why a limit of a site on a scope cannot be changed in a cluster, if what was declared lacks one of the two: the scope is looked at
+-- first
+abbrev pub undeclared_refusal : ClusterState → ℕ → Scope → Option Refusal
+undeclared_refusal c site scope =
+    option_or (scope_refusal (length c.objects) c.groups scope) (if nat_lt site c.sites then None else Some UnknownSite)
+
+-- Of a change of a limit: what was declared decides alone where it lacks the scope or the site. Where it has both, it is what the
+-- book says under its lock.
+abbrev pub IsLimitChangeRefusal : ClusterState → ℕ → Scope → ℕ → Refusal → Type 0
+IsLimitChangeRefusal c site scope amount e =
+    (undeclared_refusal c site scope ≡ Some e) ⊎ ((undeclared_refusal c site scope ≡ None) × IsBookRefusal site scope amount e)
 
 -- what a read asks for: an object at a site, for a session that has seen a number of updates
 pub record ReadRequest : Type 0 where

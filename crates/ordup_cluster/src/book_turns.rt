@@ -87,7 +87,7 @@ impl Turns for BookTurns<'_> {
         self.made
     }
 
-    fn is_refused(&self) -> bool {
+    fn refused(&self) -> bool {
         self.refused
     }
 }

@@ -9,7 +9,7 @@ ghost use Rattle.ordup_cluster.specs.Books.{AreSpareValues};
 ghost use Rattle.ordup_cluster.specs.Agreement.{Agrees};
 ghost use Rattle.ordup_cluster.specs.Numbering.{IsTurn, with_numbered};
 ghost use Rattle.ordup_cluster.specs.Clusters.{IsClosed, IsFirstMixed};
-ghost use Rattle.ordup_cluster.specs.Refusals.{IsNumber, IsNumberingRefusal, IsProposalRefusal, IsSettlementRefusal, IsReadRefusal, IsLimitPlace, IsLimitChangeRefusal, proposal_refusal, site_query_refusal};
+ghost use Rattle.ordup_cluster.specs.Refusals.{IsNumber, IsNumberingRefusal, IsProposalRefusal, IsSettlementRefusal, IsReadRefusal, IsLimitPlace, IsBookRefusal, IsLimitChangeRefusal, undeclared_refusal, proposal_refusal, site_query_refusal};
 
 use crate::book_turns::BookTurns;
 use crate::closed::Closed;
@@ -21,7 +21,8 @@ use crate::holds::{
 use crate::room::{Room, locked, sites_of};
 use crate::session::Session;
 use crate::site_query::SiteQuery;
-use ordup_log::Scope;
+use ordup_limits::check_scope;
+use ordup_log::{Groups, Scope};
 use ordup_objects::{MessageSet, ObjectId, ObjectTable, Refusal, SiteId, Values};
 use ordup_primary::{Primary, Setup};
 use ordup_query::Query;
@@ -40,8 +41,9 @@ use std::thread;
 pub struct Cluster {
     book: Mutex<Book>,
     cells: Vec<Mutex<SiteCell>>,
-    /// A copy of the table that was declared, so that lending it takes no lock.
+    /// Copies of what was declared, so that no lock is taken to look at them.
     objects: ObjectTable,
+    groups: Groups,
     /// Empty, with a place for the site of each cell.
     room: Vec<Site>,
     stopped: AtomicBool,
@@ -53,7 +55,7 @@ impl Model for Cluster {
 
     ghost Value = { ClusterState };
 
-    ghost view = { λ c. record { objects = c.objects; sites = vec_len c.cells } };
+    ghost view = { λ c. record { objects = c.objects; groups = c.groups; sites = vec_len c.cells } };
 
     ghost use Rattle.ordup_cluster.specs.ClusterInside.{KeepsRoom};
 
@@ -63,11 +65,11 @@ impl Model for Cluster {
 impl Cluster {
     /// Opens a store in which nothing has happened, and takes the memory that `close` needs. It waits for nobody.
     ///
-    /// - The store has the objects that were declared, and as many sites.
+    /// - The store has the objects and groups that were declared, and as many sites.
     /// - It is opened only where there is an object and a site.
     /// - It is refused `Empty` where the setup lacks an object or a site, and else `NoMemory` alone.
     pub fn new(alloc: Global, setup: Setup) -> Result<Cluster, Refusal>
-        ensures cluster { IfOk result (λ c. c ≡ record { objects = setup.objects; sites = length setup.sites }) }
+        ensures cluster { IfOk result (λ c. c ≡ record { objects = setup.objects; groups = setup.groups; sites = length setup.sites }) }
         ensures allowed { IfOk result (λ _. start_refusal setup ≡ None) }
         ensures refused { IfErr result (λ e. IsRefusal (start_refusal setup) e) }
     {
@@ -87,10 +89,11 @@ impl Cluster {
         requires some { 0 < length cells.items }
         requires locks { (vec_len room.locks ≡ 0) × (length cells.items ≤ vec_capacity room.locks) }
         requires sites { (vec_len room.sites ≡ 0) × (length cells.items ≤ vec_capacity room.sites) }
-        ensures { result ≡ record { objects = room.objects; sites = length cells.items } }
+        ensures { result ≡ record { objects = room.objects; groups = room.groups; sites = length cells.items } }
     {
         let Room {
             objects,
+            groups,
             locks,
             sites,
         } = room;
@@ -98,6 +101,7 @@ impl Cluster {
             book: Mutex::new(book),
             cells: locked(cells, locks),
             objects,
+            groups,
             room: sites,
             stopped: AtomicBool::new(false),
         }
@@ -298,6 +302,7 @@ impl Cluster {
     ///
     /// It makes no turn and looks at no feed: what the site reported is what the turns have found. It may be called after `stop`.
     ///
+    /// - The object or group of the scope is there, and so is the site.
     /// - The answer is the place of the head of a primary that allows the change.
     /// - It is refused `UnknownObject` or `UnknownGroup` where the scope's is not there, `UnknownSite`, `OutOfRange` for the
     ///   amount, `TooMany` for a 65th scope or a 1,089th entry of the site, `HeadPending` where the head is decided and not
@@ -310,8 +315,29 @@ impl Cluster {
         scope: Scope,
         amount: u64,
     ) -> Result<u64, Refusal>
+        ensures allowed { IfOk result (λ _. undeclared_refusal self.now site scope ≡ None) }
         ensures place { IfOk result (IsLimitPlace site scope amount) }
-        ensures refused { IfErr result (IsLimitChangeRefusal site scope amount) }
+        ensures refused { IfErr result (IsLimitChangeRefusal self.now site scope amount) }
+    {
+        // The prover joins branches over a borrowed scope, not over a copied one.
+        let scope = &scope;
+        check_scope(&self.objects, &self.groups, *scope)?;
+        if site.index() >= self.cells.len() {
+            return Err(Refusal::UnknownSite);
+        }
+        self.relimit_declared(rt, site, *scope, amount)
+    }
+
+    /// The hold in which a limit is changed.
+    fn relimit_declared<R: Wait>(
+        &self,
+        rt: &R,
+        site: SiteId,
+        scope: Scope,
+        amount: u64,
+    ) -> Result<u64, Refusal>
+        ensures place { IfOk result (IsLimitPlace site scope amount) }
+        ensures refused { IfErr result (IsBookRefusal site scope amount) }
     {
         let mut book = self.book.lock(rt);
         relimit(&mut book, site, scope, amount)
@@ -367,11 +393,13 @@ impl Cluster {
             book,
             cells,
             objects,
+            groups,
             room,
             stopped: _,
         } = self;
         // What is large is dropped by a call: where it goes out of scope, the proof takes it apart.
         drop(objects);
+        drop(groups);
         let sites = sites_of(cells, room);
         let (primary, mut spare_values) = book.into_inner().into_parts();
         let mixed = first_mixed(&primary, &sites, &mut spare_values);
@@ -392,12 +420,14 @@ impl Cluster {
             book,
             cells,
             objects,
+            groups,
             room,
             stopped: _,
         } = self;
         book.into_inner().discard();
         drop(cells);
         drop(objects);
+        drop(groups);
         drop(room);
     }
 }

@@ -9,8 +9,8 @@
 //! 5. At the end `agree` compares a site with the log of the primary.
 //!
 //! The one contract above this layer: a book and a cell keep their facts whenever nobody holds them. What was pushed into each feed
-//! are the first updates of the log, and a site reported at most what its feed told; a site holds the serial result of what it
-//! took.
+//! are the first updates of the log, and a site reported no more than its end of the feed knows; a site holds the serial result of
+//! what it took.
 mod agreement;
 mod book;
 mod numbering;

@@ -15,7 +15,7 @@ ghost use Rattle.ordup_world.specs.Along.{Along, KeepSites, HaveFewest};
 ghost use Rattle.ordup_world.specs.Events.{AreAnswers, past_after};
 ghost use Rattle.ordup_world.specs.Imports.{KeepImports};
 ghost use Rattle.ordup_world.specs.Worlds.{StandsFor, IsSound, KeepsLimits};
-ghost use Rattle.ordup_cluster.specs.Refusals.{IsNumber, IsProposalRefusal, IsSettlementRefusal, IsLimitPlace, IsLimitChangeRefusal, IsQueryRefusal, site_query_refusal};
+ghost use Rattle.ordup_cluster.specs.Refusals.{IsNumber, IsProposalRefusal, IsSettlementRefusal, IsLimitPlace, IsLimitChangeRefusal, IsQueryRefusal, site_query_refusal, undeclared_refusal};
 ghost use Rattle.ordup_cluster.specs.Relimiting.{with_changed_limit};
 
 use ordup_cluster::holds::{self, Book};
@@ -132,8 +132,9 @@ pub fn relimit<R: Wait>(
     scope: Scope,
     amount: u64,
 ) -> Result<u64, Refusal>
+    ensures allowed { IfOk result (λ _. undeclared_refusal cluster.now site scope ≡ None) }
     ensures place { IfOk result (IsLimitPlace site scope amount) }
-    ensures refused { IfErr result (IsLimitChangeRefusal site scope amount) }
+    ensures refused { IfErr result (IsLimitChangeRefusal cluster.now site scope amount) }
 {
     cluster.relimit(rt, site, scope, amount)
 }

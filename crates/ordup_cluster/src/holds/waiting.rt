@@ -29,7 +29,7 @@ pub trait Turns {
         ensures { result ≡ made_of self.now };
 
     /// Whether the last turn was refused a growth.
-    fn is_refused(&self) -> bool
+    fn refused(&self) -> bool
         ensures { result ≡ refused_of self.now };
 }
 
@@ -76,7 +76,7 @@ pub fn until_acknowledged<R: Wait, T: Turns>(
     ensures number { IfErr result (λ n. n ≡ number) }
     ensures err { OnErr result (StaysPending number turns (record { acked = T.acked_of store.new; made = T.made_of store.new; refused = T.refused_of store.new })) }
 {
-    if store.is_refused() {
+    if store.refused() {
         return Err(number);
     }
     match until(rt, store, number, turns) {

@@ -60,7 +60,7 @@ impl Turns for Planned {
         self.made
     }
 
-    fn is_refused(&self) -> bool {
+    fn refused(&self) -> bool {
         self.refused
     }
 }
@@ -84,7 +84,7 @@ fn waiting_ends_with_a_refused_growth(rt: HostRuntime) -> Result<(), Fail> {
         let mut store = Planned::new(0, 2);
         expect_eq!(&rt; until(&rt, &mut store, 2, turns), Err(Refusal::NoMemory));
         expect_eq!(&rt; store.made, 2);
-        expect!(&rt; store.is_refused());
+        expect!(&rt; store.refused());
     }
     Ok(())
 }

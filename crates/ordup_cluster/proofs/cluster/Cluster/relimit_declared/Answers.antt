@@ -1,5 +1,5 @@
 use Rattle.ordup_cluster.proofs.RelimitLemmas.{place-by, refusal-by}
-use Rattle.ordup_cluster.proofs.cluster.Cluster.relimit.Goals as goal
+use Rattle.ordup_cluster.proofs.cluster.Cluster.relimit_declared.Goals as goal
 
 pub returns-clause-place : goal.returns-clause-place
 returns-clause-place g c =

@@ -30,7 +30,7 @@ impl<A: Allocator + Copy> ScriptEnd<A> {
         mem::replace(self, ScriptEnd::Running(world)).discard();
     }
 
-    /// Gives its memory back, as where it goes out of scope.
+    /// Drops it, by one call, and gives its memory back.
     pub fn discard(self) {
         match self {
             ScriptEnd::Declared(setup) => setup.discard(),

@@ -21,7 +21,7 @@ report_from-later reported (c ∷ changes) k later =
     rw (lt-leb c.place k (All-head (λ (c : ReportChange). k < c.place) c changes later))
     (report_from-later reported changes k (All-tail (λ (c : ReportChange). k < c.place) c changes later))
 
--- where a change is at or before the place, and those after it are later, it is by this one
+-- the report at k is that of change i, where i is at or before k and all changes after it are later
 report_from-last : (reported : ℕ) (changes : List ReportChange) (k i : ℕ) (d : ReportChange) → i < length changes
     → (get_or changes i d).place ≤ k
     → ((j : ℕ) (e : ReportChange) → i < j → j < length changes → k < (get_or changes j e).place)

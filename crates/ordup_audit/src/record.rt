@@ -247,7 +247,7 @@ impl<A: Allocator + Copy> Record<A> {
         true
     }
 
-    /// Gives its memory back, as where it goes out of scope.
+    /// Drops it, by one call, and gives its memory back.
     pub fn discard(self) {
         let Record { parts } = self;
         parts.discard();

@@ -19,7 +19,7 @@ pub struct RecordView<'a, A: Allocator + Copy = Global> {
     pub groups: &'a Groups<A>,
     /// The limits of the site.
     pub limits: &'a LimitTable<A>,
-    /// The first decided updates are the first of these.
+    /// The log, whose first updates are the first decided ones.
     pub log: &'a Log<A>,
     /// How many of the decided updates are of the log.
     pub logged: u64,

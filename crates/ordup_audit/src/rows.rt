@@ -9,7 +9,7 @@ use crate::record::Record;
 use ordup_limits::{GroupId, Groups};
 use std::alloc::Allocator;
 
-/// The row of a change: the one after the first `place` changes of the update after the first `updates`.
+/// The row of a change: the one after the first `index` changes of the update after the first `updates`.
 pub(crate) fn change_row<A: Allocator + Copy>(
     audited: &Record<A>,
     updates: u64,
@@ -22,7 +22,7 @@ pub(crate) fn change_row<A: Allocator + Copy>(
     rows_before_changes(audited) + change_count(audited, updates) + index as u64 + 1
 }
 
-/// The row of the window after the first `place` windows.
+/// The row of the window after the first `index` windows.
 pub(crate) fn window_row<A: Allocator + Copy>(audited: &Record<A>, index: usize) -> u64
     requires { index < length audited.now.windows }
     ensures { result ≡ window_row audited.now index }

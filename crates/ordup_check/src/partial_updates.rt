@@ -1,4 +1,4 @@
-//! Objects, and updates over them as far as their rows were read.
+//! The objects of a record and its updates, as far as their rows were read.
 ghost use Rattle.std.specs.Prelude.{◌≡◌, ◌<◌, ◌≤◌, ◌++◌, ◌∷◌, [], None, IfErr, IfOk, length};
 ghost use Rattle.ordup_objects.specs.Refusals.{IsRefusal};
 ghost use Rattle.ordup_objects.specs.Sets.{AreKnown, set_refusal};

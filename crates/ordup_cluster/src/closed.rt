@@ -42,7 +42,7 @@ impl Closed {
         &self.sites[site.index()]
     }
 
-    /// Gives its memory back, as where it goes out of scope.
+    /// Drops it, by one call, and gives its memory back.
     pub fn discard(self) {
         let Closed { primary, sites } = self;
         primary.discard();

@@ -303,7 +303,7 @@ impl Cluster {
     /// It makes no turn and looks at no feed: what the site reported is what the turns have found. It may be called after `stop`.
     ///
     /// - The object or group of the scope is there, and so is the site.
-    /// - The answer is the place of the head of a primary that allows the change.
+    /// - The answer is the place of the head of some sound primary that allows the change: which one, no clause can say.
     /// - It is refused `UnknownObject` or `UnknownGroup` where the scope's is not there, `UnknownSite`, `OutOfRange` for the
     ///   amount, `TooMany` for a 65th scope or a 1,089th entry of the site, `HeadPending` where the head is decided and not
     ///   acknowledged, `LagOver` where the acknowledged updates that the site has not reported weigh more than the amount, and
@@ -414,7 +414,7 @@ impl Cluster {
         }
     }
 
-    /// Gives its memory back, as where it goes out of scope. No site is compared with the log.
+    /// Drops it, by one call, and gives its memory back. No site is compared with the log.
     pub fn discard(self) {
         let Cluster {
             book,

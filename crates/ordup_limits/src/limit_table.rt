@@ -233,7 +233,7 @@ impl<A: Allocator + Copy> LimitTable<A> {
     }
 }
 
-/// The place of the first of these limits that the span passes.
+/// The index of the first of these limits that the span passes.
 fn first_passed<A: Allocator + Copy>(
     limits: &[Limit],
     log: &Log<A>,

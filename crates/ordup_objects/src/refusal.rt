@@ -60,7 +60,7 @@ pub enum Refusal {
     Stopped,
     /// The head is decided and not acknowledged.
     HeadPending,
-    /// The site lags by more than the new limit.
+    /// What the site has not reported weighs more than the new limit.
     LagOver,
     /// Memory was refused.
     NoMemory,

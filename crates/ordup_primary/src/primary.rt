@@ -489,7 +489,7 @@ impl<A: Allocator + Copy> Primary<A> {
         waiting
     }
 
-    /// Gives its memory back, as where it goes out of scope.
+    /// Drops it, by one call, and gives its memory back.
     pub fn discard(self) {
         drop(self);
     }

@@ -78,7 +78,7 @@ impl<A: Allocator + Copy> Reports<A> {
     }
 }
 
-/// What the last of these changes is to, 0 where there is none.
+/// The number that the last of these changes goes to, or 0 where there is none.
 fn last_report(changes: &[(u32, u32)]) -> u64
     ensures { result ≡ (slice_index_or changes.now (length changes.now - 1) (0, 0)).1 }
 {
@@ -88,8 +88,8 @@ fn last_report(changes: &[(u32, u32)]) -> u64
     }
 }
 
-/// What the last of these changes at or before a place is to, and 0 before the first. That is usually the last of all; an earlier
-/// one is found by binary search.
+/// The number that the last change at or before a place goes to, or 0 before the first. That is usually the last of all; an
+/// earlier one is found by binary search.
 fn as_of(changes: &[(u32, u32)], place: u32) -> u32
     requires { IsNonDecreasingBy (λ (change : ℕ × ℕ). change.0) changes.now }
     ensures { result ≡ as_of changes.now place }

@@ -217,7 +217,7 @@ impl<A: Allocator + Copy> Setup<A> {
         &self.limits[site.index()]
     }
 
-    /// Gives its memory back, as where it goes out of scope.
+    /// Drops it, by one call, and gives its memory back.
     pub fn discard(self) {
         drop(self);
     }

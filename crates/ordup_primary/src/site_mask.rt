@@ -6,7 +6,7 @@ ghost use Rattle.ordup_primary.specs.Settling.{where_below};
 use crate::site_list::SiteList;
 use ordup_objects::SiteId;
 
-/// The first sites, so many, whose bits are in a mask.
+/// The sites below `count` whose bits are in the mask.
 pub(crate) fn sites_among(mask: u64, count: usize) -> SiteList
     requires { count ≤ most_sites }
     ensures { result ≡ where_below (λ s. bit_at mask s == 1) count }

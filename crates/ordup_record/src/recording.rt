@@ -13,7 +13,7 @@ use ordup_objects::{ObjectTable, Refusal, SiteId};
 use ordup_primary::Primary;
 use std::alloc::Allocator;
 
-/// The record of a site of a primary. It promises, clause by clause:
+/// The record of a site of a primary: copies of what `view_of` lends. It promises, clause by clause:
 ///
 /// - `content`: the record holds what the primary has: the declarations, the decided updates, and the limits, reports, rounds and
 ///   windows of the site.

@@ -69,7 +69,7 @@ module _ {A : Type 0} where
 
 -- ---- what becomes of one open query
 
--- a name that is the same is the name
+-- names that the test finds the same are equal
 pub same-name : (a b : List ℕ) → is_same a b ≡ true → a ≡ b
 same-name a b same = (bytes_eq-Decides a b).0 same
 

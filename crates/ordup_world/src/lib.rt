@@ -16,8 +16,8 @@
 //!    acknowledged.
 //! 6. **Send, apply, report.** `Event::Send` puts the next update into the feed of a site, `Event::Apply` has the site apply
 //!    the next update of its feed, and `Event::Report` lets the primary know how many updates the site applied. The caller
-//!    does so for each site at a pace of its own. After `FeedFull` the site has to apply first. A site lags by all that it has
-//!    not reported, also by what it applied.
+//!    does so for each site at a pace of its own. After `FeedFull` the site has to apply first. What a site has not reported
+//!    weighs on its limits, also where it applied it.
 //! 7. **Query.** `Event::Begin` opens a query at a site, by a name and with an import limit. Its reference is what is
 //!    acknowledged at that moment. Each `Event::Read` gives the value at the site and what the read imports: the value at the
 //!    reference is no further away. `OverImport` says that the site is too far from the reference. A site that is behind comes

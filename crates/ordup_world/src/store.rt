@@ -39,7 +39,7 @@ impl<A: Allocator + Copy> Store<A> {
         }
     }
 
-    /// Gives its memory back, as where it goes out of scope.
+    /// Drops it, by one call, and gives its memory back.
     pub(crate) fn discard(self) {
         let Store { primary, sites } = self;
         primary.discard();

@@ -111,7 +111,7 @@ impl<A: Allocator + Copy> World<A> {
         &self.store.primary
     }
 
-    /// Gives its memory back, as where it goes out of scope.
+    /// Drops it, by one call, and gives its memory back.
     pub fn discard(self) {
         let World { store, queries } = self;
         store.discard();

@@ -78,7 +78,7 @@ impl Book {
         (primary, spare_values)
     }
 
-    /// Gives its memory back, as where it goes out of scope.
+    /// Drops it, by one call, and gives its memory back.
     pub(crate) fn discard(self) {
         let Book {
             primary,

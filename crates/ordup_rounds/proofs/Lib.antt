@@ -2,4 +2,5 @@ pub mod ScheduleLemmas
 pub mod WindowLemmas
 pub mod PlaceLemmas
 pub mod RoundLemmas
+pub mod JoinLemmas
 pub mod Examples

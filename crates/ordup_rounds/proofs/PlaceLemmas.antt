@@ -33,7 +33,7 @@ count_upto-push e x xs lt =
     omega arith
 
 -- where all are later, none is counted
-count_upto-none : (e : ℕ) (xs : List ℕ) → All (λ x. e < x) xs → count_upto e xs ≡ 0
+pub count_upto-none : (e : ℕ) (xs : List ℕ) → All (λ x. e < x) xs → count_upto e xs ≡ 0
 count_upto-none e [] later = refl
 count_upto-none e (x ∷ xs) later =
     omega (

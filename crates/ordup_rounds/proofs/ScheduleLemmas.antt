@@ -29,7 +29,7 @@ awaited-one None n own = omega arith
 awaited-one (Some m) n own = own m refl
 
 -- no round up to a decided place waits for a later one
-awaited_place-le : (decided : ℕ) (p : Schedule) → IsSchedule decided p → (k : ℕ) → k ≤ decided → awaited_place p k ≤ k
+pub awaited_place-le : (decided : ℕ) (p : Schedule) → IsSchedule decided p → (k : ℕ) → k ≤ decided → awaited_place p k ≤ k
 awaited_place-le decided p is zero le = omega arith
 awaited_place-le decided p is (suc k) le =
     omega (

@@ -2,3 +2,4 @@ pub mod Schedules
 pub mod Windows
 pub mod Rounds
 pub mod Fewest
+pub mod Joins

@@ -1,3 +1,4 @@
+ghost use Rattle.ordup_rounds.specs.Joins.{CertificatesJoin, FewestRoundsJoin};
 ghost use Rattle.ordup_rounds.specs.Fewest.{EachWindowHasARound, NoFewerRoundsThanWindows, PlacesAreFullRounds, CertifiedRoundsAreFewest, ForcedRoundsAreFewest};
 
 /// A law: a schedule that keeps the limits has a round at a place of each window.
@@ -25,4 +26,18 @@ pub fn certified_rounds_are_fewest()
 /// A law: rounds just where the report is too old are the fewest, up to each decided place, and their windows show it.
 pub fn forced_rounds_are_fewest()
     ensures { ForcedRoundsAreFewest }
+{}
+
+/// A law: the certificates of two epochs, the second moved by the length of the first, are a certificate of both.
+///
+/// The site has reported all of the first epoch where the next one begins.
+pub fn certificates_join()
+    ensures { CertificatesJoin }
+{}
+
+/// A law: where the rounds of two epochs are the fewest, so are those of both, one after the other.
+///
+/// So they stay the fewest, however many epochs a store goes on for.
+pub fn fewest_rounds_join()
+    ensures { FewestRoundsJoin }
 {}

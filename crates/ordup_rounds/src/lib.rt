@@ -10,7 +10,7 @@ mod laws;
 mod window;
 
 pub use laws::{
-    certified_rounds_are_fewest, each_window_has_a_round, forced_rounds_are_fewest,
-    no_fewer_rounds_than_windows, places_are_full_rounds,
+    certificates_join, certified_rounds_are_fewest, each_window_has_a_round, fewest_rounds_join,
+    forced_rounds_are_fewest, no_fewer_rounds_than_windows, places_are_full_rounds,
 };
 pub use window::Window;

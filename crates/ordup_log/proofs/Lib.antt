@@ -1,5 +1,6 @@
 pub mod WeightLemmas
 pub mod SpanLemmas
+pub mod JoinLemmas
 pub mod GroupLemmas
 pub mod StepLemmas
 pub mod PostingLemmas

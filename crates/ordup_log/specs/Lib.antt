@@ -4,3 +4,4 @@ pub mod Appending
 pub mod Steps
 pub mod Postings
 pub mod LogInside
+pub mod Joins

@@ -1,3 +1,4 @@
+ghost use Rattle.ordup_log.specs.Joins.{SpansJoin};
 ghost use Rattle.ordup_log.specs.Spans.{InnerSpansWeighLess, LongerHistoriesKeepSpans, ValuesMoveBySpans};
 
 /// A law: a span inside another weighs no more than it, on every scope.
@@ -13,4 +14,10 @@ pub fn longer_histories_keep_spans()
 /// A law: a value moves by no more than the span between weighs on its object.
 pub fn values_move_by_spans()
     ensures { ValuesMoveBySpans }
+{}
+
+/// A law: what spans weigh joins, on every scope, where a history goes on in one that begins with the values of its end. Within that
+/// one they weigh the same there, and a span across the join weighs what its two parts weigh.
+pub fn spans_join()
+    ensures { SpansJoin }
 {}

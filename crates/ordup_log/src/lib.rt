@@ -14,7 +14,9 @@ mod steps;
 
 pub use groups::Groups;
 pub use ids::GroupId;
-pub use laws::{inner_spans_weigh_less, longer_histories_keep_spans, values_move_by_spans};
+pub use laws::{
+    inner_spans_weigh_less, longer_histories_keep_spans, spans_join, values_move_by_spans,
+};
 pub use log::Log;
 pub use ordup_objects::prefixes_of_legal_histories_are_legal;
 pub use scope::Scope;

@@ -7,4 +7,5 @@ pub mod RefusalLemmas
 pub mod TableLemmas
 pub mod SerialLemmas
 pub mod SpanLemmas
+pub mod JoinLemmas
 mod Examples

@@ -12,3 +12,4 @@ pub mod Serial
 pub mod Sums
 pub mod Weights
 pub mod Marks
+pub mod Joins

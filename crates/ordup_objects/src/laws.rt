@@ -1,3 +1,4 @@
+ghost use Rattle.ordup_objects.specs.Joins.{LegalHistoriesJoin, SerialResultsJoin, ObjectSpansJoin};
 ghost use Rattle.ordup_objects.specs.Marks.{LongerHistoriesKeepMarks};
 ghost use Rattle.ordup_objects.specs.Serial.{LongerHistoriesKeepSerialResults, PrefixesOfLegalHistoriesAreLegal};
 ghost use Rattle.ordup_objects.specs.Weights.{ValuesMoveByTheirWeights, LongerHistoriesKeepObjectSpans};
@@ -33,4 +34,22 @@ pub fn longer_histories_keep_object_spans()
 /// So the reference of a query stays one, however the log grows.
 pub fn longer_histories_keep_marks()
     ensures { LongerHistoriesKeepMarks }
+{}
+
+/// A law: a legal history that begins with the values in which another one ended, put after it, makes a legal history.
+///
+/// So a store may go on in a next one, which begins where it ended.
+pub fn legal_histories_join()
+    ensures { LegalHistoriesJoin }
+{}
+
+/// A law: after the updates of the first of two such histories, the serial results are those of the next one.
+pub fn serial_results_join()
+    ensures { SerialResultsJoin }
+{}
+
+/// A law: what spans weigh on an object joins. Within the next history they weigh the same there, and a span across the join weighs
+/// what its two parts weigh.
+pub fn object_spans_join()
+    ensures { ObjectSpansJoin }
 {}

@@ -20,9 +20,9 @@ pub use bytes::{Hints, copy_short};
 pub use change::{Change, NumberOp, Op};
 pub use ids::{ObjectId, SiteId};
 pub use laws::{
-    longer_histories_keep_marks, longer_histories_keep_object_spans,
-    longer_histories_keep_serial_results, prefixes_of_legal_histories_are_legal,
-    values_move_by_their_weights,
+    legal_histories_join, longer_histories_keep_marks, longer_histories_keep_object_spans,
+    longer_histories_keep_serial_results, object_spans_join, prefixes_of_legal_histories_are_legal,
+    serial_results_join, values_move_by_their_weights,
 };
 pub use message_set::MessageSet;
 pub use name::Name;

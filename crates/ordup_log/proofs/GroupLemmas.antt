@@ -2,7 +2,7 @@
 use Rattle.std.proofs.Common.{◌≡◌, ℕ, zero, suc, ◌+◌, ◌-◌, ◌<◌, ◌≤◌}
 use Rattle.std.proofs.Common.{false, List, [], ◌∷◌, ◌++◌, length, map, get_or}
 use Rattle.std.proofs.Common.{arith, refl, sym, ap, ◌∙◌, nat_eq, Vec}
-use Rattle.std.specs.Prelude.{true, Option, Some, None, is_some, nat_lt, option_map, slice_get, take, All}
+use Rattle.std.specs.Prelude.{true, Some, None, nat_lt, option_map, slice_get, take, All}
 use Rattle.std.specs.List.{list_any, position}
 use Rattle.std.specs.Cmp.Lexicographic.{pointwise}
 use Rattle.ordup_objects.specs.Sizes.{most_groups, most_members}

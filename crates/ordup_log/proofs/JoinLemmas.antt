@@ -4,7 +4,6 @@ use Rattle.std.specs.Prelude.{sum_by}
 use Rattle.ordup_objects.specs.Joins.{GoesOnIn, joined}
 use Rattle.ordup_objects.specs.Serial.{History}
 use Rattle.ordup_objects.specs.Sums.{sum_from}
-use Rattle.ordup_objects.specs.Weights.{object_weight}
 use Rattle.ordup_objects.proofs.JoinLemmas.{object_weight-joined, sum_from-moved, sum_from-across}
 use Rattle.ordup_objects.proofs.SerialLemmas.{length-serial}
 use Rattle.ordup_log.specs.Groups.{GroupList, members_at}
@@ -27,8 +26,7 @@ pub spans_join : SpansJoin
 spans_join h next groups s a b goes =
     let n = length h.sets in
     let same : (j : ℕ) → weight (joined h next) groups s (n + j) ≡ weight next groups s j = λ j. weight-joined h next groups s j goes in
-    let long : n + b - (n + a) ≡ b - a = omega arith in
-    (
+    let long : n + b - (n + a) ≡ b - a = omega arith in (
       rw long (sum_from-moved (weight (joined h next) groups s) (weight next groups s) n a (b - a) same),
       λ le. sum_from-across (weight (joined h next) groups s) (weight next groups s) n a b le same
           ∙ ap (λ w. w + span next groups s 0 b) (span-longer h next.sets groups s a n (omega arith)),

@@ -20,7 +20,7 @@ use Rattle.ordup_objects.specs.Weights.{object_weight, distance_by, distances_of
 use Rattle.ordup_log.specs.declared.log.Log.TheInside.{Inside}
 use Rattle.ordup_log.specs.declared.scope.Scope.TheVariants.{All as Everything}
 use Rattle.ordup_log.specs.Appending.{append_refusal}
-use Rattle.ordup_log.specs.Spans.{weight, span}
+use Rattle.ordup_log.specs.Spans.{weight}
 use Rattle.ordup_log.specs.Postings.{last_number, last_of, last_weight, posted}
 use Rattle.ordup_log.specs.LogInside.{IsLog, IsKept, history_of}
 use Rattle.ordup_objects.proofs.SumLemmas.{sum_from-few, sum_from-same}

@@ -1,6 +1,6 @@
 -- Histories that go on in a next one.
-use Rattle.std.proofs.Common.{◌≡◌, ℕ, zero, suc, ◌+◌, ◌-◌, ◌<◌, ◌≤◌, true, List, [], ◌++◌}
-use Rattle.std.proofs.Common.{length, get_or, arith, refl, sym, ap, ◌∙◌, inl, inr}
+use Rattle.std.proofs.Common.{◌≡◌, ℕ, zero, suc, ◌+◌, ◌-◌, ◌≤◌, true, [], ◌++◌}
+use Rattle.std.proofs.Common.{length, get_or, arith, refl, ap, ◌∙◌, inl, inr}
 use Rattle.std.proofs.Math.ListN.{get_or-append}
 use Rattle.std.proofs.Math.Seq.{take-append-add, take-length}
 use Rattle.std.proofs.lemmas.Bool.{cases_lt}
@@ -10,7 +10,7 @@ use Rattle.std.proofs.lemmas.List.Sums.{fold-append}
 use Rattle.ordup_objects.specs.States.{is_legal}
 use Rattle.ordup_objects.specs.Sets.{IsSet, AreKnown}
 use Rattle.ordup_objects.specs.Sums.{sum_from}
-use Rattle.ordup_objects.specs.Serial.{History, serial, IsLegalHistory}
+use Rattle.ordup_objects.specs.Serial.{History, serial}
 use Rattle.ordup_objects.specs.Weights.{object_weight, object_span}
 use Rattle.ordup_objects.specs.Joins.{GoesOnIn, joined, LegalHistoriesJoin, SerialResultsJoin, ObjectSpansJoin}
 use Rattle.ordup_objects.proofs.SerialLemmas.{length-serial, serial-longer}
@@ -46,8 +46,7 @@ pub object_spans_join : ObjectSpansJoin
 object_spans_join h next x a b goes =
     let n = length h.sets in
     let same : (j : ℕ) → object_weight (joined h next) x (n + j) ≡ object_weight next x j = λ j. object_weight-joined h next x j goes in
-    let long : n + b - (n + a) ≡ b - a = omega arith in
-    (
+    let long : n + b - (n + a) ≡ b - a = omega arith in (
       rw long (sum_from-moved (object_weight (joined h next) x) (object_weight next x) n a (b - a) same),
       λ le. sum_from-across (object_weight (joined h next) x) (object_weight next x) n a b le same
           ∙ ap (λ w. w + object_span next x 0 b) (object_span-longer h next.sets x a n (omega arith)),

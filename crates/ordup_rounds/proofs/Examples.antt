@@ -1,7 +1,7 @@
 -- The definitions at a case of seven places, worked out by hand. The limit is 2 updates. The site had reported nothing at the decisions
 -- of the places 1 to 3, then 3 updates at those of 4 and 5, and 4 at those of 6 and 7. So it is forced at 3 and at 7.
 use Rattle.std.proofs.Common.{◌≡◌, ℕ, ◌-◌, ◌<◌, ◌≤◌, ◌==◌, Bool, true, false}
-use Rattle.std.proofs.Common.{Some, None, List, [], ◌∷◌, length, not, inl, inr, arith, refl}
+use Rattle.std.proofs.Common.{Some, None, List, [], ◌∷◌, ◌+◌, length, not, inl, inr, arith, refl, sym, ◌∙◌}
 use Rattle.std.specs.Prelude.{◌||◌, if◌then◌else◌, nat_le, nat_lt, unwrap_or, is_some, slice_index}
 use Rattle.std.proofs.lemmas.Bool.{agree_below, agree_below_at, le-leb, leb-true, or_cases, or_left, or_right, true≢false, false≢true}
 use Rattle.std.proofs.lemmas.List.Elements.{All-nil, All-cons}
@@ -10,7 +10,9 @@ use Rattle.ordup_rounds.specs.Schedules.{IsLimitTest, Schedule, IsSchedule, roun
 use Rattle.ordup_rounds.specs.Windows.{IsWindow, AreDisjointWindows, HasRoundIn}
 use Rattle.ordup_rounds.specs.Rounds.{AreRoundPlaces, count_upto, full_rounds, rounds_upto, windows_upto, AreRoundsReported}
 use Rattle.ordup_rounds.specs.Fewest.{IsCertificate, AreFewest}
+use Rattle.ordup_rounds.specs.Joins.{JoinsTests, joined_reports, moved_places, moved_windows}
 use Rattle.ordup_rounds.proofs.RoundLemmas.{forced_rounds_are_fewest}
+use Rattle.ordup_rounds.proofs.JoinLemmas.{fewest_rounds_join}
 
 abbrev few : ℕ → ℕ → Bool
 few a b = nat_le (b - a) 2
@@ -218,3 +220,34 @@ certificate-places is = absurd (let lt : 7 < 3 = is.places.ascending 0 (omega ar
 
 certificate-windows : IsCertificate few reports 7 (3 ∷ 7 ∷ []) (from_to 4 7 ∷ from_to 0 3 ∷ []) → ⊥
 certificate-windows is = absurd (let apart : 7 ≤ 0 = is.disjoint.apart 0 (from_to 0 0) (omega arith) in omega arith)
+
+-- ---- a next epoch of three places, in which nothing is reported before its place 3: it has its one round there, the place 10 of both
+
+-- in the next epoch all seven places of the first are reported, and what is reported in it comes after them
+reports-joined : (joined_reports 7 reports (λ k. k - 1) 5 ≡ 3) × (joined_reports 7 reports (λ k. k - 1) 7 ≡ 4)
+    × (joined_reports 7 reports (λ k. k - 1) 8 ≡ 7) × (joined_reports 7 reports (λ k. k - 1) 10 ≡ 9)
+reports-joined = (refl, refl, refl, refl)
+
+moved : (moved_places 7 (3 ∷ []) ≡ 10 ∷ []) × (moved_windows 7 (from_to 0 3 ∷ []) ≡ from_to 7 10 ∷ [])
+moved = (refl, refl)
+
+-- the count of updates is the same test everywhere
+joins : JoinsTests 7 few few few
+joins = record { before = λ a b le. refl; after = λ a b. (let same : 7 + b - (7 + a) ≡ b - a = omega arith in rw same refl) }
+
+-- a window that ends at the last place of the first epoch counts as it did there
+joins-forgetful : JoinsTests 7 (λ a b. b == 7 || few a b) few few → ⊥
+joins-forgetful are = true≢false (are.before 4 7 (omega arith))
+
+unreported : AreRoundsReported few (λ k. 0) 3
+unreported j k some lt last over =
+    let at : agree_below (λ i. few 0 i || nat_le 3 i) (λ i. true) 4 ≡ true = refl in
+    elim (or_cases (few 0 j) (nat_le 3 j) (agree_below_at (λ i. few 0 i || nat_le 3 i) (λ i. true) 4 j at (omega arith))) [
+      | inl kept ↦ absurd (true≢false (sym kept ∙ over))
+      | inr late ↦ absurd (let third : 3 ≤ j = leb-true 3 j late in omega arith)
+    ]
+
+fewest-joined : AreFewest few (joined_reports 7 reports (λ k. 0)) 10 (3 ∷ 7 ∷ 10 ∷ []) (from_to 0 3 ∷ from_to 4 7 ∷ from_to 7 10 ∷ [])
+fewest-joined =
+    fewest_rounds_join 7 3 few few few reports (λ k. 0) limit joins (3 ∷ 7 ∷ []) (3 ∷ []) (from_to 0 3 ∷ from_to 4 7 ∷ []) (from_to 0 3 ∷ []) fewest
+    (forced_rounds_are_fewest few (λ k. 0) 3 limit unreported)

@@ -1,12 +1,12 @@
 -- What is shown of two epochs is shown of both, one after the other.
 use Rattle.std.proofs.Common.{◌≡◌, ℕ, zero, suc, ◌+◌, ◌-◌, ◌<◌, ◌≤◌, ◌==◌, Bool, true, false, Option, Some, None}
-use Rattle.std.proofs.Common.{cond, List, [], ◌∷◌, ◌++◌, length, map, max, inl, inr, arith, refl, sym, ap, ◌∙◌}
+use Rattle.std.proofs.Common.{cond, List, [], ◌∷◌, ◌++◌, length, map, max, inl, inr, arith, refl, sym, ◌∙◌}
 use Rattle.std.specs.Prelude.{◌||◌, if◌then◌else◌, nat_le, is_some, unwrap_or, option_map, All, get_or}
 use Rattle.std.specs.List.{AllAdjacentBelow}
 use Rattle.std.specs.List.Sorted.{IsStrictlyIncreasing}
-use Rattle.std.proofs.lemmas.Bool.{cases_Bool, cases_lt, cases_order, le-leb, lt-leb, eq-eqb, ne_eqb}
+use Rattle.std.proofs.lemmas.Bool.{cases_lt, cases_order, le-leb, lt-leb, eq-eqb, ne_eqb}
 use Rattle.std.proofs.lemmas.List.{length-append, length-map}
-use Rattle.std.proofs.lemmas.List.Elements.{All-nil, All-cons, All-head, All-tail, All-append, All-map, All-weaker}
+use Rattle.std.proofs.lemmas.List.Elements.{All-tail, All-append, All-map, All-weaker}
 use Rattle.std.proofs.lemmas.List.Folds.{list_any-append}
 use Rattle.std.proofs.lemmas.List.Kept.{AllPairs-from_increasing}
 use Rattle.std.proofs.lemmas.List.Sums.{sum_by-append, sum_by-cons}
@@ -14,7 +14,7 @@ use Rattle.ordup_rounds.specs.declared.window.Window.{Window}
 use Rattle.ordup_rounds.specs.Schedules.{IsLimitTest, Schedule, IsSchedule, StaysWithin, base, round_count, awaited_place}
 use Rattle.ordup_rounds.specs.Windows.{IsWindow, AreDisjointWindows}
 use Rattle.ordup_rounds.specs.Rounds.{AreRoundPlaces, count_upto, full_rounds}
-use Rattle.ordup_rounds.specs.Fewest.{IsCertificate, AreFewest}
+use Rattle.ordup_rounds.specs.Fewest.{IsCertificate}
 use Rattle.ordup_rounds.specs.Joins.{JoinsTests, joined_reports, moved_places, moved_windows, CertificatesJoin, FewestRoundsJoin}
 use Rattle.ordup_rounds.proofs.PlaceLemmas.{has_place, count_upto-all, count_upto-none, round_count-places, places_are_full_rounds}
 use Rattle.ordup_rounds.proofs.ScheduleLemmas.{awaited_place-le}
@@ -73,9 +73,9 @@ adjacent-append R P Q joins (x ∷ y ∷ xs) ys before ps after qs (suc k) d the
     let step : suc k + 1 ≡ suc (k + 1) = omega arith in
     let rest : AllAdjacentBelow R (y ∷ xs) (length (y ∷ xs)) =
     λ i e lt. (
-      let next : suc i + 1 ≡ suc (i + 1) = omega arith in
-      let pair : R (get_or (y ∷ xs) i e) (get_or (x ∷ y ∷ xs) (suc i + 1) e) = before (suc i) e (omega arith) in
-      rw next at pair) in
+    let next : suc i + 1 ≡ suc (i + 1) = omega arith in
+    let pair : R (get_or (y ∷ xs) i e) (get_or (x ∷ y ∷ xs) (suc i + 1) e) = before (suc i) e (omega arith) in
+    rw next at pair) in
     rw step (adjacent-append R P Q joins (y ∷ xs) ys rest (All-tail P x (y ∷ xs) ps) after qs k d (omega arith))
 
 map-adjacent : {X : Type 0} (R S : X → X → Type 0) (f : X → X) → ((x y : X) → R x y → S (f x) (f y)) → (xs : List X)
@@ -87,9 +87,9 @@ map-adjacent R S f keeps (x ∷ y ∷ xs) all (suc k) d there =
     let step : suc k + 1 ≡ suc (k + 1) = omega arith in
     let rest : AllAdjacentBelow R (y ∷ xs) (length (y ∷ xs)) =
     λ i e lt. (
-      let next : suc i + 1 ≡ suc (i + 1) = omega arith in
-      let pair : R (get_or (y ∷ xs) i e) (get_or (x ∷ y ∷ xs) (suc i + 1) e) = all (suc i) e (omega arith) in
-      rw next at pair) in
+    let next : suc i + 1 ≡ suc (i + 1) = omega arith in
+    let pair : R (get_or (y ∷ xs) i e) (get_or (x ∷ y ∷ xs) (suc i + 1) e) = all (suc i) e (omega arith) in
+    rw next at pair) in
     rw step (map-adjacent R S f keeps (y ∷ xs) rest k d (omega arith))
 
 adjacent-ascending : (xs : List ℕ) → IsStrictlyIncreasing xs → AllAdjacentBelow (λ x y. x < y) xs (length xs)

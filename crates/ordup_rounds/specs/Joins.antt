@@ -32,7 +32,7 @@ CertificatesJoin =
     (rounds next_rounds : List ℕ) (windows next_windows : List Window) →
     IsCertificate first first_reports n rounds windows → IsCertificate next next_reports decided next_rounds next_windows →
     IsCertificate within (joined_reports n first_reports next_reports) (n + decided) (rounds ++ moved_places n next_rounds)
-        (windows ++ moved_windows n next_windows)
+    (windows ++ moved_windows n next_windows)
 
 -- and where the rounds of each epoch are the fewest, so are those of the whole
 abbrev pub FewestRoundsJoin : Type 0
@@ -42,4 +42,4 @@ FewestRoundsJoin =
     (rounds next_rounds : List ℕ) (windows next_windows : List Window) →
     AreFewest first first_reports n rounds windows → AreFewest next next_reports decided next_rounds next_windows →
     AreFewest within (joined_reports n first_reports next_reports) (n + decided) (rounds ++ moved_places n next_rounds)
-        (windows ++ moved_windows n next_windows)
+    (windows ++ moved_windows n next_windows)

@@ -1,4 +1,5 @@
-//! Names, the names of refusals, and whole lists of events.
+//! Names, the names of refusals, whole lists of events, and worked rows of logs, ledgers and limits.
 mod answers;
 mod fixtures;
 mod names;
+mod worked_rows;

@@ -129,7 +129,11 @@ pub fn started(rt: &impl Abort, alloc: Global, sites: &[Site]) -> Result<Primary
 }
 
 /// Proposes the update that adds a number to x, and answers its number.
-pub fn propose_add(rt: &impl Abort, primary: &mut Primary, n: i64) -> Result<u64, Refusal> {
+pub fn propose_add<A: Allocator + Copy>(
+    rt: &impl Abort,
+    primary: &mut Primary<A>,
+    n: i64,
+) -> Result<u64, Refusal> {
     let set = add(rt, primary.setup().objects(), x(), n);
     expect!(rt; set.are_known(primary.log().objects()));
     primary.propose(set)

@@ -1,5 +1,6 @@
 //! Scripts and plans over streams that fail and limits of bytes, and all calls where memory is refused.
 mod additions;
+mod changed_limits;
 mod copies;
 mod digests;
 mod growths;

@@ -251,7 +251,7 @@ fn make<'a>(
 }
 
 /// What the readers of a primary answer, with nothing allowed.
-fn digest_of(rt: &impl Abort, heap: Heap<'_>, primary: &Primary<Heap<'_>>) -> Digest {
+pub(crate) fn digest_of(rt: &impl Abort, heap: Heap<'_>, primary: &Primary<Heap<'_>>) -> Digest {
     heap.allow(0);
     let mut digest = Digest::new();
     add_primary(&mut digest, primary);

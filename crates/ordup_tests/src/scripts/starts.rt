@@ -11,7 +11,7 @@ use ordup_world::{Event, Run, Setup};
 use std::alloc::AllocError;
 use std::process::Abort;
 
-/// The declarations of a round that is waited for.
+/// The declarations of x, y and the site a, whose limit on x is 5. They are made with memory.
 fn declared<'a>(rt: &impl Abort, heap: Heap<'a>) -> Setup<Heap<'a>> {
     heap.allow_all();
     let mut setup = Setup::new(heap);
@@ -21,6 +21,16 @@ fn declared<'a>(rt: &impl Abort, heap: Heap<'a>) -> Setup<Heap<'a>> {
     expect!(rt; setup.site(b"a", 4).is_ok());
     expect!(rt; setup.limit(a, Scope::Object(ObjectId::new(0)), 5).is_ok());
     setup
+}
+
+/// A primary of these declarations.
+pub(crate) fn started<'a>(rt: &impl Abort, heap: Heap<'a>) -> Primary<Heap<'a>> {
+    let setup = declared(rt, heap);
+    expect!(rt; setup.is_ready());
+    let Ok(primary) = Primary::new(heap, setup) else {
+        panic!(rt; "there is no primary")
+    };
+    primary
 }
 
 /// Makes a primary with this count of growths allowed, where its declarations are given up: why there is none, if there is none.

@@ -10,4 +10,6 @@ mod plans;
 mod scarce;
 mod script;
 mod starts;
+mod steps_without_memory;
 mod transcripts;
+mod without_memory;

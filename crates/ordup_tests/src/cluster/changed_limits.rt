@@ -3,7 +3,7 @@ use super::fixtures::{
     add, apply_at, expect_closed, expect_proposed, expect_settled, opened, opened_pair,
 };
 use crate::fixtures::{a, b, seen, x, z};
-use crate::promises::relimit;
+use crate::promises::{begin, relimit};
 use ordup_audit::{Verdict, check};
 use ordup_cluster::{Cluster, Session};
 use ordup_limits::{GroupId, Limit, LimitEntry, Scope};
@@ -100,6 +100,10 @@ fn change_after_the_stop<R: Wait + Abort>(rt: &R, cluster: &Cluster, set: Messag
     expect_order(rt, cluster);
     cluster.stop();
     apply_at(rt, cluster, a());
+    // None of these calls makes a turn, in which the primary would hear what a applied.
+    expect_settled(rt, cluster, &mut Session::new(), 1, 1, Ok(()));
+    expect_eq!(rt; begin(rt, cluster, a(), 0).err(), None);
+    expect_changed(rt, cluster, a(), Scope::All, 2, Err(Refusal::LagOver));
     expect_changed(rt, cluster, a(), Scope::All, 2, Err(Refusal::LagOver));
     expect_changed(rt, cluster, a(), Scope::All, 3, Ok(2));
 }

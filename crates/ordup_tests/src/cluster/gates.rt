@@ -1,12 +1,13 @@
 //! What an applier tells its gate, and when it ends.
-use super::fixtures::{add, expect_proposed, opened, opened_pair};
+use super::fixtures::{add, expect_proposed, expect_settled, opened, opened_pair};
 use crate::fixtures::{a, b, x};
+use crate::promises::settle;
 use ordup_cluster::{Cluster, Gate, OpenGate, Session};
 use ordup_limits::Scope;
-use ordup_objects::{MessageSet, SiteId};
+use ordup_objects::{MessageSet, Refusal, SiteId};
 use std::process::Abort;
 use std::sync::Wait;
-use std::sync::atomic::{AtomicU64, Ordering};
+use std::sync::atomic::{AtomicBool, AtomicU64, Ordering};
 use std::test::Fail;
 
 /// A gate that notes each call by three digits: 1 for `before_apply` and 2 for `at_apply`, the index of the site, and the number.
@@ -91,6 +92,50 @@ fn an_applier_ends_in_a_turn_that_began_after_the_stop(rt: HostRuntime) -> Resul
     let cluster = opened(&rt, rt.alloc(), Scope::All, 0)?;
     // The first turn finds nothing, but began before the cluster was stopped.
     expect_calls(&rt, &cluster, a(), false, 0, 101_201_101_201);
+    cluster.discard();
+    Ok(())
+}
+
+/// A gate that settles the first update, with one turn, as the site is about to apply it, and then stops the cluster.
+#[derive(Drop)]
+struct SettlingGate<'a> {
+    cluster: &'a Cluster,
+    was_acknowledged: AtomicBool,
+}
+
+impl Gate for SettlingGate<'_> {
+    fn before_apply<R: Wait>(&self, _rt: &R, _site: SiteId, _number: u64) {}
+
+    fn at_apply<R: Wait>(&self, rt: &R, _site: SiteId, number: u64) {
+        // It takes the lock of the book; the applier holds that of the site.
+        if number == 1 && settle(rt, self.cluster, &mut Session::new(), 1, 1).is_ok() {
+            self.was_acknowledged.store(true, Ordering::SeqCst);
+        }
+        self.cluster.stop();
+    }
+}
+
+/// Applies an update through a settling gate, to which it is not acknowledged. After it is.
+fn expect_told_after_the_gate<R: Wait + Abort>(rt: &R, cluster: &Cluster) {
+    let gate = SettlingGate {
+        cluster,
+        was_acknowledged: AtomicBool::new(false),
+    };
+    expect!(rt; a().index() < cluster.sites());
+    expect_eq!(rt; cluster.applier(rt, a(), &gate), 1);
+    expect!(rt; !gate.was_acknowledged.load(Ordering::SeqCst));
+    expect_settled(rt, cluster, &mut Session::new(), 1, 1, Ok(()));
+}
+
+/// Asks in the gate for the update that is about to be applied: the site tells of it only after its gate was called for it.
+#[test]
+fn an_update_is_applied_once_its_gate_was_called(rt: HostRuntime) -> Result<(), Fail> {
+    let alloc = rt.alloc();
+    let cluster = opened(&rt, alloc, Scope::All, 0)?;
+    let set = add(&rt, alloc, x(), 1);
+    let waits = Err(Refusal::NotYet { number: 1 });
+    expect_proposed(&rt, &cluster, &mut Session::new(), set, 1, waits);
+    expect_told_after_the_gate(&rt, &cluster);
     cluster.discard();
     Ok(())
 }

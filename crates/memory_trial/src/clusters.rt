@@ -13,8 +13,36 @@ use std::sync::Wait;
 /// Enough that the lists of what was decided grow a second time.
 const UPDATES_THAT_WAIT: u64 = 5;
 
-/// Updates that no site holds up: each is acknowledged in the hold that numbers it.
+/// An update of a cluster whose sites never get a limit: it is acknowledged in the hold that numbers it.
 pub(crate) fn try_cluster_without_limits<R: Wait + Print>(
+    rt: &R,
+    alloc: Global,
+    set: &MessageSet,
+) -> Result<(), Stop> {
+    let cluster = open(rt, alloc, Limits::None)?;
+    let tried = propose_one(rt, alloc, &cluster, set);
+    let closed = close(rt, cluster);
+    tried?;
+    closed?;
+    Ok(())
+}
+
+fn propose_one<R: Wait + Print>(
+    rt: &R,
+    alloc: Global,
+    cluster: &Cluster,
+    set: &MessageSet,
+) -> Result<(), Stop> {
+    acknowledge(rt, alloc, cluster, set, 1)?;
+    cluster.stop();
+    apply(rt, cluster, 0)?;
+    apply(rt, cluster, 1)?;
+    Ok(())
+}
+
+/// Updates that no site holds up, though a site gets limits while the cluster runs: each is acknowledged in the hold that numbers
+/// it.
+pub(crate) fn try_cluster_with_new_limits<R: Wait + Print>(
     rt: &R,
     alloc: Global,
     one: &MessageSet,
@@ -84,7 +112,7 @@ fn propose_and_wait<R: Wait + Print>(
     settle(rt, cluster, UPDATES_THAT_WAIT)
 }
 
-/// Which limits the sites of a cluster have.
+/// Which limits the sites of a cluster have at first.
 #[derive(Clone, Copy)]
 enum Limits {
     None,

@@ -1,5 +1,5 @@
 //! Calls that take no memory, but for those that step a world or a primary: with every growth refused they are answered as ever.
-ghost use Rattle.std.specs.Prelude.{◌≡◌, IfOk};
+ghost use Rattle.std.specs.Prelude.{◌≡◌, [], IfOk};
 ghost use Rattle.ordup_limits.specs.Ledgers.{StandsFor};
 
 use crate::fixtures::{a, adding, b, x, y};
@@ -8,7 +8,7 @@ use crate::scripts::lines::Session;
 use crate::scripts::scarce::{Heap, Scarce};
 use ordup_answers::ScriptEnd;
 use ordup_audit::Record;
-use ordup_limits::{GroupId, LagLedger, Scope};
+use ordup_limits::{GroupId, LagLedger, LimitTable, Scope};
 use ordup_objects::{Name, Refusal, SiteId, Values};
 use ordup_primary::{Primary, Setup, Window};
 use ordup_query::{Query, QueryAnswer, ReadAnswer};
@@ -165,6 +165,43 @@ fn over_as_it_reports<'a>(
     over
 }
 
+/// A ledger without limits, at the places 0 and 0 of the log.
+fn ledger_of_none<'a>(
+    rt: &impl Abort,
+    heap: Heap<'a>,
+    primary: &Primary<Heap<'a>>,
+) -> Result<LagLedger<Heap<'a>>, Refusal>
+    ensures limits { IfOk result (λ ledger. ledger.limits ≡ []) }
+    ensures places { IfOk result (λ ledger. (ledger.reported ≡ 0) × (ledger.extended ≡ 0)) }
+    ensures stands { IfOk result (λ ledger. StandsFor ledger primary.now.log primary.now.setup.groups) }
+{
+    expect!(rt; primary.log().objects() == primary.setup().objects().len());
+    LagLedger::new(heap, &LimitTable::new(heap))
+}
+
+/// Whether it is over with two updates added, before it gets a limit of 6 on g and after: they weigh 6 + 1.
+fn over_as_it_is_limited<'a>(
+    rt: &impl Abort,
+    heap: Heap<'a>,
+    primary: &Primary<Heap<'a>>,
+) -> [bool; 2] {
+    heap.allow_all();
+    let Ok(mut ledger) = ledger_of_none(rt, heap, primary) else {
+        panic!(rt; "there is no ledger")
+    };
+    let (log, groups) = (primary.log(), primary.setup().groups());
+    expect!(rt; log.len() == 3);
+    expect!(rt; groups.len() == 1);
+    heap.allow(0);
+    ledger.extend(log, groups, 2);
+    let unlimited = ledger.over();
+    ledger.change(log, groups, Scope::Group(g()), 6);
+    let over = [unlimited, ledger.over()];
+    expect!(rt; !heap.has_refused());
+    drop(ledger);
+    over
+}
+
 /// Keeps ledgers of the updates of a primary.
 #[test]
 fn ledgers_take_no_memory(rt: HostRuntime) {
@@ -175,6 +212,7 @@ fn ledgers_take_no_memory(rt: HostRuntime) {
     if let ScriptEnd::Running(world) = &session.store {
         let primary = world.primary();
         expect_eq!(&rt; over_as_it_reports(&rt, &scarce, primary), [false, true, false]);
+        expect_eq!(&rt; over_as_it_is_limited(&rt, &scarce, primary), [false, true]);
     }
     drop(session);
 }

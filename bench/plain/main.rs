@@ -2,8 +2,8 @@
 //! plain Rust, as a mark to measure them against.
 //!
 //! Reads a script, a record or a plan on standard input, and answers on standard output, byte for
-//! byte as ordup does; but for the command `certify`, which it refuses, and for records
-//! with quotes. It is written for speed, and nothing of it is proved.
+//! byte as ordup does, but for records with quotes. It is written for speed, and nothing of it is
+//! proved.
 //!
 //! - `main`: reads in large pieces, and holds at most one unended line.
 //! - `words`: the words, numbers and changes of a line.

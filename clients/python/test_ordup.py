@@ -448,4 +448,7 @@ if __name__ == "__main__":
         sys.exit("usage: clients/python/test_ordup.py PROGRAM [TEST..]")
     PROGRAM = str(Path(sys.argv.pop(1)).resolve())
     faulthandler.dump_traceback_later(120, exit=True)  # a test that waits for ever has failed
-    unittest.main()
+    result = unittest.main(exit=False).result
+    failed = len(result.failures) + len(result.errors)
+    print(f"{result.testsRun - failed} passed, {failed} failed")
+    sys.exit(0 if result.wasSuccessful() and result.testsRun else 1)

@@ -88,5 +88,5 @@ is-not-stopped false true false false e = absurd cc
 changed-after_stop : IsLimitChangeRefusal one_of_each 0 Count 0 Stopped → ⊥
 changed-after_stop refused = elim refused [
   | inl h ↦ absurd (let is : None ≡ Some Stopped = h in cc)
-  | inr h ↦ is-not-stopped _ _ _ _ h.3
+  | inr h ↦ is-not-stopped _ _ _ _ h.1.2
 ]

@@ -2,21 +2,22 @@
 use Rattle.std.proofs.Common.{◌≡◌, ℕ, zero, suc, ◌+◌, ◌<◌, ◌≤◌, Bool, false, true}
 use Rattle.std.proofs.Common.{List, [], ◌∷◌, ◌++◌, length, take, get_or, Some, None, refl}
 use Rattle.std.proofs.Common.{ap, ◌∙◌, sym, inl, inr, arith, nat_eq, length-take}
+use Rattle.std.proofs.Math.Seq.{map-set_same}
 use Rattle.std.proofs.lemmas.Bool.{cases_Bool, cases_lt, lt-ltb, le-ltb}
 use Rattle.std.proofs.lemmas.Cmp.{nat_list_eq_equiv}
-use Rattle.std.proofs.lemmas.List.{get_or-map, get_or-take, length-map, length_push, map-append, take-map, take_more}
+use Rattle.std.proofs.lemmas.List.{get_or-map, get_or-take, length-map, length_push, map-append, map-set, take-map, take_more, take_more_set}
 use Rattle.std.proofs.lemmas.List.Elements.{All-push, All-set}
 use Rattle.std.proofs.lemmas.List.Sums.{passes_at_first, position_or_len_is}
 use Rattle.std.proofs.lemmas.Map.Keys.{apart_from_distinct}
 use Rattle.std.proofs.lemmas.Option.{get_or_from_slice_get, slice_get_cases}
 use Rattle.std.specs.List.{position, position_or_len}
-use Rattle.std.specs.Prelude.{ℤ, slice_get}
+use Rattle.std.specs.Prelude.{ℤ, pos, slice_get}
 use Rattle.std.specs.Cmp.Lexicographic.{pointwise, bytes_decides}
 use Rattle.indexmap.specs.IndexMap.{insert_entry, set_value_at}
 use Rattle.ordup_objects.specs.Names.{is_name}
 use Rattle.ordup_objects.specs.Sizes.{most_objects}
 use Rattle.ordup_objects.specs.Tables.{Objects, names_of, index_of, with_entry, initial_state, AreNames, AreDistinct}
-use Rattle.ordup_objects.specs.States.{value_at, IsInRange, IsState}
+use Rattle.ordup_objects.specs.States.{State, value_at, IsInRange, IsState}
 
 -- what is at no place is not before the end
 pub absent : {X : Type 0} (p : X → Bool) (xs : List X) → position p xs ≡ None → length xs ≤ position_or_len p xs
@@ -137,3 +138,17 @@ objects-longer objects more name initial e room range state =
       rw (e, map-append (λ (o : List ℕ × ℤ). o.1) objects ((name, initial) ∷ []))
           (All-push IsInRange (initial_state objects) initial state range),
     )
+
+-- ---- another entry beside a name
+
+pub names-with_entry : {V : Type 0} (table : List (List ℕ × V)) (i : ℕ) (entry : V) → names_of (with_entry table i entry) ≡ names_of table
+names-with_entry table i entry = map-set_same (λ e. e.0) table i ((get_or table i ([], entry)).0, entry) ([], entry) refl
+
+-- one more object begins at its value
+pub begun-more : (objects : Objects) (values : State) (i : ℕ) (z : ℤ) → i < length objects → length values ≡ length objects
+    → z ≡ value_at values i → take i (initial_state objects) ≡ take i values
+    → take (i + 1) (initial_state (with_entry objects i z)) ≡ take (i + 1) values
+begun-more objects values i z there count is before =
+    let within : i < length (initial_state objects) = omega (arith, length-map objects (λ e. e.1)) in
+    ap (take (i + 1)) (map-set (λ e. e.1) objects i ((get_or objects i ([], z)).0, z)) ∙ take_more_set (initial_state objects) i z within
+    ∙ rw (before, is) (sym (take_more values i (pos 0) (omega arith)))

@@ -1,6 +1,6 @@
 ghost use Rattle.std.specs.Prelude.{◌≡◌, ℕ, ◌<◌, ◌≤◌, None, Some, IfSome, IfOk, IfErr, List, [], ◌∷◌, ◌++◌, length, slice_get, option_map};
 ghost use Rattle.ordup_objects.specs.Sizes.{most_objects};
-ghost use Rattle.ordup_objects.specs.Tables.{index_of, object_refusal, initial_state, AreNames, AreDistinct};
+ghost use Rattle.ordup_objects.specs.Tables.{index_of, names_of, object_refusal, initial_state, AreNames, AreDistinct};
 ghost use Rattle.ordup_objects.specs.Refusals.{IsRefusal};
 ghost use Rattle.ordup_objects.specs.States.{value_at, IsInRange, IsState};
 
@@ -9,7 +9,7 @@ use crate::name::Name;
 use crate::name_table::NameTable;
 use crate::refusal::Refusal;
 use crate::sizes::MOST_OBJECTS;
-use crate::values::is_in_range;
+use crate::values::{Values, is_in_range};
 use std::alloc::{AllocError, Allocator, Global};
 use std::marker::Model;
 
@@ -73,6 +73,20 @@ impl<A: Allocator + Copy> ObjectTable<A> {
             objects.push(*name, *initial)?;
         }
         Ok(())
+    }
+
+    /// A copy of the table in which each object begins at its value among these. The only refusal is `NoMemory`.
+    pub fn copy_with(&self, alloc: A, values: &Values<A>) -> Result<Self, Refusal>
+        requires { length values.now ≡ length self.now }
+        ensures names { IfOk result (λ table. names_of table ≡ names_of self.now) }
+        ensures values { IfOk result (λ table. initial_state table ≡ values.now) }
+        ensures refused { IfErr result (λ e. e ≡ Refusal.NoMemory) }
+    {
+        self.keeps();
+        values.keeps();
+        let ObjectTable { mut objects } = self.copy(alloc)?;
+        begin_at(&mut objects, values);
+        Ok(ObjectTable { objects })
     }
 
     /// Declares an object with its initial value, which lies from -1,000,000,000 to 1,000,000,000.
@@ -166,5 +180,17 @@ impl<A: Allocator + Copy> ObjectTable<A> {
         ensures { result ≡ value_at (initial_state self.now) object }
     {
         *self.objects.at(object.index()).1
+    }
+}
+
+/// Has each object begin at its value among these.
+fn begin_at<A: Allocator + Copy>(objects: &mut NameTable<i64, A>, values: &Values<A>)
+    requires count { length values.now ≡ length objects.old }
+    requires few { length objects.old ≤ most_objects }
+    ensures names { names_of objects.new ≡ names_of objects.old }
+    ensures values { initial_state objects.new ≡ values.now }
+{
+    for index in 0..objects.len() {
+        objects.replace(index, values.get(ObjectId::new(index as u16)));
     }
 }

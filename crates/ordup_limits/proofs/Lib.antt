@@ -8,4 +8,5 @@ mod PassedLemmas
 mod ChangeLemmas
 pub mod SiteLemmas
 pub mod OverLemmas
+pub mod LatestLemmas
 mod Examples

@@ -1,6 +1,6 @@
 -- Limits by place: entries, each of which holds from a place on, and the limits that are in force at a place.
 use Rattle.std.specs.Prelude.{◌≡◌, ◌≤◌, ◌<◌, ℕ, ◌==◌, ◌&&◌, if◌then◌else◌, Option, Some, None, Bool, false}
-use Rattle.std.specs.Prelude.{List, [], ◌∷◌, length, nat_lt, nat_le, fold, filter, slice_index_or, All}
+use Rattle.std.specs.Prelude.{List, [], ◌∷◌, length, nat_lt, nat_le, fold, filter, map, slice_index_or, All}
 use Rattle.std.specs.List.Sorted.{IsNonDecreasingBy}
 use Rattle.std.specs.Option.{option_or}
 use Rattle.ordup_objects.specs.declared.refusal.Refusal.{Refusal}
@@ -48,6 +48,10 @@ abbrev pub LimitsInForceKeepTheirNumbers : Type 0
 LimitsInForceKeepTheirNumbers =
     (entries : Entries) (k i : ℕ) (d : Limit) → IsNonDecreasingBy (λ e. e.place) entries → i < length (in_force entries k)
     → (i < length (latest entries)) × ((slice_index_or (in_force entries k) i d).scope ≡ (slice_index_or (latest entries) i d).scope)
+
+-- these limits, all of them in force from place 1
+abbrev pub from_start : Limits → Entries
+from_start limits = map (λ l. record { limit = l; place = 1 }) limits
 
 -- two entries are of one scope and one place
 abbrev pub are_one_entry : LimitEntry → LimitEntry → Bool

@@ -3,7 +3,7 @@ ghost use Rattle.std.specs.List.{list_any};
 ghost use Rattle.ordup_objects.specs.Refusals.{IsRefusal};
 ghost use Rattle.ordup_log.specs.Spans.{span, IsScopeKnown};
 ghost use Rattle.ordup_limits.specs.Limits.{scope_refusal, limit_refusal, is_same_scope, keeps, within, first_passed, AreScopesKnown};
-ghost use Rattle.ordup_limits.specs.Entries.{entry_of, changed, change_refusal, in_force, latest, HoldFrom, AreEntries, AreEntriesKnown};
+ghost use Rattle.ordup_limits.specs.Entries.{entry_of, changed, change_refusal, from_start, in_force, latest, HoldFrom, AreEntries, AreEntriesKnown};
 
 use crate::entries::{has_room, hold_from, in_force, put_entry};
 use crate::limit::Limit;
@@ -12,7 +12,7 @@ use crate::limit_list::LimitList;
 use crate::sizes::{GREATEST_AMOUNT, MOST_LIMITS};
 use ordup_log::{Groups, Log, Scope};
 use ordup_objects::{ObjectTable, Refusal};
-use std::alloc::{Allocator, Global};
+use std::alloc::{AllocError, Allocator, Global};
 use std::marker::Model;
 
 /// The limits of a site, each with the first place for which it holds: on at most 64 scopes, in at most 1,088 entries.
@@ -59,6 +59,16 @@ impl<A: Allocator + Copy> LimitTable<A> {
             entries,
             limits: self.limits.copy(),
         })
+    }
+
+    /// The last limit on each scope, in the same order, all of them in force from the start. The only refusal is `NoMemory`.
+    pub fn copy_latest(&self, alloc: A) -> Result<Self, Refusal>
+        ensures copied { IfOk result (λ limits. limits ≡ from_start (latest self.now)) }
+        ensures refused { IfErr result (λ e. e ≡ Refusal.NoMemory) }
+    {
+        let limits = self.limits.copy();
+        let entries = entries_from_start(alloc, limits.as_slice())?;
+        Ok(LimitTable { entries, limits })
     }
 
     /// Adds a limit that holds from the start, whose amount lies from 0 to 10^18. No entry holds from later.
@@ -339,4 +349,21 @@ fn has_scope(limits: &[Limit], scope: &Scope) -> bool
     ensures { result ≡ list_any (λ l. is_same_scope l.scope scope.now) limits.now }
 {
     limits.iter().any(|limit| limit.scope == *scope)
+}
+
+/// These limits as entries, all of them in force from the start.
+fn entries_from_start<A: Allocator + Copy>(
+    alloc: A,
+    limits: &[Limit],
+) -> Result<Vec<LimitEntry, A>, AllocError>
+    ensures { IfOk result (λ entries. entries.items ≡ from_start limits.now) }
+{
+    let mut entries = Vec::with_capacity(alloc, limits.len())?;
+    for limit in limits {
+        entries.push_reserved(LimitEntry {
+            limit: *limit,
+            place: 1,
+        });
+    }
+    Ok(entries)
 }

@@ -9,12 +9,14 @@ use Rattle.std.proofs.lemmas.List.Elements.{All-map}
 use Rattle.std.proofs.lemmas.List.Folds.{list_any-append}
 use Rattle.ordup_objects.specs.Repeats.{repeats}
 use Rattle.ordup_limits.specs.Limits.{Limits, are_on_one_scope}
-use Rattle.ordup_limits.specs.Entries.{Entries, put, latest, from_start, are_one_entry, HoldFrom, AreEntries}
+use Rattle.ordup_log.specs.Groups.{GroupList}
+use Rattle.ordup_log.specs.Spans.{IsScopeKnown}
+use Rattle.ordup_limits.specs.Entries.{Entries, put, latest, from_start, are_one_entry, HoldFrom, AreEntries, AreEntriesKnown}
 use Rattle.ordup_limits.specs.Sizes.{greatest_amount}
 use Rattle.ordup_limits.specs.declared.limit.Limit.{Limit}
 use Rattle.ordup_limits.specs.declared.limit_entry.LimitEntry.{LimitEntry}
 use Rattle.ordup_limits.proofs.PutLemmas.{put-new, position-absent}
-use Rattle.ordup_limits.proofs.EntryLemmas.{All-latest}
+use Rattle.ordup_limits.proofs.EntryLemmas.{All-latest, latest-known}
 use Rattle.ordup_limits.proofs.SiteLemmas.{latest-distinct}
 
 -- none of the elements before one is the same as it, where nothing comes twice
@@ -72,3 +74,8 @@ AreEntries-from_start entries are =
       rising = λ i j d le lt. omega (arith, place-from_start limits i d (omega arith), place-from_start limits j d lt);
       distinct = repeats-from_start limits ∙ latest-distinct entries;
     }
+
+pub known-from_start : (n : ℕ) (groups : GroupList) (entries : Entries) → AreEntriesKnown n groups entries
+    → AreEntriesKnown n groups (from_start (latest entries))
+known-from_start n groups entries known =
+    All-map (λ e. IsScopeKnown n groups e.limit.scope) (λ l. record { limit = l; place = 1 }) (latest entries) (latest-known n groups entries known)

@@ -1,23 +1,25 @@
 -- Declarations that grow.
 use Rattle.std.proofs.Common.{◌≡◌, ℕ, ◌<◌, ◌≤◌, ◌==◌, ℤ, true, false, not, List, [], ◌∷◌, ◌++◌, length, arith, refl, ap, sym, subst, ◌∙◌}
-use Rattle.std.specs.Prelude.{Some, None, nat_lt, is_some, ◌||◌, Result, Ok, Err, OnOk, IfErr, All}
+use Rattle.std.specs.Prelude.{Some, None, nat_lt, is_some, ◌||◌, Result, Ok, Err, IfOk, OnOk, IfErr, All}
 use Rattle.ordup_objects.specs.declared.refusal.Refusal.{Refusal}
-use Rattle.std.proofs.Math.ListN.{set, length-set}
+use Rattle.std.proofs.Math.ListN.{set, length-set, get_or}
 use Rattle.std.proofs.lemmas.Bool.{not-true, not-false, eq-eqb, ne_eqb}
 use Rattle.std.proofs.lemmas.Bool.Decides.{nat_tests}
-use Rattle.std.proofs.lemmas.List.{length_push}
-use Rattle.std.proofs.lemmas.List.Elements.{All-push, All-nil, All-set, All-weaker}
+use Rattle.std.proofs.lemmas.List.{length_push, length-map}
+use Rattle.std.proofs.lemmas.List.Elements.{All-map, All-push, All-nil, All-set, All-weaker}
 use Rattle.ordup_objects.specs.declared.refusal.Refusal.TheVariants.{NameTaken, OutOfRange, TooMany}
 use Rattle.ordup_objects.specs.Names.{is_name}
 use Rattle.ordup_objects.specs.Sizes.{most_sites, greatest_capacity}
-use Rattle.ordup_objects.specs.Tables.{index_of}
+use Rattle.ordup_objects.specs.Tables.{Objects, index_of, names_of}
 use Rattle.ordup_log.specs.Spans.{IsScopeKnown}
 use Rattle.ordup_log.specs.Groups.{GroupList, AreMembersKnown}
 use Rattle.ordup_log.specs.declared.scope.Scope.{Scope}
 use Rattle.ordup_log.specs.declared.scope.Scope.TheVariants.{Object, Group, All as Everything, Count}
 use Rattle.ordup_limits.specs.declared.limit_entry.LimitEntry.{LimitEntry}
-use Rattle.ordup_limits.specs.Entries.{Entries, AreEntriesKnown, HoldFrom}
-use Rattle.ordup_primary.specs.Declarations.{Declared, AreDeclared, site_refusal}
+use Rattle.ordup_limits.specs.Entries.{Entries, AreEntriesKnown, HoldFrom, from_start, latest}
+use Rattle.ordup_limits.proofs.LatestLemmas.{HoldFrom-from_start, known-from_start}
+use Rattle.ordup_primary.specs.Declarations.{Declared, AreDeclared, is_ready, site_refusal, start_refusal}
+use Rattle.ordup_primary.specs.Successors.{limits_from_start}
 
 -- ---- why a site is refused
 
@@ -142,3 +144,32 @@ AreDeclared-group d (Ok u) groups group is members more same =
       known = known-more n n d.groups groups d.limits (omega arith) (omega (arith, ap length more, length_push d.groups group)) is.known;
     }
 AreDeclared-group d (Err x) groups group is members more same = rw same is
+
+-- ---- a store that goes on
+
+length-names : {V W : Type 0} (xs : List (List ℕ × V)) (ys : List (List ℕ × W)) → names_of xs ≡ names_of ys → length xs ≡ length ys
+length-names xs ys same = sym (length-map xs (λ e. e.0)) ∙ ap length same ∙ length-map ys (λ e. e.0)
+
+pub AreDeclared-going_on : (d : Declared) (objects : Objects) (tables : List Entries) → AreDeclared d
+    → names_of objects ≡ names_of d.objects → length tables ≡ length d.sites
+    → All (AreEntriesKnown (length d.objects) d.groups) tables
+    → AreDeclared (record { objects = objects; groups = d.groups; sites = d.sites; limits = limits_from_start tables })
+AreDeclared-going_on d objects tables are names count known =
+    let many : length objects ≡ length d.objects = length-names objects d.objects names in
+    record {
+      few = are.few;
+      capacities = are.capacities;
+      count = length-map tables (λ entries. from_start (latest entries)) ∙ count;
+      members = rw many are.members;
+      first = All-map (HoldFrom 1) (λ entries. from_start (latest entries)) tables (λ i e lt. HoldFrom-from_start (latest (get_or tables i e)));
+      known = rw many (All-map (AreEntriesKnown (length d.objects) d.groups) (λ entries. from_start (latest entries)) tables
+          (λ i e lt. known-from_start (length d.objects) d.groups (get_or tables i e) (known i e lt)));
+    }
+
+-- it is ready where the one before it was
+pub going_on-ready : (d : Declared) (r : Result Declared Refusal) → is_ready d ≡ true → IfOk r (λ e. names_of e.objects ≡ names_of d.objects)
+    → IfOk r (λ e. e.sites ≡ d.sites) → IfOk r (λ e. start_refusal e ≡ None)
+going_on-ready d (Err e) ready names sites = tt
+going_on-ready d (Ok e) ready names sites =
+    let same : is_ready e ≡ is_ready d = rw (length-names e.objects d.objects names, sites) refl in
+    rw (same, ready) refl

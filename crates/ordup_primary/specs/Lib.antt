@@ -7,3 +7,4 @@ pub mod Primaries
 pub mod PrimaryInside
 pub mod Parcels
 pub mod SiteListInside
+pub mod Successors

@@ -49,15 +49,16 @@ impl<A: Allocator + Copy> Model for Primary<A> {
 }
 
 impl<A: Allocator + Copy> Primary<A> {
-    ghost use Rattle.ordup_objects.specs.Serial.{set_at, with_update, History};
+    ghost use Rattle.ordup_objects.specs.Serial.{serial, set_at, with_update, History};
     ghost use Rattle.ordup_objects.specs.Sets.{AreKnown};
-    ghost use Rattle.ordup_objects.specs.Tables.{initial_state};
+    ghost use Rattle.ordup_objects.specs.Tables.{initial_state, names_of};
     ghost use Rattle.ordup_objects.specs.Marks.{AreMarks};
     ghost use Rattle.ordup_log.specs.Appending.{append_refusal};
     ghost use Rattle.ordup_log.specs.Spans.{span, IsScopeKnown};
     ghost use Rattle.ordup_limits.specs.Entries.{AreEntriesKnown};
     ghost use Rattle.ordup_primary.specs.Primaries.{PrimaryState, IsPrimary, progress_at, limits_at, reported_at, send_refusal, settle_refusal, forced_now, waiting_now, waits_for, settled_as, acked_or_round, acked_or_waiting, acked_after, Decides, relimit_refusal, relimited, HasFewestRounds};
     ghost use Rattle.ordup_primary.specs.Reports.{changes_of};
+    ghost use Rattle.ordup_primary.specs.Successors.{limits_from_start, successor_refusal};
 
     /// A primary with an empty log, to which no site has reported.
     ///
@@ -318,6 +319,32 @@ impl<A: Allocator + Copy> Primary<A> {
         ensures fewest { HasFewestRounds self.now }
     {
         let _ = &self.acked;
+    }
+
+    /// The setup of the store that goes on from this one, in which each site begins with all that is in the log.
+    ///
+    /// - The same objects, each beginning at its value after the whole log.
+    /// - The same groups, and the same sites with their capacities.
+    /// - Each site's last limits, all of them in force from the start.
+    /// - It is ready to start.
+    /// - It is refused `NotYet` with the number of the last update while one is not acknowledged, and `NoMemory`.
+    pub fn successor(&self, alloc: A) -> Result<Setup<A>, Refusal>
+        ensures objects { IfOk result (λ next. names_of next.objects ≡ names_of self.now.setup.objects) }
+        ensures values { IfOk result (λ next. initial_state next.objects ≡ serial self.now.log (length self.now.log.sets)) }
+        ensures groups { IfOk result (λ next. next.groups ≡ self.now.setup.groups) }
+        ensures sites { IfOk result (λ next. next.sites ≡ self.now.setup.sites) }
+        ensures limits { IfOk result (λ next. next.limits ≡ limits_from_start self.now.limits) }
+        ensures ready { IfOk result (λ next. start_refusal next ≡ None) }
+        ensures allowed { IfOk result (λ _. successor_refusal self.now ≡ None) }
+        ensures refused { IfErr result (λ e. IsRefusal (successor_refusal self.now) e) }
+    {
+        let number = self.log.len();
+        if self.acked != number {
+            return Err(Refusal::NotYet { number });
+        }
+        self.keeps();
+        self.setup
+            .going_on(alloc, self.log.end(), self.limits.as_slice())
     }
 
     /// For each object, in order of declaration, how much the acknowledged updates weigh on it.

@@ -1,16 +1,17 @@
-ghost use Rattle.std.specs.Prelude.{◌≡◌, ◌≤◌, ℕ, ◌<◌, None, Some, IfSome, IfOk, IfErr, [], length, slice_get, option_map, OnOk, not, nat_lt, ◌||◌, ◌==◌};
+ghost use Rattle.std.specs.Prelude.{◌≡◌, ◌≤◌, ℕ, ◌<◌, None, Some, IfSome, IfOk, IfErr, [], length, slice_get, option_map, All, OnOk, not, nat_lt, ◌||◌, ◌==◌};
 ghost use Rattle.ordup_objects.specs.Sizes.{most_sites, greatest_capacity};
-ghost use Rattle.ordup_objects.specs.Tables.{index_of, object_refusal};
+ghost use Rattle.ordup_objects.specs.Tables.{index_of, initial_state, names_of, object_refusal};
 ghost use Rattle.ordup_objects.specs.Refusals.{IsRefusal};
 ghost use Rattle.ordup_log.specs.Groups.{group_refusal};
 ghost use Rattle.ordup_limits.specs.Entries.{AreEntriesKnown, HoldFrom};
 ghost use Rattle.ordup_primary.specs.Declarations.{Declared, AreDeclared, with_object, with_group, with_site, with_limit, is_ready, site_refusal, site_limit_refusal, capacity_of, limits_of};
+ghost use Rattle.ordup_primary.specs.Successors.{limits_from_start};
 ghost use Rattle.ordup_log.specs.Groups.{AreGroupsKnown};
 
 use ordup_limits::{GroupId, Groups, LimitTable, Scope, check_scope};
 use ordup_objects::sizes::{GREATEST_CAPACITY, MOST_SITES};
-use ordup_objects::{Name, NameTable, ObjectId, ObjectTable, Refusal, SiteId};
-use std::alloc::{Allocator, Global};
+use ordup_objects::{Name, NameTable, ObjectId, ObjectTable, Refusal, SiteId, Values};
+use std::alloc::{AllocError, Allocator, Global};
 use std::marker::Model;
 
 /// What is declared of a store before its start: the objects with their initial values, the groups with their members, and
@@ -44,6 +45,49 @@ impl<A: Allocator + Copy> Setup<A> {
             capacities: NameTable::new(alloc),
             limits: Vec::new(alloc),
         }
+    }
+
+    /// The declarations of a store that goes on: the same objects, each beginning at its value among these; the same groups and
+    /// sites; and the last limits of these tables, one for each site, in force from the start. The only refusal is `NoMemory`.
+    pub(crate) fn going_on(
+        &self,
+        alloc: A,
+        values: &Values<A>,
+        tables: &[LimitTable<A>],
+    ) -> Result<Self, Refusal>
+        requires values { length values.now ≡ length self.now.objects }
+        requires count { length tables.now ≡ length self.now.sites }
+        requires known { All (AreEntriesKnown (length self.now.objects) self.now.groups) tables.now }
+        ensures objects { IfOk result (λ next. names_of next.objects ≡ names_of self.now.objects) }
+        ensures values { IfOk result (λ next. initial_state next.objects ≡ values.now) }
+        ensures groups { IfOk result (λ next. next.groups ≡ self.now.groups) }
+        ensures sites { IfOk result (λ next. next.sites ≡ self.now.sites) }
+        ensures limits { IfOk result (λ next. next.limits ≡ limits_from_start tables.now) }
+        ensures refused { IfErr result (λ e. e ≡ Refusal.NoMemory) }
+    {
+        let objects = self.objects.copy_with(alloc, values)?;
+        // Tables and lists are dropped by a call: where one goes out of scope, the proof takes it apart.
+        let Ok(groups) = self.groups.copy(alloc) else {
+            drop(objects);
+            return Err(Refusal::NoMemory);
+        };
+        let Ok(capacities) = copy_capacities(alloc, &self.capacities) else {
+            drop(objects);
+            drop(groups);
+            return Err(Refusal::NoMemory);
+        };
+        let Ok(limits) = copy_latest(alloc, tables) else {
+            drop(objects);
+            drop(groups);
+            drop(capacities);
+            return Err(Refusal::NoMemory);
+        };
+        Ok(Setup {
+            objects,
+            groups,
+            capacities,
+            limits,
+        })
     }
 
     /// Declares an object with its initial value, which lies from -1,000,000,000 to 1,000,000,000.
@@ -228,4 +272,70 @@ fn is_capacity(capacity: u64) -> bool
     ensures { result ≡ not (capacity == 0 || nat_lt greatest_capacity capacity) }
 {
     capacity > 0 && capacity <= GREATEST_CAPACITY
+}
+
+/// A copy of the names of sites, with the capacities of their feeds.
+fn copy_capacities<A: Allocator + Copy>(
+    alloc: A,
+    capacities: &NameTable<u64, A>,
+) -> Result<NameTable<u64, A>, AllocError>
+    ensures { IfOk result (λ copied. copied ≡ capacities.now) }
+{
+    let mut copied = NameTable::new(alloc);
+    match add_capacities(&mut copied, capacities) {
+        Ok(()) => Ok(copied),
+        Err(error) => {
+            drop(copied);
+            Err(error)
+        }
+    }
+}
+
+/// Adds the names of sites, with the capacities of their feeds, to a table without names.
+fn add_capacities<A: Allocator + Copy>(
+    copied: &mut NameTable<u64, A>,
+    capacities: &NameTable<u64, A>,
+) -> Result<(), AllocError>
+    requires { copied.old ≡ [] }
+    ensures { IfOk result (λ _. copied.new ≡ capacities.now) }
+{
+    for index in 0..capacities.len() {
+        let (name, capacity) = capacities.at(index);
+        copied.push(*name, *capacity)?;
+    }
+    Ok(())
+}
+
+/// The last limits of each of these tables, in force from the start.
+fn copy_latest<A: Allocator + Copy>(
+    alloc: A,
+    tables: &[LimitTable<A>],
+) -> Result<Vec<LimitTable<A>, A>, Refusal>
+    ensures limits { IfOk result (λ limits. limits.items ≡ limits_from_start tables.now) }
+    ensures refused { IfErr result (λ e. e ≡ Refusal.NoMemory) }
+{
+    let mut limits = Vec::new(alloc);
+    match add_latest(alloc, tables, &mut limits) {
+        Ok(()) => Ok(limits),
+        Err(refusal) => {
+            drop(limits);
+            Err(refusal)
+        }
+    }
+}
+
+/// Adds the last limits of each of these tables, in force from the start, to a list without limits.
+fn add_latest<A: Allocator + Copy>(
+    alloc: A,
+    tables: &[LimitTable<A>],
+    limits: &mut Vec<LimitTable<A>, A>,
+) -> Result<(), Refusal>
+    requires { limits.old.items ≡ [] }
+    ensures limits { OnOk result (limits.new.items ≡ limits_from_start tables.now) }
+    ensures refused { IfErr result (λ e. e ≡ Refusal.NoMemory) }
+{
+    for table in tables {
+        limits.push(table.copy_latest(alloc)?)?;
+    }
+    Ok(())
 }

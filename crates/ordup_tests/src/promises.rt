@@ -4,11 +4,12 @@ ghost use Rattle.std.specs.Prelude.{◌≡◌, ◌<◌, ◌≤◌, ◌+◌, ◌+
 ghost use Rattle.ordup_objects.specs.Refusals.{IsRefusal};
 ghost use Rattle.ordup_objects.specs.Serial.{serial};
 ghost use Rattle.ordup_objects.specs.States.{value_at};
-ghost use Rattle.ordup_objects.specs.Tables.{initial_state};
+ghost use Rattle.ordup_objects.specs.Tables.{initial_state, names_of};
 ghost use Rattle.ordup_feed.specs.Parcels.{feed_refusal};
 ghost use Rattle.ordup_primary.specs.Declarations.{start_refusal};
 ghost use Rattle.ordup_primary.specs.LimitChanges.{limit_change_refusal};
 ghost use Rattle.ordup_primary.specs.Primaries.{IsPrimary, site_view, HasFewestRounds};
+ghost use Rattle.ordup_primary.specs.Successors.{limits_from_start, successor_refusal};
 ghost use Rattle.ordup_query.specs.Queries.{HasRead, import_sum, read_refusal, value_sum};
 ghost use Rattle.ordup_query.specs.declared.answer.ReadAnswer.{ReadAnswer};
 ghost use Rattle.ordup_world.specs.Along.{Along, KeepSites, HaveFewest};
@@ -24,6 +25,7 @@ use ordup_feed::{Feed, SendEnd, TakeEnd};
 use ordup_limits::Scope;
 use ordup_log::Log;
 use ordup_objects::{MessageSet, ObjectId, ObjectTable, Refusal, SiteId};
+use ordup_primary::Primary;
 use ordup_query::{QueryAnswer, ReadAnswer};
 use ordup_world::{Event, Run, Setup};
 use std::alloc::{Allocator, Global};
@@ -71,6 +73,20 @@ pub fn new_feed(
     ensures refused { IfErr result (λ e. IsRefusal (feed_refusal capacity) e) }
 {
     Feed::new(alloc, objects, capacity)
+}
+
+/// `Primary::successor`.
+pub fn successor<A: Allocator + Copy>(alloc: A, primary: &Primary<A>) -> Result<Setup<A>, Refusal>
+    ensures objects { IfOk result (λ next. names_of next.objects ≡ names_of primary.now.setup.objects) }
+    ensures values { IfOk result (λ next. initial_state next.objects ≡ serial primary.now.log (length primary.now.log.sets)) }
+    ensures groups { IfOk result (λ next. next.groups ≡ primary.now.setup.groups) }
+    ensures sites { IfOk result (λ next. next.sites ≡ primary.now.setup.sites) }
+    ensures limits { IfOk result (λ next. next.limits ≡ limits_from_start primary.now.limits) }
+    ensures ready { IfOk result (λ next. start_refusal next ≡ None) }
+    ensures allowed { IfOk result (λ _. successor_refusal primary.now ≡ None) }
+    ensures refused { IfErr result (λ e. IsRefusal (successor_refusal primary.now) e) }
+{
+    primary.successor(alloc)
 }
 
 /// `holds::relimit`.

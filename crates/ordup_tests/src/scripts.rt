@@ -11,5 +11,6 @@ mod scarce;
 mod script;
 mod starts;
 mod steps_without_memory;
+mod successors;
 mod transcripts;
 mod without_memory;

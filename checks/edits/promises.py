@@ -1,0 +1,150 @@
+"""Which promise each wrong body breaks: what `checks/edits/run --list` compares, and what `--table` prints.
+
+A promise is a row of docs/PROOFS.md. Its contract names public calls, each with clauses: `Log::{append, append_or_return} number
+added`. A clause without a name is named by the definition that it cites, as in `act Answers`, or by a case of that: `Runs.Ok`.
+
+The first line of an edit names a call with one clause or more of its row, or several such with '; ' between them:
+
+    promise: Primary::settle first
+
+The edit belongs to each row that has the call with all of these clauses. A call without clauses is one whose row names none.
+
+A row without an edit says 'no wrong body:' and why, after its contract. The rows of a table of laws need none.
+"""
+
+import glob
+import re
+from collections import namedtuple
+
+# A row: where it stands, the promise, its contract as it is written, the clauses of each call, and whether it needs no edit.
+Row = namedtuple("Row", "line section promise contract calls needs_none")
+
+NONE = "no wrong body: "
+CALLS = re.compile(r"(?P<owner>(?:\w+::)?)(?P<names>\w+|\{\w+(?:, \w+)*\})(?P<clauses>(?: [\w.]+)*)")
+
+
+def read_rows(page):
+    """The rows of the page that have a contract or a law. A ValueError says of a contract why it cannot be read."""
+    rows, section, columns = [], "", []
+    with open(page, encoding="utf-8") as it:
+        lines = it.read().split("\n")
+    for number, line in enumerate(lines, 1):
+        if line.startswith("## "):
+            section = line[3:]
+        cells = [it.strip() for it in line.strip("|").split("|")] if line.startswith("|") else []
+        if not columns or not cells:
+            columns = cells
+        elif columns[:1] == ["Promise"] and columns[1] in ("Contract", "Law") and not line.startswith("|-"):
+            contract, _, reason = cells[1].partition(NONE)
+            calls = []
+            for text in re.findall(r"`([^`]*)`", contract):
+                match = CALLS.fullmatch(text)
+                if not match:
+                    raise ValueError(f"docs/PROOFS.md:{number}: `{text}` is no call with its clauses")
+                clauses = match["clauses"].split()
+                calls += [(match["owner"] + it, clauses) for it in match["names"].strip("{}").split(", ")]
+            rows.append(Row(number, section, cells[0], cells[1], calls, columns[1] == "Law" or bool(reason)))
+    return rows
+
+
+def read_promises(file):
+    """The calls, each with its clauses, that the first line of an edit names; none where it has no such line."""
+    with open(file, encoding="utf-8") as it:
+        word, _, text = it.readline().rstrip("\n").partition(" ")
+    return [(it.split()[0], it.split()[1:]) for it in text.split(";") if it.split()] if word == "promise:" else []
+
+
+def is_of(promise, row):
+    """Whether a row has the call with these clauses; without clauses, the call without any."""
+    call, clauses = promise
+    return any(call == its and (set(clauses) <= set(of) if clauses else not of) for its, of in row.calls)
+
+
+class Sources:
+    """The functions and types of the crates, the clauses of each function, and the words of the definitions."""
+
+    def __init__(self, top):
+        self.clauses, self.types, definitions = {}, set(), []
+        for file in glob.glob(f"{top}/crates/*/src/**/*.rt", recursive=True):
+            with open(file, encoding="utf-8") as it:
+                self.read(it)
+        for file in glob.glob(f"{top}/crates/*/specs/**/*.antt", recursive=True):
+            with open(file, encoding="utf-8") as it:
+                definitions.append(it.read())
+        text = "\n".join(definitions)
+        self.words = set(re.findall(r"\w+", text))
+        self.names = set(re.findall(r"^ *(?:pub )?(?:abbrev |unfoldable |record |data )?(?:pub )?(\w+) :", text, re.M))
+
+    def read(self, lines):
+        owner, clauses = "", None
+        for line in lines:
+            implements = re.match(r"impl\b(?:.* for | *<.*?> | )(\w+)", line)
+            declares = re.match(r"(?:pub(?:\([a-z]+\))? )?(?:struct|enum|trait) (\w+)", line)
+            begins = re.match(r" *(?:pub(?:\([a-z]+\))? )?(?:const )?fn (\w+)", line)
+            ensures = re.match(r" *ensures (\w+) \{", line)
+            if declares:
+                self.types.add(declares[1])
+            if implements:
+                owner = implements[1] + "::"
+            elif begins:
+                clauses = self.clauses.setdefault(owner + begins[1], set())
+            elif line.startswith("}"):
+                owner = ""
+            elif ensures and clauses is not None:
+                clauses.add(ensures[1])
+
+    def lacks(self, call, clauses):
+        """What the sources lack of a call and its clauses: a text for each."""
+        if call not in self.clauses and call not in self.types:
+            return [f"there is no `{call}`"]
+        here = self.clauses.get(call, set())
+        return [f"`{call}` has no clause `{it}`" for it in clauses if it not in here and not self.is_defined(it)]
+
+    def is_defined(self, clause):
+        """Whether a clause stands for a definition, or for a case of one."""
+        if "." in clause or clause[0].isupper():
+            return all(it in self.words for it in clause.split("."))
+        return clause in self.names
+
+
+def faults(top, files, is_all):
+    """What is wrong between these edits and the rows, a text for each. Rows without an edit are told where these are all edits."""
+    told, used = [], set()
+    try:
+        rows = read_rows(f"{top}/docs/PROOFS.md")
+    except ValueError as error:
+        return [str(error)]
+    for file in files:
+        promises = read_promises(file)
+        if not promises:
+            told.append(f"{file[len(top) + 1:]}: its first line is not 'promise: CALL [CLAUSE ..]'")
+        for promise in promises:
+            mine = [it for it in rows if is_of(promise, it)]
+            used |= {it.line for it in mine}
+            if not mine:
+                told.append(f"{file[len(top) + 1:]}: no row of docs/PROOFS.md has `{' '.join([promise[0], *promise[1]])}`")
+    sources = Sources(top)
+    for row in rows if is_all else []:
+        where = f"docs/PROOFS.md:{row.line}"
+        if row.line in used and row.needs_none:
+            told.append(f"{where}: it says that it has no wrong body, and has some")
+        if row.line not in used and not row.needs_none:
+            told.append(f"{where}: no wrong body names `{row.calls[0][0] if row.calls else row.contract}`, nor does it say why there is none")
+        told += [f"{where}: {it}" for call, clauses in row.calls for it in sources.lacks(call, clauses)]
+    return told if rows else ["docs/PROOFS.md: there is no row"]
+
+
+def print_table(top, files, is_all):
+    """Prints each promise with its wrong bodies, those of must-fail/ with a star; of some crates alone the rows that they have."""
+    edits = sorted((file.split("/")[-1][: -len(".edit")] + "*" * ("/must-fail/" in file), read_promises(file)) for file in files)
+    section = None
+    for row in read_rows(f"{top}/docs/PROOFS.md"):
+        names = [name for name, promises in edits if any(is_of(it, row) for it in promises)]
+        if not names and not is_all:
+            continue
+        if section != row.section:
+            section = row.section
+            print(f"\n{section}")
+        print(f"\n{row.promise}\n    {row.contract}")
+        if names:
+            print(f"    {', '.join(names)}")

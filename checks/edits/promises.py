@@ -1,4 +1,4 @@
-"""Which promise each wrong body breaks: what `checks/edits/run --list` compares, and what `--table` prints.
+"""Which promise each wrong body breaks: what checks/edits/run compares with --list, and prints with --table.
 
 A promise is a row of docs/PROOFS.md. Its contract names public calls, each with clauses: `Log::{append, append_or_return} number
 added`. A clause without a name is named by the definition that it cites, as in `act Answers`, or by a case of that: `Runs.Ok`.
@@ -108,7 +108,7 @@ class Sources:
 
 
 def faults(top, files, is_all):
-    """What is wrong between these edits and the rows, a text for each. Rows without an edit are told where these are all edits."""
+    """What is wrong with these edits and with the rows, a text for each. The rows are looked at where these are all edits."""
     told, used = [], set()
     try:
         rows = read_rows(f"{top}/docs/PROOFS.md")
@@ -122,21 +122,26 @@ def faults(top, files, is_all):
             mine = [it for it in rows if is_of(promise, it)]
             used |= {it.line for it in mine}
             if not mine:
-                told.append(f"{file[len(top) + 1:]}: no row of docs/PROOFS.md has `{' '.join([promise[0], *promise[1]])}`")
+                text = " ".join([promise[0], *promise[1]])
+                told.append(f"{file[len(top) + 1:]}: no row of docs/PROOFS.md has `{text}`")
     sources = Sources(top)
     for row in rows if is_all else []:
         where = f"docs/PROOFS.md:{row.line}"
         if row.line in used and row.needs_none:
             told.append(f"{where}: it says that it has no wrong body, and has some")
         if row.line not in used and not row.needs_none:
-            told.append(f"{where}: no wrong body names `{row.calls[0][0] if row.calls else row.contract}`, nor does it say why there is none")
+            told.append(f"{where}: no wrong body names {row.contract or 'it'}, and it does not say why there is none")
         told += [f"{where}: {it}" for call, clauses in row.calls for it in sources.lacks(call, clauses)]
     return told if rows else ["docs/PROOFS.md: there is no row"]
 
 
 def print_table(top, files, is_all):
     """Prints each promise with its wrong bodies, those of must-fail/ with a star; of some crates alone the rows that they have."""
-    edits = sorted((file.split("/")[-1][: -len(".edit")] + "*" * ("/must-fail/" in file), read_promises(file)) for file in files)
+    edits = []
+    for file in files:
+        star = "*" if "/must-fail/" in file else ""
+        edits.append((file.split("/")[-1][: -len(".edit")] + star, read_promises(file)))
+    edits.sort()
     section = None
     for row in read_rows(f"{top}/docs/PROOFS.md"):
         names = [name for name, promises in edits if any(is_of(it, row) for it in promises)]

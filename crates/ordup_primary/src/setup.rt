@@ -1,6 +1,6 @@
 ghost use Rattle.std.specs.Prelude.{◌≡◌, ◌≤◌, ℕ, ◌<◌, None, Some, IfSome, IfOk, IfErr, [], length, slice_get, option_map, All, OnOk, not, nat_lt, ◌||◌, ◌==◌};
 ghost use Rattle.ordup_objects.specs.Sizes.{most_sites, greatest_capacity};
-ghost use Rattle.ordup_objects.specs.Tables.{index_of, initial_state, names_of, object_refusal};
+ghost use Rattle.ordup_objects.specs.Tables.{AreDistinct, AreNames, index_of, initial_state, names_of, object_refusal};
 ghost use Rattle.ordup_objects.specs.Refusals.{IsRefusal};
 ghost use Rattle.ordup_log.specs.Groups.{group_refusal};
 ghost use Rattle.ordup_limits.specs.Entries.{AreEntriesKnown, HoldFrom};
@@ -218,6 +218,9 @@ impl<A: Allocator + Copy> Setup<A> {
         ensures sites { result ≡ length self.now.sites }
         ensures few { length self.now.sites ≤ most_sites }
         ensures limits { length self.now.limits ≡ length self.now.sites }
+        // What each setup keeps, for the proofs of its users.
+        ensures names { AreNames self.now.sites }
+        ensures distinct { AreDistinct self.now.sites }
     {
         self.capacities.len()
     }

@@ -1,0 +1,9 @@
+pub mod Words
+pub mod Tables
+pub mod WordLemmas
+pub mod WordKinds
+pub mod WordLines
+pub mod LineLemmas
+pub mod FormLemmas
+pub mod StepLemmas
+pub mod DeclaringLemmas

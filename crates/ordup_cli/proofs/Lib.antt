@@ -1,3 +1,3 @@
-mod Printing
+mod Parts
 mod Outcomes
 mod Examples

@@ -1,12 +1,14 @@
--- How a check ends.
+-- How a job that reads a record ends.
 use Rattle.std.proofs.Common.{◌≡◌, ℕ, List, Option, Ok, Err, length}
 use Rattle.ordup_audit.specs.Records.{RecordState}
 use Rattle.ordup_audit.specs.Validity.{IsValid}
 use Rattle.ordup_audit.specs.Verdicts.{IfFewest, IsVerdict}
 use Rattle.ordup_audit.specs.declared.verdict.Verdict.{Verdict}
 use Rattle.ordup_audit.specs.declared.verdict.Verdict.TheVariants.{Fewest, No}
+use Rattle.ordup_lag.specs.Texts.{series_text}
 use Rattle.ordup_cli.specs.Faults.{Outcome}
-use Rattle.ordup_cli.specs.Jobs.{Checks, Judges, Lags, PrintsJudgedLag, PrintsJudgement, PrintsLag, PrintsSeries, PrintsVerdict}
+use Rattle.ordup_cli.specs.Jobs.{Checks, DeclaresEnd, Judges, Lags, PrintsEnd, PrintsJudged, PrintsLag, PrintsVerdict, ReadsRecord, verdict_status, verdict_text}
+use Rattle.ordup_cli.specs.Printing.{PrintsIfRoom}
 use Rattle.ordup_cli.specs.declared.fault.Fault.{Fault}
 use Rattle.ordup_cli.specs.declared.fault.Fault.TheVariants as fault
 
@@ -18,44 +20,81 @@ pub judged : (r : RecordState) (verdict : Verdict) → IsVerdict r verdict
 judged r (Fewest n) is fewest valid = fewest
 judged r (No row reason) is fewest valid = (λ h. let e = valid h in cc, is)
 
--- a judgement was printed, or not all of it
-pub judgement_printed : (had old new : Option (List ℕ)) (outcome : Outcome) → PrintsJudgement had old new outcome
-    → Checks had old new outcome
-judgement_printed had old new (Ok status) told = told
-judgement_printed had old new (Err fault.Write) told = told
-judgement_printed had old new (Err fault.NoMemory) told = told.5
-judgement_printed had old new (Err fault.Read) told = absurd told.5
-judgement_printed had old new (Err fault.TooLong) told = absurd told.5
-judgement_printed had old new (Err (fault.Malformed row)) told = absurd told.5
-judgement_printed had old new (Err fault.NotStarted) told = absurd told.5
-judgement_printed had old new (Err fault.UnknownSite) told = absurd told.5
-judgement_printed had old new (Err fault.Mixed) told = absurd told.5
-
 -- a valid record is one that the verdict calls so
 pub called_valid : (r : RecordState) (verdict : Verdict) → IfFewest verdict (λ n. IsValid r × (n ≡ length r.rounds))
     → IfFewest verdict (λ n. IsValid r)
 called_valid r (Fewest n) fewest = fewest.0
 called_valid r (No row reason) fewest = tt
 
--- a series or a verdict is printed with no other fault than a write's or want of memory
-lag_kept : (r : RecordState) (verdict : Verdict) (old new : Option (List ℕ)) → PrintsLag r verdict old new (Err fault.NoMemory) → new ≡ old
-lag_kept r (Fewest n) old new told = told
-lag_kept r (No row reason) old new told = told
+-- printing comes to no fault but that of a write, and want of memory, which leaves all as it was
+abbrev LeavesAfter : Option (List ℕ) → Option (List ℕ) → Fault → Type 0
+LeavesAfter old new fault.Write = Unit {0}
+LeavesAfter old new fault.NoMemory = new ≡ old
+LeavesAfter old new e = ⊥
 
-lag_not : (r : RecordState) (verdict : Verdict) (old new : Option (List ℕ)) (f : Fault)
-    → (PrintsSeries r old new (Err f) → ⊥) → (PrintsVerdict verdict old new (Err f) → ⊥) → PrintsLag r verdict old new (Err f) → ⊥
-lag_not r (Fewest n) old new f one other told = one told
-lag_not r (No row reason) old new f one other told = other told
+room_leaves : (status : ℕ) (text : List ℕ) (old new : Option (List ℕ)) (f : Fault) → PrintsIfRoom status text old new (Err f)
+    → LeavesAfter old new f
+room_leaves status text old new fault.Write told = tt
+room_leaves status text old new fault.NoMemory told = told
+room_leaves status text old new fault.Read told = told
+room_leaves status text old new fault.TooLong told = told
+room_leaves status text old new (fault.Malformed row) told = told
+room_leaves status text old new fault.NotStarted told = told
+room_leaves status text old new fault.UnknownSite told = told
+room_leaves status text old new (fault.NotYet number) told = told
+room_leaves status text old new fault.Mixed told = told
 
--- a series was printed, or the verdict, or not all of it
-pub lag_printed : (had old new : Option (List ℕ)) (outcome : Outcome) → PrintsJudgedLag had old new outcome → Lags had old new outcome
-lag_printed had old new (Ok status) told = told
-lag_printed had old new (Err fault.Write) told = told
-lag_printed had old new (Err fault.NoMemory) told = lag_kept told.0 told.1 old new told.5
-lag_printed had old new (Err fault.Read) told = absurd (lag_not told.0 told.1 old new fault.Read (λ e. e) (λ e. e) told.5)
-lag_printed had old new (Err fault.TooLong) told = absurd (lag_not told.0 told.1 old new fault.TooLong (λ e. e) (λ e. e) told.5)
-lag_printed had old new (Err (fault.Malformed row)) told =
-    absurd (lag_not told.0 told.1 old new (fault.Malformed row) (λ e. e) (λ e. e) told.5)
-lag_printed had old new (Err fault.NotStarted) told = lag_not told.0 told.1 old new fault.NotStarted (λ e. e) (λ e. e) told.5
-lag_printed had old new (Err fault.UnknownSite) told = lag_not told.0 told.1 old new fault.UnknownSite (λ e. e) (λ e. e) told.5
-lag_printed had old new (Err fault.Mixed) told = lag_not told.0 told.1 old new fault.Mixed (λ e. e) (λ e. e) told.5
+verdict_leaves : (r : RecordState) (verdict : Verdict) (old new : Option (List ℕ)) (f : Fault)
+    → PrintsVerdict verdict old new (Err f) → LeavesAfter old new f
+verdict_leaves r verdict old new f = room_leaves (verdict_status verdict) (verdict_text verdict) old new f
+
+lag_leaves : (r : RecordState) (verdict : Verdict) (old new : Option (List ℕ)) (f : Fault)
+    → PrintsLag r verdict old new (Err f) → LeavesAfter old new f
+lag_leaves r (Fewest n) old new f = room_leaves 0 (series_text r) old new f
+lag_leaves r (No row reason) old new f = verdict_leaves r (No row reason) old new f
+
+objects_leave : (r : RecordState) (n : ℕ) (old new : Option (List ℕ)) (f : Fault) → PrintsEnd r (Fewest n) old new (Err f)
+    → LeavesAfter old new f
+objects_leave r n old new fault.Write told = tt
+objects_leave r n old new fault.NoMemory told = told
+objects_leave r n old new fault.Read told = told.2
+objects_leave r n old new fault.TooLong told = told.2
+objects_leave r n old new (fault.Malformed row) told = told.2
+objects_leave r n old new fault.NotStarted told = told.2
+objects_leave r n old new fault.UnknownSite told = told.2
+objects_leave r n old new (fault.NotYet number) told = told.2
+objects_leave r n old new fault.Mixed told = told.2
+
+end_leaves : (r : RecordState) (verdict : Verdict) (old new : Option (List ℕ)) (f : Fault)
+    → PrintsEnd r verdict old new (Err f) → LeavesAfter old new f
+end_leaves r (Fewest n) old new f = objects_leave r n old new f
+end_leaves r (No row reason) old new f = verdict_leaves r (No row reason) old new f
+
+module _ (PrintsOf : RecordState → Verdict → Option (List ℕ) → Option (List ℕ) → Outcome → Type 0)
+    (leaves : (r : RecordState) (verdict : Verdict) (old new : Option (List ℕ)) (f : Fault) → PrintsOf r verdict old new (Err f)
+    → LeavesAfter old new f) where
+  -- of a record that was judged something was printed, or not all of it
+  printed : (had old new : Option (List ℕ)) (outcome : Outcome) → PrintsJudged PrintsOf had old new outcome
+      → ReadsRecord PrintsOf had old new outcome
+  printed had old new (Ok status) told = told
+  printed had old new (Err fault.Write) told = told
+  printed had old new (Err fault.NoMemory) told = leaves _ _ old new fault.NoMemory told.5
+  printed had old new (Err fault.Read) told = absurd (leaves _ _ old new fault.Read told.5)
+  printed had old new (Err fault.TooLong) told = absurd (leaves _ _ old new fault.TooLong told.5)
+  printed had old new (Err (fault.Malformed row)) told = absurd (leaves _ _ old new (fault.Malformed row) told.5)
+  printed had old new (Err fault.NotStarted) told = leaves _ _ old new fault.NotStarted told.5
+  printed had old new (Err fault.UnknownSite) told = leaves _ _ old new fault.UnknownSite told.5
+  printed had old new (Err (fault.NotYet number)) told = leaves _ _ old new (fault.NotYet number) told.5
+  printed had old new (Err fault.Mixed) told = leaves _ _ old new fault.Mixed told.5
+
+pub verdict_printed : (had old new : Option (List ℕ)) (outcome : Outcome) → PrintsJudged (λ r verdict. PrintsVerdict verdict) had old new outcome
+    → Checks had old new outcome
+verdict_printed = printed (λ r verdict. PrintsVerdict verdict) verdict_leaves
+
+pub lag_printed : (had old new : Option (List ℕ)) (outcome : Outcome) → PrintsJudged PrintsLag had old new outcome
+    → Lags had old new outcome
+lag_printed = printed PrintsLag lag_leaves
+
+pub end_printed : (had old new : Option (List ℕ)) (outcome : Outcome) → PrintsJudged PrintsEnd had old new outcome
+    → DeclaresEnd had old new outcome
+end_printed = printed PrintsEnd end_leaves

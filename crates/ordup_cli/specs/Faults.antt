@@ -1,6 +1,8 @@
 -- Why a job was not done, the line that tells it, and its exit status.
 use Rattle.std.specs.Prelude.{ℕ, List, ◌++◌, codes, Result, Ok, Err}
 use Rattle.std.specs.Fmt.{decimal}
+use Rattle.ordup_objects.specs.declared.refusal.Refusal.{Refusal}
+use Rattle.ordup_objects.specs.declared.refusal.Refusal.TheVariants.{NotYet}
 use Rattle.ordup_check.specs.declared.reading.RecordReadFault.{RecordReadFault}
 use Rattle.ordup_check.specs.declared.reading.RecordReadFault.TheVariants as reading
 use Rattle.ordup_lag.specs.declared.writing.SeriesFault.{SeriesFault}
@@ -44,7 +46,12 @@ abbrev pub of_series : SeriesFault → Fault
 of_series series.Write = fault.Write
 of_series series.NoMemory = fault.NoMemory
 
--- 1 where a site does not agree with the log, 2 where there is no such site, 3 where the input or the output failed or the script
+-- the fault of a store from which no other goes on: an update that waits, or want of memory
+abbrev pub of_successor : Refusal → Fault
+of_successor (NotYet number) = fault.NotYet number
+of_successor e = fault.NoMemory
+
+-- 1 where a site does not agree with the log, or an update waits, 2 where there is no such site, 3 where the input or the output failed or the script
 -- did not start, 4 where there was no memory
 abbrev pub fault_status : Fault → ℕ
 fault_status fault.Read = 3
@@ -53,6 +60,7 @@ fault_status fault.Write = 3
 fault_status (fault.Malformed row) = 3
 fault_status fault.NotStarted = 3
 fault_status fault.UnknownSite = 2
+fault_status (fault.NotYet number) = 1
 fault_status fault.Mixed = 1
 fault_status fault.NoMemory = 4
 
@@ -64,6 +72,7 @@ fault_text fault.Write = codes "write fault\n"
 fault_text (fault.Malformed row) = codes "malformed " ++ decimal row ++ codes "\n"
 fault_text fault.NotStarted = codes "refused 2 NotStarted\n"
 fault_text fault.UnknownSite = codes "refused 8 UnknownSite\n"
+fault_text (fault.NotYet number) = codes "refused 22 NotYet " ++ decimal number ++ codes "\n"
 fault_text fault.Mixed = codes "refused 27 Mixed\n"
 fault_text fault.NoMemory = codes "no memory\n"
 

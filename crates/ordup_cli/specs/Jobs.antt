@@ -2,10 +2,12 @@
 use Rattle.std.specs.Prelude.{◌≡◌, ℕ, ◌≤◌, List, ◌++◌, codes, length, string_bytes}
 use Rattle.std.specs.Prelude.{Option, IfSome, Some, None, Result, Ok, Err}
 use Rattle.std.specs.Fmt.{decimal}
-use Rattle.std.specs.Io.KnownBytes.{Appends}
 use Rattle.std.specs.declared.alloc.Global.{Global}
 use Rattle.csv.specs.Reading.{strip_bom}
-use Rattle.ordup_objects.specs.Tables.{index_of}
+use Rattle.ordup_objects.specs.Tables.{Objects, index_of}
+use Rattle.ordup_objects.specs.declared.refusal.Refusal.TheVariants.{NotYet}
+use Rattle.ordup_primary.specs.Declarations.{Declared}
+use Rattle.ordup_primary.specs.Successors.{successor_refusal}
 use Rattle.ordup_primary.specs.Primaries.{PrimaryState}
 use Rattle.ordup_audit.specs.Records.{RecordState}
 use Rattle.ordup_record.specs.RecordsOf.{record_of}
@@ -20,15 +22,19 @@ use Rattle.ordup_rows.specs.Rows.{rows_of, rows_text}
 use Rattle.ordup_rows.specs.Sizes.{most_record_bytes}
 use Rattle.ordup_lag.specs.Texts.{series_text}
 use Rattle.ordup_answers.specs.declared.script_end.ScriptEnd.{ScriptEnd}
-use Rattle.ordup_answers.specs.declared.script_end.ScriptEnd.TheVariants.{Declared, Running}
-use Rattle.ordup_text.specs.Fronts.{AppendsFront}
+use Rattle.ordup_answers.specs.declared.script_end.ScriptEnd.TheVariants as end
 use Rattle.ordup_script.specs.Runs.{Runs}
 use Rattle.ordup_script.specs.Streams.{Bytes, Streams}
 use Rattle.ordup_script.specs.declared.sizes.TheConstants.{MOST_SCRIPT_BYTES}
 use Rattle.ordup_script.specs.declared.stream.ScriptFault.{ScriptFault}
 use Rattle.ordup_command_line.specs.declared.command_line.Job.{Job}
 use Rattle.ordup_command_line.specs.declared.command_line.Job.TheVariants as job
+use Rattle.ordup_declarations.specs.Declarations.{declarations_text, object_lines}
+use Rattle.ordup_declarations.specs.Ends.{AreObjectsAtEnd, GoesOn}
+use Rattle.ordup_declarations.specs.Lines.{lines_text}
+use Rattle.ordup_declarations.specs.ReadingBack.{ReadsBack}
 use Rattle.ordup_cli.specs.Faults.{Outcome, of_script}
+use Rattle.ordup_cli.specs.Printing.{Prints, PrintsIfRoom}
 use Rattle.ordup_cli.specs.Plans.{RunsPlan}
 use Rattle.ordup_cli.specs.declared.fault.Fault.TheVariants as fault
 
@@ -49,17 +55,9 @@ Answers s outcome = (end : RunEnd) × Runs s MOST_SCRIPT_BYTES end × (outcome �
 
 -- ---- the record of a site is printed
 
--- the rows of a record were written: all of them, or a front of them where the writer failed, or none for want of memory
+-- the rows of a record were printed, or nothing for want of memory
 abbrev pub PrintsRecord : RecordState → Bytes → Bytes → Outcome → Type 0
-PrintsRecord r old new (Ok status) = (status ≡ 0) × Appends old new (rows_text (rows_of r))
-PrintsRecord r old new (Err fault.Write) = AppendsFront old new (rows_text (rows_of r))
-PrintsRecord r old new (Err fault.NoMemory) = new ≡ old
-PrintsRecord r old new (Err fault.Read) = ⊥
-PrintsRecord r old new (Err fault.TooLong) = ⊥
-PrintsRecord r old new (Err (fault.Malformed row)) = ⊥
-PrintsRecord r old new (Err fault.NotStarted) = ⊥
-PrintsRecord r old new (Err fault.UnknownSite) = ⊥
-PrintsRecord r old new (Err fault.Mixed) = ⊥
+PrintsRecord r = PrintsIfRoom 0 (rows_text (rows_of r))
 
 -- the record of what the primary has of this site was printed, or nothing where it has no such site
 abbrev pub PrintsSite : PrimaryState → Option ℕ → Bytes → Bytes → Outcome → Type 0
@@ -68,9 +66,9 @@ PrintsSite p (Some s) old new outcome = PrintsRecord (record_of p s) old new out
 
 -- after a run that ended so the record of the site of this name was printed, or nothing where the run failed or no store started
 abbrev pub PrintsAfter : List ℕ → RunEnd → Bytes → Bytes → Outcome → Type 0
-PrintsAfter site (Ok (Running world)) old new outcome =
+PrintsAfter site (Ok (end.Running world)) old new outcome =
     PrintsSite world.primary (index_of site world.primary.setup.sites) old new outcome
-PrintsAfter site (Ok (Declared setup)) old new outcome = (outcome ≡ Err fault.NotStarted) × (new ≡ old)
+PrintsAfter site (Ok (end.Declared setup)) old new outcome = (outcome ≡ Err fault.NotStarted) × (new ≡ old)
 PrintsAfter site (Err fault) old new outcome = (outcome ≡ Err (of_script fault)) × (new ≡ old)
 
 -- a script was run from this reader with its answers left out, and then the record of the site of this name was printed
@@ -92,85 +90,89 @@ abbrev pub verdict_status : Verdict → ℕ
 verdict_status (Fewest n) = 0
 verdict_status (No row reason) = 1
 
--- the line of a verdict was written: all of it, or a front of it where the writer failed, or nothing for want of memory
+-- the line of a verdict was printed, or nothing for want of memory
 abbrev pub PrintsVerdict : Verdict → Bytes → Bytes → Outcome → Type 0
-PrintsVerdict verdict old new (Ok status) = (status ≡ verdict_status verdict) × Appends old new (verdict_text verdict)
-PrintsVerdict verdict old new (Err fault.Write) = AppendsFront old new (verdict_text verdict)
-PrintsVerdict verdict old new (Err fault.NoMemory) = new ≡ old
-PrintsVerdict verdict old new (Err fault.Read) = ⊥
-PrintsVerdict verdict old new (Err fault.TooLong) = ⊥
-PrintsVerdict verdict old new (Err (fault.Malformed row)) = ⊥
-PrintsVerdict verdict old new (Err fault.NotStarted) = ⊥
-PrintsVerdict verdict old new (Err fault.UnknownSite) = ⊥
-PrintsVerdict verdict old new (Err fault.Mixed) = ⊥
+PrintsVerdict verdict = PrintsIfRoom (verdict_status verdict) (verdict_text verdict)
 
 -- the verdict on a record: the number of its rounds where it is valid, and else the first reason against it and its row
 abbrev pub Judges : RecordState → Verdict → Type 0
 Judges r (Fewest n) = IsValid r × (n ≡ length r.rounds)
 Judges r (No row reason) = (IsValid r → ⊥) × IsVerdict r (No row reason)
 
--- the text is not too long, the record that it tells was judged, and the verdict printed
-abbrev pub PrintsJudgement : Bytes → Bytes → Bytes → Outcome → Type 0
-PrintsJudgement had old new outcome =
+-- the text is not too long, the record that it tells was judged, and this was printed of both
+abbrev pub PrintsJudged : (RecordState → Verdict → Bytes → Bytes → Outcome → Type 0) → Bytes → Bytes → Bytes → Outcome → Type 0
+PrintsJudged PrintsOf had old new outcome =
     (r : RecordState) × (verdict : Verdict)
     × IfSome had (λ text. length text ≤ most_record_bytes)
     × IfSome had (λ text. TextTells (strip_bom text) r)
     × Judges r verdict
-    × PrintsVerdict verdict old new outcome
+    × PrintsOf r verdict old new outcome
 
--- A record was read from these bytes and judged. Nothing was written where no record could be read.
-abbrev pub Checks : Bytes → Bytes → Bytes → Outcome → Type 0
-Checks had old new (Ok status) = PrintsJudgement had old new (Ok status)
-Checks had old new (Err fault.Write) = PrintsJudgement had old new (Err fault.Write)
-Checks had old new (Err (fault.Malformed row)) =
+-- A record was read from these bytes and judged, and this was printed of both. Nothing was written where no record could be read.
+abbrev pub ReadsRecord : (RecordState → Verdict → Bytes → Bytes → Outcome → Type 0) → Bytes → Bytes → Bytes → Outcome → Type 0
+ReadsRecord PrintsOf had old new (Ok status) = PrintsJudged PrintsOf had old new (Ok status)
+ReadsRecord PrintsOf had old new (Err fault.Write) = PrintsJudged PrintsOf had old new (Err fault.Write)
+ReadsRecord PrintsOf had old new (Err (fault.Malformed row)) =
     IfSome had (λ text. IsMalformedWithin most_record_bytes text row) × (new ≡ old)
-Checks had old new (Err fault.Read) = new ≡ old
-Checks had old new (Err fault.NoMemory) = new ≡ old
-Checks had old new (Err fault.TooLong) = ⊥
-Checks had old new (Err fault.NotStarted) = ⊥
-Checks had old new (Err fault.UnknownSite) = ⊥
-Checks had old new (Err fault.Mixed) = ⊥
+ReadsRecord PrintsOf had old new (Err fault.Read) = new ≡ old
+ReadsRecord PrintsOf had old new (Err fault.NoMemory) = new ≡ old
+ReadsRecord PrintsOf had old new (Err e) = ⊥
+
+-- the verdict is printed
+abbrev pub Checks : Bytes → Bytes → Bytes → Outcome → Type 0
+Checks = ReadsRecord (λ r verdict. PrintsVerdict verdict)
 
 -- ---- the series of a record is printed
 
--- the series of a record was written: all of it, or a front of it where the writer failed, or nothing for want of memory
+-- the series of a record was printed, or nothing for want of memory
 abbrev pub PrintsSeries : RecordState → Bytes → Bytes → Outcome → Type 0
-PrintsSeries r old new (Ok status) = (status ≡ 0) × Appends old new (series_text r)
-PrintsSeries r old new (Err fault.Write) = AppendsFront old new (series_text r)
-PrintsSeries r old new (Err fault.NoMemory) = new ≡ old
-PrintsSeries r old new (Err fault.Read) = ⊥
-PrintsSeries r old new (Err fault.TooLong) = ⊥
-PrintsSeries r old new (Err (fault.Malformed row)) = ⊥
-PrintsSeries r old new (Err fault.NotStarted) = ⊥
-PrintsSeries r old new (Err fault.UnknownSite) = ⊥
-PrintsSeries r old new (Err fault.Mixed) = ⊥
+PrintsSeries r = PrintsIfRoom 0 (series_text r)
 
 -- of a record that was judged so the series was printed, or the line of the verdict where it is not valid
 abbrev pub PrintsLag : RecordState → Verdict → Bytes → Bytes → Outcome → Type 0
-PrintsLag r (Fewest n) old new outcome = PrintsSeries r old new outcome
-PrintsLag r (No row reason) old new outcome = PrintsVerdict (No row reason) old new outcome
+PrintsLag r (Fewest n) = PrintsSeries r
+PrintsLag r (No row reason) = PrintsVerdict (No row reason)
 
--- the text is not too long, the record that it tells was judged, and its series or the verdict printed
-abbrev pub PrintsJudgedLag : Bytes → Bytes → Bytes → Outcome → Type 0
-PrintsJudgedLag had old new outcome =
-    (r : RecordState) × (verdict : Verdict)
-    × IfSome had (λ text. length text ≤ most_record_bytes)
-    × IfSome had (λ text. TextTells (strip_bom text) r)
-    × Judges r verdict
-    × PrintsLag r verdict old new outcome
-
--- A record was read from these bytes, judged, and its series printed. Nothing was written where no record could be read.
 abbrev pub Lags : Bytes → Bytes → Bytes → Outcome → Type 0
-Lags had old new (Ok status) = PrintsJudgedLag had old new (Ok status)
-Lags had old new (Err fault.Write) = PrintsJudgedLag had old new (Err fault.Write)
-Lags had old new (Err (fault.Malformed row)) =
-    IfSome had (λ text. IsMalformedWithin most_record_bytes text row) × (new ≡ old)
-Lags had old new (Err fault.Read) = new ≡ old
-Lags had old new (Err fault.NoMemory) = new ≡ old
-Lags had old new (Err fault.TooLong) = ⊥
-Lags had old new (Err fault.NotStarted) = ⊥
-Lags had old new (Err fault.UnknownSite) = ⊥
-Lags had old new (Err fault.Mixed) = ⊥
+Lags = ReadsRecord PrintsLag
+
+-- ---- the declarations of a store that goes on are printed
+
+-- the declarations of a store that goes on from a primary were printed, or nothing, where none goes on from it
+abbrev pub PrintsSuccessor : PrimaryState → Bytes → Bytes → Outcome → Type 0
+PrintsSuccessor p old new (Err (fault.NotYet number)) = (successor_refusal p ≡ Some (NotYet number)) × (new ≡ old)
+PrintsSuccessor p old new (Err fault.NoMemory) = (successor_refusal p ≡ None) × (new ≡ old)
+PrintsSuccessor p old new outcome =
+    (successor_refusal p ≡ None) × (d : Declared) × GoesOn p d × ReadsBack Global d × Prints 0 (declarations_text d) old new outcome
+
+-- after a run that ended so the declarations of the store that goes on were printed, or nothing where the run failed or no store
+-- started
+abbrev pub PrintsNext : RunEnd → Bytes → Bytes → Outcome → Type 0
+PrintsNext (Ok (end.Running world)) old new outcome = PrintsSuccessor world.primary old new outcome
+PrintsNext (Ok (end.Declared setup)) old new outcome = (outcome ≡ Err fault.NotStarted) × (new ≡ old)
+PrintsNext (Err fault) old new outcome = (outcome ≡ Err (of_script fault)) × (new ≡ old)
+
+-- a script was run from this reader with its answers left out, and then the declarations of the store that goes on were printed
+abbrev pub DeclaresNext : Streams → Outcome → Type 0
+DeclaresNext s outcome =
+    (end : RunEnd)
+    × Runs (record { had = s.had; has = s.has; old = None; new = None }) MOST_SCRIPT_BYTES end
+    × PrintsNext end s.old s.new outcome
+
+-- the declarations of the objects of a record, at their values after its last update, and of its groups were printed, or
+-- nothing for want of memory
+abbrev pub PrintsObjects : RecordState → Bytes → Bytes → Outcome → Type 0
+PrintsObjects r old new (Err fault.NoMemory) = new ≡ old
+PrintsObjects r old new outcome =
+    (objects : Objects) × AreObjectsAtEnd r objects × Prints 0 (lines_text (object_lines objects r.groups)) old new outcome
+
+-- of a record that was judged so these were printed, or the line of the verdict where it is not valid
+abbrev pub PrintsEnd : RecordState → Verdict → Bytes → Bytes → Outcome → Type 0
+PrintsEnd r (Fewest n) = PrintsObjects r
+PrintsEnd r (No row reason) = PrintsVerdict (No row reason)
+
+abbrev pub DeclaresEnd : Bytes → Bytes → Bytes → Outcome → Type 0
+DeclaresEnd = ReadsRecord PrintsEnd
 
 -- ---- any of these
 
@@ -180,4 +182,6 @@ Does job.Run s outcome = Answers s outcome
 Does (job.Record site) s outcome = Records (string_bytes site) s outcome
 Does job.Check s outcome = Checks s.had s.old s.new outcome
 Does job.Lag s outcome = Lags s.had s.old s.new outcome
+Does job.Next s outcome = DeclaresNext s outcome
+Does job.NextOfRecord s outcome = DeclaresEnd s.had s.old s.new outcome
 Does (job.Threads callers) s outcome = RunsPlan s outcome

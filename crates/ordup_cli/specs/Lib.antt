@@ -1,4 +1,5 @@
 pub mod Faults
+pub mod Printing
 pub mod Plans
 pub mod Jobs
 pub mod Acts

@@ -1,10 +1,8 @@
 -- What running a plan in threads reads and prints.
 use Rattle.std.specs.Prelude.{◌≡◌, ℕ, List, length, Result, Ok, Err}
-use Rattle.std.specs.Io.KnownBytes.{Appends}
 use Rattle.std.specs.declared.alloc.Global.{Global}
 use Rattle.ordup_objects.specs.declared.refusal.Refusal.{Refusal}
 use Rattle.ordup_objects.specs.declared.refusal.Refusal.TheVariants.{NoMemory}
-use Rattle.ordup_text.specs.Fronts.{AppendsFront}
 use Rattle.ordup_script.specs.PlanReadings.{ReadsPlan}
 use Rattle.ordup_script.specs.Streams.{Bytes, Streams}
 use Rattle.ordup_script.specs.declared.sizes.TheConstants.{MOST_SCRIPT_BYTES}
@@ -12,20 +10,9 @@ use Rattle.ordup_script.specs.declared.plan.Plan.{Plan}
 use Rattle.ordup_script.specs.declared.plan.PlanFault.{PlanFault}
 use Rattle.ordup_plan.specs.Outcomes.{IsOutcome}
 use Rattle.ordup_cli.specs.Faults.{Outcome, of_plan}
+use Rattle.ordup_cli.specs.Printing.{Prints}
 use Rattle.ordup_cli.specs.declared.fault.Fault.{Fault}
 use Rattle.ordup_cli.specs.declared.fault.Fault.TheVariants as fault
-
--- the text was written: all of it, or a front of it where the writer failed
-abbrev pub Prints : List ℕ → Bytes → Bytes → Outcome → Type 0
-Prints text old new (Ok status) = (status ≡ 0) × Appends old new text
-Prints text old new (Err fault.Write) = AppendsFront old new text
-Prints text old new (Err fault.Read) = ⊥
-Prints text old new (Err fault.TooLong) = ⊥
-Prints text old new (Err (fault.Malformed row)) = ⊥
-Prints text old new (Err fault.NotStarted) = ⊥
-Prints text old new (Err fault.UnknownSite) = ⊥
-Prints text old new (Err fault.Mixed) = ⊥
-Prints text old new (Err fault.NoMemory) = ⊥
 
 -- the fault of a plan that was run and has no outcome: want of memory, or else a site that does not agree with the log
 abbrev pub fault_of : Refusal → Fault
@@ -34,7 +21,7 @@ fault_of e = fault.Mixed
 
 -- what a run of this many sets printed: its outcome; or nothing, where it has none
 abbrev pub PrintsOutcome : Result (List ℕ) Refusal → ℕ → Bytes → Bytes → Outcome → Type 0
-PrintsOutcome (Ok text) sets old new outcome = IsOutcome sets text × Prints text old new outcome
+PrintsOutcome (Ok text) sets old new outcome = IsOutcome sets text × Prints 0 text old new outcome
 PrintsOutcome (Err e) sets old new outcome = (outcome ≡ Err (fault_of e)) × (new ≡ old)
 
 -- after a plan was read it was run, and what came of its sets was printed; or nothing, where no plan was read

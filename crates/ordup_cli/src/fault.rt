@@ -1,20 +1,21 @@
 //! The faults of jobs: why a job was not done, its line of text and its exit status.
-ghost use Rattle.std.specs.Prelude.{◌≡◌, OnOk, ◌++◌};
+ghost use Rattle.std.specs.Prelude.{◌≡◌, ◌++◌, codes};
 ghost use Rattle.std.specs.Fmt.{decimal};
 ghost use Rattle.std.specs.Io.KnownBytes.{Appends};
 ghost use Rattle.ordup_text.specs.Fronts.{AppendsFront};
-ghost use Rattle.ordup_cli.specs.Faults.{fault_status, fault_text, of_plan, of_script, of_reading, of_series, of_writing};
+ghost use Rattle.ordup_cli.specs.Faults.{fault_status, fault_text, of_plan, of_script, of_reading, of_series, of_successor, of_writing};
 
 use itoa::Buffer;
 use ordup_check::RecordReadFault;
 use ordup_lag::SeriesFault;
+use ordup_objects::Refusal;
 use ordup_rows::RecordWriteFault;
 use ordup_script::{PlanFault, ScriptFault};
 use ordup_text::{WriteFault, send};
 use std::io::Write;
 
-/// The exit status where a record is not valid, or a site does not agree with the log.
-pub(crate) const NOT_VALID: u8 = 1;
+/// The exit status where a record is not valid, an update is not acknowledged, or a site does not agree with the log.
+pub(crate) const NOT_DONE: u8 = 1;
 /// The exit status where the words ask for no job, or name no site.
 pub(crate) const WRONG_WORDS: u8 = 2;
 /// The exit status where the input or the output failed, or the script did not start.
@@ -37,6 +38,8 @@ pub(crate) enum Fault {
     NotStarted,
     /// The store has no such site.
     UnknownSite,
+    /// An update is not acknowledged yet. This is the number of the last one.
+    NotYet { number: u64 },
     /// A site does not agree with the log.
     Mixed,
     /// An allocation was refused.
@@ -99,6 +102,16 @@ impl Fault {
         }
     }
 
+    /// The fault of a store from which no other goes on.
+    pub(crate) fn of_successor(refusal: Refusal) -> Self
+        ensures { result ≡ of_successor refusal }
+    {
+        match refusal {
+            Refusal::NotYet { number } => Fault::NotYet { number },
+            _ => Fault::NoMemory,
+        }
+    }
+
     /// The exit status that tells it.
     fn status(self) -> u8
         ensures { result ≡ fault_status self }
@@ -110,7 +123,8 @@ impl Fault {
             Fault::Malformed { .. } => INPUT_OR_OUTPUT_FAILED,
             Fault::NotStarted => INPUT_OR_OUTPUT_FAILED,
             Fault::UnknownSite => WRONG_WORDS,
-            Fault::Mixed => NOT_VALID,
+            Fault::NotYet { .. } => NOT_DONE,
+            Fault::Mixed => NOT_DONE,
             Fault::NoMemory => NO_MEMORY,
         }
     }
@@ -133,19 +147,20 @@ fn send_line<E: Write>(faults: &mut E, fault: Fault) -> Result<(), WriteFault>
         Fault::Read => send(faults, b"read fault\n"),
         Fault::TooLong => send(faults, b"input too long\n"),
         Fault::Write => send(faults, b"write fault\n"),
-        Fault::Malformed { row } => send_malformed(faults, row),
+        Fault::Malformed { row } => send_numbered(faults, b"malformed ", row),
         Fault::NotStarted => send(faults, b"refused 2 NotStarted\n"),
         Fault::UnknownSite => send(faults, b"refused 8 UnknownSite\n"),
+        Fault::NotYet { number } => send_numbered(faults, b"refused 22 NotYet ", number),
         Fault::Mixed => send(faults, b"refused 27 Mixed\n"),
         Fault::NoMemory => send(faults, b"no memory\n"),
     }
 }
 
-/// Sends the line that tells a malformed row.
-fn send_malformed<E: Write>(faults: &mut E, row: u64) -> Result<(), WriteFault>
-    ensures { AppendsFront (E.contents faults.old) (E.contents faults.new) (fault_text (Fault.Malformed row)) }
+/// Sends a line of a text and a number.
+fn send_numbered<E: Write>(faults: &mut E, text: &[u8], number: u64) -> Result<(), WriteFault>
+    ensures { AppendsFront (E.contents faults.old) (E.contents faults.new) (text.now ++ (decimal number ++ codes "\n")) }
 {
-    send(faults, b"malformed ")?;
-    send(faults, Buffer::new().format(row).as_bytes())?;
+    send(faults, text)?;
+    send(faults, Buffer::new().format(number).as_bytes())?;
     send(faults, b"\n")
 }

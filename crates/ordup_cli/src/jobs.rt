@@ -1,14 +1,16 @@
-//! The jobs of the program: it runs a script or a plan, prints the record of a site, checks a record, or prints its series.
-ghost use Rattle.std.specs.Prelude.{◌≡◌, IfErr, IfOk, string_bytes};
+//! The jobs of the program: it runs a script or a plan, prints the record of a site, checks a record, prints its series, or prints
+//! the declarations of a store that goes on.
+ghost use Rattle.std.specs.Prelude.{◌≡◌, IfOk, string_bytes};
 ghost use Rattle.ordup_objects.specs.Tables.{index_of};
-ghost use Rattle.std.specs.Io.KnownBytes.{Keeps};
 ghost use Rattle.ordup_audit.specs.Validity.{IsValid};
 ghost use Rattle.ordup_audit.specs.Verdicts.{IfFewest};
 ghost use Rattle.ordup_cli.specs.Jobs.{Answers, Checks, Does, Lags, PrintsLag, PrintsRecord, PrintsSeries, PrintsSite, PrintsVerdict, Records};
 ghost use Rattle.ordup_cli.specs.Jobs.{verdict_status, verdict_text};
 
-use crate::fault::{Fault, NOT_VALID};
+use crate::fault::{Fault, NOT_DONE};
+use crate::next::{print_next, print_next_of_record};
 use crate::plans::run_plan;
+use crate::printing::flush;
 use ordup_audit::{Record, RecordView, Verdict, check};
 use ordup_check::read_record;
 use ordup_command_line::Job;
@@ -49,6 +51,8 @@ pub(crate) fn do_job<T: Threads + Wait + Sync, R: Read, W: Write>(
         Job::Record { site } => print_record(alloc, site.as_bytes(), input, output),
         Job::Check => check_record(alloc, input, output),
         Job::Lag => print_lag(alloc, input, output),
+        Job::Next => print_next(alloc, input, output),
+        Job::NextOfRecord => print_next_of_record(alloc, input, output),
         Job::Threads { callers } => run_plan(rt, alloc, *callers, input, output),
     }
 }
@@ -149,7 +153,7 @@ fn check_record<R: Read, W: Write>(alloc: Global, input: &mut R, output: &mut W)
 }
 
 /// Prints the line of a verdict, and answers the exit status that goes with it.
-fn print_verdict<W: Write>(alloc: Global, verdict: Verdict, output: &mut W) -> Outcome
+pub(crate) fn print_verdict<W: Write>(alloc: Global, verdict: Verdict, output: &mut W) -> Outcome
     ensures { PrintsVerdict verdict (W.contents output.old) (W.contents output.new) result }
 {
     let Ok(line) = line_of(alloc, verdict) else {
@@ -178,7 +182,7 @@ fn status_of(verdict: Verdict) -> u8
 {
     match verdict {
         Verdict::Fewest(_) => DONE,
-        Verdict::No { .. } => NOT_VALID,
+        Verdict::No { .. } => NOT_DONE,
     }
 }
 
@@ -223,15 +227,4 @@ fn print_series<W: Write>(alloc: Global, read: &Record, output: &mut W) -> Outco
     }
     flush(output)?;
     Ok(DONE)
-}
-
-/// Flushes what was printed.
-pub(crate) fn flush<W: Write>(output: &mut W) -> Result<(), Fault>
-    ensures kept { Keeps (W.contents output.old) (W.contents output.new) }
-    ensures fault { IfErr result (λ e. e ≡ Fault.Write) }
-{
-    match output.flush() {
-        Ok(()) => Ok(()),
-        Err(_) => Err(Fault::Write),
-    }
 }

@@ -5,7 +5,9 @@
 mod act;
 mod fault;
 mod jobs;
+mod next;
 mod plans;
+mod printing;
 mod promises;
 
 pub use act::act;

@@ -1,13 +1,13 @@
 //! The job of running a plan in threads.
 ghost use Rattle.std.specs.Prelude.{◌≡◌};
-ghost use Rattle.ordup_cli.specs.Plans.{Prints, RunsPlan, fault_of};
+ghost use Rattle.ordup_cli.specs.Plans.{RunsPlan, fault_of};
 
 use crate::fault::Fault;
-use crate::jobs::{DONE, Outcome, flush};
+use crate::jobs::Outcome;
+use crate::printing::print;
 use ordup_objects::Refusal;
 use ordup_plan::run_threads;
 use ordup_script::{Plan, read_plan};
-use ordup_text::send;
 use std::alloc::Global;
 use std::io::{Read, Write};
 use std::num::NonZeroU8;
@@ -50,15 +50,4 @@ fn fault_of(refusal: Refusal) -> Fault
         Refusal::NoMemory => Fault::NoMemory,
         _ => Fault::Mixed,
     }
-}
-
-/// Prints a text: all of it, or a front of it where the writer fails.
-fn print<W: Write>(text: &[u8], output: &mut W) -> Outcome
-    ensures { Prints text.now (W.contents output.old) (W.contents output.new) result }
-{
-    let Ok(()) = send(output, text) else {
-        return Err(Fault::Write);
-    };
-    flush(output)?;
-    Ok(DONE)
 }

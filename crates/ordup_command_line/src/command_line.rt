@@ -1,4 +1,4 @@
-use clap::{Arg, ArgMatches, Command, Error, value_parser};
+use clap::{Arg, ArgAction, ArgMatches, Command, Error, value_parser};
 use std::alloc::{AllocError, Global};
 use std::num::NonZeroU8;
 
@@ -16,6 +16,10 @@ pub enum Job {
     Check,
     /// Prints the lag of a site, as its record tells it.
     Lag,
+    /// Prints the declarations of the store that goes on from a script.
+    Next,
+    /// Prints the declarations of the objects of a record, at their values after its last update, and of its groups.
+    NextOfRecord,
     /// Runs a plan in threads.
     Threads {
         /// How many callers there are, at most 16.
@@ -43,6 +47,7 @@ fn job_in(alloc: Global, matches: &ArgMatches<'_>) -> Result<Option<Job>, AllocE
         "record" => record_of(alloc, words.get_str("SITE")),
         "check" => Ok(Some(Job::Check)),
         "lag" => Ok(Some(Job::Lag)),
+        "next" => Ok(Some(next_of(words.get_flag("record")))),
         "threads" => Ok(callers_of(words.get_one::<u8>("CLIENTS"))),
         _ => Ok(None),
     }
@@ -57,6 +62,15 @@ fn record_of(alloc: Global, site: Option<&str>) -> Result<Option<Job>, AllocErro
     Ok(Some(Job::Record { site }))
 }
 
+/// The job of printing declarations: of a record, or of a script.
+fn next_of(is_record: bool) -> Job {
+    if is_record {
+        Job::NextOfRecord
+    } else {
+        Job::Next
+    }
+}
+
 /// The job of running a plan by this many callers. None for no callers.
 fn callers_of(callers: Option<u8>) -> Option<Job> {
     let callers = NonZeroU8::new(callers?)?;
@@ -69,6 +83,7 @@ fn command<'a>(alloc: Global) -> Result<Command<'a>, AllocError> {
     let ordup = with_job(ordup, record(alloc));
     let ordup = with_words(ordup, check(alloc));
     let ordup = with_words(ordup, lag(alloc));
+    let ordup = with_job(ordup, next(alloc));
     with_job(ordup, threads(alloc))
 }
 
@@ -157,6 +172,22 @@ fn record<'a>(alloc: Global) -> Result<Command<'a>, AllocError> {
     )
 }
 
+/// The words of `ordup next`.
+fn next<'a>(alloc: Global) -> Result<Command<'a>, AllocError> {
+    words_of(
+        alloc,
+        "next",
+        "Runs a script and prints the declarations of a store that goes on from it",
+        NEXT_HELP,
+    )
+    .arg(
+        Arg::new(alloc, "record")
+            .long("record")
+            .action(ArgAction::SetTrue)
+            .help("Reads a record in place of a script"),
+    )
+}
+
 /// The words of `ordup threads`.
 fn threads<'a>(alloc: Global) -> Result<Command<'a>, AllocError> {
     words_of(
@@ -179,7 +210,7 @@ fn words_of<'a>(alloc: Global, name: &'a str, about: &'a str, help: &'a str) -> 
 }
 
 /// What `ordup --version` shows after the program's name.
-const VERSION: &str = "0.1.0";
+const VERSION: &str = "0.2.0";
 
 /// What follows the message about a word that the program does not take, such as the name of a file.
 pub const FILE_TIP: &str = "
@@ -201,12 +232,15 @@ answer for each command on standard output:
 fewest that keep its limits: `yes N`, or `no ROW REASON`. `ordup lag` prints, from
 the same record, how far behind the site was at each decision.
 
+`ordup next` prints the declarations of a store that goes on where a script ends.
+
 `ordup threads CLIENTS` reads a plan, which is declarations, `start` and then
 proposals alone, and lets callers in threads of their own make the proposals,
 with a thread for each site that applies them.
 
-Exit statuses: 0 done, 1 a record that is not valid, 2 wrong words or no such
-site, 3 input or output failed or the script did not start, 4 no memory.
+Exit statuses: 0 done, 1 a record that is not valid or an update that is not
+acknowledged, 2 wrong words or no such site, 3 input or output failed or the
+script did not start, 4 no memory.
 The lines, commands, answers and faults: docs/FORMATS.md.
 A first script: ./ordup run < examples/first.ordup";
 
@@ -295,6 +329,31 @@ Exit statuses: 0 the series, 1 not valid; 3 with `malformed ROW` (the first row
 that breaks a rule of the format), `read fault` (also for a record that is too
 long) or `write fault` on standard error; 4 with `no memory`; 2 for wrong words.
 The cells: docs/FORMATS.md. A picture of them: examples/lag.gp";
+
+const NEXT_HELP: &str = "\
+Reads a script from standard input to its end and prints no answers. Then it
+prints the declarations of a store that goes on from there, as lines of a script:
+each object with its value after the last update, the groups, the sites with the
+capacities of their feeds, the last limits of each site, and `start`:
+
+    object x 0             object x 6
+    site a 4               site a 4
+    limit a object x 9     limit a object x 9
+    start                  start
+    propose add:x:6
+    settle
+
+Every update must be acknowledged: `settle` until none waits.
+
+With --record it reads the record of a site, as `ordup check` does, and prints the
+objects with their values after the last decided update, and the groups. Of a
+record that is not valid it prints what `ordup check` prints: `no ROW REASON`.
+
+Exit statuses: 0 the declarations; 1 with `refused 22 NotYet N` on standard error,
+where update N is the last and one is not acknowledged, or for a record that is
+not valid; 3 with `refused 2 NotStarted`, `malformed ROW`, `read fault`,
+`write fault` or `input too long`; 4 with `no memory`; 2 for wrong words.
+One store after another: docs/FORMATS.md";
 
 const THREADS_HELP: &str = "\
 Reads a plan from standard input to its end: declarations, `start`, and then

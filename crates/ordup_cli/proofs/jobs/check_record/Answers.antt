@@ -1,8 +1,8 @@
-use Rattle.ordup_cli.proofs.Outcomes.{judged, judgement_printed}
+use Rattle.ordup_cli.proofs.Outcomes.{judged, verdict_printed}
 use Rattle.ordup_cli.proofs.jobs.check_record.Goals as goal
 
 pub returns-in-Ok : goal.returns-in-Ok
-returns-in-Ok g c = judgement_printed _ _ _ _ (
+returns-in-Ok g c = verdict_printed _ _ _ _ (
   c.in-Ok.read,
   c.check-verdict.result,
   c.in-Ok.ensures.limited,

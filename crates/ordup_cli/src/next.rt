@@ -1,0 +1,131 @@
+//! The jobs that print the declarations of a store that goes on.
+ghost use Rattle.std.specs.Prelude.{length};
+ghost use Rattle.ordup_log.specs.Groups.{AreGroupsKnown};
+ghost use Rattle.ordup_audit.specs.Validity.{IsValid};
+ghost use Rattle.ordup_audit.specs.Verdicts.{IfFewest};
+ghost use Rattle.ordup_declarations.specs.Declarations.{object_lines};
+ghost use Rattle.ordup_declarations.specs.Lines.{lines_text};
+ghost use Rattle.ordup_cli.specs.Jobs.{DeclaresEnd, DeclaresNext, PrintsEnd, PrintsObjects, PrintsSuccessor};
+ghost use Rattle.ordup_cli.specs.Printing.{PrintsIfRoom};
+
+use crate::fault::Fault;
+use crate::jobs::{Outcome, print_verdict};
+use crate::printing::print;
+use ordup_audit::{Record, Verdict, check};
+use ordup_check::read_record;
+use ordup_declarations::{objects_at_end, push_object_declarations, push_successor};
+use ordup_log::Groups;
+use ordup_objects::ObjectTable;
+use ordup_primary::Primary;
+use ordup_script::{ScriptEnd, follow_script};
+use ordup_text::TextBuffer;
+use std::alloc::Global;
+use std::io::{Read, Write};
+
+/// Runs a script and prints the declarations of the store that goes on from it, in place of the answers.
+///
+/// The script was run from this reader, and no answer was formed. Then the declarations were printed. Where the run failed, no store
+/// started, or an update is not acknowledged, nothing was written, and the outcome says so.
+pub(crate) fn print_next<R: Read, W: Write>(alloc: Global, input: &mut R, output: &mut W) -> Outcome
+    ensures { DeclaresNext (record {
+      had = R.remaining input.old;
+      has = R.remaining input.new;
+      old = W.contents output.old;
+      new = W.contents output.new;
+    }) result }
+{
+    match follow_script(alloc, input) {
+        Ok(ScriptEnd::Running(world)) => {
+            let printed = print_successor(alloc, world.primary(), output);
+            world.discard();
+            printed
+        }
+        Ok(ScriptEnd::Declared(setup)) => {
+            setup.discard();
+            Err(Fault::NotStarted)
+        }
+        Err(fault) => Err(Fault::of_script(fault)),
+    }
+}
+
+/// Prints the declarations of the store that goes on from a primary. Where none does, nothing is written.
+fn print_successor<W: Write>(alloc: Global, primary: &Primary, output: &mut W) -> Outcome
+    ensures { PrintsSuccessor primary.now (W.contents output.old) (W.contents output.new) result }
+{
+    let mut lines = TextBuffer::new(alloc);
+    let printed = match push_successor(alloc, &mut lines, primary) {
+        Ok(()) => print(lines.as_slice(), output),
+        Err(refusal) => Err(Fault::of_successor(refusal)),
+    };
+    drop(lines);
+    printed
+}
+
+/// Reads a record and prints the declarations of its objects, at their values after its last update, and of its groups; or the
+/// verdict on it where it is not valid.
+///
+/// - Where it ends with a status or a write fault, the text is not too long, and it tells a record. The declarations of a valid record
+///   were printed, or a front of them; of any other record the verdict was, or a front of that line.
+/// - `Malformed`: the row is the first that breaks a rule. Nothing was written.
+/// - `Read`, `NoMemory`: nothing was written.
+pub(crate) fn print_next_of_record<R: Read, W: Write>(
+    alloc: Global,
+    input: &mut R,
+    output: &mut W,
+) -> Outcome
+    ensures { DeclaresEnd (R.remaining input.old) (W.contents output.old) (W.contents output.new) result }
+{
+    match read_record(alloc, input) {
+        Ok(read) => {
+            let verdict = check(&read);
+            let printed = print_end(alloc, &read, verdict, output);
+            read.discard();
+            printed
+        }
+        Err(fault) => Err(Fault::of_reading(fault)),
+    }
+}
+
+/// Prints what a record that this verdict calls valid ends with, and else the verdict.
+fn print_end<W: Write>(alloc: Global, read: &Record, verdict: Verdict, output: &mut W) -> Outcome
+    requires { IfFewest verdict (λ n. IsValid read.now) }
+    ensures { PrintsEnd read.now verdict (W.contents output.old) (W.contents output.new) result }
+{
+    match verdict {
+        Verdict::Fewest(_) => print_objects(alloc, read, output),
+        Verdict::No { .. } => print_verdict(alloc, verdict, output),
+    }
+}
+
+/// Prints the declarations of the objects of a valid record, at their values after its last update, and of its groups.
+fn print_objects<W: Write>(alloc: Global, read: &Record, output: &mut W) -> Outcome
+    requires { IsValid read.now }
+    ensures { PrintsObjects read.now (W.contents output.old) (W.contents output.new) result }
+{
+    read.keeps();
+    let Ok(objects) = objects_at_end(alloc, read) else {
+        return Err(Fault::NoMemory);
+    };
+    let printed = print_declared(alloc, &objects, read.groups(), output);
+    drop(objects);
+    printed
+}
+
+/// Prints the declarations of objects and groups, or nothing for want of memory.
+fn print_declared<W: Write>(
+    alloc: Global,
+    objects: &ObjectTable,
+    groups: &Groups,
+    output: &mut W,
+) -> Outcome
+    requires { AreGroupsKnown (length objects.now) groups.now }
+    ensures { PrintsIfRoom 0 (lines_text (object_lines objects.now groups.now)) (W.contents output.old) (W.contents output.new) result }
+{
+    let mut lines = TextBuffer::new(alloc);
+    let printed = match push_object_declarations(&mut lines, objects, groups) {
+        Ok(()) => print(lines.as_slice(), output),
+        Err(_) => Err(Fault::NoMemory),
+    };
+    drop(lines);
+    printed
+}

@@ -1,6 +1,11 @@
 //! Answers: what a command of a script does to the setup or to the world, and the text of its answer.
 //!
-//! The one contract above this layer: a line leaves the state that the reply to it leaves, and the text of the reply is taken.
+//! The one contract above this layer: for every state of a script, a line is answered as the reply to it says, and leaves the state
+//! that the reply leaves; the text of the reply is taken.
+//!
+//! `names.rt` and `changes.rt` look up what the words name, `declarations.rt` and `events.rt` make declarations and events of them,
+//! and `answers.rt` lets the setup or the world answer. `taker.rt` says what takes the answers, and `text.rt` is their text.
+//! `NearestNumbers.antt` says what stands in for a number of more than 63 bits.
 #![tactic(auto)]
 
 mod answers;

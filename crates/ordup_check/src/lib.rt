@@ -3,6 +3,12 @@
 //! not use it.
 //!
 //! The one contract above this layer: a text is read as the record that it tells, or up to the first row that breaks a rule.
+//!
+//! `row_columns.rt` reads what a column spells, `partial_record.rt` adds a row by its kind, and `stage.rt` goes from one row to the
+//! next. `partial_updates.rt` forms the log while the rows are read: it has the objects, the log, the updates from the first that
+//! is not legal on, and the last update, which may get more changes. `limited.rt` stops where there are more bytes than the limit,
+//! and `short_rows.rt` where a row is too long for one of a record. That passes on rows without quotes together, and goes over all
+//! other bytes one by one.
 #![tactic(auto)]
 
 mod limited;

@@ -180,7 +180,7 @@ fn go_over(start: RowState, room: u64, bytes: &[u8]) -> Passed
 
 /// How many of the bytes are whole rows, which are passed on together: at the start of a row, those that end among as many bytes as
 /// a row may have. It is 0 where one of these bytes is a quote.
-// So most bytes are not looked at one by one: that takes a third of all instructions of a check away.
+// So most bytes are not looked at one by one.
 fn whole_rows(state: RowState, left: u64, bytes: &[u8]) -> usize
     ensures few { result ≤ length bytes.now }
     ensures text { (more : List ℕ) → ends_at_long_row state left (bytes.now ++ more)

@@ -1,5 +1,8 @@
 //! The program `ordup`: it does the job that the words on the command line ask for, from standard input to standard output, and
-//! ends with an exit status.
+//! ends with an exit status. `act.rt` has the job done and answers the status, `jobs.rt` does it, and `fault.rt` has the text and
+//! the status of each fault.
+//!
+//! It has no tests of its own: `checks/rows` and `checks/outside` try the built program.
 #![tactic(auto)]
 
 mod act;

@@ -11,10 +11,13 @@
 //!    is refused `Mixed` for a site that does not agree. That takes no lock.
 //!
 //! The book is the primary with the sending ends of the feeds. Each site lies in a cell with the taking end of its feed. No call
-//! takes a lock while it holds another. `holds` has the work of one hold of a lock.
+//! takes a lock while it holds another. A book and a cell keep their facts by their types. A function that takes a lock itself can
+//! say nothing of what it found under it, so the work of one hold is a function of `holds`, which is lent the locked value. No fact
+//! goes from a book to a cell: `close` compares each site with the log, in memory that `new` took.
 //!
 //! The one contract above this layer: a book and a cell keep their facts whenever their lock is free, and a session sees no less
-//! than it has seen.
+//! than it has seen. Each site of a closed cluster agrees with the log, and the acknowledged updates that it has not applied keep
+//! its limits.
 #![tactic(auto)]
 
 mod book_turns;

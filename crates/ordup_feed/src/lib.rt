@@ -3,6 +3,11 @@
 //!
 //! What the layers above rely on: what the site took is a prefix of what was pushed, numbered 1, 2, 3 and so on, and legal. The
 //! primary knows at most the number that the site told, and the site tells at most what it took.
+//!
+//! The two ends share the queue and the counter, each in an `Arc`. What an end knows of either is a pass, which has no bytes and
+//! exists in proofs alone. A rule (`queue.rt`, `counter.rt`) says what holds between any two steps of the two threads, whatever
+//! their order, and what a step makes of the view of the pass that takes it. The type of an end keeps that its two passes belong to
+//! its queue and its counter. So contracts see of an end its own list and its own place alone.
 #![tactic(auto)]
 
 mod counter;

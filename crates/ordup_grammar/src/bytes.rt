@@ -5,16 +5,14 @@
 //!
 //! - **Where a line ends, and whether all of it is printed** (`printed_prefix`, sixteen bytes at a time): the first byte that is
 //!   not printed is as a rule the line feed, so `split_line` finds both in one pass. Only where it is another byte does `memchr`
-//!   look for the line feed. Against `memchr` and a second pass over each line, that takes 5.6 percent of all instructions of the
-//!   mixed load away.
+//!   look for the line feed.
 //! - **Where a word ends** (`index_of`): one comparison of sixteen bytes, whatever the length of the word. The text goes on
 //!   behind a word, as a rule (`Front`), so there are sixteen. Only at the end of a piece, or in a longer word, `memchr` looks for
-//!   the end. Against comparisons of eight and of four bytes within the word, and a call for a line's only word, that takes 3.5
-//!   percent of all instructions of `first` away, 2.5 of the load of queries and 2 of the mixed load.
-//! - **Whether a word is a keyword** (`is_spelled`, two comparisons of four bytes): a comparison of slices would be a call. That
-//!   takes 3 percent of all instructions of `first` and of the mixed load away. The compiler makes one jump by the length of them.
+//!   the end.
+//! - **Whether a word is a keyword** (`is_spelled`, two comparisons of four bytes): a comparison of slices would be a call. The
+//!   compiler makes one jump by the length of them.
 //!
-//! The loads are those of `bench/`.
+//! `bench/NOTES.md` has what each brings.
 ghost use Rattle.std.specs.Prelude.{◌≡◌, ◌+◌, ◌≤◌, ◌==◌, length, not, take, drop};
 ghost use Rattle.std.specs.List.{position_or_len, prefix_len};
 ghost use Rattle.std.specs.Int.{w32, from_le_bytes};

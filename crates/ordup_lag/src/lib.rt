@@ -1,6 +1,10 @@
 //! The lag of a site, decision by decision, as its record tells it: a row for each decided place.
 //!
-//! The one contract above this layer: the series of a valid record is written whole, or a front of it and then the writer failed.
+//! The one contract above this layer: the series of a valid record is written whole, or a prefix of it and then the writer failed.
+//!
+//! `writing.rt` goes through the places in order, and moves a ledger from place to place: by the update, by the limits that begin
+//! to hold, and by what the site has reported since. So a place costs by its changes and its limits, however long the span is. It
+//! takes all memory before the first line, and hands the lines out a piece at a time.
 #![tactic(auto)]
 
 mod places;

@@ -6,17 +6,13 @@
 //! does not foresee.
 //!
 //! - **Compare the ends** (`are_alike`): two names are equal where both parts are.
-//! - **Copy the ends** (`copy_short`): a copy of a length that the compiler does not know is a call, and these are two moves. For
-//!   the names that words spell, and those that are printed, with the lines that print them inlined, that takes 5 percent of all
-//!   instructions of the load of queries away, 3 of `first` and 2 of the mixed load.
+//! - **Copy the ends** (`copy_short`): a copy of a length that the compiler does not know is a call, and these are two moves.
 //! - **Guess before hashing** (`Hints`): the same two parts, mixed, pick a slot that holds a guess of where the name stands.
-//!   `NameTable::find` compares the name that stands there, and hashes the bytes only where the guess was wrong. With the
-//!   comparison above, a lookup takes 36 instructions in place of 125: 8 percent of all instructions of the mixed load and of the
-//!   load of queries, 6 percent of the wide load.
+//!   `NameTable::find` compares the name that stands there, and hashes the bytes only where the guess was wrong.
 //! - **A length as wide as a machine word** (`Name`): with one byte for it, a name that is moved is written in pieces of 1 to 5
-//!   bytes and read back in wider ones, which waits for the cache. The load of queries takes 6 to 8 percent less time.
+//!   bytes and read back in wider ones, which waits for the cache.
 //!
-//! The loads are those of `bench/`.
+//! `bench/NOTES.md` has what each brings.
 ghost use Rattle.std.specs.Prelude.{◌≡◌, ◌≤◌, ◌*◌, length, nat_eq};
 ghost use Rattle.std.specs.Cmp.Lexicographic.{pointwise};
 

@@ -1,6 +1,10 @@
-//! The objects of the store: their names and values, and the message sets that change them.
+//! The objects of the store: their names and values, and the message sets that change them. Sites are named here too, since a
+//! refusal names one.
 //!
 //! What the layers above rely on: a message set applies as its definition says, as a whole or not at all.
+//!
+//! Operations and changes stand in `change.rt`, tables of names in `name_table.rt`, and what a set makes of the values in
+//! `results.rt`. `bytes.rt` has what makes it cheap to find a name.
 #![tactic(auto)]
 
 mod bytes;

@@ -7,6 +7,11 @@
 //! 3. Once all callers are done, it stops the cluster and waits for the appliers.
 //! 4. It closes the cluster, and answers as text what each site holds and how many rounds it is shown to need (`outcome.rt`).
 //!
+//! No other crate of the store starts threads. The appliers run in one scope, and the callers in a scope within it. So no caller is
+//! left when the cluster is stopped, and no thread when it is closed. Once memory is refused the plan is called off: each caller
+//! looks for that before it proposes. What a caller counts comes back through its handle, with the promise that it counts no more
+//! proposals than it has sets.
+//!
 //! The one contract above this layer: the text is the outcome of a closed cluster, and no more proposals are counted than there
 //! are sets.
 #![tactic(auto)]

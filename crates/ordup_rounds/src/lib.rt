@@ -1,9 +1,12 @@
 //! The law of the fewest rounds: schedules of rounds, and the windows that show how many rounds there have to be.
 //!
-//! The one contract above this layer: the rounds that a site is forced to are the fewest of any schedule that keeps its
-//! limits, shown by as many disjoint windows, each over a limit alone.
+//! The one contract above this layer: rounds at just the places where the report is too old are the fewest of any schedule that
+//! keeps the limits, shown by as many disjoint windows, each over a limit alone.
 //!
-//! It speaks of any test of limits and of any reports, and stands on no other crate.
+//! It speaks of any test of limits and of any reports, and stands on no other crate. Nothing in it runs: it has definitions, laws,
+//! and one plain struct, `Window`. The primary gives its own rounds and windows to `forced_rounds_are_fewest`, and an auditor gives
+//! those of a record to `certified_rounds_are_fewest`. The proof of each law is a lemma of the same name in `proofs/`, so the
+//! proofs of the crates above can cite it. `Examples.antt` has the definitions at numbers worked out by hand.
 #![tactic(auto)]
 
 mod laws;

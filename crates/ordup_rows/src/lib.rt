@@ -2,7 +2,12 @@
 //!
 //! It says which rows tell a record, and has the laws of that. It writes records; the reader stands above it.
 //!
-//! The one contract above this layer: rows tell one record, or have one first bad row; and a record is written as its rows.
+//! The one contract above this layer: rows tell one record, or have one first bad row; and a record is written as its rows, and its
+//! text tells that record.
+//!
+//! What rows tell is said without a reader: they are the rows of a record, or they have a first row from which on they cannot
+//! become those of one. `Stages.antt` and `Columns.antt` have a reader as a function, row by row, and the laws show that it is
+//! exact.
 #![tactic(auto)]
 
 mod forming;

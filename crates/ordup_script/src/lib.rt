@@ -2,6 +2,10 @@
 //! plan is a script of declarations, `start` and then proposals alone; it is read, and answers nothing.
 //!
 //! The one contract above this layer: what is written is a function of what is read, by lines.
+//!
+//! One reader of lines serves all (`line_reader.rt`). It gives each line to a `LineTaker`: `Answerer` (`stream.rt`) answers it, and
+//! hands the answers out as soon as they have as many bytes as a piece; `Follower` (`following.rt`) answers it to nobody, for what
+//! the script leaves; `Planning` (`plan.rt`) adds it to a plan.
 #![tactic(auto)]
 
 mod following;

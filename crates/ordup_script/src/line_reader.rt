@@ -6,11 +6,11 @@
 //!   script is, and one read gives some thousands of lines.
 //! - **A line is taken where it lies.** `split_line` cuts it off the front of the piece, and copies nothing. One pass over the
 //!   line, sixteen bytes at a time, finds its end and tells whether all of its bytes are printed. `memchr` looks for the end only
-//!   where one of them is not. That takes 6 percent off the instructions of a line.
+//!   where one of them is not.
 //! - **Only what a piece leaves unended is held.** It is copied into a `LineBuffer`, which has room for the 4,096 bytes that a line
 //!   may have. So a line that is too long takes no memory either.
 //! - **A taker is given a `ScriptLine`**: its words, and not its bytes. The taking is inlined into the loop, so that they are not
-//!   moved. That takes 4 to 6 percent off.
+//!   moved.
 //! - **A taker hands out once for each piece**, and before that where it has as many bytes to write as a piece has. So there is
 //!   about one write for each read.
 ghost use Rattle.std.specs.Prelude.{◌≡◌, ◌+◌, ◌<◌, ◌≤◌, ℕ, List, [], ◌∷◌, ◌++◌, OnOk, length};

@@ -1,6 +1,9 @@
 //! A replica site: the values of the objects after the updates that it applied, and how far each value travelled.
 //!
 //! What the layers above rely on: a site holds the serial result of the updates that it applied, and their weights.
+//!
+//! A site stands on no log. It keeps the weight that each value travelled as a running sum. `Primary::marks` gives the same sums
+//! for what is acknowledged, and a read takes the distance of the two. So a read costs the same however far the site lags.
 #![tactic(auto)]
 
 mod laws;

@@ -1,5 +1,5 @@
-//! What tests expect. An assertion divides the proof of the function that has it, which takes half a second to one and a half for
-//! each. A call does not, so an expectation is a call: the macros of `lib.rt` show what was expected, and in which case.
+//! What tests expect. An assertion divides the proof of the function that has it, and a call does not. So an expectation is a call:
+//! the macros of `lib.rt` show what was expected, and in which case.
 ghost use Rattle.std.specs.Prelude.{IsTrue};
 
 use std::fmt::Debug;

@@ -1,5 +1,6 @@
-//! Tests by calls, of what no script says and no clause: of a store and its records, of the feed, of the work of one hold of a lock,
-//! and of the calls of a cluster, on one thread and on several.
+//! Tests by calls, of what no script says and no clause: of names, of lists of events and of worked rows (`calls`); of records; of
+//! streams that fail, plans and want of memory (`scripts`); of feeds, of holds, of clusters on one thread (`cluster`) and on several
+//! (`threads`). `promises.rt` repeats clauses of calls that no proof above cites.
 #![tactic(auto)]
 
 /// Expects a condition, in a case where one is given. The proof of the test knows the condition from then on.

@@ -1,7 +1,9 @@
 //! Text that is formed in memory, and the one loop that writes it.
 //!
 //! The one contract above this layer: a call that succeeds has added its text at the end of the buffer. `send` writes all of its
-//! bytes, or a front of them before the writer fails.
+//! bytes, or a prefix of them before the writer fails.
+//!
+//! `lines.rt` adds what several answers have. The count of a number's digits is known first, so they are written where they stay.
 #![tactic(auto)]
 
 mod lines;

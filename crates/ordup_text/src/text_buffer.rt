@@ -1,7 +1,7 @@
 //! Text that grows at its end.
 //!
 //! The buffer already has bytes behind its text, and a part that is added is copied over them. The compiler knows the length of
-//! most parts, and copies such a part by a move or two. That takes 4 to 8 percent off the instructions of a line of a script.
+//! most parts, and copies such a part by a move or two.
 ghost use Rattle.std.specs.Prelude.{◌≡◌, ◌+◌, ◌≤◌, ◌++◌, [], OnOk, length};
 ghost use Rattle.std.specs.Fmt.{decimal, signed_decimal};
 ghost use Rattle.ordup_text.specs.declared.text_buffer.TheConstants.{MOST_DIGITS};

@@ -28,6 +28,11 @@
 //!
 //! `Event::Show` and `World::primary` show what a world holds. `run` starts a world and steps a list of events.
 //!
+//! A world is a `Store`, which is the primary with its sites, and the `OpenQueries`. Each has a method for each of its events, with
+//! one clause, `StepsStore` or `StepsWorld`: for every list of accepted events that it stands for, the method answers as the model
+//! does, and it then stands for the list with the event. The log has all sets, so a feed is two numbers here: it holds the updates
+//! from `applied + 1`, by the site, to `sent`, by the primary.
+//!
 //! What the layers above rely on: for every list of events the answers are the model's, and the world at the end stands for
 //! the accepted events.
 #![tactic(auto)]

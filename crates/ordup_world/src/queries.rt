@@ -171,7 +171,7 @@ impl<A: Allocator + Copy> OpenQueries<A> {
     }
 
     /// The index of the open query of this name, if there is one.
-    // The guess is tried before the name is hashed: 5 percent of all instructions of the load of queries.
+    // The guess is tried before the name is hashed.
     #[inline(always)]
     fn index_of(&self, name: &Name) -> Option<usize>
         ensures at { IfSome result (λ i. IsOpenAt self.now name.now i) }

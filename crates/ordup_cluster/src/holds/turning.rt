@@ -105,7 +105,7 @@ fn send<R: Wait>(
     let last = last_to_send(primary, site);
     while primary.sent(site) < last {
         primary.keeps();
-        // A copy for a full feed would be made in vain. To look before it takes 6 percent off the instructions of a plan.
+        // A copy for a full feed would be made in vain.
         if end.is_full() {
             return Ok(());
         }

@@ -3,7 +3,16 @@
 //!
 //! Reads a script, a record or a plan on standard input, and answers on standard output, byte for
 //! byte as ordup does, but for records with quotes. It is written for speed, and nothing of it is
-//! proved.
+//! proved. It keeps what ordup keeps: the log with the changes of each update and how far each moved
+//! its object, the values of each site, what it had reported when that changed, how far its objects
+//! have moved, and its rounds with their windows. It sets no limit to the bytes of its input.
+//!
+//! Lines are looked at eight bytes at a time, once; only a refused line is searched for bytes that no
+//! line may have. A line allocates nothing but what the store keeps. For each limit of a site it keeps
+//! what is left of the amount, and for each object a list of its limits, so a settlement costs by the
+//! changes of the update. A read takes the distance of two running sums. For a plan the store lies
+//! under one lock, and what each site holds under one of its own; a queue leads from one to the other,
+//! with an atomic number of what was applied. At the end the log is applied again for each site.
 //!
 //! - `main`: reads in large pieces, and holds at most one unended line.
 //! - `words`: the words, numbers and changes of a line.

@@ -1,7 +1,8 @@
 """Which promise each wrong body breaks: what checks/edits/run compares with --list, and prints with --table.
 
-A promise is a row of docs/PROOFS.md. Its contract names public calls, each with clauses: `Log::{append, append_or_return} number
-added`. A clause without a name is named by the definition that it cites, as in `act Answers`, or by a case of that: `Runs.Ok`.
+A promise is a row of docs/PROOFS.md: an item that ends with a colon, with its contract on the next line. The contract names public
+calls, each with clauses: `Log::{append, append_or_return} number added`. A clause without a name is named by the definition that it
+cites, as in `act Answers`, or by a case of that: `Runs.Ok`. The contract of a law begins with `law` or `laws`.
 
 The first line of an edit names a call with one clause or more of its row, or several such with '; ' between them:
 
@@ -9,7 +10,7 @@ The first line of an edit names a call with one clause or more of its row, or se
 
 The edit belongs to each row that has the call with all of these clauses. A call without clauses is one whose row names none.
 
-A row without an edit says 'no wrong body:' and why, after its contract. The rows of a table of laws need none.
+A row without an edit says 'no wrong body:' and why, after its contract. A law needs none.
 """
 
 import glob
@@ -24,26 +25,26 @@ CALLS = re.compile(r"(?P<owner>(?:\w+::)?)(?P<names>\w+|\{\w+(?:, \w+)*\})(?P<cl
 
 
 def read_rows(page):
-    """The rows of the page that have a contract or a law. A ValueError says of a contract why it cannot be read."""
-    rows, section, columns = [], "", []
+    """The rows of the page. A ValueError says of an item why it is no row, or of a contract why it cannot be read."""
+    rows, section = [], ""
     with open(page, encoding="utf-8") as it:
         lines = it.read().split("\n")
-    for number, line in enumerate(lines, 1):
+    for number, (line, below) in enumerate(zip(lines, lines[1:]), 1):
         if line.startswith("## "):
             section = line[3:]
-        cells = [it.strip() for it in line.strip("|").split("|")] if line.startswith("|") else []
-        if not columns or not cells:
-            columns = cells
-        elif columns[:1] == ["Promise"] and columns[1] in ("Contract", "Law") and not line.startswith("|-"):
-            contract, _, reason = cells[1].partition(NONE)
+        if line.startswith("- ") and line.endswith(":") != below.startswith("  "):
+            raise ValueError(f"docs/PROOFS.md:{number}: a promise ends with a colon, and its contract stands on the next line")
+        if line.startswith("- ") and below.startswith("  "):
+            contract, _, reason = below.strip().partition(NONE)
             calls = []
             for text in re.findall(r"`([^`]*)`", contract):
                 match = CALLS.fullmatch(text)
                 if not match:
-                    raise ValueError(f"docs/PROOFS.md:{number}: `{text}` is no call with its clauses")
+                    raise ValueError(f"docs/PROOFS.md:{number + 1}: `{text}` is no call with its clauses")
                 clauses = match["clauses"].split()
                 calls += [(match["owner"] + it, clauses) for it in match["names"].strip("{}").split(", ")]
-            rows.append(Row(number, section, cells[0], cells[1], calls, columns[1] == "Law" or bool(reason)))
+            is_law = re.match(r"laws? ", contract)
+            rows.append(Row(number, section, line[2:-1], below.strip(), calls, bool(is_law or reason)))
     return rows
 
 

@@ -12,7 +12,7 @@ ghost use Rattle.ordup_declarations.specs.Spread.{spread};
 use ordup_limits::{GroupId, Groups, LimitTable, Scope};
 use ordup_objects::{Name, ObjectId, ObjectTable, SiteId};
 use ordup_primary::Setup;
-use ordup_text::{TextBuffer, push_numbered, push_with_number, push_with_value};
+use ordup_text::{TextBuffer, push_numbered, push_with_number};
 use std::alloc::{AllocError, Allocator};
 
 /// Adds the lines that declare what a setup has, and the line that starts its store: the objects, the groups, the sites, and the
@@ -68,7 +68,8 @@ fn push_object<A: Allocator + Copy>(
 {
     out.push(b"object ")?;
     out.push(objects.name(object).as_bytes())?;
-    push_with_value(out, b" ", objects.initial(object))?;
+    out.push(b" ")?;
+    out.push_value(objects.initial(object))?;
     out.push(b"\n")
 }
 

@@ -1,111 +1,32 @@
 #!/usr/bin/env python3
 """Tests the module on the built program: clients/python/test_ordup.py PROGRAM [TEST..]
 
-The transcripts of the pages are run through it too, and so are its own examples and those of docs/CLIENTS.md.
+What both ways to a store have is tried on each: behind a pipe, and in the process, where the library is found. Without it one line
+says so. The transcripts of the pages are run too, and so are the module's own examples and those of docs/CLIENTS.md.
 """
 
 import doctest
 import faulthandler
-import os
-import re
-import signal
 import sys
-import tempfile
 import threading
 import unittest
 from pathlib import Path
-from unittest import mock
 
 sys.dont_write_bytecode = True
 
 import ordup
+from cases import TOP, TestCase, text_of, transcripts
 from ordup import (
-    Abandoned, Acked, Applied, BadAnswer, BadLine, Begun, Certified, Declared, Ended, ProgramEnded, Proposed, Read, Refused,
-    Relimited, Reported, Round, Sent, Shown, Started, Store, Waiting, line,
+    Abandoned, Acked, Applied, BadLine, Begun, Certified, Declared, Ended, Proposed, Read, Refused, Relimited, Reported, Round, Sent,
+    Shown, Started, Waiting, line,
 )
+from test_ends import Ends, Forks, Interrupts, Mute
+from test_library import InProcess
+from test_package import Package
+from test_process import Process
 
-TOP = Path(__file__).resolve().parent.parent.parent
 PAGE = str(TOP / "docs/CLIENTS.md")
-PROGRAM = ""  # the path of the built program, from the command line
 BILLION = 1_000_000_000
-
-
-def text_of(outcome):
-    """The line of FORMATS that an outcome stands for."""
-    if isinstance(outcome, Refused):
-        return f"refused {outcome.number} {outcome.name}"
-    kind, it = type(outcome), outcome
-    if kind is Shown:
-        values = "".join(f" {name}={value}" for name, value in it.values.items())
-        return f"ok show {it.site} sent {it.sent} applied {it.applied} reported {it.reported} rounds {it.rounds}{values}"
-    if kind is Certified:
-        return f"ok certified {it.site} {it.rounds}" + "".join(f" {a}-{b}" for a, b in it.windows)
-    if kind is Read:
-        return f"ok read {it.query} {it.object} value {it.value} import {it.imported} total {it.total}"
-    if kind is Ended:
-        return f"ok end {it.query} place {it.place} sum {it.sum} total {it.total} reads {it.reads}"
-    if kind in (Round, Waiting):
-        return " ".join([f"ok {kind.__name__.lower()} {it.place}", *it.sites])
-    return {
-        Declared: lambda: f"ok {it.kind} {it.name}",
-        Started: lambda: "ok start",
-        Proposed: lambda: f"ok proposed {it.place}",
-        Sent: lambda: f"ok sent {it.site} {it.place}",
-        Applied: lambda: f"ok applied {it.site} {it.place}",
-        Reported: lambda: f"ok reported {it.site} {it.applied}",
-        Acked: lambda: f"ok acked {it.place}",
-        Begun: lambda: f"ok begun {it.query} {it.place}",
-        Abandoned: lambda: f"ok abandoned {it.query}",
-        Relimited: lambda: f"ok relimit {it.site} {it.place}",
-    }[kind]()
-
-
-def transcripts(page):
-    """The blocks `transcript` of a page: pairs of a line and the answer below it, or None where there is no answer."""
-    for block in re.findall(r"^```transcript\n(.*?)^```$", (TOP / page).read_text(encoding="utf-8"), re.M | re.S):
-        pairs = []
-        for text in block.split("\n")[:-1]:
-            if text.startswith("> "):
-                pairs.append((text[2:], None))
-            else:
-                pairs[-1] = (pairs[-1][0], text)
-        yield pairs
-
-
-class TestCase(unittest.TestCase):
-    def store(self, *words, **options):
-        store = Store(*(words or [PROGRAM]), **options)
-        self.addCleanup(store.close)
-        return store
-
-    def shop(self):
-        """A store that is started: x is 0, y is 10, and the site a has a feed of 2, and may lag by 5 on x."""
-        store = self.store()
-        store.object("x", 0)
-        store.object("y", 10)
-        store.site("a", 2)
-        store.limit("a", ("object", "x"), 5)
-        store.start()
-        return store
-
-    def stand_in(self, text):
-        """A program that is a script of the shell."""
-        folder = tempfile.TemporaryDirectory()
-        self.addCleanup(folder.cleanup)
-        path = Path(folder.name, "program")
-        path.write_text("#!/bin/sh\n" + text, encoding="utf-8")
-        path.chmod(0o755)
-        return path
-
-    def refused(self, number, name, call, *words):
-        with self.assertRaises(Refused) as caught:
-            call(*words)
-        self.assertEqual((caught.exception.number, caught.exception.name), (number, name))
-
-    def ended(self, call, *words):
-        with self.assertRaises(ProgramEnded) as caught:
-            call(*words)
-        return caught.exception
 
 
 class Commands(TestCase):
@@ -165,6 +86,9 @@ class Commands(TestCase):
         for answer in (Acked(1), Round(1, ("a",)), Waiting(1, ("a",))):
             self.assertIsInstance(answer, ordup.Settled)
         self.assertNotEqual(Round(1, ("a",)), Waiting(1, ("a",)))
+
+    def test_answers_may_be_in_a_set(self):
+        self.assertEqual(len({Acked(1), Acked(1), Shown("a", 0, 0, 0, 0, {"x": 1}), Shown("a", 0, 0, 0, 0, {"x": 1})}), 2)
 
     def test_transcripts_of_the_pages(self):
         seen = 0
@@ -335,6 +259,28 @@ class ManyLines(TestCase):
         )
         self.assertEqual(outcomes[1].line, "send b")
 
+    def test_bytes(self):
+        store = self.store()
+        text = b"# a comment\nobject x 0\n\n   \nsite a 1\nstart\n # no comment\n\xc3\xa9\nobject y\tz 0\nshow a"
+        answers = b"ok object x\nok site a\nok start\n" + b"refused 1 Syntax\n" * 3
+        self.assertEqual(store.run(text), answers + b"ok show a sent 0 applied 0 reported 0 rounds 0 x=0\n")
+        self.assertEqual(store.run(b""), b"")
+        self.assertEqual(store.run(b"\n# nothing\n#" + b"x" * 4095 + b"\n" + b" " * 4096), b"")
+        self.assertEqual(store.run(b"#" + b"x" * 4096 + b"\n" + b" " * 4097 + b"\nsettle\r\n"), b"refused 1 Syntax\n" * 3)
+        answers = store.run(b"# one\npropose add:x:1\n\n" * 50_000)
+        self.assertEqual(answers, b"".join(b"ok proposed %d\n" % place for place in range(1, 50_001)))
+
+    def test_bytes_without_answers(self):
+        store = self.store()
+        comments = b"# " + b"x" * 98 + b"\n"
+        self.assertEqual(store.run(comments * 10_000), b"")
+        self.assertEqual(store.run(b"object x 0\n" + comments * 10_000 + b"object y 0"), b"ok object x\nok object y\n")
+        self.assertEqual(store.run(b"object z 0\n" + comments * 10_000), b"ok object z\n")
+        self.assertEqual(store.run(b"start"), b"refused 11 Empty\n")
+
+    def test_lines_are_not_a_string(self):
+        self.assertRaises(TypeError, self.shop().commands, "settle")
+
     def test_threads_share_a_store(self):
         store = self.shop()
         places = []
@@ -349,106 +295,32 @@ class ManyLines(TestCase):
         self.assertEqual(sorted(places), list(range(1, 1001)))
 
 
-class Process(TestCase):
-    def test_it_ends(self):
-        store = self.shop()
-        self.assertIsNone(store.process.poll())
-        self.assertEqual(store.close(), 0)
-        self.assertEqual(store.process.returncode, 0)
-        self.assertEqual(store.close(), 0)
-        error = self.ended(store.commands, ["settle", "show a"])
-        self.assertEqual((error.status, error.answered, error.unanswered), (0, [], ["settle", "show a"]))
-
-    def test_a_block_ends_it(self):
-        with self.assertRaises(ZeroDivisionError):
-            with Store(PROGRAM) as store:
-                raise ZeroDivisionError
-        self.assertEqual(store.process.returncode, 0)
-
-    def test_one_that_does_not_end_is_killed(self):
-        store = self.store(self.stand_in("exec sleep 60\n"), time_limit=0.1)
-        self.assertEqual(store.close(), -signal.SIGKILL)
-
-    def test_a_killed_program(self):
-        store = self.shop()
-        self.assertEqual(store.propose({"x": ("add", 1)}), Proposed(1))
-        store.process.kill()
-        error = self.ended(store.settle)
-        self.assertEqual((error.status, error.answered, error.unanswered), (-signal.SIGKILL, [], ["settle"]))
-        self.assertEqual(str(error), "status -9: 0 lines were answered, and 1 were not, from 'settle' on")
-        self.assertEqual(self.ended(store.settle).status, -signal.SIGKILL)
-        self.assertEqual(store.close(), -signal.SIGKILL)
-
-    def test_a_pipe_that_breaks(self):
-        # The program is given the first 16,000 bytes, which are 1,000 lines. Then the pipe breaks.
-        for end, status in (("exit 3", 3), ("kill -KILL $$", -signal.SIGKILL)):
-            with self.subTest(end=end):
-                path = self.stand_in(f"head -c 16000 | '{PROGRAM}' run\n{end}\n")
-                error = self.ended(self.store(path).commands, ["object xyz 1000"] * 100_000)
-                self.assertEqual(error.status, status)
-                texts = [text_of(outcome) for outcome in error.answered]
-                self.assertEqual(texts, ["ok object xyz"] + ["refused 5 NameTaken"] * 999)
-                self.assertEqual(len(error.unanswered), 99_000)
-
-    def test_an_answer_that_is_cut(self):
-        path = self.stand_in("read line\nprintf 'ok object x\\nok objec'\nexit 4\n")
-        error = self.ended(self.store(path).commands, ["object x 0", "object y 0", "start"])
-        self.assertEqual((error.status, error.answered), (4, [Declared("object", "x")]))
-        self.assertEqual(error.unanswered, ["object y 0", "start"])
-
-    def test_a_program_that_is_another_one(self):
-        for text in ("exec cat\n", "read line\necho ok nothing\n", "read line\necho ok sent a\n", "yes ok start\n"):
-            with self.subTest(text=text):
-                store = self.store(self.stand_in(text))
-                self.assertRaises(BadAnswer, store.command, "start")
-                self.assertIsNotNone(store.process.returncode)
-                self.ended(store.command, "start")
-        store = self.store(self.stand_in("read line\necho ok sent a 1\n"))
-        self.assertRaises(BadAnswer, store.start)
-
-    def test_a_program_that_is_not_there(self):
-        self.assertRaises(FileNotFoundError, Store, "/no/such/program")
-        self.assertRaises(PermissionError, Store, TOP / "README.md")
-        self.assertEqual(self.ended(self.store("false").start).status, 1)
-
-    def test_an_interrupt_ends_it(self):
-        def interrupt(number, frame):
-            raise KeyboardInterrupt
-
-        store = self.store(self.stand_in("exec sleep 60\n"))
-        self.addCleanup(signal.signal, signal.SIGALRM, signal.signal(signal.SIGALRM, interrupt))
-        signal.setitimer(signal.ITIMER_REAL, 0.1)
-        self.assertRaises(KeyboardInterrupt, store.settle)
-        self.assertEqual(self.ended(store.settle).status, -signal.SIGKILL)
-
-    def test_the_program_on_the_path(self):
-        with tempfile.TemporaryDirectory() as folder:
-            Path(folder, "ordup").symlink_to(PROGRAM)
-            with mock.patch.dict(os.environ, {"PATH": folder}):
-                self.assertEqual(self.store().process.args[0], PROGRAM)
-                with Store() as store:
-                    self.assertEqual(store.process.args[0], str(Path(folder, "ordup")))
-                    self.assertEqual(store.object("x", 0), Declared("object", "x"))
-
-    def test_the_launcher_where_the_path_has_no_program(self):
-        with mock.patch.dict(os.environ, {"PATH": ""}), mock.patch("subprocess.Popen", side_effect=OSError) as start:
-            self.assertRaises(OSError, Store)
-        self.assertEqual(start.call_args[0][0], [TOP / "ordup", "run"])
+BY_BOTH = [Commands, Refusals, BadLines, ManyLines, Ends, Interrupts, Forks]
 
 
 def load_tests(loader, tests, pattern):
-    examples = {"program": PROGRAM}
-    tests.addTest(doctest.DocTestSuite(ordup, extraglobs=examples))
-    tests.addTest(doctest.DocFileSuite(PAGE, module_relative=False, globs=examples))
+    for program in [TestCase.program, None] if ordup.find() else [TestCase.program]:
+        examples = {"program": program}
+        tests.addTest(doctest.DocTestSuite(ordup, extraglobs=examples))
+        tests.addTest(doctest.DocFileSuite(PAGE, module_relative=False, globs=examples))
     return tests
 
 
 if __name__ == "__main__":
     if len(sys.argv) < 2 or not Path(sys.argv[1]).is_file():
         sys.exit("usage: clients/python/test_ordup.py PROGRAM [TEST..]")
-    PROGRAM = str(Path(sys.argv.pop(1)).resolve())
-    faulthandler.dump_traceback_later(120, exit=True)  # a test that waits for ever has failed
+    TestCase.program = str(Path(sys.argv.pop(1)).resolve())
+    if ordup.find():
+        for case in BY_BOTH:
+            globals()[f"{case.__name__}InProcess"] = type(f"{case.__name__}InProcess", (case,), {"program": None})
+    else:
+        del InProcess
+    faulthandler.dump_traceback_later(300, exit=True)  # a test that waits for ever has failed
     result = unittest.main(exit=False).result
+    for _, why in result.skipped:
+        print(f"not tried: {why}")
+    if not ordup.find():
+        print("not tried: a store in the process, since libordup.so is not found")
     failed = len(result.failures) + len(result.errors)
-    print(f"{result.testsRun - failed} passed, {failed} failed")
+    print(f"{result.testsRun - failed - len(result.skipped)} passed, {failed} failed")
     sys.exit(0 if result.wasSuccessful() and result.testsRun else 1)

@@ -1,0 +1,254 @@
+"""A store of ordup, in this process or behind a pipe.
+
+A `Store` has a method for each command of docs/FORMATS.md. A method runs one line and returns its answer:
+
+    >>> from ordup import Store, line
+    >>> store = Store(program)
+    >>> store.object('tea', 40)
+    Declared(kind='object', name='tea')
+    >>> store.site('south', 2)
+    Declared(kind='site', name='south')
+    >>> store.limit('south', ('object', 'tea'), 6)
+    Declared(kind='limit', name='south')
+    >>> store.start()
+    Started()
+    >>> store.propose({'tea': ('add', -5)})
+    Proposed(place=1)
+    >>> store.settle()
+    Acked(place=1, sites=())
+
+A refusal is an exception. After it all is as before:
+
+    >>> store.apply('south')
+    Traceback (most recent call last):
+    ordup.Refused: apply south: refused 16 NothingToApply
+
+`commands` runs many lines at once and returns all answers. `line` makes a line of its words. Here a refusal is one of the
+answers:
+
+    >>> for answer in store.commands([line('propose', ('add', 'tea', 2)), line('settle'), 'settle', 'send north']):
+    ...     print(repr(answer))
+    Proposed(place=2)
+    Round(place=2, sites=('south',))
+    Waiting(place=2, sites=('south',))
+    Refused(8, 'UnknownSite', 'send north')
+
+`run` takes a text and gives the answers as they are, which is the fastest:
+
+    >>> store.run(b'# a comment\\nsend south\\nshow south\\n')
+    b'ok sent south 1\\nok show south sent 1 applied 0 reported 0 rounds 1 tea=40\\n'
+
+`close` ends the store, and so does the end of a `with` block. It returns the exit status of the program:
+
+    >>> store.close()
+    0
+
+The store is in memory: where its process ends, it is gone. Threads may share a `Store`, and take turns.
+"""
+
+from __future__ import annotations
+
+import subprocess
+from typing import Any, Iterable, List, Mapping, Optional, Sequence, Type, TypeVar, Union
+
+from . import _answers
+from ._library import InProcess, check_record, find
+from ._pipe import Pipe, Program, path_of
+from ._answers import *
+from ._answers import answered_lines, check_lines, count_answers, outcomes_of, scope_words, verdict_of
+
+__version__ = "0.2.0"
+__all__ = ["Store", "check"]
+__all__ += _answers.__all__
+
+for _it in [vars(_answers)[name] for name in _answers.__all__]:
+    if isinstance(_it, type):
+        _it.__module__ = __name__  # a traceback names it as it is imported
+
+A = TypeVar("A", bound=Answer)
+
+
+def check(record: bytes, program: Optional[Program] = None) -> Verdict:
+    """The verdict on a record, as the job `check` gives it. It needs no store, and trusts nothing but the record.
+
+    It is found in this process where no program is given and the library is there, else by the program.
+    """
+    library = None if program else find()
+    if library:
+        return verdict_of(check_record(library, record))
+    ran = subprocess.run([path_of(program), "check"], input=record, stdout=subprocess.PIPE, stderr=subprocess.PIPE)
+    said = (ran.stdout or ran.stderr).decode("utf-8", "replace").strip()
+    if said == "no memory":
+        raise MemoryError
+    if said == "read fault":
+        raise Error(said)
+    return verdict_of(said)
+
+
+class Store:
+    """A store in this process, or in a process of its own behind a pipe. The answers are the same.
+
+    `process` is the process of its own, or None. `timeout` is how many seconds a call may take, or None, and may be changed.
+    """
+
+    def __init__(
+        self, program: Optional[Program] = None, time_limit: float = 5.0, timeout: Optional[float] = None
+    ) -> None:
+        """Starts PROGRAM. Without one the store is in this process, where the library libordup.so is there.
+
+        The library is looked for at the path in the variable ORDUP_LIBRARY; or else beside this module, in `out` of the
+        repository that it lies in, and where the system keeps libraries. Where there is none, PROGRAM is the `ordup` on PATH, or
+        else the launcher of the repository.
+
+        `time_limit` is how many seconds the program may take to end once its input was closed. In the process it has no meaning.
+        """
+        library = None if program else find()
+        self._way: Union[InProcess, Pipe] = InProcess(library) if library else Pipe(program, time_limit)
+        self.timeout = timeout
+
+    @property
+    def process(self) -> Optional[subprocess.Popen[bytes]]:
+        return self._way.process
+
+    def __enter__(self) -> Store:
+        return self
+
+    def __exit__(self, *error: Any) -> None:
+        self.close()
+
+    def close(self) -> int:
+        """Ends the store, and returns the exit status of its program, which is 0 in the process.
+
+        The program gets the end of its input, and is killed where it has not ended after the time limit. A call that is under
+        way, in another thread or above a signal handler, ends too: its program is killed, and it raises `ProgramEnded`.
+        """
+        return self._way.close()
+
+    def command(self, line: str, timeout: Optional[float] = None) -> Answer:
+        """Runs a line as it is, and returns its answer or raises the refusal."""
+        outcome = self.commands([line], timeout)[0]
+        if isinstance(outcome, Refused):
+            raise outcome
+        return outcome
+
+    def commands(self, lines: Iterable[str], timeout: Optional[float] = None) -> List[Outcome]:
+        """Runs all lines without waiting between them, and returns their answers in order; a refusal is one of them.
+
+        A line that would have no answer or is more than a line is a `BadLine`, and then none is run.
+        """
+        if isinstance(lines, str):
+            raise TypeError("`commands` takes lines, and `command` takes one")
+        asked = list(lines)
+        check_lines(asked)
+        text = "".join([line + "\n" for line in asked]).encode("ascii")
+        answers, why = self._way.ask(text, len(asked), self.timeout if timeout is None else timeout)
+        return self._outcomes(answers, asked, why)
+
+    def run(self, text: bytes, timeout: Optional[float] = None) -> bytes:
+        """Runs the lines of a text as `ordup run` does, and returns the bytes of its answers."""
+        whole = text if text.endswith(b"\n") or not text else text + b"\n"
+        answers, why = self._way.ask(whole, count_answers(whole), self.timeout if timeout is None else timeout)
+        if why:
+            self._outcomes(answers, answered_lines(whole), why)
+        return answers
+
+    def record(self, site: str) -> bytes:
+        """The record of a site, for an auditor. Only a store in the process has it: else `ordup record SITE` makes it of the script."""
+        return self._in_process("ordup record SITE").record(site)
+
+    def next_declarations(self) -> bytes:
+        """The declarations of the store that goes on with what this one ends with, for its `run`.
+
+        Only a store in the process has them: else `ordup next` makes them of the script.
+        """
+        return self._in_process("ordup next").next_declarations()
+
+    def _in_process(self, job: str) -> InProcess:
+        if not isinstance(self._way, InProcess):
+            raise OnlyInProcess(f"a store behind a pipe cannot do this, but `{job}` can, given the script")
+        return self._way
+
+    def _outcomes(self, answers: bytes, lines: Sequence[str], why: Optional[Type[Unanswered]]) -> List[Outcome]:
+        """What answers to lines say. Where they are not all, that is raised."""
+        try:
+            outcomes = outcomes_of(answers, lines)
+        except BadAnswer:
+            self._way.close(at_once=True)
+            raise
+        if why:
+            raise why(4 if why is NoMemory else self._way.close(), outcomes, lines[len(outcomes) :])
+        return outcomes
+
+    def _ask(self, kind: Type[A], *words: Word) -> A:
+        answer = self.command(line(*words))
+        if not isinstance(answer, kind):
+            raise BadAnswer(f"{answer!r} is no answer to {words[0]!r}")
+        return answer
+
+    def object(self, name: str, value: int) -> Declared:
+        """Declares an object with its initial value."""
+        return self._ask(Declared, "object", name, value)
+
+    def group(self, name: str, members: Iterable[str]) -> Declared:
+        """Declares a group of objects, which a limit weighs together."""
+        return self._ask(Declared, "group", name, *members)
+
+    def site(self, name: str, capacity: int) -> Declared:
+        """Declares a site, whose feed has this capacity."""
+        return self._ask(Declared, "site", name, capacity)
+
+    def limit(self, site: str, scope: Scope, amount: int) -> Declared:
+        """Gives a site a limit on its lag, before the start."""
+        return self._ask(Declared, "limit", site, *scope_words(scope), amount)
+
+    def start(self) -> Started:
+        """Starts the store. Declarations come before it, all else after it."""
+        return self._ask(Started, "start")
+
+    def propose(self, changes: Mapping[str, Change]) -> Proposed:
+        """Proposes one update: `propose({'tea': ('add', -5), 'last': ('take', 'till')})`. All its changes happen at once."""
+        return self._ask(Proposed, "propose", *((kind, name, operand) for name, (kind, operand) in changes.items()))
+
+    def send(self, site: str) -> Sent:
+        """Puts the next update into the feed of a site."""
+        return self._ask(Sent, "send", site)
+
+    def apply(self, site: str) -> Applied:
+        """Has a site apply the next update of its feed."""
+        return self._ask(Applied, "apply", site)
+
+    def report(self, site: str) -> Reported:
+        """Tells the primary how many updates a site has applied."""
+        return self._ask(Reported, "report", site)
+
+    def settle(self) -> Settled:
+        """Asks the primary to acknowledge the head, which is the first update that is not acknowledged."""
+        return self._ask(Settled, "settle")
+
+    def begin(self, query: str, site: str, limit: int) -> Begun:
+        """Begins a query at a site. Its reads may import at most `limit` in sum."""
+        return self._ask(Begun, "begin", query, site, limit)
+
+    def read(self, query: str, object: str) -> Read:
+        """Reads an object by a query."""
+        return self._ask(Read, "read", query, object)
+
+    def end(self, query: str) -> Ended:
+        """Ends a query, and tells the sum of what it read."""
+        return self._ask(Ended, "end", query)
+
+    def abandon(self, query: str) -> Abandoned:
+        """Ends a query without its sum."""
+        return self._ask(Abandoned, "abandon", query)
+
+    def show(self, site: str) -> Shown:
+        """Shows how far a site is, and its values."""
+        return self._ask(Shown, "show", site)
+
+    def certify(self, site: str) -> Certified:
+        """Shows that the forced rounds of a site are the fewest."""
+        return self._ask(Certified, "certify", site)
+
+    def relimit(self, site: str, scope: Scope, amount: int) -> Relimited:
+        """Changes a limit of a site while the store runs, or gives it one."""
+        return self._ask(Relimited, "relimit", site, *scope_words(scope), amount)

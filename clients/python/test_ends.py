@@ -11,7 +11,7 @@ import time
 from pathlib import Path
 
 from cases import TestCase
-from ordup import Begun, ProgramEnded, Proposed, Store, TimedOut, find, line
+from ordup import ProgramEnded, Proposed, Store, TimedOut, find, line
 
 # What a store answers for ever, and how long a test waits for what should come at once.
 MANY = [line("propose", ("add", "y", 0))] * 20_000

@@ -3,12 +3,10 @@
 import os
 import tempfile
 import threading
-from pathlib import Path
 from unittest import mock
 
-import ordup
 from cases import VALID, TestCase
-from ordup import Malformed, No, NoMemory, OnlyInProcess, Proposed, Refused, Store, Yes, check, find, line
+from ordup import Malformed, No, NoMemory, Proposed, Store, Yes, check, find, line
 
 
 class InProcess(TestCase):
@@ -52,10 +50,10 @@ class InProcess(TestCase):
     def test_the_store_that_goes_on(self):
         store = self.shop()
         store.commands(["propose add:x:3 set:y:7", "settle"])
-        self.assertEqual(store.propose({"y": ("add", 1)}), Proposed(2))
         following = self.store()
-        for answer in following.run(store.next_declarations()).decode().split("\n")[:-1]:
-            self.assertTrue(answer.startswith("ok "), answer)
+        answers = following.run(store.next_declarations())
+        self.assertEqual(answers, b"ok object x\nok object y\nok site a\nok limit a\nok start\n")
+        self.assertEqual(following.show("a").values, {"x": 3, "y": 7})
         self.refused(2, "NotStarted", self.store().next_declarations)
 
     def test_refused_memory_loses_nothing(self):

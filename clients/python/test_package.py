@@ -1,7 +1,6 @@
 """Tests of the package itself."""
 
 import importlib.util
-import re
 import shutil
 import subprocess
 import sys
@@ -10,7 +9,6 @@ import unittest
 from pathlib import Path
 
 import ordup
-from cases import TOP
 
 HERE = Path(__file__).resolve().parent
 

@@ -8,7 +8,7 @@ from unittest import mock
 
 from cases import TOP, VALID, TestCase, text_of
 from ordup import (
-    BadAnswer, Declared, Error, Malformed, No, OnlyInProcess, Proposed, Store, Yes, check, line,
+    BadAnswer, Declared, Error, Malformed, No, OnlyInProcess, Proposed, Store, Yes, check,
 )
 
 

@@ -127,7 +127,7 @@ class InProcess(Way):
 
     def _end(self) -> int:
         if not self._calling:
-            self._library.close(self._handle)
+            self._forgotten()  # does nothing the second time, or in a forked process
         return 0
 
     def record(self, site: str) -> bytes:
@@ -140,7 +140,9 @@ class InProcess(Way):
     def _printed(self, line: str, call: Any, *words: Any) -> bytes:
         """What a job of the program prints. What it says instead is an exception."""
         with self._lock:
-            status, text = _whole(call, self._handle, *words)
+            status, text = (_CLOSED, b"") if self._closed else _whole(call, self._handle, *words)
+        if status == _DONE:
+            return text
         if status == _NOT_STARTED:
             raise Refused(2, "NotStarted", line)
         if status == _UNKNOWN_SITE:
@@ -149,4 +151,4 @@ class InProcess(Way):
             raise NoMemory(4, [], [line])
         if status == _CLOSED:
             raise ProgramEnded(0, [], [line])
-        return text
+        raise Error(f"{line}: the library's status is {status}")

@@ -1,5 +1,5 @@
 #!/usr/bin/env python3
-"""Measures the module on a built program, and prints a table in Markdown: clients/python/measure.py PROGRAM [RUNS]
+"""Measures the module behind a pipe and in the process, and prints a table in Markdown: clients/python/measure.py PROGRAM [RUNS]
 
 The load is one update after another, of five lines each: it is proposed, settled, sent, applied and reported. What it
 prints of each row is the best of RUNS runs, 10 where nothing else is said. bench/README.md has the last table.
@@ -13,7 +13,7 @@ import time
 
 sys.dont_write_bytecode = True
 
-from ordup import Refused, Store, line
+from ordup import Refused, Store, find, line
 
 SETUP = ["object x 0", "site a 1024", "limit a object x 100", "start"]
 UPDATE = [line("propose", ("add", "x", 1)), "settle", "send a", "apply a", "report a"]
@@ -68,13 +68,27 @@ def by_lines(program, at_once):
     return times
 
 
+def by_bytes(program, at_once):
+    """Seconds of each line, where so many go out as bytes and the answers stay bytes."""
+    with Store(program) as store:
+        store.commands(SETUP)
+        text = "".join(f"{line}\n" for line in UPDATE * (at_once // len(UPDATE))).encode()
+        times = []
+        for _ in range(MANY // at_once):
+            start = time.perf_counter()
+            answers = store.run(text)
+            times.append((time.perf_counter() - start) / at_once)
+            assert answers.count(b"ok ") == at_once
+    return times
+
+
 def row(name, runs):
     """The most lines a second of a run, and of one line the least median and 99th percentile, in microseconds."""
     most = max(len(times) / sum(times) for times in runs)
     median = min(statistics.median(times) for times in runs) * 1e6
     late = min(sorted(times)[len(times) * 99 // 100] for times in runs) * 1e6
     ended = f"{median:.1f} | {late:.1f}" if len(runs[0]) >= 1000 else "- | -"
-    print(f"| {name} | {most:.0f} | {ended} |")
+    print(f"| {name} | {most:.0f} | {1e6 / most:.2f} | {ended} |")
 
 
 def main():
@@ -82,11 +96,16 @@ def main():
         sys.exit("usage: clients/python/measure.py PROGRAM [RUNS]")
     program = os.path.abspath(sys.argv[1])
     runs = range(int(sys.argv[2]) if len(sys.argv) == 3 else 10)
-    print("| how | lines/s | median µs | 99 % µs |\n|---|--:|--:|--:|")
+    print("| how | lines/s | µs a line | median µs | 99 % µs |\n|---|--:|--:|--:|--:|")
     row("one by one, without the module", [by_bare_pipe(program) for _ in runs])
-    row("one by one, by methods", [by_methods(program) for _ in runs])
-    for at_once in (10, 100, 1000, MANY):
-        row(f"{at_once} lines at once", [by_lines(program, at_once) for _ in runs])
+    for program, way in [(program, "behind a pipe")] + ([(None, "in the process")] if find() else []):
+        row(f"{way}: one by one, by methods", [by_methods(program) for _ in runs])
+        for at_once in (10, 100, 1000, MANY):
+            row(f"{way}: {at_once} lines at once", [by_lines(program, at_once) for _ in runs])
+        for at_once in (5, 1000):
+            row(f"{way}: {at_once} lines at once, as bytes", [by_bytes(program, at_once) for _ in runs])
+    if not find():
+        print("not measured: a store in the process, since libordup.so is not found", file=sys.stderr)
 
 
 main()

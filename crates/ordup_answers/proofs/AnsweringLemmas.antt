@@ -1,7 +1,7 @@
 -- What a reply is, by the parts that answered it.
 use Rattle.std.proofs.Common.{◌≡◌, ℕ, List, [], Option, Some, None, true, false, refl}
 use Rattle.std.proofs.Common.{ap, subst, sym, ◌∙◌, inl, inr}
-use Rattle.std.specs.Prelude.{Result, Ok, Err}
+use Rattle.std.specs.Prelude.{Result, Ok, Err, IfErr}
 use Rattle.std.proofs.lemmas.Bool.{cases_Bool}
 use Rattle.std.proofs.lemmas.Result.{IfErr-at_err}
 use Rattle.ordup_objects.specs.declared.change.Change.{Change}
@@ -25,6 +25,11 @@ use Rattle.ordup_answers.specs.Events.{event_of, names_of}
 use Rattle.ordup_answers.specs.Refusals.{Gives}
 use Rattle.ordup_answers.specs.Replies.{event_reply, command_reply, reply_or_refusal, words_reply}
 use Rattle.ordup_answers.specs.Texts.{answer_text, refused_text, started_text}
+
+-- where a result is an error, what follows from what is known
+pub if_err_weaker : {T E : Type 0} {P Q : E → Type 0} (r : Result T E) → ((e : E) → P e → Q e) → IfErr r P → IfErr r Q
+if_err_weaker (Ok x) f p = tt
+if_err_weaker (Err e) f p = f e p
 
 module _ {A : Type 0} where
   -- what holds of the state that declares so holds of each state that does

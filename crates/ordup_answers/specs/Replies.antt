@@ -31,6 +31,13 @@ declared_text (Group name members) = named_text (codes "ok group ") name
 declared_text (Site name capacity) = named_text (codes "ok site ") name
 declared_text (Limit site what amount) = named_text (codes "ok limit ") site
 
+-- the name in that text
+abbrev pub declared_name : Declaration → List ℕ
+declared_name (Object name initial) = name
+declared_name (Group name members) = name
+declared_name (Site name capacity) = name
+declared_name (Limit site what amount) = site
+
 module _ {A : Type 0} where
   -- the reply to an event by these names: of a site or a query, and of an object
   abbrev pub event_reply : Declared → Past A → List ℕ × List ℕ → Event A → Reply A

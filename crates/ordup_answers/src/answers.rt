@@ -1,11 +1,11 @@
 //! The answer to a line: what its command does to the setup or to the world, and the text that says so.
-ghost use Rattle.std.specs.Prelude.{◌≡◌, [], None, Some, IfOk, IfErr, OnOk, option_map};
+ghost use Rattle.std.specs.Prelude.{◌≡◌, [], None, Some, IfOk, IfErr, OnOk, length, option_map};
 ghost use Rattle.ordup_grammar.specs.Commands.{Certify, Declare, Start, command_by, command_of};
 ghost use Rattle.ordup_grammar.specs.Declarations.{declaration_of};
 ghost use Rattle.ordup_grammar.specs.Requests.{asked};
 ghost use Rattle.ordup_grammar.specs.declared.keyword.Keyword.{Keyword};
 ghost use Rattle.ordup_answers.specs.ScriptStates.{ScriptState, Declares, IsWorldOf, Stands};
-ghost use Rattle.ordup_answers.specs.Replies.{request_reply, words_reply, command_reply, reply_or_refusal};
+ghost use Rattle.ordup_answers.specs.Replies.{declared_name, request_reply, words_reply, command_reply, reply_or_refusal};
 ghost use Rattle.ordup_answers.specs.ScriptStates.{running};
 ghost use Rattle.ordup_primary.specs.Declarations.{Declared, start_refusal};
 ghost use Rattle.ordup_answers.specs.Answers.{Leaves};
@@ -22,12 +22,12 @@ use ordup_grammar::{Declaration, Keyword, ScriptLine, Word, Words};
 use ordup_objects::Refusal;
 use ordup_world::{Setup, World};
 use std::alloc::{AllocError, Allocator};
-use std::mem;
 
 /// Answers a line.
 ///
 /// Where it succeeds: if the script was in a state, it is afterwards in the state that the reply to the line leaves, and `out` took
-/// the text of the reply. It fails only where an allocation was refused, and then the run ends.
+/// the text of the reply. It fails only where an allocation was refused, and then nothing happened: the script stands where it
+/// stood, and `out` took nothing.
 // Inlined into the loop over lines, with the reading of a line before it, so that the words of a line are not moved.
 #[inline(always)]
 pub fn answer<A: Allocator + Copy, O: AnswerTaker<A>>(
@@ -36,7 +36,8 @@ pub fn answer<A: Allocator + Copy, O: AnswerTaker<A>>(
     line: &ScriptLine<'_>,
     out: &mut O,
 ) -> Result<(), AllocError>
-    ensures { OnOk result ((s : ScriptState A) → Stands store.old s → Leaves (Stands store.new) (O.took out.old out.new) (request_reply s (asked line.now))) }
+    ensures reply { OnOk result ((s : ScriptState A) → Stands store.old s → Leaves (Stands store.new) (O.took out.old out.new) (request_reply s (asked line.now))) }
+    ensures kept { IfErr result (λ _. (store.new ≡ store.old) × O.took out.old out.new []) }
 {
     match line {
         ScriptLine::Nothing => {
@@ -58,7 +59,8 @@ fn answer_words<A: Allocator + Copy, O: AnswerTaker<A>>(
     rest: &Words<'_>,
     out: &mut O,
 ) -> Result<(), AllocError>
-    ensures { OnOk result ((s : ScriptState A) → Stands store.old s → Leaves (Stands store.new) (O.took out.old out.new) (words_reply s (command_of first.now rest.now))) }
+    ensures reply { OnOk result ((s : ScriptState A) → Stands store.old s → Leaves (Stands store.new) (O.took out.old out.new) (words_reply s (command_of first.now rest.now))) }
+    ensures kept { IfErr result (λ _. (store.new ≡ store.old) × O.took out.old out.new []) }
 {
     let Some(keyword) = Keyword::of(first) else {
         return answer_declaration(alloc, store, first, rest, out);
@@ -88,7 +90,8 @@ fn answer_declaration<A: Allocator + Copy, O: AnswerTaker<A>>(
     rest: &Words<'_>,
     out: &mut O,
 ) -> Result<(), AllocError>
-    ensures { OnOk result ((s : ScriptState A) → Stands store.old s → Leaves (Stands store.new) (O.took out.old out.new) (words_reply s (option_map (λ d. Declare d) (declaration_of first.now rest.now)))) }
+    ensures reply { OnOk result ((s : ScriptState A) → Stands store.old s → Leaves (Stands store.new) (O.took out.old out.new) (words_reply s (option_map (λ d. Declare d) (declaration_of first.now rest.now)))) }
+    ensures kept { IfErr result (λ _. (store.new ≡ store.old) × O.took out.old out.new []) }
 {
     let Some(declaration) = Declaration::parse(first, rest) else {
         return out.refused(Refusal::Syntax);
@@ -99,18 +102,35 @@ fn answer_declaration<A: Allocator + Copy, O: AnswerTaker<A>>(
     }
 }
 
-/// Declares what a declaration says, and answers it.
+/// Declares what a declaration says, and answers it. Room for the answer is made first.
 fn carry_out<A: Allocator + Copy, O: AnswerTaker<A>>(
     alloc: A,
     setup: &mut Setup<A>,
     declaration: &Declaration<'_>,
     out: &mut O,
 ) -> Result<(), AllocError>
-    ensures { OnOk result ((s : ScriptState A) → Declares setup.old s → Leaves (Declares setup.new) (O.took out.old out.new) (reply_or_refusal s (command_reply s (Declare declaration.now)))) }
+    ensures reply { OnOk result ((s : ScriptState A) → Declares setup.old s → Leaves (Declares setup.new) (O.took out.old out.new) (reply_or_refusal s (command_reply s (Declare declaration.now)))) }
+    ensures kept { IfErr result (λ _. (setup.new ≡ setup.old) × O.took out.old out.new []) }
 {
+    out.reserve(declared_len(declaration))?;
     match declare(alloc, setup, declaration) {
-        Ok(()) => out.declared(declaration),
+        Ok(()) => {
+            out.declared(declaration);
+            Ok(())
+        }
         Err(refusal) => out.refused(refusal),
+    }
+}
+
+/// How many bytes the name has that the answer to a declaration tells.
+fn declared_len(declaration: &Declaration<'_>) -> usize
+    ensures { result ≡ length (declared_name declaration.now) }
+{
+    match declaration {
+        Declaration::Object { name, .. } => name.as_bytes().len(),
+        Declaration::Group { name, .. } => name.as_bytes().len(),
+        Declaration::Site { name, .. } => name.as_bytes().len(),
+        Declaration::Limit { site, .. } => site.as_bytes().len(),
     }
 }
 
@@ -121,7 +141,8 @@ fn answer_start<A: Allocator + Copy, O: AnswerTaker<A>>(
     rest: &Words<'_>,
     out: &mut O,
 ) -> Result<(), AllocError>
-    ensures { OnOk result ((s : ScriptState A) → Stands store.old s → Leaves (Stands store.new) (O.took out.old out.new) (words_reply s (command_by Keyword.Start rest.now))) }
+    ensures reply { OnOk result ((s : ScriptState A) → Stands store.old s → Leaves (Stands store.new) (O.took out.old out.new) (words_reply s (command_by Keyword.Start rest.now))) }
+    ensures kept { IfErr result (λ _. (store.new ≡ store.old) × O.took out.old out.new []) }
 {
     if !rest.is_empty() {
         return out.refused(Refusal::Syntax);
@@ -135,15 +156,18 @@ fn start_store<A: Allocator + Copy, O: AnswerTaker<A>>(
     store: &mut ScriptEnd<A>,
     out: &mut O,
 ) -> Result<(), AllocError>
-    ensures { OnOk result ((s : ScriptState A) → Stands store.old s → Leaves (Stands store.new) (O.took out.old out.new) (reply_or_refusal s (command_reply s Start))) }
+    ensures reply { OnOk result ((s : ScriptState A) → Stands store.old s → Leaves (Stands store.new) (O.took out.old out.new) (reply_or_refusal s (command_reply s Start))) }
+    ensures kept { IfErr result (λ _. (store.new ≡ store.old) × O.took out.old out.new []) }
 {
     let ScriptEnd::Declared(setup) = store else {
         return out.refused(Refusal::AlreadyStarted);
     };
+    out.reserve(0)?;
     match start(alloc, setup) {
         Ok(world) => {
             store.run(world);
-            out.started()
+            out.started();
+            Ok(())
         }
         Err(refusal) => out.refused(refusal),
     }
@@ -152,15 +176,16 @@ fn start_store<A: Allocator + Copy, O: AnswerTaker<A>>(
 /// The store that starts with what is declared.
 ///
 /// Where it starts, nothing refuses the start, and its world is that of the declarations and of no event. Where it is refused, it
-/// is for the reason that the start has, and the declarations stay; where that is want of memory, they are given up.
-fn start<A: Allocator + Copy>(alloc: A, setup: &mut Setup<A>) -> Result<World<A>, Refusal>
-    ensures started { IfOk result (λ w. (start_refusal setup.old ≡ None) × IsWorldOf {A = A} w (running setup.old [])) }
-    ensures refused { IfErr result (λ e. (e ≡ Refusal.NoMemory → ⊥) → (start_refusal setup.old ≡ Some e) × (setup.new ≡ setup.old)) }
+/// is for the reason that the start has, or for want of memory.
+// The store takes a copy of the declarations, so that they stay where memory is refused.
+fn start<A: Allocator + Copy>(alloc: A, setup: &Setup<A>) -> Result<World<A>, Refusal>
+    ensures started { IfOk result (λ w. (start_refusal setup.now ≡ None) × IsWorldOf {A = A} w (running setup.now [])) }
+    ensures refused { IfErr result (λ e. (e ≡ Refusal.NoMemory → ⊥) → start_refusal setup.now ≡ Some e) }
 {
     if !setup.is_ready() {
         return Err(Refusal::Empty);
     }
-    World::start(alloc, mem::replace(setup, Setup::new(alloc)))
+    World::start(alloc, setup.copy(alloc)?)
 }
 
 /// Answers `certify S`.
@@ -169,7 +194,8 @@ fn answer_certify<A: Allocator + Copy, O: AnswerTaker<A>>(
     rest: &Words<'_>,
     out: &mut O,
 ) -> Result<(), AllocError>
-    ensures { OnOk result ((s : ScriptState A) → Stands store.old s → Leaves (Stands store.new) (O.took out.old out.new) (words_reply s (command_by Keyword.Certify rest.now))) }
+    ensures reply { OnOk result ((s : ScriptState A) → Stands store.old s → Leaves (Stands store.new) (O.took out.old out.new) (words_reply s (command_by Keyword.Certify rest.now))) }
+    ensures kept { IfErr result (λ _. (store.new ≡ store.old) × O.took out.old out.new []) }
 {
     let Some(site) = rest.only_word() else {
         return out.refused(Refusal::Syntax);
@@ -189,7 +215,8 @@ fn certify<A: Allocator + Copy, O: AnswerTaker<A>>(
     name: &Word<'_>,
     out: &mut O,
 ) -> Result<(), AllocError>
-    ensures { OnOk result ((s : ScriptState A) → IsWorldOf world.now s → Leaves (IsWorldOf world.now) (O.took out.old out.new) (reply_or_refusal s (command_reply s (Certify name.now)))) }
+    ensures reply { OnOk result ((s : ScriptState A) → IsWorldOf world.now s → Leaves (IsWorldOf world.now) (O.took out.old out.new) (reply_or_refusal s (command_reply s (Certify name.now)))) }
+    ensures kept { IfErr result (λ _. O.took out.old out.new []) }
 {
     let primary = world.primary();
     let setup = primary.setup();

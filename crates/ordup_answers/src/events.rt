@@ -1,9 +1,11 @@
 //! Answers the actions of a script: each keyword has a function, which makes an event of the words after it, and answers what the
 //! world does with it. Words that spell no command are refused first, and then a command before the start.
 //!
+//! Where a function fails, memory was refused, and all is as it was.
+//!
 //! Each function is a call. The memory of a function's values is cleared where the function begins, so that of these values is
 //! cleared for the lines of one keyword alone.
-ghost use Rattle.std.specs.Prelude.{OnOk};
+ghost use Rattle.std.specs.Prelude.{◌≡◌, [], OnOk, IfErr};
 ghost use Rattle.ordup_primary.specs.Declarations.{Declared};
 ghost use Rattle.ordup_world.specs.Events.{Past};
 ghost use Rattle.ordup_world.specs.Worlds.{StandsFor};
@@ -30,7 +32,8 @@ pub(crate) fn answer_send<A: Allocator + Copy, O: AnswerTaker<A>>(
     rest: &Words<'_>,
     out: &mut O,
 ) -> Result<(), AllocError>
-    ensures { OnOk result ((s : ScriptState A) → Stands store.old s → Leaves (Stands store.new) (O.took out.old out.new) (words_reply s (command_by Keyword.Send rest.now))) }
+    ensures reply { OnOk result ((s : ScriptState A) → Stands store.old s → Leaves (Stands store.new) (O.took out.old out.new) (words_reply s (command_by Keyword.Send rest.now))) }
+    ensures kept { IfErr result (λ _. (store.new ≡ store.old) × O.took out.old out.new []) }
 {
     let Some(site) = rest.only_word() else {
         return out.refused(Refusal::Syntax);
@@ -48,7 +51,8 @@ pub(crate) fn answer_apply<A: Allocator + Copy, O: AnswerTaker<A>>(
     rest: &Words<'_>,
     out: &mut O,
 ) -> Result<(), AllocError>
-    ensures { OnOk result ((s : ScriptState A) → Stands store.old s → Leaves (Stands store.new) (O.took out.old out.new) (words_reply s (command_by Keyword.Apply rest.now))) }
+    ensures reply { OnOk result ((s : ScriptState A) → Stands store.old s → Leaves (Stands store.new) (O.took out.old out.new) (words_reply s (command_by Keyword.Apply rest.now))) }
+    ensures kept { IfErr result (λ _. (store.new ≡ store.old) × O.took out.old out.new []) }
 {
     let Some(site) = rest.only_word() else {
         return out.refused(Refusal::Syntax);
@@ -66,7 +70,8 @@ pub(crate) fn answer_report<A: Allocator + Copy, O: AnswerTaker<A>>(
     rest: &Words<'_>,
     out: &mut O,
 ) -> Result<(), AllocError>
-    ensures { OnOk result ((s : ScriptState A) → Stands store.old s → Leaves (Stands store.new) (O.took out.old out.new) (words_reply s (command_by Keyword.Report rest.now))) }
+    ensures reply { OnOk result ((s : ScriptState A) → Stands store.old s → Leaves (Stands store.new) (O.took out.old out.new) (words_reply s (command_by Keyword.Report rest.now))) }
+    ensures kept { IfErr result (λ _. (store.new ≡ store.old) × O.took out.old out.new []) }
 {
     let Some(site) = rest.only_word() else {
         return out.refused(Refusal::Syntax);
@@ -84,7 +89,8 @@ pub(crate) fn answer_show<A: Allocator + Copy, O: AnswerTaker<A>>(
     rest: &Words<'_>,
     out: &mut O,
 ) -> Result<(), AllocError>
-    ensures { OnOk result ((s : ScriptState A) → Stands store.old s → Leaves (Stands store.new) (O.took out.old out.new) (words_reply s (command_by Keyword.Show rest.now))) }
+    ensures reply { OnOk result ((s : ScriptState A) → Stands store.old s → Leaves (Stands store.new) (O.took out.old out.new) (words_reply s (command_by Keyword.Show rest.now))) }
+    ensures kept { IfErr result (λ _. (store.new ≡ store.old) × O.took out.old out.new []) }
 {
     let Some(site) = rest.only_word() else {
         return out.refused(Refusal::Syntax);
@@ -102,7 +108,8 @@ pub(crate) fn answer_settle<A: Allocator + Copy, O: AnswerTaker<A>>(
     rest: &Words<'_>,
     out: &mut O,
 ) -> Result<(), AllocError>
-    ensures { OnOk result ((s : ScriptState A) → Stands store.old s → Leaves (Stands store.new) (O.took out.old out.new) (words_reply s (command_by Keyword.Settle rest.now))) }
+    ensures reply { OnOk result ((s : ScriptState A) → Stands store.old s → Leaves (Stands store.new) (O.took out.old out.new) (words_reply s (command_by Keyword.Settle rest.now))) }
+    ensures kept { IfErr result (λ _. (store.new ≡ store.old) × O.took out.old out.new []) }
 {
     if !rest.is_empty() {
         return out.refused(Refusal::Syntax);
@@ -120,7 +127,8 @@ pub(crate) fn answer_propose<A: Allocator + Copy, O: AnswerTaker<A>>(
     rest: &Words<'_>,
     out: &mut O,
 ) -> Result<(), AllocError>
-    ensures { OnOk result ((s : ScriptState A) → Stands store.old s → Leaves (Stands store.new) (O.took out.old out.new) (words_reply s (command_by Keyword.Propose rest.now))) }
+    ensures reply { OnOk result ((s : ScriptState A) → Stands store.old s → Leaves (Stands store.new) (O.took out.old out.new) (words_reply s (command_by Keyword.Propose rest.now))) }
+    ensures kept { IfErr result (λ _. (store.new ≡ store.old) × O.took out.old out.new []) }
 {
     let ScriptEnd::Running(world) = store else {
         return out.refused(syntax_or(rest, Refusal::NotStarted));
@@ -137,7 +145,8 @@ pub(crate) fn answer_begin<A: Allocator + Copy, O: AnswerTaker<A>>(
     rest: &Words<'_>,
     out: &mut O,
 ) -> Result<(), AllocError>
-    ensures { OnOk result ((s : ScriptState A) → Stands store.old s → Leaves (Stands store.new) (O.took out.old out.new) (words_reply s (command_by Keyword.Begin rest.now))) }
+    ensures reply { OnOk result ((s : ScriptState A) → Stands store.old s → Leaves (Stands store.new) (O.took out.old out.new) (words_reply s (command_by Keyword.Begin rest.now))) }
+    ensures kept { IfErr result (λ _. (store.new ≡ store.old) × O.took out.old out.new []) }
 {
     let Some((query, rest)) = rest.split_first() else {
         return out.refused(Refusal::Syntax);
@@ -167,7 +176,8 @@ pub(crate) fn answer_read<A: Allocator + Copy, O: AnswerTaker<A>>(
     rest: &Words<'_>,
     out: &mut O,
 ) -> Result<(), AllocError>
-    ensures { OnOk result ((s : ScriptState A) → Stands store.old s → Leaves (Stands store.new) (O.took out.old out.new) (words_reply s (command_by Keyword.Read rest.now))) }
+    ensures reply { OnOk result ((s : ScriptState A) → Stands store.old s → Leaves (Stands store.new) (O.took out.old out.new) (words_reply s (command_by Keyword.Read rest.now))) }
+    ensures kept { IfErr result (λ _. (store.new ≡ store.old) × O.took out.old out.new []) }
 {
     let Some((query, object)) = rest.two_words() else {
         return out.refused(Refusal::Syntax);
@@ -193,7 +203,8 @@ pub(crate) fn answer_end<A: Allocator + Copy, O: AnswerTaker<A>>(
     rest: &Words<'_>,
     out: &mut O,
 ) -> Result<(), AllocError>
-    ensures { OnOk result ((s : ScriptState A) → Stands store.old s → Leaves (Stands store.new) (O.took out.old out.new) (words_reply s (command_by Keyword.End rest.now))) }
+    ensures reply { OnOk result ((s : ScriptState A) → Stands store.old s → Leaves (Stands store.new) (O.took out.old out.new) (words_reply s (command_by Keyword.End rest.now))) }
+    ensures kept { IfErr result (λ _. (store.new ≡ store.old) × O.took out.old out.new []) }
 {
     let Some(query) = rest.only_word() else {
         return out.refused(Refusal::Syntax);
@@ -213,7 +224,8 @@ pub(crate) fn answer_abandon<A: Allocator + Copy, O: AnswerTaker<A>>(
     rest: &Words<'_>,
     out: &mut O,
 ) -> Result<(), AllocError>
-    ensures { OnOk result ((s : ScriptState A) → Stands store.old s → Leaves (Stands store.new) (O.took out.old out.new) (words_reply s (command_by Keyword.Abandon rest.now))) }
+    ensures reply { OnOk result ((s : ScriptState A) → Stands store.old s → Leaves (Stands store.new) (O.took out.old out.new) (words_reply s (command_by Keyword.Abandon rest.now))) }
+    ensures kept { IfErr result (λ _. (store.new ≡ store.old) × O.took out.old out.new []) }
 {
     let Some(query) = rest.only_word() else {
         return out.refused(Refusal::Syntax);
@@ -233,7 +245,8 @@ pub(crate) fn answer_relimit<A: Allocator + Copy, O: AnswerTaker<A>>(
     rest: &Words<'_>,
     out: &mut O,
 ) -> Result<(), AllocError>
-    ensures { OnOk result ((s : ScriptState A) → Stands store.old s → Leaves (Stands store.new) (O.took out.old out.new) (words_reply s (command_by Keyword.Relimit rest.now))) }
+    ensures reply { OnOk result ((s : ScriptState A) → Stands store.old s → Leaves (Stands store.new) (O.took out.old out.new) (words_reply s (command_by Keyword.Relimit rest.now))) }
+    ensures kept { IfErr result (λ _. (store.new ≡ store.old) × O.took out.old out.new []) }
 {
     let Some((site, scope, amount)) = ScopeWord::parse_limit(rest) else {
         return out.refused(Refusal::Syntax);
@@ -251,6 +264,8 @@ pub(crate) fn answer_relimit<A: Allocator + Copy, O: AnswerTaker<A>>(
 }
 
 /// Steps the world by an event, and answers it. The subject is the site or the query that it names, if it names one.
+///
+/// Room for the answer is made first, so that an event whose answer finds no memory does not happen.
 // Inlined, with the steps, so that an event is not moved where it is known.
 #[inline(always)]
 fn answer_event<A: Allocator + Copy, O: AnswerTaker<A>>(
@@ -260,8 +275,13 @@ fn answer_event<A: Allocator + Copy, O: AnswerTaker<A>>(
     object: &[u8],
     out: &mut O,
 ) -> Result<(), AllocError>
-    ensures { OnOk result ((d : Declared) (past : Past A) → StandsFor d world.old past → Leaves (IsWorldOf world.new) (O.took out.old out.new) (event_reply d past (subject.now, object.now) event)) }
+    ensures reply { OnOk result ((d : Declared) (past : Past A) → StandsFor d world.old past → Leaves (IsWorldOf world.new) (O.took out.old out.new) (event_reply d past (subject.now, object.now) event)) }
+    ensures kept { IfErr result (λ _. (world.new ≡ world.old) × O.took out.old out.new []) }
 {
+    if out.reserve(subject.len() + object.len()).is_err() {
+        drop(event);
+        return Err(AllocError);
+    }
     let answer = world.step(event);
     out.stepped(world.primary().setup(), subject, object, &answer)
 }

@@ -1,9 +1,12 @@
 //! What takes the answers to the lines of a script: a buffer takes their texts, and `Unanswered` takes none.
-ghost use Rattle.std.specs.Prelude.{◌≡◌, ◌++◌, ℕ, List, [], OnOk};
-ghost use Rattle.ordup_answers.specs.Replies.{declared_text};
+ghost use Rattle.std.specs.Prelude.{◌≡◌, ◌+◌, ◌≤◌, ◌++◌, ℕ, List, [], OnOk, IfErr, length};
+ghost use Rattle.ordup_answers.specs.Replies.{declared_name, declared_text};
 ghost use Rattle.ordup_answers.specs.Texts.{answer_text, certified_text, refused_text, started_text};
+ghost use Rattle.ordup_answers.specs.declared.text.TheConstants.{ANSWER_ROOM};
 
-use crate::text::{push_answer, push_certified, push_declared, push_refused, push_started};
+use crate::text::{
+    push_certified, push_refused, put_answer, put_declared, put_started, reserve_answer,
+};
 use ordup_grammar::Declaration;
 use ordup_objects::Refusal;
 use ordup_primary::Window;
@@ -11,30 +14,43 @@ use ordup_text::TextBuffer;
 use ordup_world::{Answer, Setup};
 use std::alloc::{AllocError, Allocator};
 
-/// Takes the answers to the lines of a script, one after another. A call fails only where an allocation was refused, and then the
-/// run ends.
+/// Takes the answers to the lines of a script, one after another. A call fails only for want of memory, and then it took nothing.
+///
+/// Room for the answer to what changes the store is made before the change, and the answer is taken after it.
 pub trait AnswerTaker<A: Allocator + Copy> {
     // What was `old` took an answer of this text, and is `new` now.
     ghost took: { Self → Self → List ℕ → Type 0 };
+
+    // It has room for an answer whose line has names of this many bytes.
+    ghost has_room: { Self → ℕ → Type 0 };
+
+    /// Makes room for an answer whose line has names of this many bytes. What is taken after it is taken as before it.
+    fn reserve(&mut self, names: usize) -> Result<(), AllocError>
+        ensures room { OnOk result (has_room self.new names) }
+        ensures same { (later : Self) (text : List ℕ) → took self.new later text → took self.old later text }
+        ensures nothing { took self.old self.new [] };
 
     /// Takes that a line has no answer.
     fn nothing(&mut self)
         ensures { took self.old self.new [] };
 
-    /// Takes the answer to what was refused. Want of memory has none: it ends the run.
+    /// Takes the answer to what was refused. Want of memory has none.
     fn refused(&mut self, refusal: Refusal) -> Result<(), AllocError>
-        ensures { OnOk result ((refusal ≡ Refusal.NoMemory → ⊥) × took self.old self.new (refused_text refusal)) };
+        ensures text { OnOk result ((refusal ≡ Refusal.NoMemory → ⊥) × took self.old self.new (refused_text refusal)) }
+        ensures kept { IfErr result (λ _. took self.old self.new []) };
 
     /// Takes the answer to a declaration.
-    fn declared(&mut self, declaration: &Declaration<'_>) -> Result<(), AllocError>
-        ensures { OnOk result (took self.old self.new (declared_text declaration.now)) };
+    fn declared(&mut self, declaration: &Declaration<'_>)
+        requires { has_room self.old (length (declared_name declaration.now)) }
+        ensures { took self.old self.new (declared_text declaration.now) };
 
     /// Takes the answer to the start.
-    fn started(&mut self) -> Result<(), AllocError>
-        ensures { OnOk result (took self.old self.new started_text) };
+    fn started(&mut self)
+        requires { has_room self.old 0 }
+        ensures { took self.old self.new started_text };
 
     /// Takes the answer to an event. The subject is the site or the query that the event names, and the object the one that it
-    /// names. Want of memory has no answer.
+    /// names. Want of memory has no answer, and is the one that the call fails for.
     fn stepped(
         &mut self,
         setup: &Setup<A>,
@@ -42,15 +58,25 @@ pub trait AnswerTaker<A: Allocator + Copy> {
         object: &[u8],
         answer: &Answer<A>,
     ) -> Result<(), AllocError>
-        ensures { OnOk result ((answer.now ≡ Answer.Refused Refusal.NoMemory → ⊥) × took self.old self.new (answer_text setup.now subject.now object.now answer.now)) };
+        requires { has_room self.old (length subject.now + length object.now) }
+        ensures text { OnOk result ((answer.now ≡ Answer.Refused Refusal.NoMemory → ⊥) × took self.old self.new (answer_text setup.now subject.now object.now answer.now)) }
+        ensures kept { IfErr result (λ _. (answer.now ≡ Answer.Refused Refusal.NoMemory) × took self.old self.new []) };
 
     /// Takes how many rounds a site has at least, and its windows.
     fn certified(&mut self, site: &[u8], rounds: u64, windows: &[Window]) -> Result<(), AllocError>
-        ensures { OnOk result (took self.old self.new (certified_text site.now rounds windows.now)) };
+        ensures text { OnOk result (took self.old self.new (certified_text site.now rounds windows.now)) }
+        ensures kept { IfErr result (λ _. took self.old self.new []) };
 }
 
 impl<A: Allocator + Copy> AnswerTaker<A> for TextBuffer<A> {
     ghost took = { λ old new text. new.text ≡ old.text ++ text };
+
+    ghost has_room = { λ out names. names + ANSWER_ROOM ≤ out.room };
+
+    #[inline(always)]
+    fn reserve(&mut self, names: usize) -> Result<(), AllocError> {
+        reserve_answer(self, names)
+    }
 
     #[inline(always)]
     fn nothing(&mut self) {}
@@ -61,13 +87,13 @@ impl<A: Allocator + Copy> AnswerTaker<A> for TextBuffer<A> {
     }
 
     #[inline(always)]
-    fn declared(&mut self, declaration: &Declaration<'_>) -> Result<(), AllocError> {
-        push_declared(self, declaration)
+    fn declared(&mut self, declaration: &Declaration<'_>) {
+        put_declared(self, declaration);
     }
 
     #[inline(always)]
-    fn started(&mut self) -> Result<(), AllocError> {
-        push_started(self)
+    fn started(&mut self) {
+        put_started(self);
     }
 
     #[inline(always)]
@@ -78,7 +104,7 @@ impl<A: Allocator + Copy> AnswerTaker<A> for TextBuffer<A> {
         object: &[u8],
         answer: &Answer<A>,
     ) -> Result<(), AllocError> {
-        push_answer(self, setup, subject, object, answer)
+        put_answer(self, setup, subject, object, answer)
     }
 
     #[inline(always)]
@@ -99,6 +125,12 @@ pub struct Unanswered;
 impl<A: Allocator + Copy> AnswerTaker<A> for Unanswered {
     ghost took = { λ old new text. Unit {0} };
 
+    ghost has_room = { λ taker names. Unit {0} };
+
+    fn reserve(&mut self, _: usize) -> Result<(), AllocError> {
+        Ok(())
+    }
+
     fn nothing(&mut self) {}
 
     fn refused(&mut self, refusal: Refusal) -> Result<(), AllocError> {
@@ -108,13 +140,9 @@ impl<A: Allocator + Copy> AnswerTaker<A> for Unanswered {
         }
     }
 
-    fn declared(&mut self, _: &Declaration<'_>) -> Result<(), AllocError> {
-        Ok(())
-    }
+    fn declared(&mut self, _: &Declaration<'_>) {}
 
-    fn started(&mut self) -> Result<(), AllocError> {
-        Ok(())
-    }
+    fn started(&mut self) {}
 
     fn stepped(
         &mut self,

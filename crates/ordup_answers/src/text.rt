@@ -1,57 +1,103 @@
 //! The text of answers.
-ghost use Rattle.std.specs.Prelude.{◌≡◌, ◌++◌, ◌∷◌, [], OnOk, codes, length, slice_index_or};
+//!
+//! The room for an answer is made before the event that it answers, so that no answer is lost for want of memory. What puts takes
+//! that room as given.
+ghost use Rattle.std.specs.Prelude.{◌≡◌, ◌+◌, ◌*◌, ◌≤◌, ◌++◌, ◌∷◌, [], OnOk, IfErr, codes, length, slice_index_or};
 ghost use Rattle.std.specs.Fmt.{decimal, signed_decimal};
 ghost use Rattle.ordup_text.specs.Lines.{named_text, done_text, numbered_text};
-ghost use Rattle.ordup_answers.specs.Replies.{declared_text};
+ghost use Rattle.ordup_text.specs.declared.text_buffer.TheConstants.{MOST_DIGITS};
+ghost use Rattle.ordup_answers.specs.declared.text.TheConstants.{ANSWER_ROOM, REFUSAL_ROOM, SITE_ROOM, WINDOW_ROOM};
+ghost use Rattle.ordup_objects.specs.Sizes.{most_sites};
+ghost use Rattle.ordup_answers.specs.Replies.{declared_text, declared_name};
 ghost use Rattle.ordup_answers.specs.Texts.{refused_text, started_text, shown_text, sites_text, listed_text, settled_text, read_text, ended_text, window_text, windows_text, certified_text, answer_text};
 
 use ordup_grammar::Declaration;
-use ordup_objects::{ObjectTable, Refusal, SiteId};
-use ordup_primary::Window;
+use ordup_objects::{Name, ObjectTable, Refusal, SiteId};
+use ordup_primary::{SiteList, Window};
 use ordup_text::{
-    MOST_DIGITS, TextBuffer, push_done, push_named, push_numbered, push_values, push_with_number,
-    push_with_value,
+    TextBuffer, put_done, put_named, put_numbered, put_values, put_with_number, put_with_value,
 };
 use ordup_world::{Answer, QueryAnswer, ReadAnswer, Settled, Setup};
 use std::alloc::{AllocError, Allocator};
 
-/// Adds the answer to what was refused. Want of memory has no answer: it ends the run.
+/// The most bytes of an answer without the names that its line has: of `ok show`, where there are 256 objects. Only the answer to
+/// `certify` may have more.
+pub const ANSWER_ROOM: usize = 10_106;
+/// The most bytes of `refused N NAME`.
+pub const REFUSAL_ROOM: usize = 45;
+/// The most bytes of ` S`.
+pub const SITE_ROOM: usize = 17;
+/// The most bytes of ` A-B`.
+pub const WINDOW_ROOM: usize = 42;
+
+/// Makes room for an answer whose line has names of this many bytes.
+#[inline(always)]
+pub(crate) fn reserve_answer<A: Allocator + Copy>(
+    out: &mut TextBuffer<A>,
+    names: usize,
+) -> Result<(), AllocError>
+    ensures text { out.new.text ≡ out.old.text }
+    ensures room { OnOk result (names + ANSWER_ROOM ≤ out.new.room) }
+    // No list has more bytes.
+    ensures most { OnOk result (out.new.room ≤ 9223372036854775807) }
+{
+    out.reserve(names.saturating_add(ANSWER_ROOM))
+}
+
+/// Adds the answer to what was refused. Want of memory has no answer.
 pub fn push_refused<A: Allocator + Copy>(
     out: &mut TextBuffer<A>,
     refusal: Refusal,
 ) -> Result<(), AllocError>
-    ensures { OnOk result ((refusal ≡ Refusal.NoMemory → ⊥) × (out.new.text ≡ out.old.text ++ refused_text refusal)) }
+    ensures text { OnOk result ((refusal ≡ Refusal.NoMemory → ⊥) × (out.new.text ≡ out.old.text ++ refused_text refusal)) }
+    ensures kept { IfErr result (λ _. out.new.text ≡ out.old.text) }
+{
+    out.reserve(REFUSAL_ROOM)?;
+    put_refused(out, refusal)
+}
+
+/// Puts the answer to what was refused. Want of memory has no answer.
+fn put_refused<A: Allocator + Copy>(
+    out: &mut TextBuffer<A>,
+    refusal: Refusal,
+) -> Result<(), AllocError>
+    requires { REFUSAL_ROOM ≤ out.old.room }
+    ensures text { OnOk result ((refusal ≡ Refusal.NoMemory → ⊥) × (out.new.text ≡ out.old.text ++ refused_text refusal)) }
+    ensures kept { IfErr result (λ _. (refusal ≡ Refusal.NoMemory) × (out.new.text ≡ out.old.text)) }
 {
     if let Refusal::NoMemory = refusal {
         return Err(AllocError);
     }
-    out.push(b"refused ")?;
-    out.push_number(u64::from(refusal.number()))?;
-    out.push(b" ")?;
-    out.push(refusal.name().as_bytes())?;
-    out.push(b"\n")
+    out.put(b"refused ");
+    out.put_number(u64::from(refusal.number()));
+    out.put(b" ");
+    out.put(refusal.name().as_bytes());
+    out.put(b"\n");
+    Ok(())
 }
 
-/// Adds the answer to a declaration.
-pub(crate) fn push_declared<A: Allocator + Copy>(
+/// Puts the answer to a declaration.
+pub(crate) fn put_declared<A: Allocator + Copy>(
     out: &mut TextBuffer<A>,
     declaration: &Declaration<'_>,
-) -> Result<(), AllocError>
-    ensures { OnOk result (out.new.text ≡ out.old.text ++ declared_text declaration.now) }
+)
+    requires { length (declared_name declaration.now) + ANSWER_ROOM ≤ out.old.room }
+    ensures { out.new.text ≡ out.old.text ++ declared_text declaration.now }
 {
     match declaration {
-        Declaration::Object { name, .. } => push_named(out, b"ok object ", name.as_bytes()),
-        Declaration::Group { name, .. } => push_named(out, b"ok group ", name.as_bytes()),
-        Declaration::Site { name, .. } => push_named(out, b"ok site ", name.as_bytes()),
-        Declaration::Limit { site, .. } => push_named(out, b"ok limit ", site.as_bytes()),
+        Declaration::Object { name, .. } => put_named(out, b"ok object ", name.as_bytes()),
+        Declaration::Group { name, .. } => put_named(out, b"ok group ", name.as_bytes()),
+        Declaration::Site { name, .. } => put_named(out, b"ok site ", name.as_bytes()),
+        Declaration::Limit { site, .. } => put_named(out, b"ok limit ", site.as_bytes()),
     }
 }
 
-/// Adds the answer to the start.
-pub fn push_started<A: Allocator + Copy>(out: &mut TextBuffer<A>) -> Result<(), AllocError>
-    ensures { OnOk result (out.new.text ≡ out.old.text ++ started_text) }
+/// Puts the answer to the start.
+pub(crate) fn put_started<A: Allocator + Copy>(out: &mut TextBuffer<A>)
+    requires { ANSWER_ROOM ≤ out.old.room }
+    ensures { out.new.text ≡ out.old.text ++ started_text }
 {
-    out.push(b"ok start\n")
+    out.put(b"ok start\n");
 }
 
 /// The numbers that a shown site has.
@@ -63,37 +109,34 @@ struct ShownNumbers {
     rounds: u64,
 }
 
-/// Adds the answer that shows a site.
-fn push_shown<A: Allocator + Copy>(
+/// Puts the answer that shows a site.
+fn put_shown<A: Allocator + Copy>(
     out: &mut TextBuffer<A>,
     site: &[u8],
     numbers: ShownNumbers,
     objects: &ObjectTable<A>,
     values: &[i64],
-) -> Result<(), AllocError>
-    ensures { OnOk result (out.new.text ≡ out.old.text ++ shown_text site.now (record {
+)
+    requires { length site.now + ANSWER_ROOM ≤ out.old.room }
+    ensures { out.new.text ≡ out.old.text ++ shown_text site.now (record {
       sent = numbers.sent;
       applied = numbers.applied;
       reported = numbers.reported;
       rounds = numbers.rounds;
-    }) objects.now values.now) }
+    }) objects.now values.now }
 {
-    out.push(b"ok show ")?;
-    out.push(site)?;
-    push_with_number(out, b" sent ", numbers.sent)?;
-    push_with_number(out, b" applied ", numbers.applied)?;
-    push_with_number(out, b" reported ", numbers.reported)?;
-    push_with_number(out, b" rounds ", numbers.rounds)?;
-    push_values(out, objects, values)?;
-    out.push(b"\n")
+    objects.keeps();
+    out.put(b"ok show ");
+    out.put_name(site);
+    put_with_number(out, b" sent ", numbers.sent);
+    put_with_number(out, b" applied ", numbers.applied);
+    put_with_number(out, b" reported ", numbers.reported);
+    put_with_number(out, b" rounds ", numbers.rounds);
+    put_values(out, objects, values);
+    out.put(b"\n");
 }
 
-/// Adds the answer to an event. The subject is the site or the query that the event names, and the object the one that it names.
-///
-/// Where it succeeds, the answer was not a refusal for want of memory, and its text was added.
-// Inlined, so that where the answer is known its text alone is left to add. The compiler does not inline a function that would grow
-// very large, so what adds a text with a name and a number stays a call, for each length of its first part.
-#[inline(always)]
+/// Adds the answer to an event, as `put_answer` puts it.
 pub fn push_answer<A: Allocator + Copy>(
     out: &mut TextBuffer<A>,
     setup: &Setup<A>,
@@ -103,17 +146,68 @@ pub fn push_answer<A: Allocator + Copy>(
 ) -> Result<(), AllocError>
     ensures { OnOk result ((answer.now ≡ Answer.Refused Refusal.NoMemory → ⊥) × (out.new.text ≡ out.old.text ++ answer_text setup.now subject.now object.now answer.now)) }
 {
+    reserve_answer(out, subject.len() + object.len())?;
+    put_answer(out, setup, subject, object, answer)
+}
+
+/// Puts the answer to an event. The subject is the site or the query that the event names, and the object the one that it names.
+///
+/// It fails only where the answer is a refusal for want of memory, and then puts nothing.
+// Inlined, so that where the answer is known its text alone is left to add. The compiler does not inline a function that would grow
+// very large, so what adds a text with a name and a number stays a call, for each length of its first part.
+#[inline(always)]
+pub(crate) fn put_answer<A: Allocator + Copy>(
+    out: &mut TextBuffer<A>,
+    setup: &Setup<A>,
+    subject: &[u8],
+    object: &[u8],
+    answer: &Answer<A>,
+) -> Result<(), AllocError>
+    requires { length subject.now + length object.now + ANSWER_ROOM ≤ out.old.room }
+    ensures text { OnOk result ((answer.now ≡ Answer.Refused Refusal.NoMemory → ⊥) × (out.new.text ≡ out.old.text ++ answer_text setup.now subject.now object.now answer.now)) }
+    ensures kept { IfErr result (λ _. (answer.now ≡ Answer.Refused Refusal.NoMemory) × (out.new.text ≡ out.old.text)) }
+{
     match answer {
-        Answer::Proposed(number) => push_proposed(out, *number),
-        Answer::Sent { number, .. } => push_place(out, b"ok sent ", subject, *number),
-        Answer::Applied { number, .. } => push_place(out, b"ok applied ", subject, *number),
-        Answer::Reported { place, .. } => push_place(out, b"ok reported ", subject, *place),
-        Answer::Settlement(settled) => push_settled(out, setup, settled),
-        Answer::Relimited { place, .. } => push_place(out, b"ok relimit ", subject, *place),
-        Answer::Begun { query, place } => push_place(out, b"ok begun ", query.as_bytes(), *place),
-        Answer::ReadOut(answer) => push_read(out, subject, object, *answer),
-        Answer::Ended(answer) => push_ended(out, subject, *answer),
-        Answer::Abandoned(query) => push_named(out, b"ok abandoned ", query.as_bytes()),
+        Answer::Proposed(number) => {
+            put_proposed(out, *number);
+            Ok(())
+        }
+        Answer::Sent { number, .. } => {
+            put_place(out, b"ok sent ", subject, *number);
+            Ok(())
+        }
+        Answer::Applied { number, .. } => {
+            put_place(out, b"ok applied ", subject, *number);
+            Ok(())
+        }
+        Answer::Reported { place, .. } => {
+            put_place(out, b"ok reported ", subject, *place);
+            Ok(())
+        }
+        Answer::Settlement(settled) => {
+            put_settled(out, setup, settled);
+            Ok(())
+        }
+        Answer::Relimited { place, .. } => {
+            put_place(out, b"ok relimit ", subject, *place);
+            Ok(())
+        }
+        Answer::Begun { query, place } => {
+            put_begun(out, query, *place);
+            Ok(())
+        }
+        Answer::ReadOut(answer) => {
+            put_read(out, subject, object, *answer);
+            Ok(())
+        }
+        Answer::Ended(answer) => {
+            put_ended(out, subject, *answer);
+            Ok(())
+        }
+        Answer::Abandoned(query) => {
+            put_abandoned(out, query);
+            Ok(())
+        }
         Answer::Shown {
             sent,
             applied,
@@ -127,50 +221,64 @@ pub fn push_answer<A: Allocator + Copy>(
                 reported: *reported,
                 rounds: *rounds,
             };
-            push_shown(out, subject, numbers, setup.objects(), values.as_slice())
+            put_shown(out, subject, numbers, setup.objects(), values.as_slice());
+            Ok(())
         }
-        Answer::Refused(refusal) => push_refused(out, *refusal),
+        Answer::Refused(refusal) => put_refused(out, *refusal),
     }
 }
 
-/// Adds the answer to a proposal.
-// A call, as the next one is. With their text inlined `push_answer` would be so large that the compiler would leave it a call, and
+/// Puts the answer to a proposal.
+// A call, as the next one is. With their text inlined `put_answer` would be so large that the compiler would leave it a call, and
 // the step of an event with it.
 #[inline(never)]
-fn push_proposed<A: Allocator + Copy>(
-    out: &mut TextBuffer<A>,
-    number: u64,
-) -> Result<(), AllocError>
-    ensures { OnOk result (out.new.text ≡ out.old.text ++ done_text (codes "ok proposed ") number) }
+fn put_proposed<A: Allocator + Copy>(out: &mut TextBuffer<A>, number: u64)
+    requires { ANSWER_ROOM ≤ out.old.room }
+    ensures { out.new.text ≡ out.old.text ++ done_text (codes "ok proposed ") number }
 {
-    push_done(out, b"ok proposed ", number)
+    put_done(out, b"ok proposed ", number);
 }
 
-/// Adds an answer of a name and a place.
+/// Puts an answer of a name and a place.
 #[inline(never)]
-fn push_place<A: Allocator + Copy, const N: usize>(
+fn put_place<A: Allocator + Copy, const N: usize>(
     out: &mut TextBuffer<A>,
     done: &[u8; N],
     name: &[u8],
     place: u64,
-) -> Result<(), AllocError>
-    ensures { OnOk result (out.new.text ≡ out.old.text ++ numbered_text done.now name.now place) }
+)
+    requires { N + length name.now + MOST_DIGITS + 2 ≤ out.old.room }
+    ensures { out.new.text ≡ out.old.text ++ numbered_text done.now name.now place }
 {
-    push_numbered(out, done, name, place)
+    put_numbered(out, done, name, place);
 }
 
-/// Adds the answer to a read.
-fn push_read<A: Allocator + Copy>(
+/// Puts the answer to a query that began.
+fn put_begun<A: Allocator + Copy>(out: &mut TextBuffer<A>, query: &Name, place: u64)
+    requires { ANSWER_ROOM ≤ out.old.room }
+    ensures { out.new.text ≡ out.old.text ++ numbered_text (codes "ok begun ") query.now place }
+{
+    put_place(out, b"ok begun ", query.as_bytes(), place);
+}
+
+/// Puts the answer to a query that was abandoned.
+fn put_abandoned<A: Allocator + Copy>(out: &mut TextBuffer<A>, query: &Name)
+    requires { ANSWER_ROOM ≤ out.old.room }
+    ensures { out.new.text ≡ out.old.text ++ named_text (codes "ok abandoned ") query.now }
+{
+    put_named(out, b"ok abandoned ", query.as_bytes());
+}
+
+/// Puts the answer to a read.
+fn put_read<A: Allocator + Copy>(
     out: &mut TextBuffer<A>,
     query: &[u8],
     object: &[u8],
     answer: ReadAnswer,
-) -> Result<(), AllocError>
-    ensures { OnOk result (out.new.text ≡ out.old.text ++ read_text query.now object.now answer) }
+)
+    requires { length query.now + length object.now + ANSWER_ROOM ≤ out.old.room }
+    ensures { out.new.text ≡ out.old.text ++ read_text query.now object.now answer }
 {
-    let names = query.len() + object.len();
-    // Room for the whole line, made once.
-    out.reserve(names.saturating_add(3 * MOST_DIGITS + 33))?;
     out.put(b"ok read ");
     out.put_name(query);
     out.put(b" ");
@@ -182,86 +290,73 @@ fn push_read<A: Allocator + Copy>(
     out.put(b" total ");
     out.put_number(answer.total);
     out.put(b"\n");
-    Ok(())
 }
 
-/// Adds the answer to the end of a query: what its reads came to.
-fn push_ended<A: Allocator + Copy>(
-    out: &mut TextBuffer<A>,
-    query: &[u8],
-    answer: QueryAnswer,
-) -> Result<(), AllocError>
-    ensures { OnOk result (out.new.text ≡ out.old.text ++ ended_text query.now answer) }
+/// Puts the answer to the end of a query: what its reads came to.
+fn put_ended<A: Allocator + Copy>(out: &mut TextBuffer<A>, query: &[u8], answer: QueryAnswer)
+    requires { length query.now + ANSWER_ROOM ≤ out.old.room }
+    ensures { out.new.text ≡ out.old.text ++ ended_text query.now answer }
 {
-    out.push(b"ok end ")?;
-    out.push(query)?;
-    push_with_number(out, b" place ", answer.place)?;
-    push_with_value(out, b" sum ", answer.sum)?;
-    push_with_number(out, b" total ", answer.total)?;
-    push_with_number(out, b" reads ", answer.reads)?;
-    out.push(b"\n")
+    out.put(b"ok end ");
+    out.put_name(query);
+    put_with_number(out, b" place ", answer.place);
+    put_with_value(out, b" sum ", answer.sum);
+    put_with_number(out, b" total ", answer.total);
+    put_with_number(out, b" reads ", answer.reads);
+    out.put(b"\n");
 }
 
-/// Adds the answer to a settlement.
-fn push_settled<A: Allocator + Copy>(
-    out: &mut TextBuffer<A>,
-    setup: &Setup<A>,
-    settled: &Settled,
-) -> Result<(), AllocError>
-    ensures { OnOk result (out.new.text ≡ out.old.text ++ settled_text setup.now.sites settled.now) }
+/// Puts the answer to a settlement.
+fn put_settled<A: Allocator + Copy>(out: &mut TextBuffer<A>, setup: &Setup<A>, settled: &Settled)
+    requires { ANSWER_ROOM ≤ out.old.room }
+    ensures { out.new.text ≡ out.old.text ++ settled_text setup.now.sites settled.now }
 {
     match settled {
-        Settled::Acked(k) => push_done(out, b"ok acked ", *k),
-        Settled::Round { k, sites } => push_listed(out, b"ok round ", *k, setup, sites.as_slice()),
-        Settled::Waiting { k, sites } => {
-            push_listed(out, b"ok waiting ", *k, setup, sites.as_slice())
-        }
+        Settled::Acked(k) => put_done(out, b"ok acked ", *k),
+        Settled::Round { k, sites } => put_listed(out, b"ok round ", *k, setup, sites),
+        Settled::Waiting { k, sites } => put_listed(out, b"ok waiting ", *k, setup, sites),
     }
 }
 
-/// Adds an answer that ends with a number and sites.
-fn push_listed<A: Allocator + Copy>(
+/// Puts an answer that ends with a number and sites.
+fn put_listed<A: Allocator + Copy>(
     out: &mut TextBuffer<A>,
     done: &[u8],
     number: u64,
     setup: &Setup<A>,
-    sites: &[SiteId],
-) -> Result<(), AllocError>
-    ensures { OnOk result (out.new.text ≡ out.old.text ++ listed_text done.now number setup.now.sites sites.now) }
+    sites: &SiteList,
+)
+    requires { length done.now + most_sites * SITE_ROOM + MOST_DIGITS + 1 ≤ out.old.room }
+    ensures { out.new.text ≡ out.old.text ++ listed_text done.now number setup.now.sites sites.now }
 {
-    out.push(done)?;
-    out.push_number(number)?;
-    push_sites(out, setup, sites)?;
-    out.push(b"\n")
+    sites.keeps();
+    out.put(done);
+    out.put_number(number);
+    put_sites(out, setup, sites.as_slice());
+    out.put(b"\n");
 }
 
-/// Adds ` S` for each of these sites.
-fn push_sites<A: Allocator + Copy>(
-    out: &mut TextBuffer<A>,
-    setup: &Setup<A>,
-    sites: &[SiteId],
-) -> Result<(), AllocError>
-    ensures { OnOk result (out.new.text ≡ out.old.text ++ sites_text setup.now.sites sites.now) }
+/// Puts ` S` for each of these sites.
+fn put_sites<A: Allocator + Copy>(out: &mut TextBuffer<A>, setup: &Setup<A>, sites: &[SiteId])
+    requires { length sites.now * SITE_ROOM ≤ out.old.room }
+    ensures text { out.new.text ≡ out.old.text ++ sites_text setup.now.sites sites.now }
+    ensures room { out.old.room ≤ out.new.room + length sites.now * SITE_ROOM }
 {
     for site in sites {
-        push_site(out, setup, *site)?;
+        put_site(out, setup, *site);
     }
-    Ok(())
 }
 
-/// Adds ` S`: a space, and the name of the site where there is one.
-fn push_site<A: Allocator + Copy>(
-    out: &mut TextBuffer<A>,
-    setup: &Setup<A>,
-    site: SiteId,
-) -> Result<(), AllocError>
-    ensures { OnOk result (out.new.text ≡ out.old.text ++ 32 ∷ [] ++ (slice_index_or setup.now.sites site ([], 0)).0) }
+/// Puts ` S`: a space, and the name of the site where there is one.
+fn put_site<A: Allocator + Copy>(out: &mut TextBuffer<A>, setup: &Setup<A>, site: SiteId)
+    requires { SITE_ROOM ≤ out.old.room }
+    ensures text { out.new.text ≡ out.old.text ++ 32 ∷ [] ++ (slice_index_or setup.now.sites site ([], 0)).0 }
+    ensures room { out.old.room ≤ out.new.room + SITE_ROOM }
 {
-    out.push(b" ")?;
+    out.put(b" ");
     if site.index() < setup.sites() {
-        out.push(setup.site_name(site).as_bytes())?;
+        out.put(setup.site_name(site).as_bytes());
     }
-    Ok(())
 }
 
 /// Adds the answer that shows how many rounds a site has at least, and its windows.
@@ -271,36 +366,40 @@ pub fn push_certified<A: Allocator + Copy>(
     rounds: u64,
     windows: &[Window],
 ) -> Result<(), AllocError>
-    ensures { OnOk result (out.new.text ≡ out.old.text ++ certified_text site.now rounds windows.now) }
+    ensures text { OnOk result (out.new.text ≡ out.old.text ++ certified_text site.now rounds windows.now) }
+    ensures kept { IfErr result (λ _. out.new.text ≡ out.old.text) }
 {
-    out.push(b"ok certified ")?;
-    out.push(site)?;
-    out.push(b" ")?;
-    out.push_number(rounds)?;
-    push_windows(out, windows)?;
-    out.push(b"\n")
-}
-
-/// Adds ` A-B` for each of these windows.
-fn push_windows<A: Allocator + Copy>(
-    out: &mut TextBuffer<A>,
-    windows: &[Window],
-) -> Result<(), AllocError>
-    ensures { OnOk result (out.new.text ≡ out.old.text ++ windows_text windows.now) }
-{
-    for window in windows {
-        push_window(out, *window)?;
-    }
+    reserve_answer(
+        out,
+        site.len()
+            .saturating_add(windows.len().saturating_mul(WINDOW_ROOM)),
+    )?;
+    out.put(b"ok certified ");
+    out.put_name(site);
+    out.put(b" ");
+    out.put_number(rounds);
+    put_windows(out, windows);
+    out.put(b"\n");
     Ok(())
 }
 
-/// Adds ` A-B`.
-fn push_window<A: Allocator + Copy>(
-    out: &mut TextBuffer<A>,
-    window: Window,
-) -> Result<(), AllocError>
-    ensures { OnOk result (out.new.text ≡ out.old.text ++ window_text window) }
+/// Puts ` A-B` for each of these windows.
+fn put_windows<A: Allocator + Copy>(out: &mut TextBuffer<A>, windows: &[Window])
+    requires { length windows.now * WINDOW_ROOM ≤ out.old.room }
+    ensures text { out.new.text ≡ out.old.text ++ windows_text windows.now }
+    ensures room { out.old.room ≤ out.new.room + length windows.now * WINDOW_ROOM }
 {
-    push_with_number(out, b" ", window.from)?;
-    push_with_number(out, b"-", window.to)
+    for window in windows {
+        put_window(out, *window);
+    }
+}
+
+/// Puts ` A-B`.
+fn put_window<A: Allocator + Copy>(out: &mut TextBuffer<A>, window: Window)
+    requires { WINDOW_ROOM ≤ out.old.room }
+    ensures text { out.new.text ≡ out.old.text ++ window_text window }
+    ensures room { out.old.room ≤ out.new.room + WINDOW_ROOM }
+{
+    put_with_number(out, b" ", window.from);
+    put_with_number(out, b"-", window.to);
 }

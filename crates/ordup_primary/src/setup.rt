@@ -47,6 +47,36 @@ impl<A: Allocator + Copy> Setup<A> {
         }
     }
 
+    /// A copy of the declarations. The only refusal is `NoMemory`.
+    pub fn copy(&self, alloc: A) -> Result<Self, Refusal>
+        ensures copied { IfOk result (λ setup. setup ≡ self.now) }
+        ensures refused { IfErr result (λ e. e ≡ Refusal.NoMemory) }
+    {
+        let objects = self.objects.copy(alloc)?;
+        // Tables and lists are dropped by a call: where one goes out of scope, the proof takes it apart.
+        let Ok(groups) = Groups::copy(&self.groups, alloc) else {
+            drop(objects);
+            return Err(Refusal::NoMemory);
+        };
+        let Ok(capacities) = copy_capacities(alloc, &self.capacities) else {
+            drop(objects);
+            drop(groups);
+            return Err(Refusal::NoMemory);
+        };
+        let Ok(limits) = copy_limits(alloc, self.limits.as_slice()) else {
+            drop(objects);
+            drop(groups);
+            drop(capacities);
+            return Err(Refusal::NoMemory);
+        };
+        Ok(Setup {
+            objects,
+            groups,
+            capacities,
+            limits,
+        })
+    }
+
     /// The declarations of a store that goes on: the same objects, each beginning at its value among these; the same groups and
     /// sites; and the last limits of these tables, one for each site, in force from the start. The only refusal is `NoMemory`.
     pub(crate) fn going_on(
@@ -305,6 +335,38 @@ fn add_capacities<A: Allocator + Copy>(
     for index in 0..capacities.len() {
         let (name, capacity) = capacities.at(index);
         copied.push(*name, *capacity)?;
+    }
+    Ok(())
+}
+
+/// A copy of these tables of limits.
+fn copy_limits<A: Allocator + Copy>(
+    alloc: A,
+    tables: &[LimitTable<A>],
+) -> Result<Vec<LimitTable<A>, A>, Refusal>
+    ensures { IfOk result (λ limits. limits.items ≡ tables.now) }
+{
+    let mut limits = Vec::new(alloc);
+    match add_limits(alloc, tables, &mut limits) {
+        Ok(()) => Ok(limits),
+        Err(refusal) => {
+            drop(limits);
+            Err(refusal)
+        }
+    }
+}
+
+/// Adds a copy of each of these tables of limits to a list without limits.
+fn add_limits<A: Allocator + Copy>(
+    alloc: A,
+    tables: &[LimitTable<A>],
+    limits: &mut Vec<LimitTable<A>, A>,
+) -> Result<(), Refusal>
+    requires { limits.old.items ≡ [] }
+    ensures { OnOk result (limits.new.items ≡ tables.now) }
+{
+    for table in tables {
+        limits.push(table.copy(alloc)?)?;
     }
     Ok(())
 }

@@ -1,4 +1,4 @@
-ghost use Rattle.std.specs.Prelude.{◌≡◌, ◌<◌, ◌++◌, ◌∷◌, [], length};
+ghost use Rattle.std.specs.Prelude.{◌≡◌, ◌<◌, ◌≤◌, ◌++◌, ◌∷◌, [], length};
 ghost use Rattle.ordup_objects.specs.Sizes.{most_sites};
 
 use ordup_objects::SiteId;
@@ -41,6 +41,14 @@ impl SiteList {
     {
         self.sites[self.count] = site;
         self.count += 1;
+    }
+
+    /// What each list keeps, for the proofs of its users. It does nothing.
+    #[inline(always)]
+    pub fn keeps(&self)
+        ensures { length self.now ≤ most_sites }
+    {
+        let _ = &self.count;
     }
 
     /// The sites.

@@ -11,7 +11,8 @@ mod output;
 mod text_buffer;
 
 pub use lines::{
-    push_done, push_named, push_numbered, push_values, push_with_number, push_with_value,
+    VALUE_ROOM, push_done, push_numbered, push_values, push_with_number, put_done, put_named,
+    put_numbered, put_values, put_with_number, put_with_value,
 };
 pub use output::{WriteFault, send};
 pub use text_buffer::{MOST_DIGITS, TextBuffer};

@@ -169,9 +169,7 @@ fn is_refused(rt: &impl Abort, session: &mut Session<'_>, step: Step<'_>, allowe
     let refused = answer_within(rt, session, step, allowed);
     if refused {
         expect!(rt; session.out.as_slice().is_empty(), (line, allowed));
-        // What a refused start took is given up: nothing is declared any more.
-        let same = show(rt, session) == before;
-        expect!(rt; same == (line != "start"), (line, allowed));
+        expect!(rt; show(rt, session) == before, (line, allowed));
     } else {
         expect!(rt; is_answered(session, step), (line, allowed));
     }
@@ -193,12 +191,10 @@ fn is_refused_at(
     };
     let step = step_of(rt, text);
     let refused = is_refused(rt, session, step, allowed);
-    let from = if !refused {
-        index.saturating_add(1)
-    } else if step.line == "start" {
-        0
-    } else {
+    let from = if refused {
         index
+    } else {
+        index.saturating_add(1)
     };
     answer_lines(rt, session, script, from, usize::MAX);
     refused

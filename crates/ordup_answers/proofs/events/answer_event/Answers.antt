@@ -1,11 +1,11 @@
-use Rattle.std.proofs.Common.{◌∙◌, ap}
+use Rattle.std.proofs.Common.{◌∙◌, ap, refl}
 use Rattle.std.proofs.lemmas.Result.{on_ok_weaker}
 use Rattle.ordup_primary.specs.Primaries.{PrimaryState}
-use Rattle.ordup_answers.proofs.AnsweringLemmas.{left_by_event}
+use Rattle.ordup_answers.proofs.AnsweringLemmas.{if_err_weaker, left_by_event}
 use Rattle.ordup_answers.proofs.events.answer_event.Goals as goal
 
-pub returns : goal.returns
-returns g c =
+pub returns-clause-reply : goal.returns-clause-reply
+returns-clause-reply g c =
     let stepped = c.step-answer.ensures in
     on_ok_weaker c.stepped.result (λ h d past is.
     let after = stepped.state d past is in
@@ -13,4 +13,9 @@ returns g c =
     (stepped.answer d past is) after h.0
     c.setup.result.now c.args.subject.now c.args.object.now (g.O.AnswerTaker.took c.args.out.now c.stepped.new.self)
     (c.setup.ensures ∙ ap (λ (p : PrimaryState). p.setup) c.primary.ensures.primary ∙ after.store.declared)
-    h.1) c.stepped.ensures
+    (c.reserve.ensures.same _ _ h.1)) c.stepped.ensures.text
+
+pub returns-clause-kept : goal.returns-clause-kept
+returns-clause-kept g c =
+    if_err_weaker c.stepped.result (λ e h.
+    (c.step-answer.ensures.refused (rw h.0 refl), c.reserve.ensures.same _ _ h.1)) c.stepped.ensures.kept

@@ -1,14 +1,45 @@
-use Rattle.std.proofs.lemmas.Result.{on_ok_weaker}
+use Rattle.std.proofs.Common.{arith}
 use Rattle.ordup_answers.proofs.TextLemmas.{certified_parts}
 use Rattle.ordup_answers.proofs.text.push_certified.Goals as goal
 
-pub returns : goal.returns
-returns g c = on_ok_weaker c.push-4.result (λ last.
-    rw last (rw (
-      c.in_ok-push_windows.ensures,
-      c.in_ok-push_number.ensures,
-      c.in_ok-push-3.ensures,
-      c.in_ok-push-2.ensures,
-      c.in_ok-push.ensures,
+pub returns-clause-text : goal.returns-clause-text
+returns-clause-text g c =
+    rw (
+      c.put-3.ensures.text,
+      c.put_windows.ensures.text,
+      c.put_number.ensures.text,
+      c.put-2.ensures.text,
+      c.put_name.ensures.text,
+      c.put.ensures.text,
+      c.in_ok-reserve_answer.ensures.text,
     )
-    (certified_parts c.args.out.now.text c.args.site.now c.args.rounds c.args.windows.now))) c.push-4.ensures
+    (certified_parts c.args.out.now.text c.args.site.now c.args.rounds c.args.windows.now)
+
+pub put_windows-requires : goal.put_windows-requires
+put_windows-requires g c =
+    omega (
+      arith,
+      c.saturating_mul.ensures,
+      c.saturating_add.ensures,
+      c.in_ok-reserve_answer.ensures.room,
+      c.in_ok-reserve_answer.ensures.most,
+      c.put.ensures.room,
+      c.put_name.ensures.room,
+      c.put-2.ensures.room,
+      c.put_number.ensures.room,
+    )
+
+pub put-requires-3 : goal.put-requires-3
+put-requires-3 g c =
+    omega (
+      arith,
+      c.saturating_mul.ensures,
+      c.saturating_add.ensures,
+      c.in_ok-reserve_answer.ensures.room,
+      c.in_ok-reserve_answer.ensures.most,
+      c.put.ensures.room,
+      c.put_name.ensures.room,
+      c.put-2.ensures.room,
+      c.put_number.ensures.room,
+      c.put_windows.ensures.room,
+    )

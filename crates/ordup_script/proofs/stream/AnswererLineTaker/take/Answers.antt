@@ -7,7 +7,7 @@ use Rattle.ordup_script.proofs.stream.AnswererLineTaker.take.Goals as goal
 pub returns-in-Ok-clause-lines : goal.returns-in-Ok-clause-lines
 returns-in-Ok-clause-lines g c line is = record {
   goes_on = λ first earlier h.
-      let answered = answers_line g.W.Write.contents first c.args.self.now _ earlier _ line h (sym is) c.in-Ok.ensures
+      let answered = answers_line g.W.Write.contents first c.args.self.now _ earlier _ line h (sym is) c.in-Ok.ensures.reply
       (record { store = refl; output = refl }) refl in
       rw (append-nil (earlier ++ line ∷ [])) at (c.hand_out_many.ensures.goes_on first (earlier ++ line ∷ []) answered);
 }

@@ -1,7 +1,7 @@
 use Rattle.std.proofs.Common.{rules, w64}
 use Rattle.std.proofs.lemmas.Int.{to_z-of_z}
 use Rattle.ordup_answers.proofs.TextLemmas.{read_parts}
-use Rattle.ordup_answers.proofs.text.push_read.Goals as goal
+use Rattle.ordup_answers.proofs.text.put_read.Goals as goal
 
 pub returns : goal.returns
 returns g c =
@@ -17,7 +17,6 @@ returns g c =
       c.put-2.ensures.text,
       c.put_name.ensures.text,
       c.put.ensures.text,
-      c.reserve.ensures.text,
       to_z-of_z w64 c.args.answer.value (search rules),
     )
     (read_parts c.args.out.now.text c.args.query.now c.args.object.now c.args.answer)

@@ -1,8 +1,0 @@
-use Rattle.std.proofs.Common.{◌≡◌, ◌++◌, drop}
-use Rattle.ordup_answers.specs.Texts.{sites_text}
-use Rattle.ordup_answers.proofs.text.push_sites.Given as goal
-
--- the sites so far and those that are left are all of them
-abbrev pub invariant-loop-site : goal.invariant-loop-site
-invariant-loop-site g l =
-    l.out.text ++ sites_text l.setup.sites (drop l.site-index l.sites) ≡ l.fn.out.text ++ sites_text l.setup.sites l.sites

@@ -81,7 +81,7 @@ class Sources:
         for line in lines:
             implements = re.match(r"impl\b(?:.* for | *<.*?> | )(\w+)", line)
             declares = re.match(r"(?:pub(?:\([a-z]+\))? )?(?:struct|enum|trait) (\w+)", line)
-            begins = re.match(r" *(?:pub(?:\([a-z]+\))? )?(?:const )?fn (\w+)", line)
+            begins = re.match(r' *(?:pub(?:\([a-z]+\))? )?(?:const |extern "C" )?fn (\w+)', line)
             ensures = re.match(r" *ensures (\w+) \{", line)
             if declares:
                 self.types.add(declares[1])

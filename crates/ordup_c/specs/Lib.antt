@@ -1,0 +1,8 @@
+pub mod Owned
+pub mod Stores
+pub mod Sessions
+pub mod Calls
+pub mod Records
+pub mod Checks
+pub mod Successions
+pub mod Laws

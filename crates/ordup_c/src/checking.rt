@@ -1,0 +1,84 @@
+//! The check of a record, as a line in a buffer.
+ghost use Rattle.std.specs.Prelude.{◌≡◌, ◌⊎◌, ◌++◌, [], MatchResult, Ok, OnOk};
+ghost use Rattle.ordup_c.specs.Checks.{ChecksCall, Finds, malformed_line, verdict_line};
+ghost use Rattle.ordup_c.specs.declared.status.TheConstants.{NO_MEMORY, TOO_LONG};
+
+use crate::record::copy_whole;
+use crate::status::{DONE, MALFORMED, NO_MEMORY, TOO_LONG};
+use ordup_audit::{Verdict, check};
+use ordup_check::{RecordReadFault, read_record};
+use ordup_text::{TextBuffer, push_with_number};
+use std::alloc::{AllocError, Global};
+
+/// Checks a record, and tells the verdict: how long its line is, and the line where there is room for it.
+pub(crate) fn tell_verdict(alloc: Global, rows: &[u8], out: &mut [u8], written: &mut usize) -> u32
+    ensures { ChecksCall rows.now out.old out.new written.new result }
+{
+    let mut line = TextBuffer::new(alloc);
+    let status = match find_line(alloc, rows, &mut line) {
+        Ok(found) => {
+            *written = line.len();
+            copy_whole(line.as_slice(), found, out)
+        }
+        Err(status) => {
+            *written = 0;
+            status
+        }
+    };
+    drop(line);
+    status
+}
+
+/// Checks a record, and adds its line to a text that is empty. The answer is the status that goes with the line, or why there is none.
+fn find_line(alloc: Global, rows: &[u8], line: &mut TextBuffer) -> Result<u32, u32>
+    requires { line.old.text ≡ [] }
+    ensures { MatchResult result (λ found. Finds rows.now line.new.text found) (λ status. (status ≡ NO_MEMORY) ⊎ (status ≡ TOO_LONG)) }
+{
+    let mut input = rows;
+    match read_record(alloc, &mut input) {
+        Ok(read) => {
+            let verdict = check(&read);
+            read.discard();
+            found(push_verdict(line, verdict), DONE)
+        }
+        Err(RecordReadFault::Malformed { row }) => found(push_malformed(line, row), MALFORMED),
+        Err(RecordReadFault::NoMemory) => Err(NO_MEMORY),
+        Err(RecordReadFault::Read) => Err(TOO_LONG),
+    }
+}
+
+/// This status, where a line found memory.
+fn found(pushed: Result<(), AllocError>, status: u32) -> Result<u32, u32>
+    ensures { MatchResult result (λ found. (pushed ≡ Ok tt) × (found ≡ status)) (λ e. e ≡ NO_MEMORY) }
+{
+    match pushed {
+        Ok(()) => Ok(status),
+        Err(_) => Err(NO_MEMORY),
+    }
+}
+
+/// Adds the line of a verdict.
+fn push_verdict(out: &mut TextBuffer, verdict: Verdict) -> Result<(), AllocError>
+    ensures { OnOk result (out.new.text ≡ out.old.text ++ verdict_line verdict) }
+{
+    match verdict {
+        Verdict::Fewest(rounds) => {
+            push_with_number(out, b"yes ", rounds)?;
+            out.push(b"\n")
+        }
+        Verdict::No { row, reason } => {
+            push_with_number(out, b"no ", row)?;
+            out.push(b" ")?;
+            out.push(reason.name().as_bytes())?;
+            out.push(b"\n")
+        }
+    }
+}
+
+/// Adds the line of a row that breaks a rule.
+fn push_malformed(out: &mut TextBuffer, row: u64) -> Result<(), AllocError>
+    ensures { OnOk result (out.new.text ≡ out.old.text ++ malformed_line row) }
+{
+    push_with_number(out, b"malformed ", row)?;
+    out.push(b"\n")
+}

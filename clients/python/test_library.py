@@ -49,7 +49,9 @@ class InProcess(TestCase):
 
     def test_the_store_that_goes_on(self):
         store = self.shop()
-        store.commands(["propose add:x:3 set:y:7", "settle"])
+        store.propose({"x": ("add", 3), "y": ("set", 7)})
+        self.refused(22, "NotYet", store.next_declarations)
+        store.settle()
         following = self.store()
         answers = following.run(store.next_declarations())
         self.assertEqual(answers, b"ok object x\nok object y\nok site a\nok limit a\nok start\n")

@@ -15,7 +15,7 @@ from ._pipe import CHECKOUT
 from ._way import Answered, Way
 
 _VERSION = 1  # of the functions, as in ordup.h
-_DONE, _MORE, _CLOSED, _OPEN, _NO_MEMORY, _NOT_STARTED, _UNKNOWN_SITE, _MALFORMED, _TOO_LONG = range(9)
+_DONE, _MORE, _CLOSED, _OPEN, _NO_MEMORY, _NOT_STARTED, _UNKNOWN_SITE, _MALFORMED, _TOO_LONG, _NOT_YET = range(10)
 _ROOM = 65536  # for answers, and about as many bytes of lines are run by one call
 
 
@@ -147,6 +147,8 @@ class InProcess(Way):
             raise Refused(2, "NotStarted", line)
         if status == _UNKNOWN_SITE:
             raise Refused(8, "UnknownSite", line)
+        if status == _NOT_YET:
+            raise Refused(22, "NotYet", line)
         if status == _NO_MEMORY:
             raise NoMemory(4, [], [line])
         if status == _CLOSED:

@@ -1,0 +1,178 @@
+//! What the store answers.
+
+use crate::error::Refused;
+use std::str::FromStr;
+
+/// An answer that begins with `ok`. The fields are named as in docs/FORMATS.md.
+#[derive(Clone, Debug, PartialEq, Eq)]
+pub enum Answer {
+    /// An object, a group, a site or a limit was declared. The name of a limit is that of its site.
+    Declared { kind: String, name: String },
+    Started,
+    Proposed { place: u64 },
+    Sent { site: String, place: u64 },
+    Applied { site: String, place: u64 },
+    Reported { site: String, applied: u64 },
+    Settled(Settled),
+    Begun { query: String, place: u64 },
+    Read(Read),
+    Ended(Ended),
+    Abandoned { query: String },
+    Shown(Shown),
+    Certified(Certified),
+    Relimited { site: String, place: u64 },
+}
+
+/// What became of the head, which is the first update that is not acknowledged.
+#[derive(Clone, Debug, PartialEq, Eq)]
+pub enum Settled {
+    /// It is acknowledged.
+    Acked { place: u64 },
+    /// It has a forced round: it waits for the reports of these sites.
+    Round { place: u64, sites: Vec<String> },
+    /// It still waits for these sites.
+    Waiting { place: u64, sites: Vec<String> },
+}
+
+/// The value is no further than `imported` from the one at the query's place. `total` is what all its reads imported.
+#[derive(Clone, Debug, PartialEq, Eq)]
+pub struct Read {
+    pub query: String,
+    pub object: String,
+    pub value: i64,
+    pub imported: u64,
+    pub total: u64,
+}
+
+/// The sum of all values that were read is no further than `total` from the sum at the query's place.
+#[derive(Clone, Debug, PartialEq, Eq)]
+pub struct Ended {
+    pub query: String,
+    pub place: u64,
+    pub sum: i64,
+    pub total: u64,
+    pub reads: u64,
+}
+
+/// How far a site is, and its values in the order in which the objects were declared.
+#[derive(Clone, Debug, PartialEq, Eq)]
+pub struct Shown {
+    pub site: String,
+    pub sent: u64,
+    pub applied: u64,
+    pub reported: u64,
+    pub rounds: u64,
+    pub values: Vec<(String, i64)>,
+}
+
+impl Shown {
+    /// The value of an object.
+    pub fn value(&self, object: &str) -> Option<i64> {
+        self.values.iter().find(|(name, _)| name == object).map(|(_, value)| *value)
+    }
+}
+
+/// No schedule that keeps the site's limits has fewer rounds. A window `(a, b)` is of the updates a + 1 to b.
+#[derive(Clone, Debug, PartialEq, Eq)]
+pub struct Certified {
+    pub site: String,
+    pub rounds: u64,
+    pub windows: Vec<(u64, u64)>,
+}
+
+/// What a record shows.
+#[derive(Clone, Debug, PartialEq, Eq)]
+pub enum Verdict {
+    /// No schedule that keeps the site's limits has fewer than these rounds.
+    Yes { rounds: u64 },
+    /// There is a reason against the record, in this row.
+    No { row: u64, reason: String },
+    /// This row is the first that breaks a rule of the format.
+    Malformed { row: u64 },
+}
+
+/// The number that a word is.
+fn number<T: FromStr>(word: &str) -> Option<T> {
+    word.parse().ok()
+}
+
+fn texts(words: &[&str]) -> Vec<String> {
+    words.iter().map(|word| word.to_string()).collect()
+}
+
+fn windows(words: &[&str]) -> Option<Vec<(u64, u64)>> {
+    words.iter().map(|word| word.split_once('-').and_then(|(a, b)| Some((number(a)?, number(b)?)))).collect()
+}
+
+fn values(words: &[&str]) -> Option<Vec<(String, i64)>> {
+    words.iter().map(|word| word.split_once('=').and_then(|(x, v)| Some((x.to_string(), number(v)?)))).collect()
+}
+
+impl Answer {
+    /// What an answer says, without its line feed. None where the text is no answer.
+    pub fn parse(text: &str) -> Option<Result<Answer, Refused>> {
+        let words: Vec<&str> = text.split(' ').collect();
+        match words.as_slice() {
+            ["refused", n, name] => Some(Err(Refused { number: number(n)?, name: name.to_string() })),
+            ["ok", words @ ..] => Answer::of_words(words).map(Ok),
+            _ => None,
+        }
+    }
+
+    fn of_words(words: &[&str]) -> Option<Answer> {
+        Some(match words {
+            [kind @ ("object" | "group" | "site" | "limit"), name] => {
+                Answer::Declared { kind: kind.to_string(), name: name.to_string() }
+            }
+            ["start"] => Answer::Started,
+            ["proposed", k] => Answer::Proposed { place: number(k)? },
+            ["sent", s, k] => Answer::Sent { site: s.to_string(), place: number(k)? },
+            ["applied", s, k] => Answer::Applied { site: s.to_string(), place: number(k)? },
+            ["reported", s, j] => Answer::Reported { site: s.to_string(), applied: number(j)? },
+            ["acked", k] => Answer::Settled(Settled::Acked { place: number(k)? }),
+            ["round", k, sites @ ..] => Answer::Settled(Settled::Round { place: number(k)?, sites: texts(sites) }),
+            ["waiting", k, sites @ ..] => Answer::Settled(Settled::Waiting { place: number(k)?, sites: texts(sites) }),
+            ["begun", q, p] => Answer::Begun { query: q.to_string(), place: number(p)? },
+            ["read", q, x, "value", v, "import", i, "total", t] => Answer::Read(Read {
+                query: q.to_string(),
+                object: x.to_string(),
+                value: number(v)?,
+                imported: number(i)?,
+                total: number(t)?,
+            }),
+            ["end", q, "place", p, "sum", v, "total", t, "reads", n] => Answer::Ended(Ended {
+                query: q.to_string(),
+                place: number(p)?,
+                sum: number(v)?,
+                total: number(t)?,
+                reads: number(n)?,
+            }),
+            ["abandoned", q] => Answer::Abandoned { query: q.to_string() },
+            ["show", s, "sent", a, "applied", b, "reported", c, "rounds", d, rest @ ..] => Answer::Shown(Shown {
+                site: s.to_string(),
+                sent: number(a)?,
+                applied: number(b)?,
+                reported: number(c)?,
+                rounds: number(d)?,
+                values: values(rest)?,
+            }),
+            ["certified", s, n, rest @ ..] => {
+                Answer::Certified(Certified { site: s.to_string(), rounds: number(n)?, windows: windows(rest)? })
+            }
+            ["relimit", s, k] => Answer::Relimited { site: s.to_string(), place: number(k)? },
+            _ => return None,
+        })
+    }
+}
+
+impl Verdict {
+    /// What a verdict says, without its line feed. None where the text is none.
+    pub fn parse(text: &str) -> Option<Verdict> {
+        match text.split(' ').collect::<Vec<_>>().as_slice() {
+            ["yes", rounds] => Some(Verdict::Yes { rounds: number(rounds)? }),
+            ["no", row, reason] => Some(Verdict::No { row: number(row)?, reason: reason.to_string() }),
+            ["malformed", row] => Some(Verdict::Malformed { row: number(row)? }),
+            _ => None,
+        }
+    }
+}

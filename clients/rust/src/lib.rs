@@ -1,0 +1,29 @@
+//! A replicated store with a proved bound on its lag, in this process: a binding of `libordup`.
+//!
+//! A [`Store`] has a method for each command of docs/FORMATS.md, and [`Store::run`] for the lines of many. Threads share a
+//! [`SharedStore`]. docs/EMBEDDING.md says what is proved of the library, and what its caller owes, which is what this crate keeps to.
+//!
+//! ```
+//! use ordup::{Change, Scope, Settled, Store};
+//!
+//! let mut store = Store::new()?;
+//! store.object("tea", 40)?;
+//! store.site("south", 2)?;
+//! store.limit("south", Scope::Object("tea"), 6)?;
+//! store.start()?;
+//! assert_eq!(store.propose(&[("tea", Change::Add(-5))])?, 1);
+//! assert_eq!(store.settle()?, Settled::Acked { place: 1 });
+//! assert_eq!(store.show("south")?.value("tea"), Some(40));
+//! # Ok::<(), ordup::Error>(())
+//! ```
+
+mod answer;
+mod commands;
+mod error;
+mod raw;
+mod store;
+
+pub use answer::{Answer, Certified, Ended, Read, Settled, Shown, Verdict};
+pub use commands::{Change, Scope};
+pub use error::{Error, Refused};
+pub use store::{check, Outcome, SharedStore, Store};

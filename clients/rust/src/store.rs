@@ -1,0 +1,233 @@
+//! A store, and what it is asked in text.
+
+use crate::answer::{Answer, Verdict};
+use crate::error::{Error, Refused};
+use crate::raw::*;
+use std::ptr;
+use std::sync::{Mutex, MutexGuard, PoisonError};
+
+/// How many bytes an answer may have at first. There is more room where one is longer.
+const ROOM: usize = 512;
+
+/// How many bytes a verdict has at most.
+const VERDICT: usize = 64;
+
+/// How many bytes a line may have, without its line feed.
+const MOST_BYTES: usize = 4096;
+
+/// An answer, or a refusal.
+pub type Outcome = Result<Answer, Refused>;
+
+/// A store in this process. It is closed when it is dropped.
+///
+/// It may go from thread to thread. Where several threads call one store, they share a [`SharedStore`].
+pub struct Store(RawStore);
+
+// SAFETY: a store has all of its memory to itself, and the library has no state of its own. A call takes `&mut`, so one thread at a
+// time is in it.
+unsafe impl Send for Store {}
+
+impl Store {
+    /// A store before its first line.
+    pub fn new() -> Result<Store, Error> {
+        let mut store = Store(RawStore { held: ptr::null_mut(), mark: 0 });
+        // SAFETY: it has no arguments.
+        match unsafe { ordup_version() } {
+            VERSION => {}
+            version => return Err(Error::Unknown(version)),
+        }
+        // SAFETY: all zero is no store.
+        match unsafe { ordup_open(&mut store.0) } {
+            DONE => Ok(store),
+            status => Err(fault(status)),
+        }
+    }
+
+    /// Answers the lines of a text, and adds the answers to `answers`: the same bytes as `ordup run` reads and writes. The last line
+    /// needs no line feed.
+    ///
+    /// Where memory is refused the answers to the lines that were taken are added, and the error says which these are.
+    ///
+    /// ```
+    /// let mut store = ordup::Store::new()?;
+    /// let mut answers = Vec::new();
+    /// store.run(b"object tea 40\nsite south 2\n\n# no answer\nstart", &mut answers)?;
+    /// assert_eq!(answers, b"ok object tea\nok site south\nok start\n");
+    /// # Ok::<(), ordup::Error>(())
+    /// ```
+    pub fn run(&mut self, text: &[u8], answers: &mut Vec<u8>) -> Result<(), Error> {
+        let (mut rest, mut outcome) = (text, Ok(()));
+        loop {
+            if answers.try_reserve(ROOM).is_err() {
+                return outcome.and(Err(Error::NoMemory { taken: text.len() - rest.len() }));
+            }
+            let (start, room) = (answers.len(), answers.capacity() - answers.len());
+            let (mut taken, mut written) = (0, 0);
+            // SAFETY: the store is as the last call left it. The text is a slice, and the room is the vector's own. The library
+            // reads no byte of the room, and writes the first `written`, which are at most `room`.
+            let status = unsafe {
+                let at = answers.as_mut_ptr().add(start);
+                let status = ordup_run(&mut self.0, rest.as_ptr(), rest.len(), &mut taken, at, room, &mut written);
+                answers.set_len(start + written);
+                status
+            };
+            let was_asked = !rest.is_empty();
+            rest = &rest[taken..];
+            match status {
+                DONE => return outcome,
+                MORE => {}
+                NO_MEMORY if was_asked => outcome = Err(Error::NoMemory { taken: text.len() - rest.len() }),
+                status => return outcome.and(Err(fault(status))),
+            }
+            // All lines that can be taken were. The rest of their answers comes.
+            rest = &[];
+        }
+    }
+
+    /// Answers one command, as it is.
+    ///
+    /// ```
+    /// use ordup::{Answer, Error, Store};
+    /// let mut store = Store::new()?;
+    /// assert_eq!(store.command("object tea 40")?, Answer::Declared { kind: "object".into(), name: "tea".into() });
+    /// assert!(matches!(store.command("object tea 1"), Err(Error::Refused(refused)) if refused.name == "NameTaken"));
+    /// # Ok::<(), Error>(())
+    /// ```
+    pub fn command(&mut self, line: &str) -> Result<Answer, Error> {
+        let mut outcomes = Vec::with_capacity(1);
+        self.commands([line], &mut outcomes)?;
+        Ok(outcomes.remove(0)?)
+    }
+
+    /// Answers many commands, and adds their answers to `outcomes`. A refusal is one of these. Where one of the lines would have no
+    /// answer, or is more than a line, no command is asked.
+    ///
+    /// Where memory is refused the answers to the commands that were taken are added.
+    pub fn commands<L: AsRef<str>>(&mut self, lines: impl IntoIterator<Item = L>, outcomes: &mut Vec<Outcome>) -> Result<(), Error> {
+        let mut text = Vec::new();
+        for line in lines {
+            let line = line.as_ref();
+            if !is_command(line) {
+                return Err(Error::BadLine(line.to_string()));
+            }
+            text.extend_from_slice(line.as_bytes());
+            text.push(b'\n');
+        }
+        let mut answers = Vec::with_capacity(ROOM);
+        let outcome = self.run(&text, &mut answers);
+        let taken = match outcome {
+            Err(Error::NoMemory { taken }) => &text[..taken],
+            _ => &text[..],
+        };
+        let (count, answers) = (taken.iter().filter(|byte| **byte == b'\n').count(), text_of(answers)?);
+        let parsed: Option<Vec<_>> = answers.lines().map(Answer::parse).collect();
+        outcomes.extend(parsed.filter(|parsed| parsed.len() == count).ok_or(Error::BadAnswer(answers))?);
+        outcome
+    }
+
+    /// The record of a site, for an auditor: as `ordup record` prints it.
+    pub fn record(&mut self, site: &str) -> Result<String, Error> {
+        // SAFETY: as in `run`.
+        given(65_536, |room, size, written| unsafe {
+            ordup_record(&mut self.0, site.as_ptr(), site.len(), room, size, written)
+        })
+    }
+
+    /// The declarations of the store that goes on with what this one ends with, once all updates are acknowledged: as `ordup next`
+    /// prints them.
+    pub fn next(&mut self) -> Result<String, Error> {
+        // SAFETY: as in `run`.
+        given(65_536, |room, size, written| unsafe { ordup_next(&mut self.0, room, size, written) })
+    }
+}
+
+impl Drop for Store {
+    fn drop(&mut self) {
+        // SAFETY: the store is as the last call left it.
+        unsafe { ordup_close(&mut self.0) }
+    }
+}
+
+/// Checks a record, as `ordup check` does. It needs no store.
+///
+/// ```
+/// use ordup::{check, Verdict};
+/// let record = "ordup,1,a,1\nobject,1,x,0\nlimit,1,object:x,5\nchange,1,1,add:x:4\n";
+/// assert_eq!(check(record.as_bytes())?, Verdict::Yes { rounds: 0 });
+/// assert_eq!(check(&record.as_bytes()[..40])?, Verdict::Malformed { row: 3 });
+/// # Ok::<(), ordup::Error>(())
+/// ```
+pub fn check(record: &[u8]) -> Result<Verdict, Error> {
+    // SAFETY: as in `Store::run`.
+    let text = given(VERDICT, |room, size, written| unsafe {
+        ordup_check(record.as_ptr(), record.len(), room, size, written)
+    })?;
+    Verdict::parse(text.trim_end()).ok_or(Error::BadAnswer(text))
+}
+
+/// What a call writes, which says how much room it needs.
+fn given(room: usize, mut call: impl FnMut(*mut u8, usize, *mut usize) -> u32) -> Result<String, Error> {
+    let (mut text, mut written) = (Vec::new(), room);
+    loop {
+        text.try_reserve_exact(written).map_err(|_| Error::NoMemory { taken: 0 })?;
+        text.resize(written, 0);
+        match call(text.as_mut_ptr(), text.len(), &mut written) {
+            DONE | MALFORMED => break,
+            MORE => text.clear(),
+            status => return Err(fault(status)),
+        }
+    }
+    text.truncate(written);
+    text_of(text)
+}
+
+fn text_of(bytes: Vec<u8>) -> Result<String, Error> {
+    String::from_utf8(bytes).map_err(|fault| Error::BadAnswer(String::from_utf8_lossy(fault.as_bytes()).into_owned()))
+}
+
+fn fault(status: u32) -> Error {
+    match status {
+        NO_MEMORY => Error::NoMemory { taken: 0 },
+        NOT_STARTED => Error::NotStarted,
+        UNKNOWN_SITE => Error::UnknownSite,
+        TOO_LONG => Error::TooLong,
+        NOT_YET => Error::NotYet,
+        status => Error::Unknown(status),
+    }
+}
+
+/// Whether a text is one line that has an answer.
+fn is_command(line: &str) -> bool {
+    let is_printed = line.bytes().all(|byte| (b' '..=b'~').contains(&byte));
+    is_printed && line.len() <= MOST_BYTES && !line.starts_with('#') && line.bytes().any(|byte| byte != b' ')
+}
+
+/// A store that threads share: it has a lock around it, since the library has none.
+///
+/// ```
+/// use ordup::{SharedStore, Store};
+/// let shared = SharedStore::from(Store::new()?);
+/// shared.lock().commands(["object sold 0", "site south 2", "start"], &mut Vec::new())?;
+/// std::thread::scope(|scope| {
+///     for _ in 0..4 {
+///         scope.spawn(|| shared.lock().command("propose add:sold:1").unwrap());
+///     }
+/// });
+/// assert_eq!(shared.lock().propose(&[("sold", ordup::Change::Add(1))])?, 5);
+/// # Ok::<(), ordup::Error>(())
+/// ```
+pub struct SharedStore(Mutex<Store>);
+
+impl SharedStore {
+    /// The store, for this thread alone until the guard is dropped. No command of another thread comes between those by one guard.
+    pub fn lock(&self) -> MutexGuard<'_, Store> {
+        // A thread that panicked with the guard was in no call of the library, so the store is whole.
+        self.0.lock().unwrap_or_else(PoisonError::into_inner)
+    }
+}
+
+impl From<Store> for SharedStore {
+    fn from(store: Store) -> SharedStore {
+        SharedStore(Mutex::new(store))
+    }
+}

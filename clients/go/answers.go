@@ -1,0 +1,244 @@
+package ordup
+
+import (
+	"fmt"
+	"strconv"
+	"strings"
+)
+
+// An Answer is one of the types below, or a *Refused. The fields are named as in docs/FORMATS.md.
+type Answer interface{}
+
+// Declared answers a declaration: of an "object", a "group", a "site" or a "limit". The name of a limit is that of its site.
+type Declared struct{ Kind, Name string }
+
+// Started answers start.
+type Started struct{}
+
+// Proposed answers propose.
+type Proposed struct{ Place uint64 }
+
+// Sent answers send.
+type Sent struct {
+	Site  string
+	Place uint64
+}
+
+// Applied answers apply.
+type Applied struct {
+	Site  string
+	Place uint64
+}
+
+// Reported answers report.
+type Reported struct {
+	Site    string
+	Applied uint64
+}
+
+// Settled says what became of the head, which is the first update that is not acknowledged: State is "acked", or it waits for the
+// reports of the sites. Then State is "round" at first, and "waiting" later.
+type Settled struct {
+	State string
+	Place uint64
+	Sites []string
+}
+
+// Begun answers begin. The place is the query's reference.
+type Begun struct {
+	Query string
+	Place uint64
+}
+
+// Read answers read. The value is no further than Imported from the one at the query's place. Total is what all its reads imported.
+type Read struct {
+	Query, Object   string
+	Value           int64
+	Imported, Total uint64
+}
+
+// Ended answers end. The sum of all values that were read is no further than Total from the sum at the query's place.
+type Ended struct {
+	Query        string
+	Place        uint64
+	Sum          int64
+	Total, Reads uint64
+}
+
+// Abandoned answers abandon.
+type Abandoned struct{ Query string }
+
+// Shown answers show.
+type Shown struct {
+	Site                            string
+	Sent, Applied, Reported, Rounds uint64
+	Values                          map[string]int64
+}
+
+// Certified answers certify. No schedule that keeps the site's limits has fewer rounds. A window {a, b} is of the updates a + 1 to b.
+type Certified struct {
+	Site    string
+	Rounds  uint64
+	Windows [][2]uint64
+}
+
+// Relimited answers relimit. The limit is in force from the place on.
+type Relimited struct {
+	Site  string
+	Place uint64
+}
+
+// A Verdict is what a record shows. State is "yes", "no" or "malformed".
+type Verdict struct {
+	State string
+	// Of "yes": no schedule that keeps the site's limits has fewer rounds.
+	Rounds uint64
+	// Of "no" and "malformed": the row that is wrong.
+	Row uint64
+	// Of "no": the reason against the record.
+	Reason string
+}
+
+// words reads the words of an answer, and keeps whether one was not what it should be.
+type words struct {
+	rest []string
+	bad  bool
+}
+
+func (words *words) next() string {
+	if len(words.rest) == 0 {
+		words.bad = true
+		return ""
+	}
+	word := words.rest[0]
+	words.rest = words.rest[1:]
+	return word
+}
+
+func (words *words) number() uint64 { return words.numberOf(words.next()) }
+
+func (words *words) numberOf(text string) uint64 {
+	number, err := strconv.ParseUint(text, 10, 64)
+	words.bad = words.bad || err != nil
+	return number
+}
+
+func (words *words) value() int64 { return words.valueOf(words.next()) }
+
+func (words *words) valueOf(text string) int64 {
+	value, err := strconv.ParseInt(text, 10, 64)
+	words.bad = words.bad || err != nil
+	return value
+}
+
+// numberAfter reads a word that must be this one, and the number after it.
+func (words *words) numberAfter(word string) uint64 {
+	words.skip(word)
+	return words.number()
+}
+
+func (words *words) skip(word string) { words.bad = words.next() != word || words.bad }
+
+func (words *words) all() []string {
+	all := words.rest
+	words.rest = nil
+	return all
+}
+
+func (words *words) pair(sign string) (string, string) {
+	first, second, isPair := strings.Cut(words.next(), sign)
+	words.bad = words.bad || !isPair
+	return first, second
+}
+
+// parse is what an answer says, which came for a line.
+func parse(text, line string) (Answer, error) {
+	words := &words{rest: strings.Split(text, " ")}
+	answer := parseWords(words, line)
+	if words.bad || len(words.rest) > 0 {
+		return nil, fmt.Errorf("ordup: %q is no answer to %q", text, line)
+	}
+	return answer, nil
+}
+
+func parseWords(words *words, line string) Answer {
+	if first := words.next(); first == "refused" {
+		return &Refused{Number: int(words.number()), Name: words.next(), Line: line}
+	} else if first != "ok" {
+		words.bad = true
+		return nil
+	}
+	switch kind := words.next(); kind {
+	case "object", "group", "site", "limit":
+		return Declared{kind, words.next()}
+	case "start":
+		return Started{}
+	case "proposed":
+		return Proposed{words.number()}
+	case "sent":
+		return Sent{words.next(), words.number()}
+	case "applied":
+		return Applied{words.next(), words.number()}
+	case "reported":
+		return Reported{words.next(), words.number()}
+	case "acked", "round", "waiting":
+		return Settled{kind, words.number(), words.all()}
+	case "begun":
+		return Begun{words.next(), words.number()}
+	case "read":
+		read := Read{Query: words.next(), Object: words.next()}
+		words.skip("value")
+		read.Value, read.Imported, read.Total = words.value(), words.numberAfter("import"), words.numberAfter("total")
+		return read
+	case "end":
+		ended := Ended{Query: words.next(), Place: words.numberAfter("place")}
+		words.skip("sum")
+		ended.Sum, ended.Total, ended.Reads = words.value(), words.numberAfter("total"), words.numberAfter("reads")
+		return ended
+	case "abandoned":
+		return Abandoned{words.next()}
+	case "show":
+		return parseShown(words)
+	case "certified":
+		certified := Certified{Site: words.next(), Rounds: words.number()}
+		for len(words.rest) > 0 {
+			a, b := words.pair("-")
+			certified.Windows = append(certified.Windows, [2]uint64{words.numberOf(a), words.numberOf(b)})
+		}
+		return certified
+	case "relimit":
+		return Relimited{words.next(), words.number()}
+	}
+	words.bad = true
+	return nil
+}
+
+func parseShown(words *words) Shown {
+	shown := Shown{Site: words.next(), Sent: words.numberAfter("sent"), Applied: words.numberAfter("applied")}
+	shown.Reported, shown.Rounds = words.numberAfter("reported"), words.numberAfter("rounds")
+	shown.Values = make(map[string]int64, len(words.rest))
+	for len(words.rest) > 0 {
+		name, value := words.pair("=")
+		shown.Values[name] = words.valueOf(value)
+	}
+	return shown
+}
+
+func parseVerdict(text string) (Verdict, error) {
+	words := &words{rest: strings.Split(text, " ")}
+	verdict := Verdict{State: words.next()}
+	switch verdict.State {
+	case "yes":
+		verdict.Rounds = words.number()
+	case "no":
+		verdict.Row, verdict.Reason = words.number(), words.next()
+	case "malformed":
+		verdict.Row = words.number()
+	default:
+		words.bad = true
+	}
+	if words.bad || len(words.rest) > 0 {
+		return Verdict{}, fmt.Errorf("ordup: %q is no verdict", text)
+	}
+	return verdict, nil
+}

@@ -1,0 +1,3 @@
+module ordup
+
+go 1.19

@@ -1,0 +1,238 @@
+// Package ordup is a replicated store with a proved bound on its lag, in this process: a binding of libordup.
+//
+// A Store has a method for each command of docs/FORMATS.md, and Run for the lines of many. Goroutines may share it.
+// docs/EMBEDDING.md says what is proved of the library, and what its caller owes, which is what this package keeps to.
+//
+// It links libordup.a of out/ in this repository, where ./ordup --library leaves it. Where that is another folder, set CGO_CFLAGS
+// to -I and CGO_LDFLAGS to -L with its name.
+package ordup
+
+/*
+#cgo CFLAGS: -I${SRCDIR}/../../out
+#cgo LDFLAGS: -L${SRCDIR}/../../out -l:libordup.a
+#include <stdlib.h>
+#include "ordup.h"
+*/
+import "C"
+
+import (
+	"bytes"
+	"fmt"
+	"runtime"
+	"strings"
+	"sync"
+	"unsafe"
+)
+
+// firstRoom is how many bytes the answers of a call may have at first. There is more room where they have more.
+const firstRoom = 4096
+
+// mostBytes is how many bytes a line may have, without its line feed.
+const mostBytes = 4096
+
+// A Store is a store in this process. Goroutines may share it: a lock lets one call go on at a time.
+type Store struct {
+	lock sync.Mutex
+	// The library's own, in memory of C.
+	at *C.ordup_store
+}
+
+// Open gives a store before its first line. Close gives its memory back.
+func Open() (*Store, error) {
+	if version := C.ordup_version(); version != C.ORDUP_VERSION {
+		return nil, fmt.Errorf("ordup: the library has version %d, and not %d", version, C.ORDUP_VERSION)
+	}
+	at := (*C.ordup_store)(C.calloc(1, C.sizeof_ordup_store))
+	if at == nil {
+		return nil, &NoMemory{0}
+	}
+	if status := C.ordup_open(at); status != C.ORDUP_DONE {
+		C.free(unsafe.Pointer(at))
+		return nil, fault(status, 0)
+	}
+	store := &Store{at: at}
+	runtime.SetFinalizer(store, (*Store).Close)
+	return store, nil
+}
+
+// Close closes the store and gives its memory back. Each later call fails with ErrClosed. It returns nil.
+func (store *Store) Close() error {
+	store.lock.Lock()
+	defer store.lock.Unlock()
+	if store.at != nil {
+		C.ordup_close(store.at)
+		C.free(unsafe.Pointer(store.at))
+		store.at = nil
+		runtime.SetFinalizer(store, nil)
+	}
+	return nil
+}
+
+// Run answers the lines of a text: the same bytes as `ordup run` reads and writes. The last line needs no line feed. No line of
+// another call comes between them.
+//
+// Where memory is refused the error is a *NoMemory, which says which lines were taken, and their answers are returned with it.
+func (store *Store) Run(text []byte) ([]byte, error) {
+	store.lock.Lock()
+	defer store.lock.Unlock()
+	if store.at == nil {
+		return nil, ErrClosed
+	}
+	var outcome error
+	answers, used, rest := make([]byte, firstRoom), 0, text
+	for {
+		var taken, written C.size_t
+		status := C.ordup_run(store.at, pointer(rest), C.size_t(len(rest)), &taken,
+			pointer(answers[used:]), C.size_t(len(answers)-used), &written)
+		wasAsked := len(rest) > 0
+		used, rest = used+int(written), rest[taken:]
+		switch {
+		case status == C.ORDUP_DONE:
+			return answers[:used], outcome
+		case status == C.ORDUP_MORE:
+			answers = append(answers, make([]byte, len(answers))...)
+		case status == C.ORDUP_NO_MEMORY && wasAsked:
+			outcome = fault(status, len(text)-len(rest))
+		default:
+			return answers[:used], fault(status, 0)
+		}
+		rest = nil // All lines that can be taken were. The rest of their answers comes.
+	}
+}
+
+// Command answers one command, as it is. A refusal is the error, a *Refused.
+func (store *Store) Command(line string) (Answer, error) {
+	outcomes, err := store.Commands(line)
+	if err != nil {
+		return nil, err
+	}
+	if refused, isRefused := outcomes[0].(*Refused); isRefused {
+		return nil, refused
+	}
+	return outcomes[0], nil
+}
+
+// Commands answers many commands. A refusal is one of the answers, a *Refused. Where one of the lines would have no answer, or is
+// more than a line, the error is a *BadLine and no command was asked.
+//
+// Where memory is refused the answers to the commands that were taken are returned with the error, a *NoMemory.
+func (store *Store) Commands(lines ...string) ([]Answer, error) {
+	var text bytes.Buffer
+	for _, line := range lines {
+		if !isCommand(line) {
+			return nil, &BadLine{line}
+		}
+		text.WriteString(line)
+		text.WriteByte('\n')
+	}
+	answers, err := store.Run(text.Bytes())
+	taken := len(lines)
+	if short, isShort := err.(*NoMemory); isShort {
+		taken = bytes.Count(text.Bytes()[:short.Taken], []byte{'\n'})
+	} else if err != nil {
+		return nil, err
+	}
+	texts := strings.Split(string(answers), "\n")
+	if len(texts)-1 != taken {
+		return nil, fmt.Errorf("ordup: there are %d answers to %d lines", len(texts)-1, taken)
+	}
+	outcomes := make([]Answer, taken)
+	for place := range outcomes {
+		var bad error
+		if outcomes[place], bad = parse(texts[place], lines[place]); bad != nil {
+			return nil, bad
+		}
+	}
+	return outcomes, err
+}
+
+// Record gives the record of a site, for an auditor: as `ordup record` prints it.
+func (store *Store) Record(site string) (string, error) {
+	name := []byte(site)
+	return store.given(func(room []byte, written *C.size_t) C.uint32_t {
+		return C.ordup_record(store.at, pointer(name), C.size_t(len(name)), pointer(room), C.size_t(len(room)), written)
+	})
+}
+
+// Next gives the declarations of the store that goes on with what this one ends with, once all updates are acknowledged: as
+// `ordup next` prints them.
+func (store *Store) Next() (string, error) {
+	return store.given(func(room []byte, written *C.size_t) C.uint32_t {
+		return C.ordup_next(store.at, pointer(room), C.size_t(len(room)), written)
+	})
+}
+
+func (store *Store) given(call func([]byte, *C.size_t) C.uint32_t) (string, error) {
+	store.lock.Lock()
+	defer store.lock.Unlock()
+	if store.at == nil {
+		return "", ErrClosed
+	}
+	return given(65536, call)
+}
+
+// Check checks a record, as `ordup check` does. It needs no store.
+func Check(record []byte) (Verdict, error) {
+	text, err := given(64, func(room []byte, written *C.size_t) C.uint32_t {
+		return C.ordup_check(pointer(record), C.size_t(len(record)), pointer(room), C.size_t(len(room)), written)
+	})
+	if err != nil {
+		return Verdict{}, err
+	}
+	return parseVerdict(strings.TrimSuffix(text, "\n"))
+}
+
+// given is what a call writes, which says how much room it needs.
+func given(size int, call func([]byte, *C.size_t) C.uint32_t) (string, error) {
+	for {
+		room := make([]byte, size)
+		var written C.size_t
+		switch status := call(room, &written); status {
+		case C.ORDUP_DONE, C.ORDUP_MALFORMED:
+			return string(room[:written]), nil
+		case C.ORDUP_MORE:
+			size = int(written)
+		default:
+			return "", fault(status, 0)
+		}
+	}
+}
+
+// nothing is what a pointer to no bytes points to, since none may be null.
+var nothing [1]byte
+
+func pointer(text []byte) *C.char {
+	if len(text) == 0 {
+		text = nothing[:]
+	}
+	return (*C.char)(unsafe.Pointer(&text[0]))
+}
+
+// isCommand is whether a text is one line that has an answer.
+func isCommand(line string) bool {
+	for _, byte := range []byte(line) {
+		if byte < ' ' || byte > '~' {
+			return false
+		}
+	}
+	return len(line) <= mostBytes && !strings.HasPrefix(line, "#") && strings.Trim(line, " ") != ""
+}
+
+// fault is the error that a status says.
+func fault(status C.uint32_t, taken int) error {
+	switch status {
+	case C.ORDUP_NO_MEMORY:
+		return &NoMemory{taken}
+	case C.ORDUP_CLOSED:
+		return ErrClosed
+	case C.ORDUP_NOT_STARTED:
+		return ErrNotStarted
+	case C.ORDUP_UNKNOWN_SITE:
+		return ErrUnknownSite
+	case C.ORDUP_TOO_LONG:
+		return ErrTooLong
+	case C.ORDUP_NOT_YET:
+		return ErrNotYet
+	}
+	return fmt.Errorf("ordup: status %d", status)
+}

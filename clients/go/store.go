@@ -24,8 +24,11 @@ import (
 	"unsafe"
 )
 
-// firstRoom is how many bytes the answers of a call may have at first. There is more room where they have more.
-const firstRoom = 4096
+// firstRoom and mostRoom are how many bytes of answers the library may write at once: at first, and where there were more answers.
+const (
+	firstRoom = 4096
+	mostRoom  = 1 << 20
+)
 
 // mostBytes is how many bytes a line may have, without its line feed.
 const mostBytes = 4096
@@ -35,6 +38,9 @@ type Store struct {
 	lock sync.Mutex
 	// The library's own, in memory of C.
 	at *C.ordup_store
+	// What a call writes: its answers, of which the caller gets a copy, and how many bytes were taken and written.
+	room           []byte
+	taken, written C.size_t
 }
 
 // Open gives a store before its first line. Close gives its memory back.
@@ -50,7 +56,7 @@ func Open() (*Store, error) {
 		C.free(unsafe.Pointer(at))
 		return nil, fault(status, 0)
 	}
-	store := &Store{at: at}
+	store := &Store{at: at, room: make([]byte, firstRoom)}
 	runtime.SetFinalizer(store, (*Store).Close)
 	return store, nil
 }
@@ -79,22 +85,23 @@ func (store *Store) Run(text []byte) ([]byte, error) {
 		return nil, ErrClosed
 	}
 	var outcome error
-	answers, used, rest := make([]byte, firstRoom), 0, text
+	answers, rest := []byte{}, text
 	for {
-		var taken, written C.size_t
-		status := C.ordup_run(store.at, pointer(rest), C.size_t(len(rest)), &taken,
-			pointer(answers[used:]), C.size_t(len(answers)-used), &written)
+		status := C.ordup_run(store.at, pointer(rest), C.size_t(len(rest)), &store.taken,
+			pointer(store.room), C.size_t(len(store.room)), &store.written)
 		wasAsked := len(rest) > 0
-		used, rest = used+int(written), rest[taken:]
+		answers, rest = append(answers, store.room[:store.written]...), rest[store.taken:]
 		switch {
 		case status == C.ORDUP_DONE:
-			return answers[:used], outcome
+			return answers, outcome
 		case status == C.ORDUP_MORE:
-			answers = append(answers, make([]byte, len(answers))...)
+			if len(store.room) < mostRoom {
+				store.room = make([]byte, 2*len(store.room))
+			}
 		case status == C.ORDUP_NO_MEMORY && wasAsked:
 			outcome = fault(status, len(text)-len(rest))
 		default:
-			return answers[:used], fault(status, 0)
+			return answers, fault(status, 0)
 		}
 		rest = nil // All lines that can be taken were. The rest of their answers comes.
 	}

@@ -3,62 +3,76 @@
 MISTAKES = {
     # The primary reports what is in the log, whether a site told it or not.
     "reports_what_no_site_told": [
-        (
-            "primary.py",
-            "        lines = []\n",
-            "        told = dict.fromkeys(self.applied, self.updates)\n        lines = []\n",
-        ),
+        ("primary.py", "            if site in self.leaving and not is_served(site, serving):\n", "            if True:\n"),
     ],
     # The client is told once the update has a number.
     "answers_before_it_settles": [
         (
             "primary.py",
-            "self.waiting.append(asker)",
-            'self.answers.append((asker, f"ok acked {outcome.place}"))',
-        ),
-        (
-            "primary.py",
-            'self.answers.append((self.waiting.popleft(), f"ok acked {outcome.place}"))',
-            "pass",
+            "            self.waiting.append(asker)\n",
+            '            self.waiting.append(asker)\n            self.answer(asker, f"ok acked {outcome.place} epoch {self.epoch}")\n',
         ),
     ],
-    # A primary that is started again begins with the first request.
+    # A request that comes again is proposed again.
     "takes_requests_again": [
-        ("primary.py", "client, number, self.request = ", "client, number, _ = "),
-        ("primary.py", "new = int(number) >", "new = True or int(number) >"),
+        ("primary.py", "            elif int(number) > self.taken.get(client, 0):\n", "            else:\n"),
     ],
     # A primary that was replaced writes after the entries of the other one.
     "goes_on_after_another": [
         (
             "primary.py",
-            'streams.append(self.engine, "script", self.entries + 1, ',
-            "self.engine.xadd(\"script\", id=f\"{streams.last(self.engine, 'script') + 1}-0\", fields=",
+            "self.engine.commit(self.entries + 1, lines, puts, deletes)",
+            "self.engine.commit(self.engine.ends()[1] + 1, lines, puts, deletes)",
         ),
     ],
-    # A primary that lost its connection takes over from the one that took over.
-    "comes_back_after_another": [
-        ("primary.py", "if OWN in self.primaries and self.primaries[-1] != OWN:", "if False:"),
+    # The requests go before the entry that takes them is written.
+    "takes_requests_before_it_writes": [
+        (
+            "primary.py",
+            "        self.write(lines, {f",
+            '        self.engine.remove("request/")\n        time.sleep(0.05)\n        self.write(lines, {f',
+        ),
     ],
-    # A site shows old values to readers while it applies the script from the beginning, some entries at a time.
+    # The next epoch begins while a site has not told the last place.
+    "goes_over_before_all_have_told": [
+        ("primary.py", "{self.acknowledged, *self.applied.values()} == {self.updates}", "self.acknowledged == self.updates"),
+    ],
+    # The next epoch begins with the values that the last one began with.
+    "begins_again_with_the_first_values": [
+        ("epochs.py", "    lines = made.stdout.splitlines()\n", "    lines = first_lines(script)\n"),
+        (
+            "epochs.py",
+            "def archive(members, folder, first):\n",
+            'def first_lines(script):\n    script.seek(0)\n    lines = script.read().split("\\nstart\\n")[0].split("\\n")\n'
+            '    return [line for line in lines if is_command(line)] + ["start"]\n\n\ndef archive(members, folder, first):\n',
+        ),
+    ],
+    # Two processes of a site serve readers, since neither asks for the lease.
+    "serves_without_the_lease": [
+        ("replica.py", "not self.lease.lives() or ", ""),
+        ("streams.py", "self.etcd.transaction([self.txn.value(holds[0]) == holds[1]], ", "self.etcd.transaction([], "),
+    ],
+    # A site shows old values to readers while it applies the script from the beginning.
     "serves_before_it_has_caught_up": [
-        ("replica.py", "self.entries >= self.first and ", ""),
-        ("replica.py", "MOST = 1000", "MOST = 1"),
+        ("replica.py", "not self.lease.lives() or shown.entries < self.first", "False"),
+        ("replica.py", "                self.entries = number\n", "                self.entries = number\n                self.show()\n"),
     ],
     # A site tells its place, and shows it to readers a little later.
     "tells_before_it_shows": [
-        ("replica.py", "            self.tell(shown.applied)\n", ""),
         (
             "replica.py",
-            "            self.line = ",
-            "            self.tell(shown.applied)\n            time.sleep(0.3)\n            self.line = ",
+            "        self.shown = Shown(self.entries, self.epoch, shown.applied, values)\n        self.tell(self.engine)\n",
+            "        old, self.shown = self.shown, Shown(self.entries, self.epoch, shown.applied, values)\n        new = self.shown\n"
+            "        self.tell(self.engine)\n        self.shown = old\n        time.sleep(0.3)\n        self.shown = new\n",
         ),
     ],
     # A site that lost its connection takes the next entries as read.
     "skips_what_came_while_it_was_away": [
-        ("replica.py", '                print(f"site', '                site.entries += 3\n                print(f"site'),
+        ("replica.py", '            away.say(f"site {site.name}")\n', "            site.entries = site.engine.ends()[1]\n"),
     ],
-    # The engine answers before anything is on the disk.
-    "keeps_nothing_on_the_disk": [
-        ("redis.conf", "appendonly yes", "appendonly no"),
+    # A site that is taken out goes on.
+    "serves_after_it_was_taken_out": [
+        ("replica.py", "            self.sites.discard(words[1])\n", "            pass\n"),
+        ("replica.py", "int(lines[0].split()[2]), set()", "int(lines[0].split()[2]), self.sites"),
     ],
 }

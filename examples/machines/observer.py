@@ -53,54 +53,50 @@ def changed(values, words):
     return after
 
 
-class Observer:
-    """What the script of the stream comes to."""
+class Epoch:
+    """What the script of an epoch comes to."""
 
-    def __init__(self, entries):
-        """`entries` has the identifier and the lines of each entry."""
-        self.passed, self.failed, self.seen = Counter(), [], Counter()
-        # The values after each update, and what came of each request.
-        self.values, self.came = [{}], {}
+    def __init__(self, observer, number, lines, before):
+        self.observer, self.number = observer, number
+        # The values after each update.
+        self.values = [{}]
         # The limits of each site: the words of each, its objects or None for the count, and its amount.
         self.limits = {}
         groups, asker, started = {}, None, False
-        for number, (identifier, lines) in enumerate(entries, 1):
-            self.check("numbers of entries", identifier == f"{number}-0", f"entry {number} is {identifier}")
-            for line in lines:
-                words = line.split()
-                if words[:2] == ["#", "request"]:
-                    asker = (words[2], int(words[3]))
-                elif words and words[0] == "object" and not started:
-                    self.values[0][words[1]] = int(words[2])
-                elif words and words[0] == "group" and not started:
-                    groups[words[1]] = words[2:]
-                elif words and words[0] == "site" and not started:
-                    self.limits[words[1]] = []
-                elif words and words[0] == "limit" and not started:
-                    scopes = {"object": words[3:4], "group": groups.get(words[3]), "all": self.values[0], "count": None}
-                    self.limits[words[1]].append((" ".join(words[2:]), scopes[words[2]], int(words[-1])))
-                elif words[:1] == ["start"]:
-                    started = True
-                elif words[:1] == ["propose"]:
-                    self.propose(asker, words[1:])
-                    asker = None
+        for line in lines:
+            words = line.split()
+            if words[:2] == ["#", "request"]:
+                asker = (words[2], int(words[3]))
+            elif words and words[0] == "object" and not started:
+                self.values[0][words[1]] = int(words[2])
+            elif words and words[0] == "group" and not started:
+                groups[words[1]] = words[2:]
+            elif words and words[0] == "site" and not started:
+                self.limits[words[1]] = []
+            elif words and words[0] == "limit" and not started:
+                scopes = {"object": words[3:4], "group": groups.get(words[3]), "all": self.values[0], "count": None}
+                self.limits[words[1]].append((" ".join(words[2:]), scopes[words[2]], int(words[-1])))
+            elif words[:1] == ["start"]:
+                started = True
+            elif words[:1] == ["propose"]:
+                self.propose(asker, words[1:])
+                asker = None
+        if before:
+            last = before.values[-1]
+            goes_on = all(last[x] == value for x, value in self.values[0].items() if x in last)
+            observer.check("values go on", goes_on, f"epoch {number} begins with {self.values[0]} after {last}")
         # For each limit what the updates up to each place weigh on it.
         self.weights = {id(limit): self.sums(limit[1]) for limits in self.limits.values() for limit in limits}
 
-    def check(self, what, good, words):
-        if good:
-            self.passed[what] += 1
-        else:
-            self.failed.append(f"{what}: {words}")
-
     def propose(self, asker, words):
-        self.check("requests taken once", asker is not None and asker not in self.came, f"{asker} was proposed again, or by nobody")
+        is_new = asker is not None and asker not in self.observer.came
+        self.observer.check("requests taken once", is_new, f"{asker} was proposed again, or by nobody")
         try:
             self.values.append(changed(self.values[-1], words))
-            came = f"ok acked {len(self.values) - 1}"
+            came = f"ok acked {len(self.values) - 1} epoch {self.number}"
         except Refused as refused:
             came = str(refused)
-        self.came[asker] = (" ".join(words), came)
+        self.observer.came[asker] = (" ".join(words), came)
 
     def sums(self, members):
         total = [0]
@@ -109,37 +105,76 @@ class Observer:
             total.append(total[-1] + moved)
         return total
 
+    def end(self):
+        return len(self.values) - 1
+
+
+class Observer:
+    """What the script comes to, of all epochs."""
+
+    def __init__(self, scripts):
+        """`scripts` has the lines of each epoch."""
+        self.passed, self.failed, self.seen = Counter(), [], Counter()
+        self.came, self.epochs = {}, [None]
+        for number, lines in enumerate(scripts, 1):
+            self.check("numbers of epochs", lines[:1] == [f"# epoch {number}"], f"epoch {number} begins with {lines[:1]}")
+            self.epochs.append(Epoch(self, number, lines, self.epochs[-1]))
+
+    def check(self, what, good, words):
+        if good:
+            self.passed[what] += 1
+        else:
+            self.failed.append(f"{what}: {words}")
+
     def judge_answers(self, answers):
         """`answers`: when, who, the number, the changes, and what came. Each must be what the script makes of the request."""
         for _, client, number, changes, answer in answers:
             wanted = self.came.get((client, number), ("", "nothing"))
             self.check("answers", wanted == (changes, answer), f"{client} {number} `{changes}`: `{answer}`, not `{wanted[1]}`")
 
-    def judge_readings(self, site, known_as, readings, answers):
+    def judge_readings(self, site, known_as, readings, answers, to_the_end=True):
         """`known_as` is the site's name in the script. `readings`: when each began, and what the site sent. `answers` as above."""
-        acknowledged = sorted((when, int(answer.split()[2])) for when, _, _, _, answer in answers if answer.startswith("ok acked"))
-        place, next_answer, known = 0, 0, 0
+        acknowledged = sorted((when, place_of(answer)) for when, _, _, _, answer in answers if answer.startswith("ok acked"))
+        at, next_answer, known = (0, 0), 0, (1, 0)
         for when, line in readings:
             while next_answer < len(acknowledged) and acknowledged[next_answer][0] < when:
                 known = max(known, acknowledged[next_answer][1])
                 next_answer += 1
             words = line.split()
-            at = int(words[0])
-            shown = {name: int(value) for name, value in (word.split("=") for word in words[1:])}
-            good = at < len(self.values) and shown == self.values[at]
+            last, at = at, (int(words[1]), int(words[3]))
+            shown = {name: int(value) for name, value in (word.split("=") for word in words[4:])}
+            good = at[0] < len(self.epochs) and at[1] <= self.epochs[at[0]].end() and shown == self.epochs[at[0]].values[at[1]]
             self.check("values of a prefix", good, f"{site} at {at} shows {line}")
-            self.check("never back", at >= place, f"{site} goes back from {place} to {at}")
-            place = max(at, place)
-            if at < known < len(self.values):
-                self.seen["readings behind an acknowledged update"] += 1
-                for limit in self.limits[known_as]:
-                    weight = self.weights[id(limit)][known] - self.weights[id(limit)][at]
-                    self.seen["spans weighed"] += weight > 0
-                    self.check("within the limits", weight <= limit[2], f"{site} at {at} of {known} lags by {weight}: {limit[0]}")
+            self.check("never back", at >= last, f"{site} goes back from {last} to {at}")
+            if good and at < known:
+                self.judge_lag(site, known_as, at, known)
             elif at >= known:
                 self.passed["within the limits"] += 1
                 self.seen["readings of all that is acknowledged"] += 1
-        self.check("all applied at the end", place == len(self.values) - 1, f"{site} has {place} of {len(self.values) - 1}")
+        if to_the_end:
+            self.check("all applied at the end", at == (len(self.epochs) - 1, self.epochs[-1].end()), f"{site} has {at}")
+
+    def judge_lag(self, site, known_as, at, known):
+        """A reading at a place, begun as a later one was known as acknowledged."""
+        self.seen["readings behind an acknowledged update"] += 1
+        epoch = self.epochs[known[0]]
+        is_there = known_as in epoch.limits and known_as in self.epochs[at[0]].limits
+        self.check("served by a site of the script", is_there, f"{site} at {at} of {known} is taken out")
+        if at[0] < known[0]:
+            # It told the last place of each epoch that has ended. So it may show that place, which begins the next one.
+            missing = self.epochs[at[0]].end() - at[1] + sum(e.end() for e in self.epochs[at[0] + 1 : known[0]])
+            self.check("all told at the end of an epoch", missing == 0, f"{site} at {at} of {known} lacks {missing} before")
+        base = at[1] if at[0] == known[0] else 0
+        for limit in epoch.limits.get(known_as, []):
+            weight = epoch.weights[id(limit)][known[1]] - epoch.weights[id(limit)][base]
+            self.seen["spans weighed"] += weight > 0
+            self.check("within the limits", weight <= limit[2], f"{site} at {at} of {known} lags by {weight}: {limit[0]}")
+
+
+def place_of(answer):
+    """The epoch and the place of an update that is acknowledged."""
+    words = answer.split()
+    return int(words[4]), int(words[2])
 
 
 def read_often(port):

@@ -1,15 +1,16 @@
 #!/usr/bin/python3
-"""The primary of a deployment: primary.py --engine HOST --program PROGRAM DECLARATIONS
+"""The primary of a deployment: primary.py --engine HOST,.. --program PROGRAM --archive FOLDER DECLARATIONS
 
-Drives `ordup run` by the stream `script`. A line goes to the stream first, and to the program once the engine has it on its
-disk. So the stream has every line that was ever run. A primary that is started again runs them all, and is where the last
-one was. The file DECLARATIONS begins an empty stream: objects, groups, sites, limits, and `start`.
+Drives `ordup run` by the entries of the script. Each turn takes what clients ask and what sites tell: for each site that told,
+`send`, `apply` and `report` up to the place that it told; for each request a comment that names it, and `propose`; and
+`settle` while heads are acknowledged. What `ordup run` answers depends on its input alone. So a turn is run first, and then
+written as one transaction: the entry with these lines, the requests that it takes, which go, and the answers that it decides.
 
-Each turn takes what clients ask and what sites tell, and writes one entry: for each site that told, `send`, `apply` and
-`report` up to the place that it told; for each request, a comment that names it, and `propose`; and `settle` for each
-update that is not acknowledged, unless a site of a round has not told yet. An entry is in the stream whole or not at all.
+Several primaries may run. One writes. The others run the script as it comes, and one of them goes on where that one ends. The
+file DECLARATIONS begins an empty script: objects, groups, sites, limits, and `start`. After `--every` updates, or when
+`next.py` asks, the primary begins the next epoch. The script of the last one goes to a file in FOLDER.
 
-Ends with status 3 where another primary has taken over.
+Ends with a message and status 3 where the script lacks an entry, and 5 where a site told a place that it cannot have.
 """
 
 import argparse
@@ -17,108 +18,258 @@ import os
 import re
 import socket
 import sys
+import tempfile
 import time
 from collections import deque
+from itertools import islice
 from pathlib import Path
 
+import epochs
+import numbers_page
 import streams
 
 sys.path.insert(0, str(Path(__file__).resolve().parents[2] / "clients" / "python"))
-from ordup import Acked, Applied, Declared, Proposed, Refused, Settled, Started, Store
+from ordup import Acked, Applied, Declared, Proposed, Settled, Store
 
-# At most so many entries of a stream are taken at once.
-MOST = 100
-
+# A turn takes at most so many requests, and so many updates that sites told. So it fits into a transaction of 1.5 MB.
+REQUESTS, TOLD = 200, 5000
+# A turn asks for at most so many acknowledgements, so many at once.
+SETTLED, AT_ONCE = 5000, 50
+# The end of an epoch begins once each site is missing no more updates than so many.
+NEAR = 1000
 
 # The line by which this process takes over.
 OWN = f"# primary {socket.gethostname()} {os.getpid()} {time.time_ns()}"
 
 
+class Wrong(Exception):
+    """A site told a place that it cannot have."""
+
+
 class Primary:
-    def __init__(self, engine, store):
-        self.engine, self.store = engine, store
-        # How many entries of the script were run, and the lines by which primaries took over.
-        self.entries, self.primaries = 0, []
-        # The last request that was taken, and for each client the number of its last one.
-        self.request, self.taken = "0-0", {}
+    def __init__(self, words):
+        self.words, self.engine = words, streams.Engine(words.engine)
+        # What clients ask, what sites tell, which of their processes serve readers, and what the operator wants.
+        self.view = streams.View(words.engine, ["request/", "place/", "site/", "next"], "primary")
+        self.lease = streams.Lease(words.engine, "primary", OWN, lambda _: self.engine.interrupt())
+        self.store = self.lines = None
+        # Of this process: how many requests it took, and how many answers it told.
+        self.requests, self.answers = 0, 0
+        self.forget()
+
+    def forget(self):
+        """Forgets what it ran. Then it begins with the last epoch."""
+        self.epoch, self.entries, self.writer = 0, 0, ""
+        # For each client the number of its last request that was taken, and its last answer that is not in the engine.
+        self.taken, self.due = {}, {}
+        self.begin(0)
+
+    def begin(self, epoch):
+        """What there is at the beginning of an epoch."""
+        self.end()
+        if epoch:
+            # The script of the epoch, for `ordup next`.
+            self.store, self.lines = Store(self.words.program), tempfile.TemporaryFile("w+")
+        self.epoch, self.first = epoch, self.entries + 1
         # How many updates the log has, how many are acknowledged, and who asked for the others.
         self.updates, self.acknowledged, self.waiting = 0, 0, deque()
-        # The sites that the head waits for.
-        self.round = ()
-        # For each site how many updates it has applied, as the script has it.
-        self.applied = {}
-        # The answers that may not be told yet, and for each client the number of the last one that is.
-        self.answers, self.told = [], {}
+        # The sites that the head waits for, and since when.
+        self.round, self.waits_since = (), None
+        # For each site how many updates it has applied, its rounds, and when it told last. Then the sites that are taken out.
+        self.applied, self.rounds, self.heard, self.leaving = {}, {}, {}, set()
+        # The last declarations of the operator that were looked at.
+        self.looked_at = ""
+
+    def end(self):
+        if self.store:
+            self.store.close()
+            self.lines.close()
+            self.store = None
+
+    def stand_by(self):
+        """Runs the script as it comes, until the lease names this process."""
+        while not self.lease.is_held():
+            try:
+                self.catch_up()
+                for entries in self.engine.follow(self.entries + 1):
+                    self.run_entries(entries)
+            except streams.Away:
+                if not self.lease.is_held():
+                    raise
+
+    def catch_up(self):
+        if self.epoch == 0:
+            self.entries = self.engine.epoch()[1] - 1
+        while entries := self.engine.entries(self.entries + 1)[0]:
+            self.run_entries(entries)
+
+    def run_entries(self, entries):
+        for number, lines in entries:
+            if number != self.entries + 1:
+                gap = streams.gap_of(self.engine, self.entries, number)
+                self.forget()
+                raise gap
+            self.run(lines)
+            self.keep(lines)
 
     def take_over(self, declarations):
-        """Runs the script so far, and writes an entry after it. From then on no other primary that runs can write."""
-        while True:
-            while found := self.engine.xrange("script", min=f"({self.entries}-0", count=MOST):
-                for entry in found:
-                    if streams.number_of(entry) != self.entries + 1:
-                        sys.exit(f"the script lacks the entry {self.entries + 1}")
-                    self.run(streams.lines_of(entry))
-            if OWN in self.primaries and self.primaries[-1] != OWN:
-                raise streams.Taken(f"the script goes on with {self.primaries[-1]}")
+        """Writes an entry after the last one. From then on no other primary that runs can write."""
+        written = False
+        while not written:
+            self.catch_up()
+            begins = self.epoch == 0
+            lines = ["# epoch 1", OWN, *declarations] if begins else [OWN]
+            self.run(lines)
             try:
-                return self.write([OWN] + (declarations if self.entries == 0 else []))
+                self.write(lines, {"epoch": "1 1"} if begins else {}, [])
+                written = True
             except streams.Taken:
                 # The primary before was faster, or a write of it was late. So run that too.
-                pass
+                self.forget()
+        # What was answered in epochs before is known from the answers alone.
+        for client, answer in self.engine.read("answer/")[0].items():
+            client, number = client[len("answer/") :], int(answer.split(" ", 1)[0])
+            self.taken[client] = max(number, self.taken.get(client, 0))
+            if client in self.due and self.due[client][0] <= number:
+                del self.due[client]
+        epochs.archive(self.words.engine, self.words.archive, self.first)
 
     def turn(self):
-        """Takes what is asked and told, writes it, and tells the clients what came of it."""
-        after = {"requests": self.request, **streams.place_streams(self.applied)}
-        found = streams.read(self.engine, after, count=MOST)
-        requests = found.pop("requests", [])
-        told = streams.places_of(found)
-        lines = []
-        for site, place in told.items():
-            if place > self.updates:
-                raise streams.Taken(f"{site} has applied {place} updates, and this primary wrote {self.updates}")
-            lines += [f"send {site}", f"apply {site}"] * (place - self.applied[site]) + [f"report {site}"]
-        proposals = [self.proposal(*request) for request in requests if self.is_new(request[1])]
-        lines += [line for proposal in proposals for line in proposal]
-        if all(told.get(site, self.applied[site]) > self.acknowledged for site in self.round):
-            lines += ["settle"] * (self.updates + len(proposals) - self.acknowledged)
-        if lines:
-            self.write(lines)
-        if requests:
-            self.request = requests[-1][0]
-
-    def is_new(self, fields):
-        """Whether a request has the form of one, and was not taken before. Takes it."""
-        client, number = fields.get("client", ""), fields.get("number", "")
-        if not (re.fullmatch("[a-z0-9_]{1,16}", client) and re.fullmatch("[0-9]{1,18}", number)):
-            return False
-        new = int(number) > self.taken.get(client, 0)
-        self.taken[client] = max(int(number), self.taken.get(client, 0))
-        return new
-
-    def proposal(self, request, fields):
-        # Changes with other bytes, such as the end of a line, are replaced by what is refused.
-        changes = fields.get("changes", "") if re.fullmatch("[ -~]{0,4000}", fields.get("changes", "")) else "?"
-        return [f"# request {fields['client']} {fields['number']} {request}", f"propose {changes}"]
-
-    def write(self, lines):
-        streams.append(self.engine, "script", self.entries + 1, {"lines": "\n".join(lines)})
+        """Takes what is asked and told, runs it, and writes it with what comes of it. Returns whether there was anything."""
+        serving, wanted = self.view.under("site/"), self.view.under("next").get("")
+        deletes = []
+        if wanted and wanted != self.looked_at and not self.may_follow(wanted):
+            deletes, wanted = ["next"], None
+        lines = self.reports(serving)
+        ends = self.ends(serving, wanted, lines)
+        if not ends:
+            self.take(lines, deletes)
         self.run(lines)
-        self.tell()
+        lines += self.settle()
+        if ends and not lines and not self.due and {self.acknowledged, *self.applied.values()} == {self.updates}:
+            self.go_over(wanted)
+            return True
+        told = dict(islice(self.due.items(), streams.OPERATIONS - 1 - len(deletes)))
+        if not (lines or deletes or told):
+            return False
+        self.write(lines, {f"answer/{client}": f"{number} {answer}" for client, (number, answer) in told.items()}, deletes)
+        self.view.drop(deletes)
+        self.answers += len(told)
+        for client in told:
+            del self.due[client]
+        return True
+
+    def reports(self, serving):
+        """The lines for what sites told."""
+        lines, room, places = [], TOLD, self.view.under("place/")
+        for site in self.applied:
+            place = self.place_of(site, places.get(site, "0 0"))
+            # A site that is taken out has no reader once no process serves it.
+            if site in self.leaving and not is_served(site, serving):
+                place = self.updates
+            if place > self.updates:
+                if self.engine.entries(self.entries + 1)[0]:
+                    raise streams.Taken("another primary writes the script")
+                raise Wrong(f"the key place/{site} has {place} updates of epoch {self.epoch}, and the script has {self.updates}")
+            new = min(place - self.applied[site], room)
+            if new > 0:
+                lines += [f"send {site}", f"apply {site}"] * new + [f"report {site}"]
+                room -= new
+                self.heard[site] = streams.now()
+        return lines
+
+    def place_of(self, site, text):
+        """How many updates of this epoch the site told."""
+        if not re.fullmatch("[0-9]{1,9} [0-9]{1,7}", text):
+            raise Wrong(f"the key place/{site} has `{text}`, which is not an epoch and a place")
+        epoch, place = map(int, text.split())
+        return place if epoch == self.epoch else 0
+
+    def take(self, lines, deletes):
+        """Adds the lines of new requests, and the keys of all that were looked at."""
+        for key, changes in islice(self.view.under("request/").items(), REQUESTS):
+            client, _, number = key.rpartition("/")
+            if not (streams.is_client(client) and streams.is_number(number)):
+                print(f"primary: request/{key} is of no client and number, and was taken away", file=sys.stderr, flush=True)
+            elif int(number) > self.taken.get(client, 0):
+                # Changes with other bytes, such as the end of a line, are replaced by what is refused.
+                changes = changes if re.fullmatch("[ -~]{0,4000}", changes) else "?"
+                lines += [f"# request {client} {number}", f"propose {changes}"]
+                self.taken[client] = int(number)
+                self.requests += 1
+            deletes.append(f"request/{key}")
+
+    def ends(self, serving, wanted, lines):
+        """Whether no more requests are taken, since the next epoch is to begin. Adds lines for the sites that are taken out."""
+        if wanted is None and self.updates < self.words.every:
+            return False
+        goes = set(self.applied) - epochs.sites_of(wanted) if wanted else set()
+        lines += [f"# leave {site}" for site in sorted(goes - self.leaving)]
+        # A site that is away would hold all up. So until it is back the epoch goes on.
+        stays = [site for site in self.applied if site not in goes]
+        return all(is_served(site, serving) and self.updates - self.applied[site] <= NEAR for site in stays)
+
+    def may_follow(self, wanted):
+        try:
+            epochs.check(self.words.program, wanted.split("\n"))
+        except ValueError as error:
+            print(f"primary: the declarations that are wanted next: {error}", file=sys.stderr, flush=True)
+            return False
+        self.looked_at = wanted
+        return True
+
+    def go_over(self, wanted):
+        """Writes the declarations of the next epoch. All is acknowledged, and each site has told the last place."""
+        declarations = epochs.following(self.words.program, self.lines, wanted)
+        lines, first = [f"# epoch {self.epoch + 1}", *declarations], self.entries + 1
+        self.run(lines)
+        self.write(lines, {"epoch": f"{self.epoch} {first}"}, [] if wanted is None else ["next"])
+        epochs.archive(self.words.engine, self.words.archive, first)
+
+    def settle(self):
+        """Asks for acknowledgements until the head waits. Returns the lines."""
+        lines = []
+        while self.acknowledged < self.updates and len(lines) < SETTLED and self.may_settle():
+            some = ["settle"] * min(AT_ONCE, self.updates - self.acknowledged)
+            self.run(some)
+            lines += some
+        return lines
+
+    def may_settle(self):
+        return all(self.applied[site] > self.acknowledged for site in self.round)
+
+    def write(self, lines, puts, deletes):
+        """Writes the next entry. What was asked and not answered is asked again: it is done once."""
+        while True:
+            try:
+                self.engine.commit(self.entries + 1, lines, puts, deletes)
+                break
+            except streams.Away as away:
+                away.say("primary")
+                time.sleep(0.1)
+        if lines:
+            self.keep(lines)
+
+    def keep(self, lines):
+        self.entries += 1
+        self.lines.write("".join(line + "\n" for line in lines))
 
     def run(self, lines):
-        """Runs the lines of the next entry."""
-        self.entries += 1
-        outcomes = iter(self.store.commands(commands_of(lines)))
+        """Runs lines, and notes what comes of them."""
+        if lines and lines[0].startswith("# epoch "):
+            self.begin(int(lines[0].split()[2]))
+        outcomes = iter(self.store.commands([line for line in lines if epochs.is_command(line)]))
         asker = None
         for line in lines:
-            if is_command(line):
+            if epochs.is_command(line):
                 self.note(line.split()[0], next(outcomes), asker)
-            elif line.startswith("# primary "):
-                self.primaries.append(line)
             elif line.startswith("# request "):
-                client, number, self.request = line.split()[2:]
-                asker = client, int(number)
-                self.taken[client] = int(number)
+                asker = line.split()[2], int(line.split()[3])
+                self.taken[asker[0]] = asker[1]
+            elif line.startswith("# leave "):
+                self.leaving.add(line.split()[2])
+            elif line.startswith("# primary "):
+                self.writer = " ".join(line.split()[2:4])
 
     def note(self, command, outcome, asker):
         """Notes what came of a command."""
@@ -126,69 +277,71 @@ class Primary:
             self.updates += 1
             self.waiting.append(asker)
         elif command == "propose":
-            self.answers.append((asker, f"refused {outcome.number} {outcome.name}"))
+            self.answer(asker, f"refused {outcome.number} {outcome.name}")
         elif isinstance(outcome, Acked):
-            self.acknowledged, self.round = outcome.place, ()
-            self.answers.append((self.waiting.popleft(), f"ok acked {outcome.place}"))
+            self.acknowledged, self.round, self.waits_since = outcome.place, (), None
+            self.answer(self.waiting.popleft(), f"ok acked {outcome.place} epoch {self.epoch}")
         elif isinstance(outcome, Settled):
+            if not self.round:
+                self.waits_since = streams.now()
+                self.rounds.update({site: self.rounds[site] + 1 for site in outcome.sites})
             self.round = outcome.sites
         elif isinstance(outcome, Applied):
             self.applied[outcome.site] = outcome.place
         elif isinstance(outcome, Declared) and outcome.kind == "site":
-            self.applied[outcome.name] = 0
+            self.applied[outcome.name] = self.rounds[outcome.name] = 0
 
-    def tell(self):
-        """Tells the clients their answers. These follow from the script: another primary that told one told the same."""
-        for (client, _), _ in self.answers:
-            if client not in self.told:
-                self.told[client] = streams.last(self.engine, f"answers:{client}")
-        new = [(client, number, answer) for (client, number), answer in self.answers if number > self.told[client]]
-        streams.replace_all(self.engine, [(f"answers:{client}", number, {"answer": answer}) for client, number, answer in new])
-        self.told.update((client, number) for client, number, _ in new)
-        self.answers.clear()
+    def answer(self, asker, text):
+        client, number = asker
+        if number > self.due.get(client, (0, ""))[0]:
+            self.due[client] = number, text
 
 
-def is_command(line):
-    return line.strip(" ") != "" and not line.startswith("#")
+def is_served(site, serving):
+    return any(key.startswith(f"{site}/") for key in serving)
 
 
-def commands_of(lines):
-    return [line for line in lines if is_command(line)]
-
-
-def declarations_of(program, path):
-    """The lines of the file, where a store starts with them and refuses none."""
-    lines = path.read_text(encoding="utf-8").splitlines()
-    with Store(program) as store:
-        outcomes = store.commands(commands_of(lines))
-    for refused in (outcome for outcome in outcomes if isinstance(outcome, Refused)):
-        sys.exit(f"{path}: {refused}")
-    if not any(isinstance(outcome, Started) for outcome in outcomes):
-        sys.exit(f"{path} does not start the store")
-    return lines
+def read_words():
+    parser = argparse.ArgumentParser(description="The primary of a deployment.")
+    parser.add_argument("--engine", required=True, metavar="HOST,..")
+    parser.add_argument("--program", required=True)
+    parser.add_argument("--archive", required=True, type=Path, metavar="FOLDER", help="where the scripts of past epochs go")
+    parser.add_argument("--every", type=int, default=100_000, metavar="N", help="how many updates an epoch has")
+    parser.add_argument("--page", type=int, default=7002, metavar="PORT", help="where the page with the numbers is")
+    parser.add_argument("declarations", type=Path)
+    return parser.parse_args()
 
 
 def main():
-    parser = argparse.ArgumentParser(description="The primary of a deployment.")
-    parser.add_argument("--engine", required=True)
-    parser.add_argument("--program", required=True)
-    parser.add_argument("declarations", type=Path)
-    words = parser.parse_args()
-    declarations = declarations_of(words.program, words.declarations)
+    words = read_words()
+    declarations = words.declarations.read_text(encoding="utf-8").splitlines()
+    try:
+        epochs.check(words.program, declarations)
+    except ValueError as error:
+        sys.exit(f"{words.declarations}: {error}")
+    primary = Primary(words)
+    numbers_page.serve(words.page, lambda: numbers_page.of_primary(primary))
+    primary.lease.start()
     while True:
         try:
-            with Store(words.program) as store:
-                primary = Primary(streams.connect(words.engine), store)
-                primary.take_over(declarations)
-                while True:
-                    primary.turn()
-        except streams.AWAY as away:
-            # Whether the last entry was written is not known. So begin again with what the stream has, if nobody took over.
-            print(f"primary: {away}", file=sys.stderr, flush=True)
+            primary.stand_by()
+            primary.take_over(declarations)
+            while primary.lease.is_held():
+                version = primary.view.version
+                if not primary.turn():
+                    primary.view.wait(version, 1)
+        except streams.Away as away:
+            away.say("primary")
             time.sleep(0.2)
         except streams.Taken as taken:
             print(f"primary: {taken}", file=sys.stderr, flush=True)
+            primary.forget()
+        except streams.Gap as gap:
+            print(f"primary: {gap}", file=sys.stderr, flush=True)
             return 3
+        except Wrong as wrong:
+            print(f"primary: {wrong}", file=sys.stderr, flush=True)
+            return 5
 
 
 if __name__ == "__main__":

@@ -1,83 +1,420 @@
-"""The streams of a deployment, all on one Redis server, and what the numbers of their entries are:
+"""The keys of a deployment, and the engine that keeps them: etcd, whose members take a write once a majority has it on disk.
 
-- `script`: what `ordup run` reads, one line or more in each entry. The primary alone writes it. Its entries have the numbers
-  1, 2, 3 and so on. Redis refuses a number that is not greater than the last one. So of two primaries that write after
-  the same entries, one is refused.
-- `requests`: what clients want proposed. The numbers are the engine's.
-- `answers:CLIENT`: what came of the client's last request. The number is that of the request.
-- `place:SITE`: how many updates the site has applied. That is the number.
+No other file knows the engine. The keys:
+
+- `script/NUMBER`: an entry, which is one line or more of what `ordup run` reads. The primary alone writes them. The numbers are
+  1, 2, 3 and so on, and an entry is created where there is none. So of two primaries that write one number, one is refused.
+- `epoch`: the last epoch, and the number of its first entry.
+- `request/CLIENT/NUMBER`: the changes that a client wants proposed. The primary takes the key away as it writes the entry.
+- `answer/CLIENT`: the number of the client's last request, and what came of it.
+- `place/SITE`: an epoch, and how many of its updates the site has applied.
+- `primary` and `site/FLEET/SITE`: the process that writes, and the one that serves the readers of a site. See `Lease`.
+- `next`: the declarations that the operator wants for the next epoch.
 """
 
-import redis
+import functools
+import queue
+import random
+import re
+import sys
+import threading
+import time
 
-# A connection that gives no answer for so long is given up.
+import etcd3
+import grpc
+from etcd3 import etcdrpc
+
+# Each member is started by `member`, which lets a transaction have so many operations. A request may have 1.5 MB.
+OPERATIONS = 1024
+# So many entries are read at once.
+PAGE = 100
+# A member that gives no answer for so many seconds is left for another one.
 SECONDS = 3
-# How long one look for new entries lasts, in ms.
-BLOCK = 1000
-# What an engine that cannot be reached says, or one that is not ready.
-AWAY = (redis.exceptions.ConnectionError, redis.exceptions.TimeoutError, redis.exceptions.BusyLoadingError)
+# The engine drops a lease that was not renewed for TTL seconds. Its holder relies on it for SERVES seconds from when it asked.
+TTL, SERVES = 5, 3
+# A link that carries nothing is given up after some seconds. A receiver sets no bound on what it takes.
+OPTIONS = {
+    "grpc.keepalive_time_ms": 2000,
+    "grpc.keepalive_timeout_ms": 2000,
+    "grpc.http2.max_pings_without_data": 0,
+    "grpc.max_receive_message_length": -1,
+    "grpc.use_local_subchannel_pool": 1,
+}
+
+
+class Away(Exception):
+    """The engine cannot be reached, or has no majority. Whether a write was taken is not known."""
+
+    said = {}
+
+    def say(self, who):
+        """Tells whoever runs this, each thing once in ten seconds."""
+        if now() > Away.said.get(str(self), 0) + 10:
+            Away.said[str(self)] = now()
+            print(f"{who}: {self}", file=sys.stderr, flush=True)
+
+
+class Full(Away):
+    """The engine has no room for a write. What it has stays."""
 
 
 class Taken(Exception):
-    """The stream has an entry of this number already, or of a greater one."""
+    """The script has another entry of this number."""
 
 
-def connect(host):
-    times = {"socket_timeout": SECONDS, "socket_connect_timeout": SECONDS}
-    return redis.Redis(host, decode_responses=True, encoding_errors="replace", **times)
+class Gap(Exception):
+    """The script lacks an entry."""
 
 
-def append(engine, stream, number, fields):
-    """Appends the entry of this number. Once this returns, the entry is on the engine's disk."""
-    try:
-        engine.xadd(stream, fields, id=f"{number}-0")
-    except redis.exceptions.ResponseError as error:
-        if not is_taken(error):
-            raise
-        raise Taken(f"the stream {stream} has the entry {number} already") from error
+def now():
+    """Seconds, by a clock that also runs while the computer sleeps."""
+    return time.clock_gettime(time.CLOCK_BOOTTIME)
 
 
-def replace_all(engine, entries):
-    """Puts each entry, of a stream, its number and its fields, in the place of the one before. What is there already stays."""
-    pipeline = engine.pipeline(transaction=False)
-    for stream, number, fields in entries:
-        pipeline.xadd(stream, fields, id=f"{number}-0", maxlen=1, approximate=False)
-    for came in pipeline.execute(raise_on_error=False):
-        if isinstance(came, Exception) and not is_taken(came):
-            raise came
+def asks(call):
+    """A call of the engine. A member that fails it is left for another one."""
+
+    @functools.wraps(call)
+    def asked(self, *words, **more):
+        try:
+            return call(self, *words, **more)
+        except (etcd3.Etcd3Exception, grpc.RpcError, ValueError) as error:
+            raise self.failure(error) from error
+
+    return asked
 
 
-def place_streams(places):
-    return {f"place:{site}": f"{place}-0" for site, place in places.items()}
+class Engine:
+    """A connection to one member at a time. For one thread."""
+
+    def __init__(self, members, seconds=SECONDS):
+        self.members, self.seconds, self.failures = members.split(","), seconds, 0
+        random.shuffle(self.members)
+        self.connect()
+
+    def connect(self):
+        self.etcd = etcd3.client(self.members[0], timeout=self.seconds, grpc_options=list(OPTIONS.items()))
+        self.txn = self.etcd.transactions
+
+    def failure(self, error):
+        cause = error if isinstance(error, grpc.RpcError) else error.__context__
+        why = cause.details() if isinstance(cause, grpc.RpcError) else str(error)
+        member = self.members.pop(0)
+        self.members.append(member)
+        self.failures += 1
+        self.etcd.close()
+        self.connect()
+        if "space exceeded" in why:
+            return Full("the engine is full, and takes no write")
+        if "too many operations" in why or "too large" in why:
+            sys.exit(f"the member {member} is not started as `member` does: {why}")
+        return Away(f"the engine's member {member}: {why}")
+
+    def interrupt(self):
+        """Ends the call or the watch that a thread waits in. That raises `Away`."""
+        self.etcd.close()
+
+    @asks
+    def read(self, prefix, **more):
+        """The keys that begin so, in their order, and the revision at which they were read."""
+        found = self.etcd.get_range_response(prefix, end_of(prefix), sort_order="ascend", **more)
+        return {kv.key.decode(): text_of(kv.value) for kv in found.kvs}, found.header.revision
+
+    @asks
+    def value(self, key):
+        value, _ = self.etcd.get(key)
+        return None if value is None else text_of(value)
+
+    @asks
+    def put(self, key, value):
+        self.etcd.put(key, value)
+
+    @asks
+    def create(self, key, value):
+        """Creates the key, if it is not there. Returns whether it was not."""
+        return self.etcd.put_if_not_exists(key, value)
+
+    @asks
+    def put_if(self, holds, key, value):
+        """Puts the key if another one has a value. Returns whether it has."""
+        return self.etcd.transaction([self.txn.value(holds[0]) == holds[1]], [self.txn.put(key, value)], [])[0]
+
+    @asks
+    def commit(self, number, lines, puts, deletes):
+        """One transaction: creates the entry, if it has lines; puts keys, and takes keys away. Once it returns, all is kept."""
+        entry, value = key_of(number), "\n".join(lines)
+        holds = [self.txn.create(entry) == 0] + ([self.txn.create(key_of(number - 1)) > 0] if number > 1 else [])
+        changes = [self.txn.put(entry, value)] if lines else []
+        changes += [self.txn.put(*put) for put in puts.items()] + [self.txn.delete(key) for key in deletes]
+        written, came = self.etcd.transaction(holds, changes, [self.txn.get(entry)])
+        if not written and not came[0]:
+            raise Gap(f"the script lacks the entry {number - 1}")
+        # Of a write whose answer was lost the entry is there already.
+        if not written and text_of(came[0][0][0]) != value:
+            raise Taken(f"the script has another entry {number}")
+
+    @asks
+    def epoch(self):
+        """The last epoch, and the number of its first entry. Before there is one, that is 0 and 1."""
+        value, _ = self.etcd.get("epoch")
+        return tuple(map(int, value.split())) if value else (0, 1)
+
+    @asks
+    def entries(self, number):
+        """At most PAGE entries from this number on, and the revision at which they were read."""
+        found = self.etcd.get_range_response(key_of(number), end_of("script/"), sort_order="ascend", limit=PAGE)
+        return [(number_of(kv.key.decode()), text_of(kv.value).split("\n")) for kv in found.kvs], found.header.revision
+
+    @asks
+    def ends(self):
+        """The numbers of the first and the last entry, or 0."""
+        numbers = []
+        for order in ("ascend", "descend"):
+            found = self.etcd.get_range_response("script/", end_of("script/"), sort_order=order, limit=1)
+            numbers.append(number_of(found.kvs[0].key.decode()) if found.kvs else 0)
+        return numbers
+
+    def follow(self, number):
+        """Yields the entries from this number on as they come, some at a time. Which number comes is for the reader to look at."""
+        entries, revision = self.entries(number)
+        while entries:
+            yield entries
+            number = entries[-1][0] + 1
+            entries, revision = self.entries(number)
+        for events in self.watch([(key_of(number), end_of("script/"))], revision + 1):
+            if entries := [(number_of(key), value.split("\n")) for key, value in events if value is not None]:
+                yield entries
+
+    def watch(self, ranges, revision):
+        """Yields what is put and taken away from this revision on, some keys at a time: the key, and its value or None.
+
+        It stands on the library's stub. The library's own watch tries again without a pause while a member is away, and never ends.
+        """
+        asked, stream = queue.SimpleQueue(), None
+        for key, end in ranges:
+            create = etcdrpc.WatchCreateRequest(key=key.encode(), range_end=end.encode(), start_revision=revision)
+            asked.put(etcdrpc.WatchRequest(create_request=create))
+        try:
+            # A member that has no leader ends the stream.
+            stream = etcdrpc.WatchStub(self.etcd.channel).Watch(iter(asked.get, None), metadata=[("hasleader", "true")])
+            for answer in stream:
+                if answer.canceled:
+                    raise ValueError(f"a watch from {revision} was ended at {answer.compact_revision}")
+                yield [(e.kv.key.decode(), text_of(e.kv.value) if e.type == e.PUT else None) for e in answer.events]
+        except (grpc.RpcError, ValueError) as error:
+            raise self.failure(error) from error
+        finally:
+            asked.put(None)
+            if stream:
+                stream.cancel()
+
+    @asks
+    def remove_before(self, number):
+        """Takes away the entries before this number, and what the engine keeps of the past."""
+        self.etcd.transaction([], [self.txn.delete(key_of(0), key_of(number))], [])
+        self.compact(self.etcd.get_range_response("epoch", end_of("epoch")).header.revision)
+
+    # What an operator does with the engine, as `etcdctl` does it.
+
+    @asks
+    def leader(self):
+        """The name of the member that leads."""
+        leader = self.etcd.status().leader
+        return leader.name if leader else None
+
+    @asks
+    def replace_member(self, name, address):
+        """Takes the member away, and lets one of the same name begin on an empty disk."""
+        for member in self.etcd.members:
+            if member.name == name or address in member.peer_urls and member.name:
+                member.remove()
+        if not any(address in member.peer_urls for member in self.etcd.members):
+            self.etcd.add_member([address])
+
+    @asks
+    def remove(self, prefix):
+        """Takes away the keys that begin so, and what the engine keeps of the past."""
+        self.compact(self.etcd.delete_prefix(prefix).header.revision)
+
+    def compact(self, revision):
+        try:
+            self.etcd.compact(revision, physical=True)
+        except grpc.RpcError as error:
+            if "compacted" not in error.details():
+                raise
+
+    @asks
+    def defragment(self):
+        self.etcd.defragment()
+
+    @asks
+    def alarms(self):
+        """The members by whose alarm the engine takes no write."""
+        return [alarm.member_id for alarm in self.etcd.list_alarms()]
+
+    @asks
+    def disarm(self):
+        for alarm in list(self.etcd.list_alarms()):
+            self.etcd.disarm_alarm(alarm.member_id)
+
+    @asks
+    def hold(self, key, value):
+        """A new lease, with the key where nobody else has it, or None."""
+        lease = self.etcd.lease(TTL)
+        held, _ = self.etcd.transaction([self.txn.create(key) == 0], [self.txn.put(key, value, lease.id)], [])
+        return lease if held else lease.revoke()
+
+    @asks
+    def renew(self, lease):
+        """Whether the lease is still there."""
+        return next(self.etcd.refresh_lease(lease.id)).TTL > 0
+
+    @asks
+    def give_up(self, lease):
+        self.etcd.revoke_lease(lease.id)
 
 
-def places_of(found):
-    """The new places among what was read from streams, which are taken out of it."""
-    return {stream[6:]: number_of(found.pop(stream)[-1]) for stream in list(found) if stream.startswith("place:")}
+class View(threading.Thread):
+    """What the keys of some prefixes are now, kept by watches in a thread. `changed` is told of each change."""
+
+    def __init__(self, members, prefixes, who):
+        super().__init__(daemon=True)
+        self.engine, self.prefixes, self.who = Engine(members), prefixes, who
+        self.keys, self.changed, self.version = {}, threading.Condition(), 0
+        self.start()
+
+    def run(self):
+        while True:
+            try:
+                found = [self.engine.read(prefix) for prefix in self.prefixes]
+                with self.changed:
+                    self.keys = {key: value for keys, _ in found for key, value in keys.items()}
+                    self.tell()
+                # What came between the first reading and the last one comes again.
+                for events in self.engine.watch([(prefix, end_of(prefix)) for prefix in self.prefixes], found[0][1] + 1):
+                    self.take(events)
+            except Away as away:
+                away.say(self.who)
+                time.sleep(0.2)
+
+    def take(self, events):
+        with self.changed:
+            for key, value in events:
+                self.keys.pop(key, None) if value is None else self.keys.update({key: value})
+            self.tell()
+
+    def drop(self, keys):
+        """Takes away keys that the holder of this view has taken out of the engine. The watch tells of that a little later."""
+        with self.changed:
+            for key in keys:
+                self.keys.pop(key, None)
+
+    def tell(self):
+        self.version += 1
+        self.changed.notify_all()
+
+    def wait(self, version, seconds=None):
+        """Waits until something has changed since this version."""
+        with self.changed:
+            self.changed.wait_for(lambda: self.version != version, seconds)
+
+    def under(self, prefix):
+        """The keys that begin so, without that, and their values."""
+        with self.changed:
+            return {key[len(prefix) :]: value for key, value in self.keys.items() if key.startswith(prefix)}
 
 
-def tell_place(engine, site, place):
-    replace_all(engine, [(f"place:{site}", place, {"site": site})])
+class Lease(threading.Thread):
+    """A key that one process holds at a time. A thread takes it, renews it, and takes it again after it was lost.
+
+    The process that holds it may rely on `lives`: before the engine gives the key to another process it is false. For that the
+    clocks of the engine and of this host must run at rates that differ by less than TTL to SERVES.
+    """
+
+    def __init__(self, members, key, value, when_held=lambda engine: None):
+        super().__init__(daemon=True)
+        self.engine, self.key, self.value, self.when_held = Engine(members, 1), key, value, when_held
+        self.until, self.lease = 0, None
+
+    def is_held(self):
+        return self.lease is not None
+
+    def lives(self):
+        return now() < self.until
+
+    def run(self):
+        while True:
+            try:
+                lease, asked = self.lease, now()
+                if lease is None:
+                    self.acquire()
+                elif self.engine.renew(lease):
+                    self.until = asked + SERVES
+                    time.sleep(SERVES / 4)
+                else:
+                    self.lease = None
+            except Away as away:
+                # The lease may be there still. If it is, nobody else had the key meanwhile.
+                away.say(self.key)
+                time.sleep(0.2)
+
+    def acquire(self):
+        found, revision = self.engine.read(self.key)
+        if self.key in found:
+            for events in self.engine.watch([(self.key, end_of(self.key))], revision + 1):
+                if (self.key, None) in events:
+                    break
+        asked = now()
+        lease = self.engine.hold(self.key, self.value)
+        if lease:
+            self.lease = lease
+            try:
+                self.when_held(self.engine)
+            except Away:
+                self.release()
+                raise
+            self.until = asked + SERVES
+
+    def release(self):
+        """Lets another process hold the key at once."""
+        lease, self.lease, self.until = self.lease, None, 0
+        if lease:
+            try:
+                self.engine.give_up(lease)
+            except Away:
+                pass
 
 
-def read(engine, after, **more):
-    """What comes in each stream after the entry of this identifier, as soon as there is something, or nothing after a while."""
-    return dict(engine.xread(after, block=BLOCK, **more))
+def key_of(number):
+    return f"script/{number:012d}"
 
 
-def is_taken(error):
-    return "equal or smaller" in str(error)
+def number_of(key):
+    """The number of an entry, or 0 of a key that is none."""
+    digits = key[len("script/") :]
+    return int(digits) if digits.isdigit() and len(digits) == 12 else 0
 
 
-def number_of(entry):
-    return int(entry[0].split("-")[0])
+def gap_of(engine, entries, number):
+    """What it means that the entry of this number came after so many: an epoch ended meanwhile and is archived, or a fault."""
+    if engine.epoch()[1] > entries + 1:
+        return Away("the script begins with a later epoch now")
+    return Gap(f"the script has the entry {number} after {entries}")
 
 
-def last(engine, stream):
-    """The number of the last entry, or 0."""
-    entries = engine.xrevrange(stream, count=1)
-    return number_of(entries[0]) if entries else 0
+def is_client(name):
+    return re.fullmatch("[a-z0-9_]{1,16}", name) is not None
 
 
-def lines_of(entry):
-    return entry[1]["lines"].split("\n")
+def is_number(text):
+    """Whether this numbers a request."""
+    return re.fullmatch("[1-9][0-9]{0,17}", text) is not None
+
+
+def end_of(prefix):
+    """The end of the range of keys that begin so."""
+    return prefix[:-1] + chr(ord(prefix[-1]) + 1)
+
+
+def text_of(value):
+    return value.decode("utf-8", "replace")

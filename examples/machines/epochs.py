@@ -1,0 +1,100 @@
+"""The declarations of an epoch, and what becomes of the script of the epoch before."""
+
+import os
+import subprocess
+import sys
+import threading
+import time
+from pathlib import Path
+
+import streams
+
+sys.path.insert(0, str(Path(__file__).resolve().parents[2] / "clients" / "python"))
+from ordup import BadLine, Refused, Started, Store
+
+
+def is_command(line):
+    return line.strip(" ") != "" and not line.startswith("#")
+
+
+def sites_of(text):
+    """The sites that declarations have."""
+    return {line.split()[1] for line in text.split("\n") if line.split()[:1] == ["site"]}
+
+
+def check(program, lines):
+    """Raises why a store does not start with these lines."""
+    try:
+        with Store(program) as store:
+            outcomes = store.commands(line for line in lines if is_command(line))
+    except BadLine as error:
+        raise ValueError(str(error)) from error
+    for refused in (outcome for outcome in outcomes if isinstance(outcome, Refused)):
+        raise ValueError(str(refused))
+    if not (outcomes and isinstance(outcomes[-1], Started)):
+        raise ValueError("the last line does not start the store")
+
+
+def following(program, script, wanted):
+    """The lines that the epoch after this script begins with, which `ordup next` gives.
+
+    Where the operator wants other declarations, these are taken, but an object that stays keeps its value.
+    """
+    script.flush()
+    script.seek(0)
+    made = subprocess.run([program, "next"], stdin=script, stdout=subprocess.PIPE, stderr=subprocess.PIPE, text=True)
+    script.seek(0, os.SEEK_END)
+    if made.returncode:
+        sys.exit(f"ordup next: {made.stderr.strip()}")
+    lines = made.stdout.splitlines()
+    if not wanted:
+        return lines
+    values = {line.split()[1]: line for line in lines if line.startswith("object ")}
+    wanted = [line for line in wanted.split("\n") if is_command(line)]
+    return [values.get(line.split()[1], line) if line.split()[0] == "object" else line for line in wanted]
+
+
+def archive(members, folder, first):
+    """Has a thread write the entries before this number to files, one for each epoch, and take them out of the engine."""
+    threading.Thread(target=keep_trying, args=(streams.Engine(members), folder, first), daemon=True).start()
+
+
+ONE = threading.Lock()
+
+
+def keep_trying(engine, folder, first):
+    with ONE:
+        while True:
+            try:
+                return archive_now(engine, folder, first)
+            except streams.Away as away:
+                away.say("archive")
+            except OSError as error:
+                print(f"archive: {error}", file=sys.stderr, flush=True)
+            time.sleep(1)
+
+
+def archive_now(engine, folder, first):
+    folder.mkdir(parents=True, exist_ok=True)
+    number, parts = engine.ends()[0] or first, {}
+    try:
+        while number < first:
+            for number, lines in engine.entries(number)[0]:
+                if number < first:
+                    if lines[0].startswith("# epoch "):
+                        epoch = lines[0].split()[2]
+                        parts[epoch] = open(folder / f"epoch-{epoch}.part", "w", encoding="utf-8")
+                    parts[epoch].write("".join(line + "\n" for line in lines))
+            number += 1
+        for epoch, part in parts.items():
+            part.flush()
+            os.fsync(part.fileno())
+            os.replace(part.name, folder / f"epoch-{epoch}.ordup")
+    finally:
+        for part in parts.values():
+            part.close()
+    if parts:
+        descriptor = os.open(folder, os.O_RDONLY)
+        os.fsync(descriptor)
+        os.close(descriptor)
+        engine.remove_before(first)

@@ -1,0 +1,234 @@
+"""What fails in the trial. Each public method is a fault from its beginning to its end."""
+
+import os
+import shutil
+import signal
+import time
+
+from deployment import FLEET, MEMBERS, PRIMARIES, SITES, member_address
+
+# For how many seconds all may come to rest.
+PATIENCE = 60
+# Longer than the lease of a process.
+LONG = 7
+
+
+class Faults:
+    def __init__(self, deployment, chance, trial):
+        self.deployment, self.chance, self.trial = deployment, chance, trial
+        self.times, self.wrong, self.found = {}, [], {}
+
+    def run(self, seconds):
+        """Each fault once, in an order by chance, and then any of them."""
+        ends = time.monotonic() + seconds
+        kinds = ("kill_", "stop_", "cut_", "start_", "lose_", "fill_", "slow_", "ask_")
+        names = [name for name in dir(self) if name.startswith(kinds)]
+        first = self.chance.sample(names, len(names))
+        while first or time.monotonic() < ends:
+            name = first.pop() if first else self.chance.choice(names)
+            self.times[name] = self.times.get(name, 0) + 1
+            print(f"{time.monotonic():.1f} {name}", file=self.deployment.log, flush=True)
+            getattr(self, name)()
+            self.pause(0.2, 0.6)
+            self.revive(name)
+            self.look_at_alarms()
+
+    def revive(self, after):
+        for name, process in self.deployment.processes.items():
+            if process.poll() is not None:
+                # A site that is taken out ends, and so it does until it is a site again.
+                if name not in self.trial.out or process.returncode != 4:
+                    self.wrong.append(f"{name} ended by itself with {process.returncode} after {after}")
+                self.deployment.start(name)
+
+    def look_at_alarms(self):
+        """A member on an empty disk goes through what was written since the others made a snapshot. So it may be full."""
+        if self.trial.ask(lambda engine: engine.alarms()):
+            self.note("alarms of a new member")
+            self.make_room()
+
+    def make_room(self):
+        if not self.trial.make_room(member_address):
+            self.wrong.append("there was no room again")
+
+    def note(self, what):
+        self.found[what] = self.found.get(what, 0) + 1
+
+    def pause(self, least, most):
+        time.sleep(self.chance.uniform(least, most))
+
+    def restart(self, name, least, most):
+        self.deployment.kill(name)
+        self.pause(least, most)
+        self.deployment.start(name)
+
+    def suspend(self, name, least, most):
+        self.deployment.processes[name].send_signal(signal.SIGSTOP)
+        self.pause(least, most)
+        self.deployment.processes[name].send_signal(signal.SIGCONT)
+
+    def cut(self, names, least, most, how="cut"):
+        self.deployment.hosts(how, *names)
+        self.pause(least, most)
+        self.deployment.hosts("mend", *names)
+
+    def site(self):
+        return self.chance.choice([*SITES])
+
+    def writer(self):
+        """The host of the primary that writes."""
+        ends = time.monotonic() + PATIENCE
+        while time.monotonic() < ends:
+            value = self.trial.ask(lambda engine: engine.value("primary"))
+            for name in PRIMARIES:
+                if value and value.split()[3] == str(self.deployment.processes[name].pid):
+                    return name
+            time.sleep(0.1)
+        self.wrong.append("no primary holds the lease")
+        return PRIMARIES[0]
+
+    # Sites.
+
+    def kill_site(self):
+        self.restart(self.site(), 0.2, 1)
+
+    def kill_fleet(self):
+        self.restart(FLEET, 0.2, 1)
+
+    def stop_site(self):
+        self.suspend(self.site(), 0.5, LONG)
+
+    def cut_site(self):
+        self.cut([self.site()], 0.5, LONG)
+
+    def cut_and_kill_site(self):
+        """It is started again while its link is still cut."""
+        site = self.site()
+        self.deployment.hosts("cut", site)
+        self.pause(0.3, 0.8)
+        self.restart(site, 0, 0.1)
+        self.pause(0.3, 0.8)
+        self.deployment.hosts("mend", site)
+
+    def start_second_site(self):
+        """Elsewhere, while the first one is cut off. Readers read both."""
+        site = self.site()
+        self.deployment.hosts("cut", site)
+        second = self.deployment.begin("spare", self.deployment.words_of(site))
+        reader = self.deployment.start_reader(site, "spare")
+        self.pause(LONG, LONG + 2)
+        self.deployment.hosts("mend", site)
+        self.pause(1, 2)
+        for process in (second, reader):
+            process.kill()
+            process.wait()
+
+    # Primaries.
+
+    def kill_primary(self):
+        """The one that writes, while requests wait for it."""
+        writer, ends = self.writer(), time.monotonic() + 5
+        while not self.trial.ask(lambda engine: engine.read("request/")[0]) and time.monotonic() < ends:
+            pass
+        self.restart(writer, 0.1, 0.5)
+
+    def kill_primaries(self):
+        self.deployment.kill(*PRIMARIES)
+        self.pause(0, 0.5)
+        for name in PRIMARIES:
+            self.deployment.start(name)
+
+    def kill_primary_at_a_join(self):
+        """At any step of it, or soon after."""
+        writer = self.writer()
+        epoch = self.trial.ask(lambda engine: engine.epoch()[0])
+        self.trial.ask(lambda engine: engine.create("next", self.trial.wanted()))
+        ends = time.monotonic() + self.chance.choice([0, 0.02, 0.05, 0.1, 0.2, 0.5])
+        while self.trial.ask(lambda engine: engine.epoch()[0]) == epoch and time.monotonic() < ends:
+            pass
+        self.restart(writer, 0.1, 0.5)
+
+    def stop_primary(self):
+        self.suspend(self.writer(), LONG, LONG + 2)
+
+    def cut_primary(self):
+        self.cut([self.writer()], 0.3, LONG)
+
+    def ask_for_the_next_epoch(self):
+        """A site goes, or comes back, with an object and other limits."""
+        self.trial.change_sites()
+
+    # Members of the engine.
+
+    def kill_member(self):
+        self.restart(self.chance.choice(MEMBERS), 0.2, 2)
+
+    def kill_leader_often(self):
+        for _ in range(3):
+            self.restart(self.trial.leader(), 0.2, 1)
+            self.pause(1, 2)
+
+    def kill_all(self):
+        names = [*self.deployment.processes]
+        self.deployment.kill(*names)
+        for name in names:
+            self.deployment.start(name)
+
+    def lose_disk_of_member(self):
+        """A member is killed, its disk is deleted, and another one takes its place."""
+        name = self.chance.choice(MEMBERS)
+        self.deployment.kill(name)
+        for kept in self.deployment.disk(name).iterdir():
+            shutil.rmtree(kept)
+        if self.trial.replace_member(name):
+            self.deployment.start(name, "--initial-cluster-state", "existing")
+        else:
+            self.wrong.append(f"the member {name} could not be replaced")
+
+    def cut_minority_with_primary(self):
+        self.cut([self.writer(), self.chance.choice(MEMBERS)], 1, LONG + 3, "part")
+
+    def cut_majority(self):
+        """Nothing is acknowledged then."""
+        two = self.chance.sample(MEMBERS, 2)
+        self.deployment.hosts("cut", *two)
+        # An answer may be on its way.
+        time.sleep(1)
+        before = len(self.trial.answers)
+        self.pause(1, 5)
+        if len(self.trial.answers) != before:
+            self.wrong.append("there were answers without a majority")
+        self.deployment.hosts("mend", *two)
+
+    def stop_member(self):
+        self.suspend(self.chance.choice(MEMBERS), 0.5, LONG)
+
+    def slow_links(self):
+        names = self.chance.sample([*MEMBERS, *PRIMARIES, *SITES], 3)
+        self.deployment.hosts("slow", str(self.chance.choice([5, 20, 50])), str(self.chance.choice([0, 2, 5])), *names)
+        self.pause(2, 6)
+        self.deployment.hosts("mend", *names)
+
+    def fill_disk_of_member(self):
+        """The disk of the last member. The member may end, and is started again when there is room."""
+        name = MEMBERS[-1]
+        filler = self.deployment.disk(name) / "filler"
+        with open(filler, "wb", buffering=0) as file:
+            try:
+                while True:
+                    file.write(bytes(1 << 20))
+            except OSError:
+                pass
+        ends = time.monotonic() + LONG
+        while self.deployment.processes[name].poll() is None and time.monotonic() < ends:
+            time.sleep(0.1)
+        os.remove(filler)
+        if self.deployment.processes[name].poll() is not None:
+            self.note("members that ended as their disk was full")
+            self.deployment.start(name)
+
+    def fill_engine(self):
+        """Up to its quota. Then there is room again, by what an operator would type."""
+        self.trial.fill_engine()
+        self.pause(0.5, 2)
+        self.make_room()

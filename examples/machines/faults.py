@@ -148,6 +148,15 @@ class Faults:
             pass
         self.restart(writer, 0.1, 0.5)
 
+    def cut_site_at_a_join(self):
+        """A site that may lag. The epoch may not end before it is back."""
+        site = self.chance.choice(["south", "east", "west"])
+        self.deployment.hosts("cut", site)
+        self.pause(0.2, 0.5)
+        self.trial.ask(lambda engine: engine.create("next", self.trial.wanted()))
+        self.pause(1, 2)
+        self.deployment.hosts("mend", site)
+
     def stop_primary(self):
         self.suspend(self.writer(), LONG, LONG + 2)
 

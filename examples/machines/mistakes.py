@@ -33,10 +33,6 @@ MISTAKES = {
             '        self.engine.remove("request/")\n        time.sleep(0.05)\n        self.write(lines, {f',
         ),
     ],
-    # The next epoch begins while a site has not told the last place.
-    "goes_over_before_all_have_told": [
-        ("primary.py", "{self.acknowledged, *self.applied.values()} == {self.updates}", "self.acknowledged == self.updates"),
-    ],
     # The next epoch begins with the values that the last one began with.
     "begins_again_with_the_first_values": [
         ("epochs.py", "    lines = made.stdout.splitlines()\n", "    lines = first_lines(script)\n"),

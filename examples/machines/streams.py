@@ -146,11 +146,16 @@ class Engine:
         holds = [self.txn.create(entry) == 0] + ([self.txn.create(key_of(number - 1)) > 0] if number > 1 else [])
         changes = [self.txn.put(entry, value)] if lines else []
         changes += [self.txn.put(*put) for put in puts.items()] + [self.txn.delete(key) for key in deletes]
-        written, came = self.etcd.transaction(holds, changes, [self.txn.get(entry)])
-        if not written and not came[0]:
+        written, came = self.etcd.transaction(holds, changes, [self.txn.get(entry), self.txn.get("epoch")])
+        if written:
+            return
+        there, epoch = came
+        if epoch and int(epoch[0][0].split()[1]) > number:
+            raise Taken("another primary went over to a later epoch")
+        if not there:
             raise Gap(f"the script lacks the entry {number - 1}")
         # Of a write whose answer was lost the entry is there already.
-        if not written and text_of(came[0][0][0]) != value:
+        if text_of(there[0][0]) != value:
             raise Taken(f"the script has another entry {number}")
 
     @asks

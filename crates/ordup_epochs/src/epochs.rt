@@ -1,0 +1,228 @@
+ghost use Rattle.std.specs.Prelude.{◌≡◌, ◌≤◌, None, IfOk, IfErr};
+ghost use Rattle.ordup_objects.specs.Refusals.{IsRefusal};
+ghost use Rattle.ordup_primary.specs.Declarations.{start_refusal};
+
+use crate::ended::EndedEpoch;
+use crate::epoch::Epoch;
+use crate::stage::Stage;
+use crate::visit::Visit;
+use ordup_cluster::Gate;
+use ordup_objects::{Refusal, SiteId};
+use ordup_primary::Setup;
+use std::alloc::Global;
+use std::sync::atomic::{AtomicBool, AtomicU64, Ordering};
+use std::sync::{RwLock, Wait};
+use std::thread;
+use std::time::{Clock, Duration};
+
+/// For how many milliseconds `keep` sleeps before it looks again.
+const PAUSE: u64 = 1;
+
+/// A store that goes on for ever, which threads share: one epoch is open at a time.
+///
+/// A join, from one epoch to the next, takes both locks alone, in the order of the fields. A visit shares both in this order, and an
+/// applier the second.
+#[derive(Drop)]
+pub struct Epochs {
+    /// While a visit shares it no join begins, and while a join has it no visit.
+    visits: RwLock<()>,
+    stage: RwLock<Stage>,
+    /// After how many updates an epoch ends.
+    updates: u64,
+    /// After how many updates the epoch that is open ends: more, where a join was refused.
+    due: AtomicU64,
+    stopped: AtomicBool,
+}
+
+impl Epochs {
+    /// Opens the first epoch, in which nothing has happened. It waits for nobody. Each epoch ends after this many updates, which are 1
+    /// or more. An epoch takes 1,000,000 at most, so leave room for those of the visits that have begun by then.
+    ///
+    /// - It is opened only where there is an object and a site.
+    /// - It is refused `Empty` where the setup lacks an object or a site, and else `NoMemory` alone.
+    pub fn new(alloc: Global, setup: Setup, updates: u64) -> Result<Epochs, Refusal>
+        requires { 1 ≤ updates }
+        ensures allowed { IfOk result (λ _. start_refusal setup ≡ None) }
+        ensures refused { IfErr result (λ e. IsRefusal (start_refusal setup) e) }
+    {
+        let epoch = Epoch::open(alloc, 0, setup)?;
+        Ok(Epochs {
+            visits: RwLock::new(()),
+            stage: RwLock::new(Stage::Open(epoch)),
+            updates,
+            due: AtomicU64::new(updates),
+            stopped: AtomicBool::new(false),
+        })
+    }
+
+    /// Begins a visit to the epoch that is open. It waits where that has its updates, until the next one is open.
+    ///
+    /// It is refused where no epoch is open: the last one was closed, and the next one could not be opened yet, for the reason that
+    /// is answered (`NoMemory`, or `LogFull` after 10^18 updates); or a site did not agree with the log (`Mixed`).
+    pub fn enter<R: Wait>(&self, rt: &R) -> Result<Visit<'_>, Refusal> {
+        for _ in rt.forever() {
+            let visits = self.visits.read(rt);
+            let stage = self.stage.read(rt);
+            if self.is_stopped() || !self.is_full(&stage) {
+                return Visit::new(visits, stage);
+            }
+            drop(stage);
+            drop(visits);
+            thread::yield_now();
+        }
+        unreachable!()
+    }
+
+    fn is_stopped(&self) -> bool {
+        self.stopped.load(Ordering::SeqCst)
+    }
+
+    /// An epoch is open that has its updates.
+    fn is_full(&self, stage: &Stage) -> bool {
+        match stage {
+            Stage::Open(epoch) => epoch.numbered() >= self.due.load(Ordering::SeqCst),
+            _ => false,
+        }
+    }
+
+    /// Applies what comes to a site, in each epoch, and ends after `stop`. It answers how many updates it applied. It runs in a
+    /// thread of its own, and is refused `UnknownSite` alone.
+    pub fn applier<G: Gate, R: Wait>(&self, rt: &R, site: SiteId, gate: &G) -> Result<u64, Refusal>
+        ensures refused { IfErr result (λ e. e ≡ Refusal.UnknownSite) }
+    {
+        let mut count = 0u64;
+        for _ in rt.forever() {
+            let stopping = self.is_stopped();
+            let applied = self.apply(rt, site, gate)?;
+            count = count.saturating_add(applied);
+            if stopping {
+                break;
+            }
+            thread::yield_now();
+        }
+        Ok(count)
+    }
+
+    /// Applies what comes to a site until the epoch that is open ends, if one is.
+    fn apply<G: Gate, R: Wait>(&self, rt: &R, site: SiteId, gate: &G) -> Result<u64, Refusal>
+        ensures refused { IfErr result (λ e. e ≡ Refusal.UnknownSite) }
+    {
+        match &*self.stage.read(rt) {
+            Stage::Open(epoch) => epoch.apply(rt, site, gate),
+            _ => Ok(0),
+        }
+    }
+
+    /// Ends the epoch that is open, opens the next one, and hands out the one that has ended. No visit begins until that is done.
+    ///
+    /// First it waits until all visits have ended, and settles all updates, for at most `turns` turns, which are 1 or more. Then it
+    /// stops the appliers in this epoch and waits for them, closes the epoch and opens the next one.
+    ///
+    /// - It is refused `NotYet` with the number of the last update where that is not acknowledged after the last turn, and `NoMemory`
+    ///   where a turn is refused a growth: then the epoch goes on, for as many updates more.
+    /// - It is refused `NoMemory`, or `LogFull` after 10^18 updates, where the epoch is closed and the next one cannot be opened. What
+    ///   has ended is kept. Visits are refused until a later call opens the next epoch.
+    /// - It is refused `Mixed` where a site does not agree with the log: then there are no more epochs.
+    /// - It is refused `Stopped` after `stop`.
+    pub fn go_on<R: Wait>(&self, rt: &R, alloc: Global, turns: u64) -> Result<EndedEpoch, Refusal>
+        requires { 1 ≤ turns }
+    {
+        let _joining = self.visits.write(rt);
+        if self.is_stopped() {
+            return Err(Refusal::Stopped);
+        }
+        self.end(rt, turns)?;
+        self.due.store(self.updates, Ordering::SeqCst);
+        self.stage.write(rt).go_on(alloc)
+    }
+
+    /// Settles all updates of the epoch that is open, if one is, and stops it. Where that is refused, it ends later.
+    fn end<R: Wait>(&self, rt: &R, turns: u64) -> Result<(), Refusal>
+        requires { 1 ≤ turns }
+    {
+        match &*self.stage.read(rt) {
+            Stage::Open(epoch) => {
+                let due = epoch.numbered().saturating_add(self.updates);
+                self.due.store(due, Ordering::SeqCst);
+                epoch.end(rt, turns)
+            }
+            _ => Ok(()),
+        }
+    }
+
+    /// Goes on to the next epoch whenever the one that is open has its updates, until `stop`. It answers how often it did, and drops
+    /// what has ended: who wants the records calls `go_on`. It runs in a thread of its own.
+    ///
+    /// Where `go_on` is refused it tries again later. It is refused `Mixed` alone, once there are no more epochs.
+    pub fn keep<R: Wait + Clock>(&self, rt: &R, alloc: Global, turns: u64) -> Result<u64, Refusal>
+        requires { 1 ≤ turns }
+    {
+        let mut joins = 0u64;
+        for _ in rt.forever() {
+            if self.is_stopped() {
+                break;
+            }
+            if self.is_due(rt) && self.has_gone_on(rt, alloc, turns)? {
+                joins = joins.saturating_add(1);
+            }
+            thread::sleep(rt, Duration::from_millis(PAUSE));
+        }
+        Ok(joins)
+    }
+
+    /// The epoch that is open has its updates, or none is open.
+    fn is_due<R: Wait>(&self, rt: &R) -> bool {
+        let stage = self.stage.read(rt);
+        self.is_full(&stage) || !matches!(&*stage, Stage::Open(_))
+    }
+
+    /// Goes on to the next epoch, and answers whether it did. It is refused where there are no more epochs.
+    fn has_gone_on<R: Wait>(&self, rt: &R, alloc: Global, turns: u64) -> Result<bool, Refusal>
+        requires { 1 ≤ turns }
+    {
+        match self.go_on(rt, alloc, turns) {
+            Ok(ended) => {
+                ended.discard();
+                Ok(true)
+            }
+            Err(refusal) if is_the_end(&refusal) => Err(refusal),
+            Err(_) => Ok(false),
+        }
+    }
+
+    /// Ends the appliers once their feeds are empty, and `keep`. Proposals are refused from now on, and there is no next epoch. It
+    /// waits while a join is made; the thread that calls it has no visit.
+    pub fn stop<R: Wait>(&self, rt: &R) {
+        let _visits = self.visits.read(rt);
+        self.stopped.store(true, Ordering::SeqCst);
+        if let Stage::Open(epoch) = &*self.stage.read(rt) {
+            epoch.stop();
+        }
+    }
+
+    /// Takes the last epoch out, once all threads are joined. It takes no memory, and waits for nobody.
+    ///
+    /// It is refused `Mixed` alone, where a site does not agree with the log.
+    pub fn close(self) -> Result<EndedEpoch, Refusal> {
+        let Epochs {
+            visits: _,
+            stage,
+            updates: _,
+            due: _,
+            stopped: _,
+        } = self;
+        stage.into_inner().into_ended()
+    }
+}
+
+/// There is no next epoch after this refusal, however often it is tried.
+fn is_the_end(refusal: &Refusal) -> bool {
+    matches!(refusal, Refusal::Mixed { .. })
+}
+
+/// Threads may share the epochs, and one may pass them to another.
+pub fn epochs_may_be_shared() {
+    is_shared::<Epochs>();
+}
+
+fn is_shared<T: Send + Sync>() {}

@@ -17,8 +17,8 @@ pub(crate) fn declare<A: Allocator + Copy>(
     setup: &mut Setup<A>,
     kind: Kind,
 ) -> Result<(), Refusal> {
-    for place in 0..OBJECT_COUNT {
-        setup.object(&[b'a' + place], 0)?;
+    for index in 0..OBJECT_COUNT {
+        setup.object(&[b'a' + index], 0)?;
     }
     let members = [
         ObjectId::new(0),
@@ -27,8 +27,8 @@ pub(crate) fn declare<A: Allocator + Copy>(
         ObjectId::new(3),
     ];
     let group = setup.group(b"a", &members)?;
-    for place in 0..SITE_COUNT {
-        let site = setup.site(&[b'a' + place], CAPACITY)?;
+    for index in 0..SITE_COUNT {
+        let site = setup.site(&[b'a' + index], CAPACITY)?;
         declare_limits(setup, site, group, kind.lags(site))?;
     }
     Ok(())

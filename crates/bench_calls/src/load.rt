@@ -63,14 +63,14 @@ impl<A: Allocator + Copy> Load<A> {
     fn update(&mut self) -> Result<(), Refusal> {
         let set = self.draw_set()?;
         self.take(Event::Propose(set))?;
-        for place in 0..SITE_COUNT {
-            let site = SiteId::new(place);
+        for index in 0..SITE_COUNT {
+            let site = SiteId::new(index);
             self.take(Event::Send(site))?;
             self.take(Event::Apply(site))?;
         }
         self.settle()?;
-        for place in 0..SITE_COUNT {
-            let site = SiteId::new(place);
+        for index in 0..SITE_COUNT {
+            let site = SiteId::new(index);
             if self.is_time_to_report(site) {
                 self.take(Event::Report(site))?;
             }
@@ -138,8 +138,8 @@ impl<A: Allocator + Copy> Load<A> {
     fn print(&mut self, rt: &impl Print) -> anyhow::Result<()> {
         println!(rt; "proposed {}", self.proposed)?;
         println!(rt; "acknowledged {}", self.acknowledged)?;
-        for place in 0..SITE_COUNT {
-            self.print_site(rt, SiteId::new(place))?;
+        for index in 0..SITE_COUNT {
+            self.print_site(rt, SiteId::new(index))?;
         }
         Ok(())
     }

@@ -90,8 +90,8 @@ impl<A: Allocator + Copy> Log<A> {
         ensures refused { IfErr result (λ e. e ≡ Refusal.NoMemory) }
     {
         self.keeps();
-        for place in 0..count {
-            let set = self.set(place + 1).copy(alloc)?;
+        for index in 0..count {
+            let set = self.set(index + 1).copy(alloc)?;
             log.append(set)?;
         }
         Ok(())

@@ -23,10 +23,10 @@ pub record HasApplied (s : SiteState) (h : History) (j : ℕ) : Type 0 where
   pub travelled : (x : ℕ) → travelled_at s x ≡ object_span h x 0 j
 
 -- a site holds the serial result of a prefix of the log: it applied what it reported, and no more than was sent to it
-pub record HoldsPrefix (log : History) (reported sent : ℕ) (s : SiteState) : Type 0 where
-  pub told : reported ≤ s.applied
-  pub got : s.applied ≤ sent
-  pub logged : sent ≤ length log.sets
+pub record HoldsPrefix (log : History) (report last_sent : ℕ) (s : SiteState) : Type 0 where
+  pub reported : report ≤ s.applied
+  pub applied : s.applied ≤ last_sent
+  pub sent : last_sent ≤ length log.sets
   pub prefix : HasApplied s log s.applied
 
 -- what a site applied of a history it applied of each longer one

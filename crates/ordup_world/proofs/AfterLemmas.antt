@@ -124,7 +124,7 @@ module _ {A : Type 0} where
         (λ s d lt. let b = is.sites s d lt in
         let holds = sound.sites s d lt in
         let few : applied s past ≤ length (sets_of past) =
-        omega (arith, b.applied, holds.holds.got, holds.holds.logged, updates-are) in
+        omega (arith, b.applied, holds.holds.applied, holds.holds.sent, updates-are) in
         site-is (b.values ∙ sym (serial-longer (log_of w.primary.setup past) (m ∷ []) (applied s past) few)) b.sent b.applied b.reported
         b.reports)
 

@@ -20,9 +20,9 @@ module _ {A : Type 0} where
       let here = stands.store.sites s d lt in
       let holds = sound.store.sites s d lt in
       record {
-        told = omega (arith, here.reported, here.applied, holds.holds.told);
-        got = omega (arith, here.applied, here.sent, holds.holds.got);
-        logged = omega (arith, here.sent, holds.holds.logged, updates-are (store_of w) past sound.store stands.store);
+        reported = omega (arith, here.reported, here.applied, holds.holds.reported);
+        applied = omega (arith, here.applied, here.sent, holds.holds.applied);
+        sent = omega (arith, here.sent, holds.holds.sent, updates-are (store_of w) past sound.store stands.store);
         feed = omega (arith, here.sent, here.applied, holds.feed);
         limits = rw (stands.store.log, stands.store.limits, here.applied, stands.store.acked) at (limits s d lt);
       }

@@ -46,7 +46,7 @@ numbered_otherwise (inr e) = cc
 
 -- 5 is added to x and acknowledged, and x has a limit of 5 at the site 0, which applied nothing
 kept : KeepsSite {A = ℕ} setup (Settle ∷ add_to_x 5 ∷ []) 0
-kept = record { told = omega arith; got = omega arith; logged = omega arith; feed = omega arith; limits = refl }
+kept = record { reported = omega arith; applied = omega arith; sent = omega arith; feed = omega arith; limits = refl }
 
 -- where an update of 6 would count as acknowledged
 over : KeepsSite {A = ℕ} setup (add_to_x 6 ∷ Settle ∷ []) 0 → ⊥
@@ -58,17 +58,17 @@ over_now k = let e : false ≡ true = k.limits in cc
 
 -- also where it was changed: to 5, and to 4, which no store accepts
 kept_now : KeepsSite {A = ℕ} setup (Relimit 0 (Object 0) 5 ∷ Settle ∷ add_to_x 5 ∷ []) 0
-kept_now = record { told = omega arith; got = omega arith; logged = omega arith; feed = omega arith; limits = refl }
+kept_now = record { reported = omega arith; applied = omega arith; sent = omega arith; feed = omega arith; limits = refl }
 
 over_changed : KeepsSite {A = ℕ} setup (Relimit 0 (Object 0) 4 ∷ Settle ∷ add_to_x 5 ∷ []) 0 → ⊥
 over_changed k = let e : false ≡ true = k.limits in cc
 
 -- one more is applied than was sent, one more is sent than there is, or a feed of 1 holds 2
 applied_too_much : KeepsSite {A = ℕ} setup (Apply 0 ∷ add_to_x 1 ∷ []) 0 → ⊥
-applied_too_much k = let le : 1 ≤ 0 = k.got in omega arith
+applied_too_much k = let le : 1 ≤ 0 = k.applied in omega arith
 
 sent_too_much : KeepsSite {A = ℕ} setup (Send 0 ∷ []) 0 → ⊥
-sent_too_much k = let le : 1 ≤ 0 = k.logged in omega arith
+sent_too_much k = let le : 1 ≤ 0 = k.sent in omega arith
 
 fed_too_much : KeepsSite {A = ℕ} setup (Send 1 ∷ Send 1 ∷ add_to_x 1 ∷ add_to_x 1 ∷ []) 1 → ⊥
 fed_too_much k = let le : 2 ≤ 1 = k.feed in omega arith

@@ -27,7 +27,7 @@ use Rattle.ordup_world.specs.Worlds.{StoreState, WorldState, store_of, first_sit
 pub KeepsLimits-sound : (w : WorldState) → IsStore (store_of w) → KeepsLimits w
 KeepsLimits-sound w is s d lt =
     within-later w.primary.log w.primary.setup.groups (latest (limits_at w.primary s)) (progress_at w.primary s).reported
-    (get_or w.sites s d).applied w.primary.acked (is.sites s d lt).holds.told (is.primary.lags s (omega (arith, is.count)))
+    (get_or w.sites s d).applied w.primary.acked (is.sites s d lt).holds.reported (is.primary.lags s (omega (arith, is.count)))
 
 -- what is read of a site that is not there
 abbrev pub no_site : SiteState
@@ -64,9 +64,9 @@ module _ (w : StoreState) (is : IsStore w) where
     count = is.count;
     sites = λ s d lt. let h = is.sites s d lt in record {
       holds = record {
-        told = h.holds.told;
-        got = h.holds.got;
-        logged = omega (arith, h.holds.logged, length_push w.primary.log.sets m);
+        reported = h.holds.reported;
+        applied = h.holds.applied;
+        sent = omega (arith, h.holds.sent, length_push w.primary.log.sets m);
         prefix = HasApplied-longer (get_or w.sites s d) w.primary.log (get_or w.sites s d).applied (m ∷ []) h.holds.prefix;
       };
       feed = h.feed;
@@ -120,19 +120,19 @@ module _ (w : StoreState) (is : IsStore w) where
         → IsStore (with_progress w s (one_sent w s))
     IsStore-sent primary unsent room = IsStore-known (one_sent w s) primary (record {
       holds = record {
-        told = holds-at.holds.told;
-        got = omega (arith, holds-at.holds.got);
-        logged = omega (arith, holds-at.holds.logged, unsent);
+        reported = holds-at.holds.reported;
+        applied = omega (arith, holds-at.holds.applied);
+        sent = omega (arith, holds-at.holds.sent, unsent);
         prefix = holds-at.holds.prefix;
       };
-      feed = omega (arith, holds-at.feed, holds-at.holds.got, room);
+      feed = omega (arith, holds-at.feed, holds-at.holds.applied, room);
     })
 
     -- it reported what it applied
     pub IsStore-reported : IsPrimary (with_progress w s (now_reported w s site.applied)).primary
         → IsStore (with_progress w s (now_reported w s site.applied))
     IsStore-reported primary = IsStore-known (now_reported w s site.applied) primary (record {
-      holds = record { told = omega arith; got = holds-at.holds.got; logged = holds-at.holds.logged; prefix = holds-at.holds.prefix };
+      holds = record { reported = omega arith; applied = holds-at.holds.applied; sent = holds-at.holds.sent; prefix = holds-at.holds.prefix };
       feed = holds-at.feed;
     })
 
@@ -146,9 +146,9 @@ module _ (w : StoreState) (is : IsStore w) where
         sites = λ t d below. elim (cases_eq t s) [
           | inl same ↦ rw (get_or-set_at w.sites s t new d same lt, same) (record {
             holds = record {
-              told = omega (arith, holds-at.holds.told, next.applied);
-              got = omega (arith, next.applied);
-              logged = holds-at.holds.logged;
+              reported = omega (arith, holds-at.holds.reported, next.applied);
+              applied = omega (arith, next.applied);
+              sent = holds-at.holds.sent;
               prefix = rw (← next.applied) at next;
             };
             feed = omega (arith, holds-at.feed, next.applied);
@@ -161,13 +161,13 @@ module _ (w : StoreState) (is : IsStore w) where
       pub next_known : AreKnown (length site.values) (set_at w.primary.log (site.applied + 1))
       next_known =
           let place : site.applied + 1 - 1 ≡ site.applied = omega arith in
-          rw (holds-at.holds.prefix.values, place, length-serial w.primary.log site.applied (omega (arith, holds-at.holds.logged)))
-          (is.primary.legal.known site.applied [] (omega (arith, holds-at.holds.logged)))
+          rw (holds-at.holds.prefix.values, place, length-serial w.primary.log site.applied (omega (arith, holds-at.holds.sent)))
+          (is.primary.legal.known site.applied [] (omega (arith, holds-at.holds.sent)))
 
       pub next_legal : is_legal (set_at w.primary.log (site.applied + 1)) site.values ≡ true
       next_legal =
           let place : site.applied + 1 - 1 ≡ site.applied = omega arith in
-          rw (holds-at.holds.prefix.values, place) (is.primary.legal.legal site.applied (omega (arith, holds-at.holds.logged)))
+          rw (holds-at.holds.prefix.values, place) (is.primary.legal.legal site.applied (omega (arith, holds-at.holds.sent)))
 
 -- ---- a store at the start
 
@@ -198,9 +198,9 @@ IsStore-start w primary log known sites =
         get_or-replicate n s (first_site w.primary.setup) d (omega (arith, count)),
       ) (record {
         holds = record {
-          told = omega arith;
-          got = omega arith;
-          logged = omega arith;
+          reported = omega arith;
+          applied = omega arith;
+          sent = omega arith;
           prefix =
               rw log (record {
                 within = omega arith;

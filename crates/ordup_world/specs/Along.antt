@@ -18,11 +18,11 @@ module _ {A : Type 0} where
   -- a site has applied what it reported, and no more than was sent to it; its feed holds no more than it may;
   -- and the acknowledged updates that it has not applied weigh at most each of its limits that are in force now
   pub record KeepsSite (setup : Declared) (past : Past A) (s : ℕ) : Type 0 where
-    pub told : reported s past ≤ applied s past
-    pub got : applied s past ≤ sent s past
-    pub logged : sent s past ≤ length (sets_of past)
     pub feed : sent s past ≤ applied s past + capacity_of setup s
     pub limits : is_lag_within_after setup past s (applied s past) ≡ true
+    pub reported : reported s past ≤ applied s past
+    pub applied : applied s past ≤ sent s past
+    pub sent : sent s past ≤ length (sets_of past)
 
   -- each site does
   abbrev pub KeepSites : Declared → Past A → Type 0

@@ -131,12 +131,10 @@ impl<A: Allocator + Copy> Store<A> {
 
     /// The limit of the site on a scope is changed from the head on, or begins there.
     #[inline(always)]
-    pub(crate) fn relimit(&mut self, site: SiteId, scope: Scope, amount: u64) -> Answer<A>
+    pub(crate) fn relimit(&mut self, site: SiteId, scope: &Scope, amount: u64) -> Answer<A>
         requires { IsStore (state_of self.old) }
-        ensures { StepsStore (state_of self.old) (Event.Relimit site scope amount) result (state_of self.new) }
+        ensures { StepsStore (state_of self.old) (Event.Relimit site scope.now amount) result (state_of self.new) }
     {
-        // The prover joins branches over a borrowed scope, not over a copied one.
-        let scope = &scope;
         let setup = self.primary.setup();
         if let Err(refusal) = check_scope(setup.objects(), setup.groups(), *scope) {
             return Answer::Refused(refusal);

@@ -90,7 +90,7 @@ impl<A: Allocator + Copy> World<A> {
                 site,
                 scope,
                 amount,
-            } => self.store.relimit(site, scope, amount),
+            } => self.store.relimit(site, &scope, amount),
             Event::Begin { query, site, limit } => self
                 .queries
                 .begin(&self.store, query, site, limit),

@@ -26,12 +26,12 @@ apply-requires g c =
     let at : site ≡ get_or w.sites c.args.site site = grind (arith, common_steps) in
     let holds = holds-at w c.requires c.args.site site lt at in
     let less : site.applied < (progress_at w.primary c.args.site).sent =
-    omega (arith, holds.holds.got, here, c.sent-sent.ensures, c.if-applied-sent.false) in
+    omega (arith, holds.holds.applied, here, c.sent-sent.ensures, c.if-applied-sent.false) in
     let set : c.set.result.now ≡ set_at w.primary.log (site.applied + 1) = rw (c.log.ensures, here) at c.set.ensures.set in
     record {
       known = rw set (next_known w c.requires c.args.site site lt at less);
       legal = rw set (next_legal w c.requires c.args.site site lt at less);
-      room = omega (arith, less, holds.holds.logged, c.requires.primary.few);
+      room = omega (arith, less, holds.holds.sent, c.requires.primary.few);
     }
 
 pub returns : goal.returns
@@ -43,7 +43,7 @@ returns g c =
     let at : site ≡ get_or w.sites c.args.site site = grind (arith, common_steps) in
     let holds = holds-at w c.requires c.args.site site lt at in
     let less : site.applied < (progress_at w.primary c.args.site).sent =
-    omega (arith, holds.holds.got, here, c.sent-sent.ensures, c.if-applied-sent.false) in
+    omega (arith, holds.holds.applied, here, c.sent-sent.ensures, c.if-applied-sent.false) in
     let set : c.set.result.now ≡ set_at w.primary.log (site.applied + 1) = rw (c.log.ensures, here) at c.set.ensures.set in
     rw c.index-4.ensures (applied_next c.requires lt at less (grind (arith, common_steps))
-    (c.apply.ensures.next w.primary.log site.applied holds.holds.prefix (omega (arith, less, holds.holds.logged)) set))
+    (c.apply.ensures.next w.primary.log site.applied holds.holds.prefix (omega (arith, less, holds.holds.sent)) set))

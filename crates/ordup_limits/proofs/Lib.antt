@@ -2,7 +2,7 @@ pub mod LimitLemmas
 pub mod PutLemmas
 pub mod EntryLemmas
 mod TotalLemmas
-mod MaskLemmas
+pub mod MaskLemmas
 pub mod LedgerLemmas
 mod PassedLemmas
 mod ChangeLemmas

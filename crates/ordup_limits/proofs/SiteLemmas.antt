@@ -226,6 +226,7 @@ pub AreOver-none : (h : History) (groups : GroupList) (place : ℕ) (sites : Lis
     → AreOver h groups place sites test 0
 AreOver-none h groups place sites test kept = record {
   some = λ s d lt bit. absurd (omega (arith, eqb-true (bit_at 0 s) 1 bit, bit_at-zero s));
+  there = λ s bit. absurd (omega (arith, eqb-true (bit_at 0 s) 1 bit, bit_at-zero s));
   each = λ s d scope lt known is over. absurd (omega (arith, kept s d scope lt known is, over));
 }
 
@@ -234,12 +235,29 @@ pub AreOver-scope : (h : History) (groups : GroupList) (place : ℕ) (sites : Li
     → IsScopeKnown (length h.start) groups scope
     → ((s : ℕ) (d : SiteLedgerState) → s < length sites
     → (bit_at mask s == 1) ≡ nat_lt (allowed h groups (get_or sites s d) scope) (span h groups scope 0 place))
+    → ((s : ℕ) → (bit_at mask s == 1) ≡ true → s < length sites)
     → AreOver h groups place sites (is_same_scope scope) mask
-AreOver-scope h groups place sites scope mask known bits = record {
+AreOver-scope h groups place sites scope mask known bits there = record {
+  there = there;
   some = λ s d lt bit. (scope, (known, ltb-true _ _ (sym (bits s d lt) ∙ bit)));
   each = λ s d t lt there same over. (let e : scope ≡ t = same_scope scope t same in
       bits s d lt ∙ lt-ltb _ _ (rw e over));
 }
+
+-- a bit of one of two masks
+bit-either : (m n s : ℕ) → (bit_at (bit_or m n) s == 1) ≡ true → ((bit_at m s == 1) ≡ true) ⊎ ((bit_at n s == 1) ≡ true)
+bit-either m n s bit = elim (cases_Bool (bit_at m s == 1)) [
+  | inl here ↦ inl here
+  | inr other ↦ (let both = bit_at_or m n s in
+      inr (bit-one n s (omega (
+        arith,
+        both,
+        eqb-true (bit_at (bit_or m n) s) 1 bit,
+        bit_at-lt m s,
+        bit_at-lt n s,
+        eqb-false (bit_at m s) 1 other,
+      ))))
+]
 
 -- the bits of two masks
 pub AreOver-or : (h : History) (groups : GroupList) (place : ℕ) (sites : List SiteLedgerState) (p q r : Scope → Bool) (m n : ℕ)
@@ -247,18 +265,8 @@ pub AreOver-or : (h : History) (groups : GroupList) (place : ℕ) (sites : List 
     → ((scope : Scope) → IsScopeKnown (length h.start) groups scope → r scope ≡ true → ((p scope ≡ true) ⊎ (q scope ≡ true)))
     → AreOver h groups place sites r (bit_or m n)
 AreOver-or h groups place sites p q r m n first second either = record {
-  some = λ s d lt bit. elim (cases_Bool (bit_at m s == 1)) [
-    | inl here ↦ first.some s d lt here
-    | inr other ↦ (let both = bit_at_or m n s in
-        second.some s d lt (bit-one n s (omega (
-          arith,
-          both,
-          eqb-true (bit_at (bit_or m n) s) 1 bit,
-          bit_at-lt m s,
-          bit_at-lt n s,
-          eqb-false (bit_at m s) 1 other,
-        ))))
-  ];
+  some = λ s d lt bit. elim (bit-either m n s bit) [ inl here ↦ first.some s d lt here | inr there ↦ second.some s d lt there ];
+  there = λ s bit. elim (bit-either m n s bit) [ inl here ↦ first.there s here | inr there ↦ second.there s there ];
   each = λ s d scope lt known is over. elim (either scope known is) [
     | inl here ↦ bit-one (bit_or m n) s (omega (
       arith,
@@ -282,6 +290,7 @@ pub AreOver-weaker : (h : History) (groups : GroupList) (place : ℕ) (sites : L
     → AreOver h groups place sites r m
 AreOver-weaker h groups place sites p r m are within = record {
   some = are.some;
+  there = are.there;
   each = λ s d scope lt known is over. are.each s d scope lt known (within scope known is) over;
 }
 

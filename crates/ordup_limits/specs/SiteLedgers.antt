@@ -93,12 +93,13 @@ abbrev pub may_weigh : GroupList → List Change → Scope → Bool
 may_weigh groups changes scope =
     is_same_scope Everything scope || is_same_scope Count scope || list_any (λ c. counts_within groups c.object scope) changes
 
--- a mask has a bit for each site that the updates up to a place take over a limit on a scope of this test, and for no other site
--- than one that they take over a limit
+-- a mask has a bit for each site that the updates up to a place take over a limit on a scope of this test, and no other bit than for
+-- a site that they take over a limit
 pub record AreOver (h : History) (groups : GroupList) (place : ℕ) (sites : List SiteLedgerState) (test : Scope → Bool) (mask : ℕ) : Type 0 where
   pub some : (s : ℕ) (d : SiteLedgerState) → s < length sites → (bit_at mask s == 1) ≡ true
       → (scope : Scope) × (IsScopeKnown (length h.start) groups scope
       × (allowed h groups (slice_index_or sites s d) scope < span h groups scope 0 place))
+  pub there : (s : ℕ) → (bit_at mask s == 1) ≡ true → s < length sites
   pub each : (s : ℕ) (d : SiteLedgerState) (scope : Scope) → s < length sites → IsScopeKnown (length h.start) groups scope
       → test scope ≡ true → allowed h groups (slice_index_or sites s d) scope < span h groups scope 0 place
       → (bit_at mask s == 1) ≡ true

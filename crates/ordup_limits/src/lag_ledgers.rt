@@ -85,6 +85,7 @@ impl<A: Allocator + Copy> LagLedgers<A> {
             HasLimits (length log.now.start) groups.now limits (slice_index_or self.old.sites s d) →
             within log.now groups.now limits (slice_index_or self.old.sites s d).reported.place (to - 1) ≡ true →
             (bit_at result s == 1) ≡ not (within log.now groups.now limits (slice_index_or self.old.sites s d).reported.place to) }
+        ensures there { (s : ℕ) → (bit_at result s == 1) ≡ true → s < length self.old.sites }
     {
         log.keeps();
         groups.keeps();

@@ -1,4 +1,4 @@
-ghost use Rattle.std.specs.Prelude.{◌≡◌, ◌==◌, ◌≤◌, ◌<◌, ◌&&◌, ℕ, length, nat_lt, slice_index, slice_index_or};
+ghost use Rattle.std.specs.Prelude.{◌≡◌, ◌==◌, ◌≤◌, ◌<◌, ◌&&◌, ℕ, true, length, nat_lt, slice_index, slice_index_or};
 ghost use Rattle.std.specs.Int.{bit_at};
 ghost use Rattle.ordup_objects.specs.Serial.{set_at};
 ghost use Rattle.ordup_objects.specs.Sizes.{most_objects, most_sites};
@@ -134,6 +134,7 @@ fn compare<A: Allocator + Copy>(
     requires sites { (s : ℕ) (d : SiteLedgerState) → s < length sites.now → AreWeights (slice_index_or sites.now s d).reported log.now groups.now }
     ensures over { (s : ℕ) (d : SiteLedgerState) → s < length sites.now →
         (bit_at result.0 s == 1) ≡ nat_lt (allowed log.now groups.now (slice_index_or sites.now s d) scope) weight }
+    ensures there { (s : ℕ) → (bit_at result.0 s == 1) ≡ true → s < length sites.now }
     ensures least { (s : ℕ) (d : SiteLedgerState) → s < length sites.now →
         result.1 ≤ allowed log.now groups.now (slice_index_or sites.now s d) scope }
 {

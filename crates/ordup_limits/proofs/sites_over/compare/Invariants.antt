@@ -1,4 +1,4 @@
-use Rattle.std.proofs.Common.{◌≡◌, ◌≤◌, ◌<◌, ℕ, get_or}
+use Rattle.std.proofs.Common.{◌≡◌, ◌≤◌, ◌<◌, ℕ, get_or, true}
 use Rattle.std.specs.Prelude.{◌==◌, nat_lt}
 use Rattle.std.specs.Int.{bit_at}
 use Rattle.ordup_limits.specs.SiteLedgers.{allowed, SiteLedgerState}
@@ -9,5 +9,6 @@ abbrev pub invariant-loop-index : goal.invariant-loop-index
 invariant-loop-index g l = record {
   over : (s : ℕ) (d : SiteLedgerState) → s < l.index
       → (bit_at l.over s == 1) ≡ nat_lt (allowed l.log l.groups (get_or l.sites s d) l.scope) l.weight;
+  there : (s : ℕ) → (bit_at l.over s == 1) ≡ true → s < l.index;
   least : (s : ℕ) (d : SiteLedgerState) → s < l.index → l.least ≤ allowed l.log l.groups (get_or l.sites s d) l.scope;
 }

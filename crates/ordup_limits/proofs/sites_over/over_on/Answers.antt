@@ -84,3 +84,4 @@ returns-clause-over g c =
     AreOver-scope h groups c.args.added.now.place c.args.sites.now c.args.scope c.compare-over.result.0 c.requires.known
     (λ s d lt. c.compare-over.ensures.over s d lt
     ∙ ap (nat_lt (allowed h groups (get_or c.args.sites.now s d) c.args.scope)) c.on-weight.ensures.weight)
+    c.compare-over.ensures.there

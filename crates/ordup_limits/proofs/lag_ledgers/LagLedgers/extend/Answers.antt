@@ -60,3 +60,6 @@ returns-clause-over g c =
     rw (← c.self.view_is)
     (over-exact c.args.log.now c.keeps.ensures.legal c.args.groups.now c.keeps-2.ensures.groups c.args.to c.sites_over.result
     c.self.inside.sites.items c.requires.some c.requires.last c.keeps.ensures.few over)
+
+pub returns-clause-there : goal.returns-clause-there
+returns-clause-there g c = rw (← c.self.view_is) (rw c.as_slice-sites.ensures.value at c.sites_over.ensures.over.there)

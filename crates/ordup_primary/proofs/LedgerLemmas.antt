@@ -17,10 +17,9 @@ use Rattle.ordup_limits.specs.SiteLedgers.{HasLimits, IsFirstSite, LedgersState,
 use Rattle.ordup_limits.proofs.OverLemmas.{StandFor-longer}
 use Rattle.ordup_primary.specs.Declarations.{Declared}
 use Rattle.ordup_primary.specs.Settling.{where_below}
-use Rattle.ordup_primary.specs.Primaries.{SiteProgress, PrimaryState, first_progress, progress_at, limits_at, is_within, forced_now, Decides}
+use Rattle.ordup_primary.specs.Primaries.{SiteProgress, PrimaryState, first_progress, progress_at, limits_at, is_within, Decides}
 use Rattle.ordup_primary.specs.Primaries.{IsPrimary}
 use Rattle.ordup_primary.specs.PrimaryInside.{AreLedgers, first_state}
-use Rattle.ordup_primary.proofs.SettlingLemmas.{where_below-same}
 use Rattle.ordup_primary.proofs.PrimaryLemmas.{is_within-now}
 
 -- ---- lists
@@ -146,10 +145,9 @@ pub forced-by_ledgers : (p : PrimaryState) (l : LedgersState) (head mask : ℕ) 
     → HasLimits (length p.log.start) p.setup.groups limits (get_or l.sites s d)
     → within p.log p.setup.groups limits (get_or l.sites s d).reported.place (head - 1) ≡ true
     → (bit_at mask s == 1) ≡ not (within p.log p.setup.groups limits (get_or l.sites s d).reported.place head))
-    → where_below (λ s. bit_at mask s == 1) (length p.sites) ≡ forced_now p
-forced-by_ledgers p l head mask sound are here over =
-    where_below-same (λ s. bit_at mask s == 1) (λ s. not (is_within p s (progress_at p s).reported (p.acked + 1))) (length p.sites)
-    (λ s lt. (let d : SiteLedgerState = record { reported = record { place = 0; totals = [] }; amounts = [] } in
+    → (s : ℕ) → s < length p.sites → (bit_at mask s == 1) ≡ not (is_within p s (progress_at p s).reported (p.acked + 1))
+forced-by_ledgers p l head mask sound are here over s lt =
+    (let d : SiteLedgerState = record { reported = record { place = 0; totals = [] }; amounts = [] } in
     let limits = latest (limits_at p s) in
     let acked : head - 1 ≡ p.acked = omega (arith, here) in
     let before : within p.log p.setup.groups limits (get_or l.sites s d).reported.place (head - 1) ≡ true =
@@ -157,4 +155,4 @@ forced-by_ledgers p l head mask sound are here over =
     over s d limits (omega (arith, lt, are.count)) (are.limits s d lt) before
     ∙ ap (λ r. not (within p.log p.setup.groups limits r head)) (are.reported s d lt)
     ∙ ap (λ e. not (within p.log p.setup.groups limits (progress_at p s).reported e)) here
-    ∙ ap not (sym (is_within-now p s (progress_at p s).reported sound lt))))
+    ∙ ap not (sym (is_within-now p s (progress_at p s).reported sound lt)))

@@ -3,6 +3,7 @@ pub mod SettlingLemmas
 mod LedgerLemmas
 mod RelimitLemmas
 pub mod ReportLemmas
+mod KeptLemmas
 pub mod PrimaryLemmas
 pub mod SetupLemmas
 pub mod ParcelLemmas

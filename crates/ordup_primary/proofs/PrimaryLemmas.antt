@@ -2,7 +2,6 @@
 use Rattle.std.proofs.Common.{◌≡◌, ℕ, zero, suc, ◌+◌, ◌-◌, ◌<◌, ◌≤◌, ◌==◌, Bool, true, false, not, List, [], ◌∷◌, ◌++◌, length, map, get_or}
 use Rattle.std.proofs.Common.{replicate, arith, refl, sym, ap, ◌∙◌, inl, inr, ◌⊎◌, subst}
 use Rattle.std.specs.Prelude.{Some, None, Result, Ok, Err, IfOk, IfErr, All, nat_lt, ◌&&◌}
-use Rattle.std.specs.List.{list_any}
 use Rattle.std.proofs.Math.Bool.{and-true}
 use Rattle.std.proofs.Math.ListN.{set, length-set, get_or-append}
 use Rattle.std.proofs.lemmas.Bool.{cases_Bool, cases_eq, cases_lt, eq-eqb, lt-ltb, ne_eqb, false≢true}
@@ -34,10 +33,11 @@ use Rattle.ordup_primary.specs.Primaries.{is_lag_within}
 use Rattle.ordup_primary.specs.Primaries.{waiting_now, waits_for, acked_after, decided_at, send_refusal, settle_refusal, Decides, IsSiteSound}
 use Rattle.ordup_primary.specs.Primaries.{IsPrimary, HasFewestRounds, acked_or_round, acked_or_waiting, settled_as}
 use Rattle.ordup_primary.specs.declared.settled.Settled.TheVariants.{Acked, Round, Waiting}
-use Rattle.ordup_primary.specs.PrimaryInside.{progress_of, state_of}
+use Rattle.ordup_primary.specs.Reports.{changes_of}
+use Rattle.ordup_primary.specs.PrimaryInside.{AreKept, kept_of, progress_upto, reports_upto, state_of}
 use Rattle.ordup_primary.specs.declared.primary.Primary.TheInside.{Inside}
 use Rattle.ordup_primary.specs.declared.progress.Progress.{Progress}
-use Rattle.ordup_primary.proofs.SettlingLemmas.{where_below-same, where_below-none, where_below-listed, last_round-forced}
+use Rattle.ordup_primary.proofs.SettlingLemmas.{where_below-same, where_below-none, last_round-forced}
 
 -- ---- one site in the place of another
 
@@ -191,7 +191,7 @@ not_false : (b : Bool) → not b ≡ false → b ≡ true
 not_false true e = refl
 not_false false e = absurd (cc)
 
-not_not : (b : Bool) → not (not b) ≡ b
+pub not_not : (b : Bool) → not (not b) ≡ b
 not_not true = refl
 not_not false = refl
 
@@ -426,38 +426,6 @@ IsPrimary-decided p q is first some decides =
           (λ next. rw (next, get_or_default p.sites s d first_progress before) (kept_at s before next)) step));
     }
 
--- elements that are related one by one stay so under a view
-map-related : {X Y : Type 0} (f : X → Y) (g : ℕ → Y → Y) (old new : List X) → length new ≡ length old
-    → ((s : ℕ) (d : X) → s < length old → f (get_or new s d) ≡ g s (f (get_or old s d))) → (s : ℕ) (d : Y) → s < length old
-    → get_or (map f new) s d ≡ g s (get_or (map f old) s d)
-map-related f g [] new count related s d lt = absurd (omega arith)
-map-related f g (x ∷ old) new count related s d lt =
-    get_or-map f new s x d (omega (arith, count)) ∙ related s x lt ∙ ap (g s) (sym (get_or-map f (x ∷ old) s x d lt))
-
--- what is put down at each site is the decision of the head
-pub Decides-put_down : {A : Type 0} (p q : PrimaryState) (old new : List (Progress A)) (forced : List ℕ)
-    → p.sites ≡ map progress_of old → q.sites ≡ map progress_of new → forced ≡ forced_now p → length new ≡ length old
-    → ((s : ℕ) (d : Progress A) → s < length old
-    → progress_of (get_or new s d) ≡ decided_at (not (list_any (λ t. t == s) forced)) (p.acked + 1) (progress_of (get_or old s d)))
-    → q.setup ≡ p.setup → q.log ≡ p.log → q.limits ≡ p.limits → q.acked ≡ acked_after p.acked forced → q.decided ≡ p.acked + 1
-    → Decides p q
-Decides-put_down p q old new forced before after listed count related setup log limits acked decided = record {
-  setup = setup;
-  log = log;
-  limits = limits;
-  acked = acked ∙ ap (acked_after p.acked) listed;
-  decided = decided;
-  count = ap length after ∙ length-map new progress_of ∙ count ∙ sym (length-map old progress_of) ∙ sym (ap length before);
-  sites = λ s d lt. (let there : s < length old = omega (arith, ap length before, length-map old progress_of) in
-      let test : not (list_any (λ t. t == s) forced) ≡ is_within p s (progress_at p s).reported (p.acked + 1) =
-      ap (λ ts. not (list_any (λ t. t == s) ts)) listed ∙ ap not (where_below-listed _ (length p.sites) s lt) ∙ not_not _ in
-      ap (λ sites. get_or sites s d) after
-      ∙ map-related progress_of (λ t site. decided_at (not (list_any (λ u. u == t) forced)) (p.acked + 1) site)
-      old new count related s d there
-      ∙ ap (λ sites. decided_at (not (list_any (λ t. t == s) forced)) (p.acked + 1) (get_or sites s d)) (sym before)
-      ∙ ap (λ b. decided_at b (p.acked + 1) (get_or p.sites s d)) test);
-}
-
 -- ---- a primary at the start
 
 ready-from_start : (d : Declared) → start_refusal d ≡ None → is_ready d ≡ true
@@ -532,51 +500,54 @@ reported_as place site = record {
 }
 
 module _ {A : Type 0} where
-  -- a site as callers see it
+  -- sites as callers see them
+  pub seen-count : (n : ℕ) (sites : List (Progress A)) → length (map (progress_upto n) (map kept_of sites)) ≡ length sites
+  seen-count n sites = length-map (map kept_of sites) (progress_upto n) ∙ length-map sites (kept_of {A = A})
+
+  seen : (n : ℕ) (sites : List (Progress A)) (i : ℕ) (d : Progress A) (e : SiteProgress) → i < length sites
+      → get_or (map (progress_upto n) (map kept_of sites)) i e ≡ progress_upto n (kept_of (get_or sites i d))
+  seen n sites i d e lt =
+      get_or-map (progress_upto n) (map kept_of sites) i (kept_of d) e (omega (arith, lt, length-map sites (kept_of {A = A})))
+      ∙ ap (progress_upto n) (get_or-map kept_of sites i d (kept_of d) lt)
+
   pub view_at : (l : Inside A) (i s : ℕ) (x : Progress A) → i ≡ s → s < length (state_of l).sites → x ≡ get_or l.sites.items i x
-      → progress_at (state_of l) s ≡ progress_of x
+      → progress_at (state_of l) s ≡ progress_upto l.decided (kept_of x)
   view_at l i s x same lt at =
-      let there : s < length l.sites.items = omega (arith, length-map l.sites.items (progress_of {A = A})) in
-      get_or-map progress_of l.sites.items s x first_progress there
-      ∙ ap (λ k. progress_of (get_or l.sites.items k x)) (sym same)
-      ∙ ap progress_of (sym at)
+      seen l.decided l.sites.items s x first_progress (omega (arith, lt, seen-count l.decided l.sites.items))
+      ∙ ap (λ k. progress_upto l.decided (kept_of (get_or l.sites.items k x))) (sym same)
+      ∙ ap (λ y. progress_upto l.decided (kept_of y)) (sym at)
 
-  -- how many reports were put down for it
-  pub reports-count : (l : Inside A) (i s : ℕ) (x : Progress A) → IsPrimary (state_of l) → i ≡ s → s < length (state_of l).sites
-      → x ≡ get_or l.sites.items i x
-      → length x.reports.reports ≡ l.decided
-  reports-count l i s x is same lt at =
-      ap (λ (site : SiteProgress). length site.reports) (sym (view_at l i s x same lt at))
-      ∙ (is.sites s first_progress lt).count
+  -- the changes of its reports are those of its reports
+  pub changes_at : (l : Inside A) (i s : ℕ) (x : Progress A) → AreKept l.decided l.moved (map kept_of l.sites.items) → i ≡ s
+      → s < length (state_of l).sites → x ≡ get_or l.sites.items i x
+      → x.reports.changes ≡ changes_of (reports_upto x.reports.changes l.decided)
+  changes_at l i s x are same lt at =
+      let there : i < length l.sites.items = omega (arith, lt, same, seen-count l.decided l.sites.items) in
+      let here : get_or (map kept_of l.sites.items) i (kept_of x) ≡ kept_of x =
+      get_or-map kept_of l.sites.items i x (kept_of x) there ∙ ap kept_of (sym at) in
+      rw here at (are.changes i (kept_of x) (omega (arith, there, length-map l.sites.items (kept_of {A = A}))))
 
-  -- the head is the next place for which a report is put down
-  pub reports-next : (l : Inside A) (roomed : List (Progress A)) (head : ℕ) → IsPrimary (state_of l)
-      → map progress_of roomed ≡ map progress_of l.sites.items → l.acked ≡ l.decided → head ≡ l.acked + 1
-      → All (λ site. head ≡ length site.reports.reports + 1) roomed
-  reports-next l roomed head is same first here i d lt =
-      let there : i < length (state_of l).sites = omega (arith, ap length same, length-map roomed (progress_of {A = A})) in
-      let at : get_or (state_of l).sites i first_progress ≡ progress_of (get_or roomed i d) =
-      ap (λ sites. get_or sites i first_progress) (sym same) ∙ get_or-map progress_of roomed i d first_progress lt in
-      omega (arith, here, first, ap (λ (site : SiteProgress). length site.reports) at, (is.sites i first_progress there).count)
-
-  -- and it has reported no more than a log has
+  -- it has reported no more than a log has
   pub reports-few : (l : Inside A) (roomed : List (Progress A)) → IsPrimary (state_of l)
-      → map progress_of roomed ≡ map progress_of l.sites.items
+      → map kept_of roomed ≡ map kept_of l.sites.items
       → All (λ (site : Progress A). site.reported ≤ most_updates) roomed
   reports-few l roomed is same i d lt =
-      let there : i < length (state_of l).sites = omega (arith, ap length same, length-map roomed (progress_of {A = A})) in
-      let at : get_or (state_of l).sites i first_progress ≡ progress_of (get_or roomed i d) =
-      ap (λ sites. get_or sites i first_progress) (sym same) ∙ get_or-map progress_of roomed i d first_progress lt in
+      let all : map (progress_upto l.decided) (map kept_of roomed) ≡ (state_of l).sites = ap (map (progress_upto l.decided)) same in
+      let there : i < length (state_of l).sites = omega (arith, lt, ap length all, seen-count l.decided roomed) in
+      let at : get_or (state_of l).sites i first_progress ≡ progress_upto l.decided (kept_of (get_or roomed i d)) =
+      ap (λ sites. get_or sites i first_progress) (sym all) ∙ seen l.decided roomed i d first_progress lt in
       let sound = is.sites i first_progress there in
       omega (arith, ap (λ (site : SiteProgress). site.reported) at, sound.reported, sound.sent, is.few)
 
   -- a site that changes, as callers see it
   pub view-set : (l : Inside A) (i s : ℕ) (x y : Progress A) (f : SiteProgress → SiteProgress) → i ≡ s
-      → s < length (state_of l).sites → x ≡ get_or l.sites.items i x → progress_of y ≡ f (progress_of x)
-      → map progress_of (set l.sites.items i y) ≡ set (state_of l).sites s (f (progress_at (state_of l) s))
+      → s < length (state_of l).sites → x ≡ get_or l.sites.items i x
+      → progress_upto l.decided (kept_of y) ≡ f (progress_upto l.decided (kept_of x))
+      → map (progress_upto l.decided) (map kept_of (set l.sites.items i y)) ≡ set (state_of l).sites s (f (progress_at (state_of l) s))
   view-set l i s x y f same lt at e =
-      map-set progress_of l.sites.items i y
-      ∙ ap (λ k. set (state_of l).sites k (progress_of y)) same
+      ap (map (progress_upto l.decided)) (map-set kept_of l.sites.items i y)
+      ∙ map-set (progress_upto l.decided) (map kept_of l.sites.items) i (kept_of y)
+      ∙ ap (λ k. set (state_of l).sites k (progress_upto l.decided (kept_of y))) same
       ∙ ap (set (state_of l).sites s) (e ∙ ap f (sym (view_at l i s x same lt at)))
 
   -- one update more was sent to a site
@@ -599,19 +570,6 @@ module _ {A : Type 0} where
       (IsSiteSound-reported (state_of l) s place (progress_at (state_of l) s) (is.sites s first_progress lt) risen sent)
       (within-later l.log l.setup.groups (latest (limits_at (state_of l) s)) (progress_at (state_of l) s).reported place l.acked risen
       (is.lags s lt)))
-
-  -- the decision of the head, as it is put down
-  pub Decides-at : (l : Inside A) (roomed new : List (Progress A)) (forced : List ℕ) (acked head : ℕ)
-      → map progress_of roomed ≡ map progress_of l.sites.items → forced ≡ forced_now (state_of l) → length new ≡ length roomed
-      → ((s : ℕ) (d : Progress A) → s < length roomed
-      → progress_of (get_or new s d) ≡ decided_at (not (list_any (λ t. t == s) forced)) head (progress_of (get_or roomed s d)))
-      → head ≡ l.acked + 1 → acked ≡ acked_after l.acked forced
-      → Decides (state_of l) (record (state_of l) { acked = acked; decided = head; sites = map progress_of new })
-  Decides-at l roomed new forced acked head same listed count related here e =
-      Decides-put_down (state_of l) (record (state_of l) { acked = acked; decided = head; sites = map progress_of new }) roomed new forced
-      (sym same) refl listed count
-      (λ s d lt. related s d lt ∙ ap (λ k. decided_at (not (list_any (λ t. t == s) forced)) k (progress_of (get_or roomed s d))) here)
-      refl refl refl e here
 
 -- a list without elements
 pub nil-from_empty : (xs : List ℕ) → true ≡ (length xs == 0) → xs ≡ []

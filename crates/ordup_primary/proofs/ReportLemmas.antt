@@ -4,14 +4,14 @@ use Rattle.std.proofs.Common.{arith, refl, sym, ap, ◌∙◌, inl, inr}
 use Rattle.std.specs.Prelude.{◌==◌, if◌then◌else◌}
 use Rattle.std.specs.List.Sorted.{IsNonDecreasingBy}
 use Rattle.std.proofs.Math.ListN.{get_or-append}
-use Rattle.std.proofs.lemmas.Bool.{cases_Bool, eqb-true, eq-eqb, ne_eqb}
+use Rattle.std.proofs.lemmas.Bool.{cases_Bool, eqb-true, eq-eqb}
 use Rattle.std.proofs.lemmas.List.{length_push, get_or_push, ext_get_or}
 use Rattle.std.proofs.lemmas.List.FromFn.{length-map-range_with_len, get_or-map-range_with_len}
 use Rattle.ordup_log.specs.Steps.{steps_of, as_of}
 use Rattle.ordup_log.proofs.StepLemmas.{as_of-steps, steps-rise}
 use Rattle.ordup_primary.specs.Settling.{report_at}
-use Rattle.ordup_primary.specs.Reports.{reported_from_start, changes_of}
-use Rattle.ordup_primary.specs.ReportsInside.{reports_upto}
+use Rattle.ordup_primary.specs.Reports.{reported_from_start, changes_of, last_report, with_report}
+use Rattle.ordup_primary.specs.PrimaryInside.{reports_upto}
 
 -- numbers that are the same up to n have the same steps
 steps_of-same : (v w : ℕ → ℕ) (n : ℕ) → ((k : ℕ) → k ≤ n → v k ≡ w k) → steps_of v n ≡ steps_of w n
@@ -40,24 +40,23 @@ reports-read reports =
     get_or-map-range_with_len (as_of (changes_of reports)) 1 (length reports) i (suc i) 0 here next
     ∙ as_of-steps (reported_from_start reports) (length reports) (suc i) refl (omega arith)))
 
--- the changes with one report more
-changes-pushed : (reports : List ℕ) (r : ℕ) → changes_of (reports ++ r ∷ [])
-    ≡ (if r == reported_from_start reports (length reports) then changes_of reports
-    else changes_of reports ++ (length reports + 1, r) ∷ [])
-changes-pushed reports r =
-    let n = length reports in
-    let more = reported_from_start (reports ++ r ∷ []) in
-    let count : length (reports ++ r ∷ []) ≡ suc n = omega (arith, length_push reports r) in
-    let next : n + 1 ≡ suc n = omega arith in
-    let last : more (suc n) ≡ r = get_or_push (0 ∷ reports) r 0 (suc n) refl in
-    let same : (k : ℕ) → k ≤ n → more k ≡ reported_from_start reports k =
-    λ k le. get_or-append (0 ∷ reports) (r ∷ []) 0 k (omega arith) in
-    rw (count, next, last, same n (omega arith), steps_of-same more (reported_from_start reports) n same) refl
+-- the last report, of a report more
+pub last_report-with : (changes : List (ℕ × ℕ)) (k r : ℕ) → r ≡ last_report (with_report changes k r)
+last_report-with changes k r = elim (cases_Bool (r == last_report changes)) [
+  | inl same ↦ rw same (eqb-true r (last_report changes) same)
+  | inr other ↦ (let more : ℕ × ℕ = (k, r) in
+      rw other (sym (ap (λ (c : ℕ × ℕ). c.1) (get_or_push changes more (0, 0) (length (changes ++ more ∷ []) - 1)
+      (omega (arith, length_push changes more))))))
+]
 
--- ---- changes that a caller has
+-- a report that is the last one is no change
+pub with_report-same : (changes : List (ℕ × ℕ)) (k r : ℕ) → r ≡ last_report changes → with_report changes k r ≡ changes
+with_report-same changes k r same = rw (eq-eqb r (last_report changes) same) refl
+
+-- ---- changes that are those of reports
 
 module _ (changes : List (ℕ × ℕ)) (decided : ℕ) (are : changes ≡ changes_of (reports_upto changes decided)) where
-  pub count : length (reports_upto changes decided) ≡ decided
+  count : length (reports_upto changes decided) ≡ decided
   count = length-map-range_with_len (as_of changes) 1 decided
 
   -- they can be searched
@@ -65,45 +64,36 @@ module _ (changes : List (ℕ × ℕ)) (decided : ℕ) (are : changes ≡ change
   changes-rise = rw are (steps-rise (reported_from_start (reports_upto changes decided)) (length (reports_upto changes decided)))
 
   -- and tell the report at each decision
-  pub report_at-found : (k : ℕ) → 0 < k → k ≤ length (reports_upto changes decided)
-      → as_of changes k ≡ report_at (reports_upto changes decided) k
+  pub report_at-found : (k : ℕ) → 0 < k → k ≤ decided → as_of changes k ≡ report_at (reports_upto changes decided) k
   report_at-found k some le =
       sym (get_or-map-range_with_len (as_of changes) 1 decided (k - 1) k 0 (omega (arith, count)) (omega arith))
 
   -- and by the last of them the last report
-  last-found : (get_or changes (length changes - 1) (0, 0)).1
-      ≡ reported_from_start (reports_upto changes decided) (length (reports_upto changes decided))
+  last-found : last_report changes ≡ reported_from_start (reports_upto changes decided) (length (reports_upto changes decided))
   last-found =
-      ap (λ (l : List (ℕ × ℕ)). (get_or l (length l - 1) (0, 0)).1) are
+      ap last_report are
       ∙ last-step (reported_from_start (reports_upto changes decided)) (length (reports_upto changes decided)) refl
 
-  -- one report more, by the last of the changes
-  module _ (place r before : ℕ) (next : place ≡ length (reports_upto changes decided) + 1)
-      (last : before ≡ (get_or changes (length changes - 1) (0, 0)).1) where
-    -- it is no change, or is one
-    pub pushed-same : r ≡ before → changes ≡ changes_of (reports_upto changes decided ++ r ∷ [])
-    pushed-same same =
-        let is = eq-eqb r (reported_from_start (reports_upto changes decided) (length (reports_upto changes decided)))
-        (same ∙ last ∙ last-found) in
-        sym (changes-pushed (reports_upto changes decided) r ∙ rw is (sym are))
+  -- with one report more they are those of the reports with it
+  with_report-changes : (r : ℕ) → with_report changes (decided + 1) r ≡ changes_of (reports_upto changes decided ++ r ∷ [])
+  with_report-changes r =
+      let reports = reports_upto changes decided in
+      let n = length reports in
+      let more = reported_from_start (reports ++ r ∷ []) in
+      let size : length (reports ++ r ∷ []) ≡ suc n = omega (arith, length_push reports r) in
+      let next : decided + 1 ≡ suc n = omega (arith, count) in
+      let last : more (suc n) ≡ r = get_or_push (0 ∷ reports) r 0 (suc n) refl in
+      let same : (k : ℕ) → k ≤ n → more k ≡ reported_from_start reports k =
+      λ k le. get_or-append (0 ∷ reports) (r ∷ []) 0 k (omega arith) in
+      rw (size, next, last, same n (omega arith), last-found, steps_of-same more (reported_from_start reports) n same, ← are) refl
 
-    pub pushed-other : (more : List (ℕ × ℕ)) → (r ≡ before → ⊥) → more ≡ changes ++ (place, r) ∷ []
-        → more ≡ changes_of (reports_upto changes decided ++ r ∷ [])
-    pushed-other more other e =
-        let is = ne_eqb r (reported_from_start (reports_upto changes decided) (length (reports_upto changes decided)))
-        (λ same. other (same ∙ sym last-found ∙ sym last)) in
-        e ∙ ap (λ p. changes ++ (p, r) ∷ []) next
-        ∙ sym (changes-pushed (reports_upto changes decided) r
-        ∙ rw is (ap (λ l. l ++ (length (reports_upto changes decided) + 1, r) ∷ []) (sym are)))
+  pub with_report-reports : (r : ℕ) → reports_upto (with_report changes (decided + 1) r) (decided + 1)
+      ≡ reports_upto changes decided ++ r ∷ []
+  with_report-reports r =
+      let size : decided + 1 ≡ length (reports_upto changes decided ++ r ∷ []) =
+      omega (arith, count, length_push (reports_upto changes decided) r) in
+      rw (with_report-changes r, size) (reports-read (reports_upto changes decided ++ r ∷ []))
 
-    -- then the reports up to the place are those
-    pub pushed-reports : (more : List (ℕ × ℕ)) → more ≡ changes_of (reports_upto changes decided ++ r ∷ [])
-        → reports_upto more place ≡ reports_upto changes decided ++ r ∷ []
-    pushed-reports more is =
-        let size : place ≡ length (reports_upto changes decided ++ r ∷ []) =
-        next ∙ sym (length_push (reports_upto changes decided) r) in
-        rw (is, size) (reports-read (reports_upto changes decided ++ r ∷ []))
-
-    pub pushed-kept : (more : List (ℕ × ℕ)) → more ≡ changes_of (reports_upto changes decided ++ r ∷ [])
-        → more ≡ changes_of (reports_upto more place)
-    pushed-kept more is = is ∙ ap changes_of (sym (pushed-reports more is))
+  pub with_report-kept : (r : ℕ) → with_report changes (decided + 1) r
+      ≡ changes_of (reports_upto (with_report changes (decided + 1) r) (decided + 1))
+  with_report-kept r = with_report-changes r ∙ ap changes_of (sym (with_report-reports r))

@@ -1,11 +1,8 @@
 -- Lists of the numbers for which a test passes, and rounds.
 use Rattle.std.proofs.Common.{◌≡◌, ℕ, zero, suc, ◌+◌, ◌<◌, ◌≤◌, ◌==◌, Bool, true, false, not, List, [], ◌∷◌, ◌++◌, length, ◌-◌, add-one, arith, refl, sym}
 use Rattle.std.proofs.Common.{ap, ◌∙◌, inl, inr}
-use Rattle.std.specs.List.{list_any}
-use Rattle.std.proofs.Math.Bool.{or-false}
 use Rattle.std.proofs.lemmas.Bool.{cases_Bool, cases_lt, ne_eqb, eq-eqb}
 use Rattle.std.proofs.lemmas.List.{length_push, get_or_push}
-use Rattle.std.proofs.lemmas.List.Folds.{list_any-append}
 use Rattle.ordup_rounds.specs.Rounds.{rounds_upto}
 use Rattle.ordup_primary.specs.Settling.{where_below, last_place}
 
@@ -30,28 +27,6 @@ where_below-none test (suc n) s lt e = elim (cases_Bool (test n)) [
     | inl before ↦ where_below-none test n s before (rw fails at e)
     | inr past ↦ (let here : s ≡ n = omega arith in ap test here ∙ fails)
   ]
-]
-
--- no number from n on is listed
-not_listed : (test : ℕ → Bool) (n s : ℕ) → n ≤ s → list_any (λ t. t == s) (where_below test n) ≡ false
-not_listed test zero s le = refl
-not_listed test (suc n) s le = elim (cases_Bool (test n)) [
-  | inl passes ↦ rw (passes, list_any-append, not_listed test n s (omega arith), ne_eqb n s (omega arith)) refl
-  | inr fails ↦ rw fails (not_listed test n s (omega arith))
-]
-
--- a number below n is listed where the test passes for it
-pub where_below-listed : (test : ℕ → Bool) (n s : ℕ) → s < n → list_any (λ t. t == s) (where_below test n) ≡ test s
-where_below-listed test zero s lt = absurd (omega arith)
-where_below-listed test (suc n) s lt = elim (cases_lt s n) [
-  | inl before ↦ elim (cases_Bool (test n)) [
-    | inl passes ↦ rw (passes, list_any-append, where_below-listed test n s before, ne_eqb n s (omega arith)) (or-false (test s))
-    | inr fails ↦ rw fails (where_below-listed test n s before)
-  ]
-  | inr past ↦ (let here : s ≡ n = omega arith in elim (cases_Bool (test n)) [
-    | inl passes ↦ rw (passes, list_any-append, not_listed test n s (omega arith), eq-eqb n s (sym here), here, passes) refl
-    | inr fails ↦ rw fails (not_listed test n s (omega arith) ∙ sym (ap test here ∙ fails))
-  ])
 ]
 
 -- tests that agree below n list the same

@@ -1,14 +1,14 @@
-ghost use Rattle.std.specs.Prelude.{◌≡◌, ◌<◌, ◌≤◌, ◌+◌, ◌==◌, ℕ, [], not, All, OnOk, IfErr, length, map, replicate, slice_index_or};
-ghost use Rattle.std.specs.List.{list_any};
+ghost use Rattle.std.specs.Prelude.{◌≡◌, ◌<◌, ◌≤◌, ◌==◌, ℕ, [], true, false, not, All, OnOk, IfErr, length, map, replicate, slice_index_or};
+ghost use Rattle.std.specs.Int.{bit_at};
 ghost use Rattle.ordup_objects.specs.Sizes.{most_updates};
-ghost use Rattle.ordup_primary.specs.Primaries.{first_progress, decided_at};
-ghost use Rattle.ordup_primary.specs.PrimaryInside.{progress_of, HasRoom};
+ghost use Rattle.ordup_primary.specs.PrimaryInside.{first_kept, kept_at, kept_of, HasRoom, HaveRoom};
 ghost use Rattle.ordup_primary.specs.Settling.{last_place};
 ghost use Rattle.ordup_primary.specs.declared.progress.Progress.{Progress};
 
 use crate::progress::Progress;
 use crate::reports::Reports;
-use ordup_objects::{Refusal, SiteId};
+use crate::site_mask::has_bit;
+use ordup_objects::Refusal;
 use ordup_rounds::Window;
 use std::alloc::Allocator;
 
@@ -19,7 +19,7 @@ pub(crate) fn add_sites<A: Allocator + Copy>(
     count: usize,
 ) -> Result<(), Refusal>
     requires { sites.old.items ≡ [] }
-    ensures sites { OnOk result (map progress_of sites.new.items ≡ replicate count first_progress) }
+    ensures sites { OnOk result (map kept_of sites.new.items ≡ replicate count first_kept) }
     ensures refused { IfErr result (λ e. e ≡ Refusal.NoMemory) }
 {
     sites.reserve(count)?;
@@ -36,22 +36,27 @@ pub(crate) fn add_sites<A: Allocator + Copy>(
     Ok(())
 }
 
-/// Reserves the memory in which a decision is put down.
+/// Reserves the memory in which a decision is put down at the sites whose bits are in the mask.
 pub(crate) fn reserve_decision<A: Allocator + Copy>(
     sites: &mut Vec<Progress<A>, A>,
+    mask: u64,
 ) -> Result<(), Refusal>
-    ensures same { map progress_of sites.new.items ≡ map progress_of sites.old.items }
-    ensures room { OnOk result (All HasRoom sites.new.items) }
+    requires { (s : ℕ) → (bit_at mask s == 1) ≡ true → s < length sites.old.items }
+    ensures same { map kept_of sites.new.items ≡ map kept_of sites.old.items }
+    ensures room { OnOk result (HaveRoom mask sites.new.items) }
     ensures refused { IfErr result (λ e. e ≡ Refusal.NoMemory) }
 {
-    for index in 0..sites.len() {
+    let mut rest = mask;
+    while rest != 0 {
+        let index = rest.trailing_zeros() as usize;
         reserve_decision_at(&mut sites[index])?;
+        rest &= !(1 << index);
     }
     Ok(())
 }
 
 fn reserve_decision_at<A: Allocator + Copy>(site: &mut Progress<A>) -> Result<(), Refusal>
-    ensures same { progress_of site.new ≡ progress_of site.old }
+    ensures same { kept_of site.new ≡ kept_of site.old }
     ensures room { OnOk result (HasRoom site.new) }
     ensures refused { IfErr result (λ e. e ≡ Refusal.NoMemory) }
 {
@@ -62,32 +67,39 @@ fn reserve_decision_at<A: Allocator + Copy>(site: &mut Progress<A>) -> Result<()
 }
 
 /// Puts down the decision of a place: at each site its report, and a round with its window at those that are forced.
+///
+/// Only the sites whose bits are in the mask are looked at. At the others the decision changes nothing.
 pub(crate) fn put_down<A: Allocator + Copy>(
     sites: &mut Vec<Progress<A>, A>,
-    forced: &[SiteId],
+    mask: u64,
+    forced: u64,
     number: u64,
 )
-    requires room { All HasRoom sites.old.items }
-    requires next { All (λ site. number ≡ length site.reports.reports + 1) sites.old.items }
+    requires there { (s : ℕ) → (bit_at mask s == 1) ≡ true → s < length sites.old.items }
+    requires others { (s : ℕ) (d : Progress A) → s < length sites.old.items → (bit_at mask s == 1) ≡ false →
+        kept_of (slice_index_or sites.old.items s d) ≡ kept_at (not (bit_at forced s == 1)) number (kept_of (slice_index_or sites.old.items s d)) }
+    requires room { HaveRoom mask sites.old.items }
     requires few { number ≤ most_updates }
     requires reported { All (λ site. site.reported ≤ most_updates) sites.old.items }
     ensures count { length sites.new.items ≡ length sites.old.items }
     ensures sites { (s : ℕ) (d : Progress A) → s < length sites.old.items →
-        progress_of (slice_index_or sites.new.items s d) ≡ decided_at (not (list_any (λ t. t == s) forced.now)) number (progress_of (slice_index_or sites.old.items s d)) }
+        kept_of (slice_index_or sites.new.items s d) ≡ kept_at (not (bit_at forced s == 1)) number (kept_of (slice_index_or sites.old.items s d)) }
 {
-    for index in 0..sites.len() {
-        let is_forced = is_among(index, forced);
+    let mut rest = mask;
+    while rest != 0 {
+        let index = rest.trailing_zeros() as usize;
+        let is_forced = has_bit(forced, index);
         put_down_at(&mut sites[index], is_forced, number);
+        rest &= !(1 << index);
     }
 }
 
 /// Puts down the decision of an update at one site: what the site had reported, and its round and window where it is forced.
 fn put_down_at<A: Allocator + Copy>(site: &mut Progress<A>, is_forced: bool, number: u64)
     requires room { HasRoom site.old }
-    requires next { number ≡ length site.old.reports.reports + 1 }
     requires few { number ≤ most_updates }
     requires reported { site.old.reported ≤ most_updates }
-    ensures { progress_of site.new ≡ decided_at (not is_forced) number (progress_of site.old) }
+    ensures { kept_of site.new ≡ kept_at (not is_forced) number (kept_of site.old) }
 {
     site.reports.push_reserved(number, site.reported);
     if is_forced {
@@ -98,12 +110,6 @@ fn put_down_at<A: Allocator + Copy>(site: &mut Progress<A>, is_forced: bool, num
         site.windows.push_reserved(window);
         site.rounds.push_reserved(number);
     }
-}
-
-fn is_among(index: usize, sites: &[SiteId]) -> bool
-    ensures { result ≡ list_any (λ t. t == index) sites.now }
-{
-    sites.iter().any(|t| t.index() == index)
 }
 
 /// The last of these places, 0 where there is none.

@@ -9,11 +9,12 @@
 //! reported at the decision of each place (`Reports`, as the changes of that number), its rounds, and a window for each round. It
 //! keeps the ledgers of all sites too, which no contract sees. It knows the values of no site.
 //!
-//! A settlement adds the head to the ledgers, finds the forced sites, takes the memory for one more entry in each site's lists, and
-//! then puts the decision down. The first two steps take no memory and change nothing that is seen, and adding the head again adds
-//! nothing. So want of memory leaves all as it was. A later settlement of the same head only looks for the sites that it waits for,
-//! and takes no memory. A round and its window are put down together and never change. No code makes these rounds the fewest: that
-//! follows from `IsPrimary` by the law of `ordup_rounds`.
+//! A settlement adds the head to the ledgers, finds the forced sites, takes the memory for one more entry in the lists of these and of
+//! the sites that reported since the last decision, and then puts the decision down. At the other sites it writes nothing: they
+//! reported what they had reported at the decision before. The first two steps take no memory and change nothing that is seen, and
+//! adding the head again adds nothing. So want of memory leaves all as it was. A later settlement of the same head only looks for the
+//! sites that it waits for, and takes no memory. A round and its window are put down together and never change. No code makes these
+//! rounds the fewest: that follows from `IsPrimary` by the law of `ordup_rounds`.
 #![tactic(auto)]
 
 mod decisions;

@@ -1,4 +1,5 @@
-ghost use Rattle.std.specs.Prelude.{◌≡◌, ◌≤◌, ◌+◌, ◌-◌, ℕ, ◌<◌, None, Some, List, [], ◌∷◌, ◌++◌, length, map, replicate, slice_set, slice_index, slice_index_or, IfOk, OnOk, IfErr, not, nat_lt, ◌&&◌, ◌⊎◌};
+ghost use Rattle.std.specs.Prelude.{◌≡◌, ◌==◌, ◌≤◌, ◌+◌, ◌-◌, ℕ, ◌<◌, true, None, Some, List, [], ◌∷◌, ◌++◌, length, map, replicate, slice_set, slice_index, slice_index_or, IfOk, OnOk, IfErr, not, nat_lt, ◌&&◌, ◌⊎◌};
+ghost use Rattle.std.specs.Int.{bit_at};
 ghost use Rattle.ordup_objects.specs.Refusals.{IsRefusal};
 ghost use Rattle.ordup_objects.specs.Sizes.{most_sites};
 ghost use Rattle.ordup_primary.specs.Declarations.{Declared, start_refusal};
@@ -30,6 +31,8 @@ pub struct Primary<A: Allocator + Copy = Global> {
     acked: u64,
     decided: u64,
     sites: Vec<Progress<A>, A>,
+    /// The sites that reported another number since the last decision, a bit for each.
+    moved: u64,
     /// The limits of each site, which begin as those that were declared.
     limits: Vec<LimitTable<A>, A>,
     /// The weights of the updates up to the head that the sites have not reported.
@@ -39,13 +42,13 @@ pub struct Primary<A: Allocator + Copy = Global> {
 impl<A: Allocator + Copy> Model for Primary<A> {
     ghost use Rattle.std.specs.Prelude.{map};
     ghost use Rattle.ordup_primary.specs.Primaries.{PrimaryState};
-    ghost use Rattle.ordup_primary.specs.PrimaryInside.{state_of, KeepsLedgers};
+    ghost use Rattle.ordup_primary.specs.PrimaryInside.{state_of, KeepsPrimary};
 
     ghost Value = { PrimaryState };
 
     ghost view = { state_of };
 
-    ghost invariant = { KeepsLedgers };
+    ghost invariant = { KeepsPrimary };
 }
 
 impl<A: Allocator + Copy> Primary<A> {
@@ -56,7 +59,7 @@ impl<A: Allocator + Copy> Primary<A> {
     ghost use Rattle.ordup_log.specs.Appending.{append_refusal};
     ghost use Rattle.ordup_log.specs.Spans.{span, IsScopeKnown};
     ghost use Rattle.ordup_limits.specs.Entries.{AreEntriesKnown};
-    ghost use Rattle.ordup_primary.specs.Primaries.{PrimaryState, IsPrimary, progress_at, limits_at, reported_at, send_refusal, settle_refusal, forced_now, waiting_now, waits_for, settled_as, acked_or_round, acked_or_waiting, acked_after, Decides, relimit_refusal, relimited, HasFewestRounds};
+    ghost use Rattle.ordup_primary.specs.Primaries.{PrimaryState, IsPrimary, progress_at, limits_at, is_within, reported_at, send_refusal, settle_refusal, forced_now, waiting_now, waits_for, settled_as, acked_or_round, acked_or_waiting, acked_after, Decides, relimit_refusal, relimited, HasFewestRounds};
     ghost use Rattle.ordup_primary.specs.Reports.{changes_of};
     ghost use Rattle.ordup_primary.specs.Successors.{limits_from_start, successor_refusal};
 
@@ -83,6 +86,7 @@ impl<A: Allocator + Copy> Primary<A> {
                 acked: 0,
                 decided: 0,
                 sites,
+                moved: 0,
                 limits,
                 ledgers,
             }),
@@ -150,6 +154,11 @@ impl<A: Allocator + Copy> Primary<A> {
         ensures sound { IsPrimary self.new }
         ensures noted { self.new ≡ record self.old { sites = slice_set self.old.sites site (record (progress_at self.old site) { reported = place }) } }
     {
+        if place == self.reported(site) {
+            return;
+        }
+        self.setup.keeps();
+        self.moved |= 1 << site.index();
         self.sites[site.index()].reported = place;
         self.ledgers
             .reported(&self.log, self.setup.groups(), site, place);
@@ -449,9 +458,12 @@ impl<A: Allocator + Copy> Primary<A> {
         ensures refused { IfErr result (λ e. e ≡ Refusal.NoMemory) }
         ensures err { IfErr result (λ _. self.new ≡ self.old) }
     {
-        let forced = self.forced_now(head);
-        reserve_decision(&mut self.sites)?;
-        put_down(&mut self.sites, forced.as_slice(), head);
+        let over = self.forced_now(head);
+        let forced = sites_among(over, self.count());
+        let mask = self.moved | over;
+        reserve_decision(&mut self.sites, mask)?;
+        put_down(&mut self.sites, mask, over, head);
+        self.moved = 0;
         self.decided = head;
         if forced.as_slice().is_empty() {
             self.acked = head;
@@ -490,15 +502,16 @@ impl<A: Allocator + Copy> Primary<A> {
         self.setup.sites()
     }
 
-    /// The sites that a first settlement of the head forces. It adds the updates up to the head to the ledgers.
-    fn forced_now(&mut self, head: u64) -> SiteList
+    /// The sites that a first settlement of the head forces, a bit for each. It adds the updates up to the head to the ledgers.
+    fn forced_now(&mut self, head: u64) -> u64
         requires head { head ≡ self.old.acked + 1 }
         requires some { head ≤ length self.old.log.sets }
-        ensures sites { result ≡ forced_now self.old }
+        ensures forced { (s : ℕ) → s < length self.old.sites →
+            (bit_at result s == 1) ≡ not (is_within self.old s (progress_at self.old s).reported (self.old.acked + 1)) }
+        ensures there { (s : ℕ) → (bit_at result s == 1) ≡ true → s < length self.old.sites }
         ensures same { self.new ≡ self.old }
     {
-        let over = self.ledgers.extend(&self.log, self.setup.groups(), head);
-        sites_among(over, self.count())
+        self.ledgers.extend(&self.log, self.setup.groups(), head)
     }
 
     /// The sites that the head, which is decided, waits for.

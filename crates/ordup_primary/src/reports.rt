@@ -1,9 +1,8 @@
-ghost use Rattle.std.specs.Prelude.{◌≡◌, ◌<◌, ◌≤◌, ◌+◌, ◌-◌, ℕ, [], ◌∷◌, ◌++◌, length, slice_index_or, OnOk};
+ghost use Rattle.std.specs.Prelude.{◌≡◌, ◌<◌, ◌≤◌, ℕ, [], OnOk};
 ghost use Rattle.std.specs.List.Sorted.{IsNonDecreasingBy};
 ghost use Rattle.ordup_objects.specs.Sizes.{most_updates};
 ghost use Rattle.ordup_log.specs.Steps.{as_of};
-ghost use Rattle.ordup_primary.specs.Settling.{report_at};
-ghost use Rattle.ordup_primary.specs.Reports.{changes_of};
+ghost use Rattle.ordup_primary.specs.Reports.{last_report, with_report};
 
 use std::alloc::{AllocError, Allocator, Global};
 use std::marker::Model;
@@ -13,66 +12,59 @@ use std::marker::Model;
 pub(crate) struct Reports<A: Allocator + Copy = Global> {
     /// The places at which it had reported another number than at the decision before, each with it, in order.
     changes: Vec<(u32, u32), A>,
-    /// How many places are decided.
-    decided: u64,
 }
 
 impl<A: Allocator + Copy> Model for Reports<A> {
     ghost use Rattle.ordup_primary.specs.Reports.{ReportList};
-    ghost use Rattle.ordup_primary.specs.ReportsInside.{reports_of, KeepsChanges};
+    ghost use Rattle.ordup_primary.specs.ReportsInside.{reports_of};
 
     ghost Value = { ReportList };
 
     ghost view = { reports_of };
-
-    ghost invariant = { KeepsChanges };
 }
 
 impl<A: Allocator + Copy> Reports<A> {
     /// No place is decided. It takes no memory.
     pub(crate) fn new(alloc: A) -> Self
-        ensures { result.reports ≡ [] }
+        ensures { result.changes ≡ [] }
     {
         Reports {
             changes: Vec::new(alloc),
-            decided: 0,
         }
     }
 
     /// Reserves memory for the report at one decision more.
     pub(crate) fn reserve(&mut self) -> Result<(), AllocError>
-        ensures same { self.new.reports ≡ self.old.reports }
+        ensures same { self.new.changes ≡ self.old.changes }
         ensures room { OnOk result (0 < self.new.room) }
     {
         self.changes.reserve(1)?;
         Ok(())
     }
 
-    /// Puts down the report at the decision of the next place.
+    /// Puts down the report at the decision of a place, later than those before.
     pub(crate) fn push_reserved(&mut self, place: u64, report: u64)
         requires room { 0 < self.old.room }
-        requires next { place ≡ length self.old.reports + 1 }
         requires few { (place ≤ most_updates) × (report ≤ most_updates) }
-        ensures { self.new.reports ≡ self.old.reports ++ report ∷ [] }
+        ensures { self.new.changes ≡ with_report self.old.changes place report }
     {
         if report != last_report(self.changes.as_slice()) {
             self.changes.push_reserved((place as u32, report as u32));
         }
-        self.decided = place;
     }
 
     /// The report at the decision of a place.
     pub(crate) fn at(&self, place: u64) -> u64
-        requires some { 0 < place }
-        requires decided { place ≤ length self.now.reports }
-        ensures { result ≡ report_at self.now.reports place }
+        requires rising { IsNonDecreasingBy (λ (change : ℕ × ℕ). change.0) self.now.changes }
+        requires few { place ≤ most_updates }
+        ensures { result ≡ as_of self.now.changes place }
     {
         u64::from(as_of(self.changes.as_slice(), place as u32))
     }
 
     /// The decisions at which the site had reported another number than at the one before, each with it.
     pub(crate) fn changes(&self) -> &[(u32, u32)]
-        ensures { result.now ≡ changes_of self.now.reports }
+        ensures { result.now ≡ self.now.changes }
     {
         self.changes.as_slice()
     }
@@ -80,7 +72,7 @@ impl<A: Allocator + Copy> Reports<A> {
 
 /// The number that the last of these changes goes to, or 0 where there is none.
 fn last_report(changes: &[(u32, u32)]) -> u64
-    ensures { result ≡ (slice_index_or changes.now (length changes.now - 1) (0, 0)).1 }
+    ensures { result ≡ last_report changes.now }
 {
     match changes.last() {
         Some(change) => u64::from(change.1),

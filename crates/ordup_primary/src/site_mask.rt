@@ -24,7 +24,8 @@ pub(crate) fn sites_among(mask: u64, count: usize) -> SiteList
     sites
 }
 
-fn has_bit(mask: u64, index: usize) -> bool
+/// Whether the bit of a site is in the mask.
+pub(crate) fn has_bit(mask: u64, index: usize) -> bool
     requires { index < 64 }
     ensures { result ≡ (bit_at mask index == 1) }
 {

@@ -1,8 +1,7 @@
 ghost use Rattle.std.specs.Prelude.{◌≡◌, [], length, map, replicate, IfOk, IfErr, OnOk};
 ghost use Rattle.ordup_objects.specs.Serial.{History, IsLegalHistory};
 ghost use Rattle.ordup_objects.specs.Tables.{initial_state};
-ghost use Rattle.ordup_primary.specs.Primaries.{first_progress};
-ghost use Rattle.ordup_primary.specs.PrimaryInside.{progress_of, first_state, AreLedgers};
+ghost use Rattle.ordup_primary.specs.PrimaryInside.{first_kept, first_state, kept_of, AreLedgers};
 
 use crate::decisions::add_sites;
 use crate::progress::Progress;
@@ -23,7 +22,7 @@ pub(crate) fn begin<A: Allocator + Copy>(
     requires limits { limits.old.items ≡ [] }
     ensures log { IfOk result (λ r. r.0 ≡ record { start = initial_state setup.now.objects; sets = [] }) }
     ensures legal { IfOk result (λ r. IsLegalHistory r.0) }
-    ensures sites { OnOk result (map progress_of sites.new.items ≡ replicate (length setup.now.sites) first_progress) }
+    ensures sites { OnOk result (map kept_of sites.new.items ≡ replicate (length setup.now.sites) first_kept) }
     ensures limits { OnOk result (limits.new.items ≡ setup.now.limits) }
     ensures ledgers { IfOk result (λ r. AreLedgers (first_state setup.now) r.1) }
     ensures refused { IfErr result (λ e. e ≡ Refusal.NoMemory) }

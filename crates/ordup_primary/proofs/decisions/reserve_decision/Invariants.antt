@@ -1,13 +1,19 @@
-use Rattle.std.proofs.Common.{◌≡◌, ◌<◌, ℕ, length, map}
+use Rattle.std.proofs.Common.{◌≡◌, ◌==◌, ℕ, true, false, length, map}
+use Rattle.std.specs.Int.{bit_at}
 use Rattle.std.specs.Prelude.{slice_index_or}
-use Rattle.ordup_primary.specs.PrimaryInside.{progress_of, HasRoom}
+use Rattle.ordup_primary.specs.PrimaryInside.{kept_of, HasRoom}
 use Rattle.ordup_primary.specs.declared.progress.Progress.{Progress}
 use Rattle.ordup_primary.proofs.decisions.reserve_decision.Given as goal
 
--- nothing changed, and the sites so far have room
-abbrev pub invariant-loop-index : goal.invariant-loop-index
-invariant-loop-index g l = record {
-  same : map progress_of l.sites.items ≡ map progress_of l.fn.sites.items;
+-- nothing changed, and the sites whose bits are taken have room
+abbrev pub invariant-loop-rest : goal.invariant-loop-rest
+invariant-loop-rest g l = record {
+  same : map kept_of l.sites.items ≡ map kept_of l.fn.sites.items;
   count : length l.sites.items ≡ length l.fn.sites.items;
-  room : (t : ℕ) (d : Progress g.row.A.Denot) → t < l.index → HasRoom (slice_index_or l.sites.items t d);
+  left : (s : ℕ) → (bit_at l.rest s == 1) ≡ true → (bit_at l.mask s == 1) ≡ true;
+  room : (s : ℕ) (d : Progress g.row.A.Denot) → (bit_at l.mask s == 1) ≡ true → (bit_at l.rest s == 1) ≡ false
+      → HasRoom (slice_index_or l.sites.items s d);
 }
+
+abbrev pub decreases-loop-rest : goal.decreases-loop-rest
+decreases-loop-rest g l = l.rest

@@ -1,8 +1,10 @@
-use Rattle.std.proofs.Common.{arith, ap, sym, ◌∙◌, length, ◌==◌}
+use Rattle.std.proofs.Common.{arith, ap, refl, ◌∙◌, length, map, ◌==◌}
+use Rattle.std.proofs.lemmas.List.{length-map}
 use Rattle.std.proofs.lemmas.Result.{err_from_is_err_and}
-use Rattle.ordup_primary.specs.PrimaryInside.{state_of}
-use Rattle.ordup_primary.proofs.PrimaryLemmas.{IsPrimary-decided, Decides-at, reports-few, reports-next, acked-none, acked-some}
+use Rattle.ordup_primary.specs.PrimaryInside.{kept_of, state_of}
+use Rattle.ordup_primary.proofs.PrimaryLemmas.{IsPrimary-decided, reports-few, acked-none, acked-some}
 use Rattle.ordup_primary.proofs.PrimaryLemmas.{acked_or_round-none, acked_or_round-some}
+use Rattle.ordup_primary.proofs.KeptLemmas.{AreKept-at, Decides-at, forced-listed, kept-others, mask-there}
 use Rattle.ordup_primary.proofs.LedgerLemmas.{AreLedgers-decided}
 use Rattle.ordup_primary.proofs.primary.Primary.decide.Goals as goal
 
@@ -13,103 +15,133 @@ invariant_of-self g c =
     record {
       primary = rw same before.primary;
       ledgers = rw same before.ledgers;
+      kept = rw same before.kept;
     }
 
 pub invariant_of-self-then-is_empty : goal.invariant_of-self-then-is_empty
 invariant_of-self-then-is_empty g c =
-    let is = c.self.view_is ∙ c.forced_now-forced.ensures.same in
-    let forced = c.as_slice.ensures ∙ rw (← is) at c.forced_now-forced.ensures.sites in
+    let is = c.self.view_is ∙ c.forced_now-over.ensures.same in
+    let bits = rw (← is) at c.forced_now-over.ensures.forced in
+    let forced = c.as_slice.ensures ∙ c.sites_among-forced.ensures
+    ∙ forced-listed (state_of c.self.inside) c.forced_now-over.result c.count.result (rw (← c.self.view_is) at c.count.ensures.count) bits in
     let here = rw (← is) at c.requires.head in
+    let first = rw (← is) at c.requires.first in
+    let same = c.in_ok-reserve_decision.ensures.same in
     let decides =
-    Decides-at c.self.inside c.reserve_decision.new.sites.items c.put_down.new.sites.items c.as_slice.result.now c.args.head
-    c.args.head c.in_ok-reserve_decision.ensures.same forced c.put_down.ensures.count c.put_down.ensures.sites here
-    (acked-none c.self.inside.acked c.args.head c.as_slice.result.now
-    (c.if-is_empty.ensures ∙ ap (λ xs. length xs == 0) (c.as_slice-2.ensures ∙ sym c.as_slice.ensures)) here) in
+    Decides-at c.self.inside c.reserve_decision.new.sites.items c.put_down.new.sites.items c.forced_now-over.result c.args.head c.args.head
+    c.as_slice.result.now c.self.invariant.kept same c.put_down.ensures.count c.put_down.ensures.sites first here bits forced
+    (acked-none c.self.inside.acked c.args.head c.as_slice.result.now c.if-is_empty.ensures here) in
     record {
       primary =
-          IsPrimary-decided (state_of c.self.inside) _ c.self.invariant.primary (rw (← is) at c.requires.first)
-          (omega (arith, here, rw (← is) at c.requires.some))
+          IsPrimary-decided (state_of c.self.inside) _ c.self.invariant.primary first (omega (arith, here, rw (← is) at c.requires.some))
           decides;
-      ledgers = AreLedgers-decided (state_of c.self.inside) _ c.self.inside.ledgers c.self.invariant.ledgers
-          (omega (arith, here)) decides;
+      ledgers = AreLedgers-decided (state_of c.self.inside) _ c.self.inside.ledgers c.self.invariant.ledgers (omega (arith, here)) decides;
+      kept = AreKept-at c.self.inside c.reserve_decision.new.sites.items c.put_down.new.sites.items c.forced_now-over.result c.args.head
+          c.self.invariant.kept same c.put_down.ensures.count c.put_down.ensures.sites first here;
     }
 
 pub returns-then-is_empty-clause-decides : goal.returns-then-is_empty-clause-decides
 returns-then-is_empty-clause-decides g c =
-    let is = c.self.view_is ∙ c.forced_now-forced.ensures.same in
-    let forced = c.as_slice.ensures ∙ rw (← is) at c.forced_now-forced.ensures.sites in
+    let is = c.self.view_is ∙ c.forced_now-over.ensures.same in
+    let bits = rw (← is) at c.forced_now-over.ensures.forced in
+    let forced = c.as_slice.ensures ∙ c.sites_among-forced.ensures
+    ∙ forced-listed (state_of c.self.inside) c.forced_now-over.result c.count.result (rw (← c.self.view_is) at c.count.ensures.count) bits in
     let here = rw (← is) at c.requires.head in
-    rw (← is) (Decides-at c.self.inside c.reserve_decision.new.sites.items
-    c.put_down.new.sites.items c.as_slice.result.now c.args.head c.args.head c.in_ok-reserve_decision.ensures.same forced
-    c.put_down.ensures.count c.put_down.ensures.sites here (acked-none c.self.inside.acked c.args.head c.as_slice.result.now
-    (c.if-is_empty.ensures ∙ ap (λ xs. length xs == 0) (c.as_slice-2.ensures ∙ sym c.as_slice.ensures)) here))
+    rw (← is) (Decides-at c.self.inside c.reserve_decision.new.sites.items c.put_down.new.sites.items c.forced_now-over.result c.args.head
+    c.args.head c.as_slice.result.now c.self.invariant.kept c.in_ok-reserve_decision.ensures.same c.put_down.ensures.count
+    c.put_down.ensures.sites (rw (← is) at c.requires.first) here bits forced
+    (acked-none c.self.inside.acked c.args.head c.as_slice.result.now c.if-is_empty.ensures here))
 
 pub invariant_of-self-else-is_empty : goal.invariant_of-self-else-is_empty
 invariant_of-self-else-is_empty g c =
-    let is = c.self.view_is ∙ c.forced_now-forced.ensures.same in
-    let forced = c.as_slice.ensures ∙ rw (← is) at c.forced_now-forced.ensures.sites in
+    let is = c.self.view_is ∙ c.forced_now-over.ensures.same in
+    let bits = rw (← is) at c.forced_now-over.ensures.forced in
+    let forced = c.as_slice.ensures ∙ c.sites_among-forced.ensures
+    ∙ forced-listed (state_of c.self.inside) c.forced_now-over.result c.count.result (rw (← c.self.view_is) at c.count.ensures.count) bits in
     let here = rw (← is) at c.requires.head in
+    let first = rw (← is) at c.requires.first in
+    let same = c.in_ok-reserve_decision.ensures.same in
     let decides =
-    Decides-at c.self.inside c.reserve_decision.new.sites.items c.put_down.new.sites.items c.as_slice.result.now
-    c.self.inside.acked c.args.head c.in_ok-reserve_decision.ensures.same forced c.put_down.ensures.count c.put_down.ensures.sites here
-    (acked-some c.self.inside.acked c.as_slice.result.now
-    (c.if-is_empty.ensures ∙ ap (λ xs. length xs == 0) (c.as_slice-2.ensures ∙ sym c.as_slice.ensures))) in
+    Decides-at c.self.inside c.reserve_decision.new.sites.items c.put_down.new.sites.items c.forced_now-over.result c.self.inside.acked
+    c.args.head c.as_slice.result.now c.self.invariant.kept same c.put_down.ensures.count c.put_down.ensures.sites first here bits forced
+    (acked-some c.self.inside.acked c.as_slice.result.now c.if-is_empty.ensures) in
     record {
       primary =
-          IsPrimary-decided (state_of c.self.inside) _ c.self.invariant.primary (rw (← is) at c.requires.first)
-          (omega (arith, here, rw (← is) at c.requires.some))
+          IsPrimary-decided (state_of c.self.inside) _ c.self.invariant.primary first (omega (arith, here, rw (← is) at c.requires.some))
           decides;
-      ledgers = AreLedgers-decided (state_of c.self.inside) _ c.self.inside.ledgers c.self.invariant.ledgers
-          (omega (arith, here)) decides;
+      ledgers = AreLedgers-decided (state_of c.self.inside) _ c.self.inside.ledgers c.self.invariant.ledgers (omega (arith, here)) decides;
+      kept = AreKept-at c.self.inside c.reserve_decision.new.sites.items c.put_down.new.sites.items c.forced_now-over.result c.args.head
+          c.self.invariant.kept same c.put_down.ensures.count c.put_down.ensures.sites first here;
     }
 
 pub returns-clause-decides : goal.returns-clause-decides
 returns-clause-decides g c =
-    let is = c.self.view_is ∙ c.forced_now-forced.ensures.same in
-    let forced = c.as_slice.ensures ∙ rw (← is) at c.forced_now-forced.ensures.sites in
-    let here = rw (← is) at c.requires.head in
-    rw (← is) (Decides-at c.self.inside c.reserve_decision.new.sites.items c.put_down.new.sites.items c.as_slice.result.now
-    c.self.inside.acked c.args.head c.in_ok-reserve_decision.ensures.same forced c.put_down.ensures.count c.put_down.ensures.sites here
-    (acked-some c.self.inside.acked c.as_slice.result.now
-    (c.if-is_empty.ensures ∙ ap (λ xs. length xs == 0) (c.as_slice-2.ensures ∙ sym c.as_slice.ensures))))
+    let is = c.self.view_is ∙ c.forced_now-over.ensures.same in
+    let bits = rw (← is) at c.forced_now-over.ensures.forced in
+    let forced = c.as_slice.ensures ∙ c.sites_among-forced.ensures
+    ∙ forced-listed (state_of c.self.inside) c.forced_now-over.result c.count.result (rw (← c.self.view_is) at c.count.ensures.count) bits in
+    rw (← is) (Decides-at c.self.inside c.reserve_decision.new.sites.items c.put_down.new.sites.items c.forced_now-over.result
+    c.self.inside.acked c.args.head c.as_slice.result.now c.self.invariant.kept c.in_ok-reserve_decision.ensures.same
+    c.put_down.ensures.count c.put_down.ensures.sites (rw (← is) at c.requires.first) (rw (← is) at c.requires.head) bits forced
+    (acked-some c.self.inside.acked c.as_slice.result.now c.if-is_empty.ensures))
+
+pub reserve_decision-requires : goal.reserve_decision-requires
+reserve_decision-requires g c =
+    let is = c.self.view_is ∙ c.forced_now-over.ensures.same in
+    let items = c.self.inside.sites.items in
+    mask-there items (map kept_of items) c.self.inside.decided c.self.inside.moved c.forced_now-over.result (length (state_of c.self.inside).sites)
+    refl c.self.invariant.kept (length-map _ _) (rw (← is) at c.forced_now-over.ensures.there)
+
+pub put_down-requires-clause-there : goal.put_down-requires-clause-there
+put_down-requires-clause-there g c =
+    let is = c.self.view_is ∙ c.forced_now-over.ensures.same in
+    let items = c.self.inside.sites.items in
+    mask-there c.reserve_decision.new.sites.items (map kept_of items) c.self.inside.decided c.self.inside.moved c.forced_now-over.result
+    (length (state_of c.self.inside).sites) c.in_ok-reserve_decision.ensures.same c.self.invariant.kept (length-map _ _)
+    (rw (← is) at c.forced_now-over.ensures.there)
+
+pub put_down-requires-clause-others : goal.put_down-requires-clause-others
+put_down-requires-clause-others g c =
+    kept-others c.reserve_decision.new.sites.items (map kept_of c.self.inside.sites.items) c.self.inside.decided c.self.inside.moved
+    c.forced_now-over.result c.args.head c.in_ok-reserve_decision.ensures.same c.self.invariant.kept
 
 pub put_down-requires-clause-reported : goal.put_down-requires-clause-reported
 put_down-requires-clause-reported g c =
     reports-few c.self.inside c.reserve_decision.new.sites.items c.self.invariant.primary c.in_ok-reserve_decision.ensures.same
 
-pub put_down-requires-clause-next : goal.put_down-requires-clause-next
-put_down-requires-clause-next g c =
-    let is = c.self.view_is ∙ c.forced_now-forced.ensures.same in
-    reports-next c.self.inside c.reserve_decision.new.sites.items c.args.head c.self.invariant.primary c.in_ok-reserve_decision.ensures.same
-    (rw (← is) at c.requires.first) (rw (← is) at c.requires.head)
-
-pub returns-then-is_empty-clause-answer : goal.returns-then-is_empty-clause-answer
-returns-then-is_empty-clause-answer g c =
-    let is = c.self.view_is ∙ c.forced_now-forced.ensures.same in
-    let forced = c.as_slice.ensures ∙ rw (← is) at c.forced_now-forced.ensures.sites in
-    rw (← is, ← forced, ← rw (← is) at c.requires.head) (acked_or_round-none c.args.head c.as_slice.result.now
-    (c.if-is_empty.ensures ∙ ap (λ xs. length xs == 0) (c.as_slice-2.ensures ∙ sym c.as_slice.ensures)))
-
-pub returns-clause-answer : goal.returns-clause-answer
-returns-clause-answer g c =
-    let is = c.self.view_is ∙ c.forced_now-forced.ensures.same in
-    let forced = rw (← is) at c.forced_now-forced.ensures.sites in
-    rw (← is, ← forced, ← rw (← is) at c.requires.head) (acked_or_round-some c.args.head c.forced_now-forced.result
-    (c.if-is_empty.ensures ∙ ap (λ xs. length xs == 0) c.as_slice-2.ensures))
-
-pub forced_now-forced-requires : goal.forced_now-forced-requires
-forced_now-forced-requires g c = record {
-  head = c.requires.head;
-  some = c.requires.some;
-}
-
 pub put_down-requires-clause-few : goal.put_down-requires-clause-few
 put_down-requires-clause-few g c =
-    let is = c.self.view_is ∙ c.forced_now-forced.ensures.same in
+    let is = c.self.view_is ∙ c.forced_now-over.ensures.same in
     omega (arith, rw (← is) at c.requires.some, c.self.invariant.primary.few)
 
 pub put_down-requires-clause-room : goal.put_down-requires-clause-room
 put_down-requires-clause-room g c = c.in_ok-reserve_decision.ensures.room
+
+pub returns-then-is_empty-clause-answer : goal.returns-then-is_empty-clause-answer
+returns-then-is_empty-clause-answer g c =
+    let is = c.self.view_is ∙ c.forced_now-over.ensures.same in
+    let bits = rw (← is) at c.forced_now-over.ensures.forced in
+    let forced = c.as_slice.ensures ∙ c.sites_among-forced.ensures
+    ∙ forced-listed (state_of c.self.inside) c.forced_now-over.result c.count.result (rw (← c.self.view_is) at c.count.ensures.count) bits in
+    rw (← is, ← forced, ← rw (← is) at c.requires.head) (acked_or_round-none c.args.head c.as_slice.result.now c.if-is_empty.ensures)
+
+pub returns-clause-answer : goal.returns-clause-answer
+returns-clause-answer g c =
+    let is = c.self.view_is ∙ c.forced_now-over.ensures.same in
+    let bits = rw (← is) at c.forced_now-over.ensures.forced in
+    let forced = c.sites_among-forced.ensures
+    ∙ forced-listed (state_of c.self.inside) c.forced_now-over.result c.count.result (rw (← c.self.view_is) at c.count.ensures.count) bits in
+    rw (← is, ← forced, ← rw (← is) at c.requires.head) (acked_or_round-some c.args.head c.sites_among-forced.result
+    (c.if-is_empty.ensures ∙ ap (λ xs. length xs == 0) c.as_slice.ensures))
+
+pub forced_now-over-requires : goal.forced_now-over-requires
+forced_now-over-requires g c = record {
+  head = c.requires.head;
+  some = c.requires.some;
+}
+
+pub sites_among-forced-requires : goal.sites_among-forced-requires
+sites_among-forced-requires g c = omega (arith, c.count.ensures.count, c.count.ensures.few)
 
 pub returns-in_err-reserve_decision-clause-refused : goal.returns-in_err-reserve_decision-clause-refused
 returns-in_err-reserve_decision-clause-refused g c =
@@ -119,4 +151,4 @@ returns-in_err-reserve_decision-clause-refused g c =
 pub returns-in_err-reserve_decision-clause-err : goal.returns-in_err-reserve_decision-clause-err
 returns-in_err-reserve_decision-clause-err g c =
     let failed = err_from_is_err_and c.from_residual.result c.from_residual.ensures.1 in
-    rw (failed.1, c.in_err-reserve_decision.ensures.same) (c.self.view_is ∙ c.forced_now-forced.ensures.same)
+    rw (failed.1, c.in_err-reserve_decision.ensures.same) (c.self.view_is ∙ c.forced_now-over.ensures.same)

@@ -2,11 +2,13 @@ use Rattle.std.proofs.Common.{List, length, get_or, arith, ap, refl}
 use Rattle.ordup_primary.specs.Primaries.{SiteProgress, first_progress}
 use Rattle.ordup_primary.specs.PrimaryInside.{state_of, first_state}
 use Rattle.ordup_primary.proofs.PrimaryLemmas.{IsPrimary-new}
+use Rattle.ordup_primary.proofs.KeptLemmas.{AreKept-first, first-seen}
 use Rattle.ordup_primary.proofs.LedgerLemmas.{AreLedgers-kept}
 use Rattle.ordup_primary.proofs.primary.Primary.new.Goals as goal
 
 pub invariant_of-result : goal.invariant_of-result
 invariant_of-result g c =
+    let sites = first-seen (length c.args.setup.sites) _ c.in-Ok.ensures.sites in
     record {
       primary =
           IsPrimary-new
@@ -16,14 +18,16 @@ invariant_of-result g c =
             acked = 0;
             decided = 0;
             sites = c.begin.new.sites;
+            moved = 0;
             limits = c.begin.new.limits;
             ledgers = c.in-Ok.ledgers;
           }))
           c.keeps.ensures c.requires c.in-Ok.ensures.log c.in-Ok.ensures.legal
-          refl refl c.in-Ok.ensures.sites c.in-Ok.ensures.limits;
+          refl refl sites c.in-Ok.ensures.limits;
       ledgers = AreLedgers-kept (first_state c.args.setup) _ c.in-Ok.ledgers c.in-Ok.ensures.ledgers refl
-          c.in-Ok.ensures.log c.in-Ok.ensures.limits (omega arith) (ap length c.in-Ok.ensures.sites)
-          (λ s lt. ap (λ (sites : List SiteProgress). (get_or sites s first_progress).reported) c.in-Ok.ensures.sites);
+          c.in-Ok.ensures.log c.in-Ok.ensures.limits (omega arith) (ap length sites)
+          (λ s lt. ap (λ (sites : List SiteProgress). (get_or sites s first_progress).reported) sites);
+      kept = AreKept-first (length c.args.setup.sites) _ c.in-Ok.ensures.sites;
     }
 
 pub returns-in-Ok-clause-sound : goal.returns-in-Ok-clause-sound
@@ -36,11 +40,12 @@ returns-in-Ok-clause-sound g c =
       acked = 0;
       decided = 0;
       sites = c.begin.new.sites;
+      moved = 0;
       limits = c.begin.new.limits;
       ledgers = c.in-Ok.ledgers;
     }))
     c.keeps.ensures c.requires c.in-Ok.ensures.log c.in-Ok.ensures.legal
-    refl refl c.in-Ok.ensures.sites c.in-Ok.ensures.limits
+    refl refl (first-seen (length c.args.setup.sites) _ c.in-Ok.ensures.sites) c.in-Ok.ensures.limits
 
 pub begin-requires : goal.begin-requires
 begin-requires g c = record {
@@ -52,7 +57,7 @@ pub returns-in-Ok-clause-log : goal.returns-in-Ok-clause-log
 returns-in-Ok-clause-log g c = c.in-Ok.ensures.log
 
 pub returns-in-Ok-clause-sites : goal.returns-in-Ok-clause-sites
-returns-in-Ok-clause-sites g c = c.in-Ok.ensures.sites
+returns-in-Ok-clause-sites g c = first-seen (length c.args.setup.sites) _ c.in-Ok.ensures.sites
 
 pub returns-in-Ok-clause-limits : goal.returns-in-Ok-clause-limits
 returns-in-Ok-clause-limits g c = c.in-Ok.ensures.limits

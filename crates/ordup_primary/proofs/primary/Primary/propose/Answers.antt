@@ -4,7 +4,7 @@ use Rattle.std.proofs.lemmas.Result.{on_ok_weaker, on_err_weaker}
 use Rattle.ordup_objects.specs.Sets.{IsSet}
 use Rattle.ordup_objects.specs.Serial.{History, with_update}
 use Rattle.ordup_log.specs.Appending.{append_refusal}
-use Rattle.ordup_primary.specs.PrimaryInside.{state_of, KeepsLedgers}
+use Rattle.ordup_primary.specs.PrimaryInside.{state_of, KeepsPrimary}
 use Rattle.ordup_primary.proofs.PrimaryLemmas.{IsPrimary-proposed, kept-appended}
 use Rattle.ordup_primary.proofs.LedgerLemmas.{AreLedgers-proposed}
 use Rattle.ordup_primary.proofs.primary.Primary.propose.Goals as goal
@@ -17,10 +17,11 @@ invariant_of-self g c =
     let held = c.self.inside in
     let set : IsSet c.args.set = search rules in
     let before = c.self.invariant in
-    kept-appended (λ (log : History). KeepsLedgers (record held { log = log })) c.append-appended.result held.log c.append-appended.new.self
+    kept-appended (λ (log : History). KeepsPrimary (record held { log = log })) c.append-appended.result held.log c.append-appended.new.self
     c.args.set before (λ allowed. record {
       primary = IsPrimary-proposed (state_of held) c.args.set before.primary set (rw (← c.self.view_is) at c.requires) allowed;
       ledgers = AreLedgers-proposed (state_of held) c.args.set held.ledgers before.ledgers;
+      kept = before.kept;
     }) c.append-appended.ensures.added c.append-appended.ensures.allowed c.append-appended.ensures.err
 
 pub returns : goal.returns

@@ -16,6 +16,7 @@ invariant_of-self g c =
     record {
       primary = rw same c.self.invariant.primary;
       ledgers = rw same c.self.invariant.ledgers;
+      kept = c.self.invariant.kept;
     }
 
 pub change-requires-2-clause-site : goal.change-requires-2-clause-site
@@ -55,6 +56,7 @@ invariant_of-self-2 g c =
       ledgers = rw stored (AreLedgers-relimited p c.args.site c.args.scope c.args.amount c.self.inside.ledgers c.change-2.new.self sound
           c.self.invariant.ledgers there keep (rw c.groups-groups.ensures.groups at made.stands) made.place made.count made.others
           made.reported (rw c.groups-groups.ensures.groups at made.limits));
+      kept = c.self.invariant.kept;
     }
 
 pub returns : goal.returns

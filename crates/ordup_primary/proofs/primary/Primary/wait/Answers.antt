@@ -17,6 +17,7 @@ invariant_of-self g c =
       ledgers =
           AreLedgers-kept (state_of c.self.inside) (record (state_of c.self.inside) { acked = c.args.head }) c.self.inside.ledgers
           c.self.invariant.ledgers refl refl refl (omega (arith, rw (← c.self.view_is) at c.requires.head)) refl (λ s lt. refl);
+      kept = c.self.invariant.kept;
     }
 
 pub returns-then-is_empty-clause-later : goal.returns-then-is_empty-clause-later

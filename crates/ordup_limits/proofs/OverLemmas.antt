@@ -1,5 +1,5 @@
 -- Which sites an update takes over a limit.
-use Rattle.std.proofs.Common.{◌≡◌, ℕ, zero, suc, ◌+◌, ◌-◌, ◌<◌, ◌≤◌, Bool, true, false, not, List, [], ◌∷◌, length, get_or}
+use Rattle.std.proofs.Common.{◌≡◌, ℕ, zero, suc, ◌+◌, ◌-◌, ◌<◌, ◌≤◌, Bool, true, false, not, List, [], ◌∷◌, length, get_or, take}
 use Rattle.std.proofs.Common.{arith, refl, sym, ap, ◌∙◌, inl, inr}
 use Rattle.std.specs.Prelude.{◌==◌, ◌⊎◌, All}
 use Rattle.std.specs.Int.{bit_at}
@@ -7,10 +7,11 @@ use Rattle.std.specs.List.{list_any}
 use Rattle.std.proofs.Math.ListN.{set, length-set}
 use Rattle.std.proofs.lemmas.Bool.{cases_Bool, cases_eq, cases_lt, false≢true, le-leb, leb-true, or_parts}
 use Rattle.std.proofs.lemmas.Grind.{get_or-set_at}
-use Rattle.std.proofs.lemmas.List.{get_or-set_other}
+use Rattle.std.proofs.lemmas.List.{get_or-set_other, get_or-take}
 use Rattle.std.proofs.lemmas.List.Folds.{list_all_at}
 use Rattle.std.proofs.lemmas.List.Sums.{list_all-from_AllPass}
 use Rattle.ordup_objects.specs.declared.change.Change.{Change}
+use Rattle.ordup_objects.specs.Marks.{AreMarks}
 use Rattle.ordup_objects.specs.Repeats.{repeats}
 use Rattle.ordup_objects.specs.Serial.{History, IsLegalHistory, set_at, with_more}
 use Rattle.ordup_objects.specs.Sizes.{most_groups, most_objects, most_updates}
@@ -28,7 +29,7 @@ use Rattle.ordup_limits.specs.SiteLedgers.{LedgersState, SiteLedgerState, StandF
 use Rattle.ordup_limits.specs.Sizes.{greatest_amount}
 use Rattle.ordup_limits.specs.Totals.{counts_on, kept_amount, weight_of, weight_where}
 use Rattle.ordup_limits.proofs.EntryLemmas.{same_scope, is_same_scope-refl}
-use Rattle.ordup_limits.proofs.LedgerLemmas.{span-difference, AreTotals-longer}
+use Rattle.ordup_limits.proofs.LedgerLemmas.{span-difference}
 use Rattle.ordup_limits.proofs.PassedLemmas.{keeps-false}
 use Rattle.ordup_limits.proofs.PutLemmas.{repeats-put, All-put}
 use Rattle.ordup_limits.proofs.SiteLemmas.{span-few, AreWeights-longer, HaveAmounts-put}
@@ -210,13 +211,11 @@ allowed-reported h groups old new scope same le =
 pub StandFor-longer : (l : LedgersState) (h : History) (groups : GroupList) (more : List (List Change)) → StandFor l h groups
     → StandFor l (with_more h more) groups
 StandFor-longer l h groups more stand =
-    let longer : (w : WeightsAt) → AreWeights w h groups → AreWeights w (with_more h more) groups =
-    λ w are. AreWeights-longer h groups more w are (λ place limits le. AreTotals-longer h groups limits more place w.totals le) in
     record {
       objects = stand.objects;
       masks = stand.masks;
-      added = longer l.added stand.added;
-      sites = λ s d lt. longer (get_or l.sites s d).reported (stand.sites s d lt);
+      added = AreWeights-longer h groups more l.added stand.added;
+      sites = λ s d lt. AreWeights-longer h groups more (get_or l.sites s d).reported (stand.sites s d lt);
       kept = λ s d scope lt known. (let site = get_or l.sites s d in
           omega (
             arith,
@@ -234,3 +233,11 @@ HasLimits-put n groups limits l site objects few known count has = record {
   distinct = repeats-put are_on_one_scope limits l (λ k m same. rw (same_scope k.scope l.scope same) refl) has.distinct;
   amounts = HaveAmounts-put n groups limits l site.amounts objects few known count has.amounts;
 }
+
+-- the totals of the objects are their marks
+pub AreMarks-totals : (h : History) (groups : GroupList) (w : WeightsAt) (n : ℕ) (marks : List ℕ) → AreWeights w h groups
+    → n ≡ length h.start → length marks ≡ n → marks ≡ take n w.totals → AreMarks h w.place marks
+AreMarks-totals h groups w n marks are all count same x lt =
+    ap (λ (ms : List ℕ). get_or ms x 0) same
+    ∙ get_or-take n w.totals x 0 (omega (arith, lt, count))
+    ∙ are.each (Object x) (omega (arith, lt, count, all))

@@ -7,7 +7,7 @@ use Rattle.std.specs.Int.RustNames.{bit_or}
 use Rattle.std.proofs.Math.ListN.{set, get_or-append}
 use Rattle.std.proofs.lemmas.Bool.{and_parts, cases_Bool, cases_eq, cases_lt, eq-eqb, ne_eqb, eqb-true, false≢true, le-ltb, lt-ltb, ltb-true, or_right}
 use Rattle.std.proofs.lemmas.Grind.{get_or-set_at}
-use Rattle.std.proofs.lemmas.List.{get_or_past, get_or_push, get_or-set_other, length_push}
+use Rattle.std.proofs.lemmas.List.{get_or_push, get_or-set_other, length_push}
 use Rattle.std.specs.List.{list_any}
 use Rattle.std.proofs.lemmas.List.Folds.{list_any_more}
 use Rattle.std.proofs.lemmas.Nat.Bits.{bit_at_or, bit_at-lt, bit_at-zero, bit_at_clear_same, bit_at_clear_other}
@@ -15,12 +15,12 @@ use Rattle.ordup_objects.specs.declared.change.Change.{Change}
 use Rattle.ordup_objects.specs.Repeats.{repeats}
 use Rattle.ordup_objects.specs.Serial.{History, IsLegalHistory, with_more}
 use Rattle.ordup_objects.specs.Sizes.{greatest_weight, most_groups, most_objects}
-use Rattle.ordup_objects.specs.Sums.{sum_from}
 use Rattle.ordup_objects.proofs.SumLemmas.{sum_from-few}
 use Rattle.ordup_log.specs.Groups.{GroupList, IsGroup}
 use Rattle.ordup_log.specs.Spans.{span, weight, IsScopeKnown}
 use Rattle.ordup_log.specs.declared.scope.Scope.{Scope}
 use Rattle.ordup_log.specs.declared.scope.Scope.TheVariants.{Object, Group, All as Everything, Count}
+use Rattle.ordup_log.proofs.SpanLemmas.{span-longer}
 use Rattle.ordup_log.proofs.WeightLemmas.{weight-few}
 use Rattle.ordup_limits.specs.declared.limit.Limit.{Limit}
 use Rattle.ordup_limits.specs.Entries.{put, latest, Entries}
@@ -28,11 +28,10 @@ use Rattle.ordup_limits.specs.Limits.{Limits, are_on_one_scope, is_same_scope, A
 use Rattle.ordup_limits.specs.SiteLedgers.{allowed, amount_on, counts_within, group_limits, may_weigh, most_scopes, scope_index, AreOver, AreWeights}
 use Rattle.ordup_limits.specs.SiteLedgers.{HaveAmounts, SiteLedgerState, WeightsAt}
 use Rattle.ordup_limits.specs.Sizes.{greatest_amount, most_limits}
-use Rattle.ordup_limits.specs.Totals.{has_bit, kept_amount, weight_where, AreMasks, AreTotals}
+use Rattle.ordup_limits.specs.Totals.{counts_on, kept_amount, share, AreMasks}
 use Rattle.ordup_limits.proofs.EntryLemmas.{same_scope, is_same_scope-refl}
 use Rattle.ordup_limits.proofs.MaskLemmas.{cleared}
 use Rattle.ordup_limits.proofs.PutLemmas.{repeats-put}
-use Rattle.ordup_limits.proofs.TotalLemmas.{weight_where-few, AreTotals-raised}
 
 -- ---- groups
 
@@ -58,37 +57,6 @@ group_limits-known n groups i d lt =
 
 -- ---- weights
 
--- no total grows by more than the updates may weigh
-pub totals-few : (h : History) → IsLegalHistory h → (masks old new : List ℕ) (a b : ℕ) → a ≤ b → b ≤ length h.sets
-    → ((i : ℕ) → get_or old i 0 ≤ greatest_weight * a) → length new ≡ most_limits
-    → ((i : ℕ) → i < most_limits → get_or new i 0 ≡ get_or old i 0 + sum_from (weight_where (has_bit masks i) h) a (b - a))
-    → (i : ℕ) → get_or new i 0 ≤ greatest_weight * b
-totals-few h legal masks old new a b le last few count raised i = elim (cases_lt i most_limits) [
-  | inl lt ↦ omega (
-    arith,
-    le,
-    few i,
-    raised i lt,
-    sum_from-few (weight_where (has_bit masks i) h) greatest_weight a (b - a)
-        (λ j below. weight_where-few h legal (has_bit masks i) j (omega (arith, below, le, last))),
-  )
-  | inr past ↦ omega (arith, get_or_past new i 0 (omega (arith, past, count)))
-]
-
--- the totals of the groups with the updates up to a later place
-pub AreWeights-extended : (h : History) (groups : GroupList) (masks : List ℕ) (w : WeightsAt) (new : List ℕ) (to : ℕ)
-    → IsLegalHistory h → All (λ g. IsGroup g.1) groups → length groups ≤ most_groups → length h.start ≤ most_objects
-    → AreMasks groups (group_limits (length groups)) masks → w.place ≤ to → to ≤ length h.sets → AreWeights w h groups
-    → length new ≡ most_limits → ((i : ℕ) → get_or w.totals i 0 ≤ greatest_weight * w.place)
-    → ((i : ℕ) → i < most_limits → get_or new i 0 ≡ get_or w.totals i 0 + sum_from (weight_where (has_bit masks i) h) w.place (to - w.place))
-    → AreWeights (record { place = to; totals = new }) h groups
-AreWeights-extended h groups masks w new to legal are few objects masked le last before count small raised = record {
-  last = last;
-  totals = AreTotals-raised masks legal are (group_limits-known (length h.start) groups) objects
-      (omega (arith, few, group_limits-length (length groups))) masked le last before.totals count
-      (totals-few h legal masks w.totals new w.place to le last small count raised) raised;
-}
-
 -- what the updates up to a place weigh on a scope that is there is little
 pub span-few : (h : History) → IsLegalHistory h → (groups : GroupList) → All (λ g. IsGroup g.1) groups → (s : Scope)
     → IsScopeKnown (length h.start) groups s → (place : ℕ) → place ≤ length h.sets
@@ -101,20 +69,11 @@ span-few h legal groups are s known place le =
       ap (λ n. greatest_weight * n) same,
     )
 
--- the total of a group
-pub total-group : (h : History) (groups : GroupList) (w : WeightsAt) (g : ℕ) → AreWeights w h groups → g < length groups
-    → get_or w.totals g 0 ≡ span h groups (Group g) 0 w.place
-total-group h groups w g are lt =
-    let d : Limit = record { scope = Count; amount = 0 } in
-    rw (group_limits-at (length groups) g d lt) at (are.totals.each g d (omega (arith, lt, group_limits-length (length groups))))
-
 pub AreWeights-longer : (h : History) (groups : GroupList) (more : List (List Change)) (w : WeightsAt) → AreWeights w h groups
-    → ((place : ℕ) (limits : List Limit) → place ≤ length h.sets → AreTotals h groups limits place w.totals
-    → AreTotals (with_more h more) groups limits place w.totals)
     → AreWeights w (with_more h more) groups
-AreWeights-longer h groups more w are longer = record {
+AreWeights-longer h groups more w are = record {
   last = omega (arith, are.last, length-append h.sets more);
-  totals = longer w.place (group_limits (length groups)) are.last are.totals;
+  each = λ s known. are.each s known ∙ sym (span-longer h more groups s 0 w.place are.last);
 }
 
 -- ---- numbers of scopes
@@ -146,6 +105,66 @@ scope_index-same n groups Count (Object y) objects few ks kt e = absurd (omega (
 scope_index-same n groups Count (Group h) objects few ks kt e = absurd (omega (arith, few, kt, e))
 scope_index-same n groups Count Everything objects few ks kt e = absurd (omega (arith, e))
 scope_index-same n groups Count Count objects few ks kt e = refl
+
+-- ---- totals
+
+-- a weight more on one scope
+pub added-at : (n : ℕ) (groups : GroupList) (totals : List ℕ) (t s : Scope) (weight : ℕ) → n ≤ most_objects
+    → length groups ≤ most_groups → IsScopeKnown n groups t → IsScopeKnown n groups s → length totals ≡ most_scopes
+    → get_or (set totals (scope_index t) (get_or totals (scope_index t) 0 + weight)) (scope_index s) 0
+    ≡ get_or totals (scope_index s) 0 + share (is_same_scope t s) weight
+added-at n groups totals t s weight objects few kt ks count = elim (cases_Bool (is_same_scope t s)) [
+  | inl same ↦ (let e : t ≡ s = same_scope t s same in
+      rw (same, ← e) (get_or-set_at totals (scope_index t) (scope_index t) (get_or totals (scope_index t) 0 + weight) 0 refl
+      (omega (arith, count, scope_index-small n groups t objects few kt))))
+  | inr other ↦ rw other (omega (
+    arith,
+    get_or-set_other totals (scope_index t) (scope_index s) (get_or totals (scope_index t) 0 + weight) 0
+        (λ e. false≢true (sym other ∙ rw (scope_index-same n groups s t objects few ks kt e) (is_same_scope-refl t))),
+  ))
+]
+
+-- what tells that a mask has a bit for each group of object x
+abbrev pub IsMaskOf : GroupList → ℕ → ℕ → Type 0
+IsMaskOf groups x mask = (g : ℕ) → g < most_limits → (bit_at mask g == 1) ≡ (nat_lt g (length groups) && counts_within groups x (Group g))
+
+-- the group of a scope has a bit that is left
+abbrev pub has_left : ℕ → Scope → Bool
+has_left rest (Group g) = bit_at rest g == 1
+has_left rest _ = false
+
+-- no bit is left
+pub has_left-none : (s : Scope) (weight : ℕ) → share (has_left 0 s) weight ≡ 0
+has_left-none (Group g) weight = ap (λ n. share (n == 1) weight) (bit_at-zero g)
+has_left-none (Object x) weight = refl
+has_left-none Everything weight = refl
+has_left-none Count weight = refl
+
+-- a change counts on its object, on all objects, and on the groups of its mask
+pub share-parts : (n : ℕ) (groups : GroupList) (x mask weight : ℕ) → length groups ≤ most_groups → IsMaskOf groups x mask → (s : Scope)
+    → IsScopeKnown n groups s
+    → share (is_same_scope (Object x) s) weight + share (is_same_scope Everything s) weight + share (has_left mask s) weight
+    ≡ share (counts_on groups s x) weight
+share-parts n groups x mask weight few is (Object y) known = elim (cases_eq x y) [
+  | inl same ↦ rw (eq-eqb x y same, eq-eqb y x (sym same)) (omega arith)
+  | inr other ↦ rw (ne_eqb x y other, ne_eqb y x (λ e. other (sym e))) (omega arith)
+]
+share-parts n groups x mask weight few is (Group g) known =
+    rw (is g (omega (arith, known, few)), lt-ltb g (length groups) known) (omega arith)
+share-parts n groups x mask weight few is Everything known = omega arith
+share-parts n groups x mask weight few is Count known = omega arith
+
+-- one group less is left
+pub share-left : (n : ℕ) (groups : GroupList) (rest z weight : ℕ) → length groups ≤ most_groups → z < 64 → bit_at rest z ≡ 1 → (s : Scope)
+    → IsScopeKnown n groups s
+    → share (is_same_scope (Group z) s) weight + share (has_left (cleared rest z) s) weight ≡ share (has_left rest s) weight
+share-left n groups rest z weight few lt one (Object y) known = omega arith
+share-left n groups rest z weight few lt one (Group g) known = elim (cases_eq z g) [
+  | inl same ↦ rw (eq-eqb z g same, ← same, bit_at_clear_same w64 rest z lt, one) (omega arith)
+  | inr other ↦ rw (ne_eqb z g other, bit_at_clear_other w64 rest z lt g (omega (arith, known, few)) (λ e. other (sym e))) (omega arith)
+]
+share-left n groups rest z weight few lt one Everything known = omega arith
+share-left n groups rest z weight few lt one Count known = omega arith
 
 -- ---- amounts
 
@@ -342,10 +361,6 @@ mask-at groups masks x g are below lt =
     ])
 
 -- ---- the groups of an object, one after the other
-
--- what tells that a mask has a bit for each group of object x
-abbrev pub IsMaskOf : GroupList → ℕ → ℕ → Type 0
-IsMaskOf groups x mask = (g : ℕ) → g < most_limits → (bit_at mask g == 1) ≡ (nat_lt g (length groups) && counts_within groups x (Group g))
 
 -- before the first group only the object itself is asked about
 pub beside-start : (n : ℕ) (groups : GroupList) (x mask : ℕ) → length groups ≤ most_groups → IsMaskOf groups x mask → (s : Scope)

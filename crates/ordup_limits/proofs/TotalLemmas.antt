@@ -21,9 +21,10 @@ use Rattle.ordup_log.specs.Groups.{GroupList, IsGroup, members_at}
 use Rattle.ordup_log.specs.Spans.{weight, span, IsScopeKnown}
 use Rattle.ordup_log.specs.declared.scope.Scope.{Scope}
 use Rattle.ordup_log.specs.declared.scope.Scope.TheVariants.{Object, Group, All as Everything, Count}
+use Rattle.ordup_log.proofs.SpanLemmas.{span-count}
 use Rattle.ordup_log.proofs.WeightLemmas.{distance_beside-at, distances-few, sum-at, sum-few}
 use Rattle.ordup_limits.specs.declared.limit.Limit.{Limit}
-use Rattle.ordup_limits.specs.Limits.{Limits, AreScopesKnown}
+use Rattle.ordup_limits.specs.Limits.{Limits, is_same_scope, AreScopesKnown}
 use Rattle.ordup_limits.specs.Sizes.{most_limits, greatest_amount}
 use Rattle.ordup_limits.specs.Totals.{counts_on, weighed, kept_amount, AreTotals, AreAllowed, has_bit, AreMasks, share, weight_of, weight_where}
 
@@ -236,6 +237,29 @@ weighed-more h legal groups are Count known a b le last =
           (λ j lt. weight_of-none (get_or h.sets j []) (distances_of (serial h j) (get_or h.sets j []))),
       sum_from-constant 0 a (b - a),
     )
+
+-- those of one update, with the update itself
+pub span-one : (h : History) → IsLegalHistory h → (groups : GroupList) → All (λ g. IsGroup g.1) groups → (s : Scope)
+    → IsScopeKnown (length h.start) groups s → (place : ℕ) → 0 < place → place ≤ length h.sets
+    → span h groups s 0 (place - 1) + share (is_same_scope Count s) 1 + weight_where (counts_on groups s) h (place - 1)
+    ≡ span h groups s 0 place
+span-one h legal groups are s known place some last =
+    let f = weight_where (counts_on groups s) h in
+    let one : place - (place - 1) ≡ suc zero = omega (arith, some) in
+    let same : place - 1 + 0 ≡ place - 1 = omega arith in
+    let sum : sum_from f (place - 1) (place - (place - 1)) ≡ f (place - 1) = rw one (omega (arith, ap f same)) in
+    span-one-of h groups s place some
+    (omega (arith, weighed-more h legal groups are s known (place - 1) place (omega arith) last, sum))
+  where
+    span-one-of : (h : History) (groups : GroupList) (s : Scope) (place : ℕ) → 0 < place
+        → weighed h groups s (place - 1) + weight_where (counts_on groups s) h (place - 1) ≡ weighed h groups s place
+        → span h groups s 0 (place - 1) + share (is_same_scope Count s) 1 + weight_where (counts_on groups s) h (place - 1)
+        ≡ span h groups s 0 place
+    span-one-of h groups (Object x) place some e = omega (arith, e)
+    span-one-of h groups (Group g) place some e = omega (arith, e)
+    span-one-of h groups Everything place some e = omega (arith, e)
+    span-one-of h groups Count place some e =
+        omega (arith, e, some, span-count h groups 0 (place - 1), span-count h groups 0 place)
 
 -- a mask tells whether an object's changes count on a limit
 counts_at : (groups : GroupList) (limits : Limits) (masks : List ℕ) → length limits ≤ most_limits → AreMasks groups limits masks

@@ -14,26 +14,9 @@ use Rattle.ordup_log.specs.declared.scope.Scope.TheVariants.{Object, Group, All 
 use Rattle.ordup_limits.specs.Entries.{latest, AreEntriesKnown, Entries}
 use Rattle.ordup_limits.specs.Limits.{Limits, are_on_one_scope, is_same_scope, AreScopesKnown}
 use Rattle.ordup_limits.specs.Sizes.{greatest_amount}
-use Rattle.ordup_limits.specs.Totals.{kept_amount, AreMasks, AreTotals}
+use Rattle.ordup_limits.specs.Totals.{kept_amount, AreMasks}
 
--- ---- weights up to a place
-
--- limits on the first n groups: the amounts do not count here
-abbrev pub group_limits : ℕ → Limits
-group_limits zero = []
-group_limits (suc n) = group_limits n ++ record { scope = Group n; amount = 0 } ∷ []
-
--- a place of a log, with what the updates up to it weigh on each group
-pub record WeightsAt : Type 0 where
-  pub place : ℕ
-  pub totals : List ℕ
-
--- the place is in the log, and the weights are those of this log and these groups
-pub record AreWeights (w : WeightsAt) (h : History) (groups : GroupList) : Type 0 where
-  pub last : w.place ≤ length h.sets
-  pub totals : AreTotals h groups (group_limits (length groups)) w.place w.totals
-
--- ---- amounts by scope
+-- ---- scopes by number
 
 -- the scopes that there may be
 abbrev pub most_scopes : ℕ
@@ -45,6 +28,26 @@ scope_index (Object x) = x
 scope_index (Group g) = most_objects + g
 scope_index Everything = most_objects + most_groups
 scope_index Count = most_objects + most_groups + 1
+
+-- ---- weights up to a place
+
+-- limits on the first n groups: the amounts do not count here
+abbrev pub group_limits : ℕ → Limits
+group_limits zero = []
+group_limits (suc n) = group_limits n ++ record { scope = Group n; amount = 0 } ∷ []
+
+-- a place of a log, with what the updates up to it weigh on each scope, by its number
+pub record WeightsAt : Type 0 where
+  pub place : ℕ
+  pub totals : List ℕ
+
+-- the place is in the log, and the weights are those of this log and these groups
+pub record AreWeights (w : WeightsAt) (h : History) (groups : GroupList) : Type 0 where
+  pub last : w.place ≤ length h.sets
+  pub each : (scope : Scope) → IsScopeKnown (length h.start) groups scope
+      → slice_index w.totals (scope_index scope) ≡ span h groups scope 0 w.place
+
+-- ---- amounts by scope
 
 -- the amount of the limit on a scope; without one the greatest amount, which no log passes
 abbrev pub amount_on : Limits → Scope → ℕ

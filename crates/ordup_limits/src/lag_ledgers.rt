@@ -1,6 +1,7 @@
-ghost use Rattle.std.specs.Prelude.{◌≡◌, ◌==◌, ◌≤◌, ◌<◌, ◌-◌, ℕ, [], true, IfOk, IfErr, OnOk, All, length, not, slice_index_or};
+ghost use Rattle.std.specs.Prelude.{◌≡◌, ◌==◌, ◌≤◌, ◌<◌, ◌+◌, ◌-◌, ℕ, [], true, IfOk, IfErr, OnOk, All, length, not, slice_index_or};
 ghost use Rattle.std.specs.Int.{bit_at};
 ghost use Rattle.ordup_objects.specs.Serial.{History};
+ghost use Rattle.ordup_objects.specs.Marks.{AreMarks};
 ghost use Rattle.ordup_objects.specs.Sizes.{most_objects, most_sites};
 ghost use Rattle.ordup_log.specs.Spans.{IsScopeKnown};
 ghost use Rattle.ordup_limits.specs.Entries.{put, AreEntriesKnown};
@@ -8,6 +9,7 @@ ghost use Rattle.ordup_limits.specs.Limits.{are_on_one_scope, within, Limits};
 ghost use Rattle.ordup_limits.specs.SiteLedgers.{HasLimits, IsFirstSite, SiteLedgerState, StandFor};
 
 use crate::limit_table::LimitTable;
+use crate::marks::take_off;
 use crate::masks::{no_masks, put_groups};
 use crate::site_ledger::{SiteLedger, for_each_scope, scope_index};
 use crate::sites_over::sites_over;
@@ -109,6 +111,32 @@ impl<A: Allocator + Copy> LagLedgers<A> {
         ensures stands { StandFor self.new log.now groups.now }
     {
         self.sites[site.index()].report(log, groups, self.masks.as_slice(), to);
+    }
+
+    /// For each object how much the updates up to a place weigh on it. The place is the one so far, or the one before it.
+    ///
+    /// The only refusal is `NoMemory`.
+    pub fn marks(
+        &self,
+        alloc: A,
+        log: &Log<A>,
+        groups: &Groups<A>,
+        place: u64,
+    ) -> Result<Vec<u64, A>, Refusal>
+        requires near { (place ≤ self.now.added.place) × (self.now.added.place ≤ place + 1) }
+        requires stands { StandFor self.now log.now groups.now }
+        ensures count { IfOk result (λ marks. length marks.items ≡ length log.now.start) }
+        ensures marks { IfOk result (λ marks. AreMarks log.now place marks.items) }
+        ensures refused { IfErr result (λ e. e ≡ Refusal.NoMemory) }
+    {
+        log.keeps();
+        let so_far = self.added.on_objects(log.objects());
+        let mut marks = Vec::from_slice(alloc, so_far)?;
+        if self.added.place() == place {
+            return Ok(marks);
+        }
+        take_off(&mut marks, log, place + 1);
+        Ok(marks)
     }
 
     /// Changes the amount of the limit of a site on a scope, or begins a limit there, with an amount from 0 to 10^18. It takes no

@@ -31,6 +31,7 @@ mod limit;
 mod limit_entry;
 mod limit_list;
 mod limit_table;
+mod marks;
 mod masks;
 mod passed;
 mod site_ledger;

@@ -43,6 +43,7 @@ AreLedgers-first d l tables few known count place stand first =
     record {
       count = omega (arith, count, tables, sites);
       stand = stand (record { start = initial_state d.objects; sets = [] }) (omega (arith, objects, few));
+      decided = omega arith;
       added = omega (arith, place);
       limits = λ s x lt. rw objects ((first s x (omega (arith, lt, tables, sites))).limits (length d.objects) few
           (known s [] (omega (arith, lt, tables, sites))));
@@ -55,12 +56,13 @@ AreLedgers-first d l tables few known count place stand first =
 
 -- a state in which the same is declared and reported, with the same log
 pub AreLedgers-kept : (p q : PrimaryState) (l : LedgersState) → AreLedgers p l → q.setup ≡ p.setup → q.log ≡ p.log
-    → q.limits ≡ p.limits → p.acked ≤ q.acked → length q.sites ≡ length p.sites
+    → q.limits ≡ p.limits → p.acked ≤ q.acked → q.decided ≤ l.added.place → length q.sites ≡ length p.sites
     → ((s : ℕ) → s < length p.sites → (progress_at q s).reported ≡ (progress_at p s).reported)
     → AreLedgers q l
-AreLedgers-kept p q l are setup log limits acked count reported = record {
+AreLedgers-kept p q l are setup log limits acked decided count reported = record {
   count = are.count ∙ sym count;
   stand = rw (setup, log) are.stand;
+  decided = decided;
   added = omega (arith, are.added, acked);
   limits = λ s d lt. rw (setup, log, limits) (are.limits s d (omega (arith, lt, count)));
   reported = λ s d lt. are.reported s d (omega (arith, lt, count)) ∙ sym (reported s (omega (arith, lt, count)));
@@ -71,7 +73,7 @@ pub AreLedgers-with_site : (p : PrimaryState) (l : LedgersState) (s : ℕ) (site
     → AreLedgers p l → s < length p.sites → site.reported ≡ (progress_at p s).reported → sites ≡ set p.sites s site
     → AreLedgers (record p { sites = sites }) l
 AreLedgers-with_site p l s site sites are lt same e =
-    AreLedgers-kept p (record p { sites = sites }) l are refl refl refl (omega arith)
+    AreLedgers-kept p (record p { sites = sites }) l are refl refl refl (omega arith) are.decided
     (ap length e ∙ length-set p.sites s site)
     (λ t below. ap (λ (xs : List SiteProgress). (get_or xs t first_progress).reported) e ∙ elim (cases_eq t s) [
       | inl here ↦
@@ -81,10 +83,10 @@ AreLedgers-with_site p l s site sites are lt same e =
     ])
 
 -- the head is decided
-pub AreLedgers-decided : (p q : PrimaryState) (l : LedgersState) → AreLedgers p l → p.acked ≤ q.acked → Decides p q
-    → AreLedgers q l
-AreLedgers-decided p q l are acked decides =
-    AreLedgers-kept p q l are decides.setup decides.log decides.limits acked decides.count
+pub AreLedgers-decided : (p q : PrimaryState) (l : LedgersState) → AreLedgers p l → l.added.place ≡ p.acked + 1 → p.acked ≤ q.acked
+    → Decides p q → AreLedgers q l
+AreLedgers-decided p q l are place acked decides =
+    AreLedgers-kept p q l are decides.setup decides.log decides.limits acked (omega (arith, decides.decided, place)) decides.count
     (λ s lt. ap (λ (k : SiteProgress). k.reported) (decides.sites s first_progress lt))
 
 -- one update more
@@ -93,6 +95,7 @@ pub AreLedgers-proposed : (p : PrimaryState) (m : List Change) (l : LedgersState
 AreLedgers-proposed p m l are = record {
   count = are.count;
   stand = StandFor-longer l p.log p.setup.groups (m ∷ []) are.stand;
+  decided = are.decided;
   added = are.added;
   limits = are.limits;
   reported = are.reported;
@@ -110,6 +113,7 @@ pub AreLedgers-reported : (p : PrimaryState) (old new : LedgersState) (s place :
 AreLedgers-reported p old new s place site sites e are lt stand added count others reported amounts is = rw e (record {
   count = count ∙ are.count ∙ sym (length-set p.sites s site);
   stand = stand;
+  decided = omega (arith, ap (λ (w : WeightsAt). w.place) added, are.decided);
   added = omega (arith, ap (λ (w : WeightsAt). w.place) added, are.added);
   limits = λ t d below. (let before = are.limits t d (omega (arith, below, length-set p.sites s site)) in
       elim (cases_eq t s) [
@@ -128,12 +132,13 @@ AreLedgers-reported p old new s place site sites e are lt stand added count othe
 })
 
 -- with the updates up to the head
-pub AreLedgers-extended : (p : PrimaryState) (old new : LedgersState) (head : ℕ) → AreLedgers p old → head ≡ p.acked + 1
-    → new.added.place ≡ head → new.sites ≡ old.sites → StandFor new p.log p.setup.groups
+pub AreLedgers-extended : (p : PrimaryState) (old new : LedgersState) (head : ℕ) → AreLedgers p old → p.decided ≤ p.acked + 1
+    → head ≡ p.acked + 1 → new.added.place ≡ head → new.sites ≡ old.sites → StandFor new p.log p.setup.groups
     → AreLedgers p new
-AreLedgers-extended p old new head are here place sites stand = record {
+AreLedgers-extended p old new head are next here place sites stand = record {
   count = ap length sites ∙ are.count;
   stand = stand;
+  decided = omega (arith, next, here, place);
   added = omega (arith, place, here);
   limits = rw sites are.limits;
   reported = rw sites are.reported;

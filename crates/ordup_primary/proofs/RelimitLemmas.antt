@@ -168,6 +168,7 @@ AreLedgers-relimited p s scope amount old new is are there keep stand added coun
     record {
       count = count ∙ are.count;
       stand = stand;
+      decided = omega (arith, ap (λ (w : WeightsAt). w.place) added, are.decided);
       added = omega (arith, ap (λ (w : WeightsAt). w.place) added, are.added);
       limits = λ t d below. (let at = changed-at p s t scope amount lt in
           elim (cases_eq t s) [

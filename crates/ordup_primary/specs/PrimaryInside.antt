@@ -16,11 +16,12 @@ use Rattle.ordup_primary.specs.declared.primary.Primary.TheInside.{Inside}
 
 -- ---- the ledgers of the sites
 
--- the ledgers are of the log and the groups, with the limits of each site, where it has reported; what was added goes to the head
--- at most
+-- the ledgers are of the log and the groups, with the limits of each site, where it has reported; what is decided was added, and at
+-- most the head with it
 pub record AreLedgers (p : PrimaryState) (l : LedgersState) : Type 0 where
   pub count : length l.sites ≡ length p.sites
   pub stand : StandFor l p.log p.setup.groups
+  pub decided : p.decided ≤ l.added.place
   pub added : l.added.place ≤ p.acked + 1
   pub limits : (s : ℕ) (d : SiteLedgerState) → s < length p.sites
       → HasLimits (length p.log.start) p.setup.groups (latest (limits_at p s)) (slice_index_or l.sites s d)

@@ -19,7 +19,6 @@
 
 mod decisions;
 mod laws;
-mod marks;
 mod parcel;
 mod primary;
 mod progress;

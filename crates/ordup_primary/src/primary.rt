@@ -1,12 +1,10 @@
-ghost use Rattle.std.specs.Prelude.{◌≡◌, ◌==◌, ◌≤◌, ◌+◌, ◌-◌, ℕ, ◌<◌, true, None, Some, List, [], ◌∷◌, ◌++◌, length, map, replicate, slice_set, slice_index, slice_index_or, IfOk, OnOk, IfErr, not, nat_lt, ◌&&◌, ◌⊎◌};
-ghost use Rattle.std.specs.Int.{bit_at};
+ghost use Rattle.std.specs.Prelude.{◌≡◌, ◌≤◌, ◌+◌, ◌-◌, ℕ, ◌<◌, None, Some, List, [], ◌∷◌, ◌++◌, length, map, replicate, slice_set, slice_index, slice_index_or, IfOk, OnOk, IfErr, not, nat_lt, ◌&&◌, ◌⊎◌};
 ghost use Rattle.ordup_objects.specs.Refusals.{IsRefusal};
 ghost use Rattle.ordup_objects.specs.Sizes.{most_sites};
 ghost use Rattle.ordup_primary.specs.Declarations.{Declared, start_refusal};
 ghost use Rattle.ordup_primary.specs.Primaries.{first_progress};
 
 use crate::decisions::{last_place, put_down, reserve_decision};
-use crate::marks::marks_of;
 use crate::parcel::Parcel;
 use crate::progress::Progress;
 use crate::settled::Settled;
@@ -59,7 +57,7 @@ impl<A: Allocator + Copy> Primary<A> {
     ghost use Rattle.ordup_log.specs.Appending.{append_refusal};
     ghost use Rattle.ordup_log.specs.Spans.{span, IsScopeKnown};
     ghost use Rattle.ordup_limits.specs.Entries.{AreEntriesKnown};
-    ghost use Rattle.ordup_primary.specs.Primaries.{PrimaryState, IsPrimary, progress_at, limits_at, is_within, reported_at, send_refusal, settle_refusal, forced_now, waiting_now, waits_for, settled_as, acked_or_round, acked_or_waiting, acked_after, Decides, relimit_refusal, relimited, HasFewestRounds};
+    ghost use Rattle.ordup_primary.specs.Primaries.{PrimaryState, IsPrimary, progress_at, limits_at, reported_at, send_refusal, settle_refusal, forced_now, waiting_now, waits_for, settled_as, acked_or_round, acked_or_waiting, acked_after, Decides, relimit_refusal, relimited, HasFewestRounds};
     ghost use Rattle.ordup_primary.specs.Reports.{changes_of};
     ghost use Rattle.ordup_primary.specs.Successors.{limits_from_start, successor_refusal};
 
@@ -365,8 +363,9 @@ impl<A: Allocator + Copy> Primary<A> {
         ensures marks { IfOk result (λ marks. AreMarks self.now.log self.now.acked marks.items) }
         ensures refused { IfErr result (λ e. e ≡ Refusal.NoMemory) }
     {
-        self.setup.objects().keeps();
-        marks_of(*self.sites.allocator(), &self.log, self.acked)
+        let alloc = *self.sites.allocator();
+        self.ledgers
+            .marks(alloc, &self.log, self.setup.groups(), self.acked)
     }
 
     /// Tests whether a change of a limit is allowed.
@@ -458,8 +457,8 @@ impl<A: Allocator + Copy> Primary<A> {
         ensures refused { IfErr result (λ e. e ≡ Refusal.NoMemory) }
         ensures err { IfErr result (λ _. self.new ≡ self.old) }
     {
-        let over = self.forced_now(head);
-        let forced = sites_among(over, self.count());
+        let over = self.ledgers.extend(&self.log, self.setup.groups(), head);
+        let forced = sites_among(over, self.setup.sites());
         let mask = self.moved | over;
         reserve_decision(&mut self.sites, mask)?;
         put_down(&mut self.sites, mask, over, head);
@@ -500,18 +499,6 @@ impl<A: Allocator + Copy> Primary<A> {
         ensures few { length self.now.sites ≤ most_sites }
     {
         self.setup.sites()
-    }
-
-    /// The sites that a first settlement of the head forces, a bit for each. It adds the updates up to the head to the ledgers.
-    fn forced_now(&mut self, head: u64) -> u64
-        requires head { head ≡ self.old.acked + 1 }
-        requires some { head ≤ length self.old.log.sets }
-        ensures forced { (s : ℕ) → s < length self.old.sites →
-            (bit_at result s == 1) ≡ not (is_within self.old s (progress_at self.old s).reported (self.old.acked + 1)) }
-        ensures there { (s : ℕ) → (bit_at result s == 1) ≡ true → s < length self.old.sites }
-        ensures same { self.new ≡ self.old }
-    {
-        self.ledgers.extend(&self.log, self.setup.groups(), head)
     }
 
     /// The sites that the head, which is decided, waits for.

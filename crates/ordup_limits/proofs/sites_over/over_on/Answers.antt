@@ -11,7 +11,11 @@ use Rattle.ordup_limits.proofs.SiteLemmas.{scope_index-same, scope_index-small, 
 use Rattle.ordup_limits.proofs.sites_over.over_on.Goals as goal
 
 pub on-weight-requires : goal.on-weight-requires
-on-weight-requires g c = record { weights = c.requires.added; known = c.requires.known }
+on-weight-requires g c = record {
+  weights = c.requires.added;
+  index = scope_index-small (length c.args.log.now.start) c.args.groups.now c.args.scope c.requires.objects c.keeps.ensures.few c.requires.known;
+  known = c.requires.known;
+}
 
 pub index-requires : goal.index-requires
 index-requires g c =

@@ -3,7 +3,7 @@ use Rattle.std.proofs.Common.{arith}
 use Rattle.ordup_limits.proofs.site_ledger.SiteLedger.allowed.Goals as goal
 
 pub on-requires : goal.on-requires
-on-requires g c = record { weights = rw (← c.self.view_is) at c.requires.weights; known = c.requires.known }
+on-requires g c = record { weights = rw (← c.self.view_is) at c.requires.weights; index = c.requires.index; known = c.requires.known }
 
 pub index-requires : goal.index-requires
 index-requires g c = omega (arith, c.scope_index.ensures, c.requires.index, c.self.invariant.count)

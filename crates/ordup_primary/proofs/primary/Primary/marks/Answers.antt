@@ -1,15 +1,13 @@
-use Rattle.std.proofs.Common.{arith, ap, length, ◌∙◌}
-use Rattle.std.proofs.lemmas.List.{length-map}
+use Rattle.std.proofs.Common.{arith}
 use Rattle.ordup_primary.proofs.primary.Primary.marks.Goals as goal
 
-pub marks_of-requires : goal.marks_of-requires
-marks_of-requires g c =
-    let is = c.self.invariant.primary in
-    let objects = c.self.inside.setup.objects in
+pub marks-requires : goal.marks-requires
+marks-requires g c =
+    let are = c.self.invariant.ledgers in
     record {
-      objects = rw (ap length is.start ∙ length-map objects _, ← c.objects.ensures) c.keeps.ensures.few;
-      last = omega (arith, is.acked, is.decided);
+      near = (omega (arith, c.self.invariant.primary.acked, are.decided), are.added);
+      stands = rw c.groups.ensures.groups are.stand;
     }
 
 pub returns : goal.returns
-returns g c = rw (← c.self.view_is) c.marks_of.ensures
+returns g c = rw (← c.self.view_is) c.marks.ensures

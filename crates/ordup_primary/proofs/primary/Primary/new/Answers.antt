@@ -25,7 +25,7 @@ invariant_of-result g c =
           c.keeps.ensures c.requires c.in-Ok.ensures.log c.in-Ok.ensures.legal
           refl refl sites c.in-Ok.ensures.limits;
       ledgers = AreLedgers-kept (first_state c.args.setup) _ c.in-Ok.ledgers c.in-Ok.ensures.ledgers refl
-          c.in-Ok.ensures.log c.in-Ok.ensures.limits (omega arith) (ap length sites)
+          c.in-Ok.ensures.log c.in-Ok.ensures.limits (omega arith) (omega arith) (ap length sites)
           (λ s lt. ap (λ (sites : List SiteProgress). (get_or sites s first_progress).reported) sites);
       kept = AreKept-first (length c.args.setup.sites) _ c.in-Ok.ensures.sites;
     }

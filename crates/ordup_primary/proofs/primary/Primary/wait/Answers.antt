@@ -16,7 +16,8 @@ invariant_of-self g c =
           (nil-from_empty c.as_slice.result.now c.if-is_empty.ensures);
       ledgers =
           AreLedgers-kept (state_of c.self.inside) (record (state_of c.self.inside) { acked = c.args.head }) c.self.inside.ledgers
-          c.self.invariant.ledgers refl refl refl (omega (arith, rw (← c.self.view_is) at c.requires.head)) refl (λ s lt. refl);
+          c.self.invariant.ledgers refl refl refl (omega (arith, rw (← c.self.view_is) at c.requires.head))
+          c.self.invariant.ledgers.decided refl (λ s lt. refl);
       kept = c.self.invariant.kept;
     }
 

@@ -24,7 +24,7 @@ use Rattle.ordup_log.proofs.SpanLemmas.{span-longer}
 use Rattle.ordup_log.proofs.WeightLemmas.{weight-few}
 use Rattle.ordup_limits.specs.declared.limit.Limit.{Limit}
 use Rattle.ordup_limits.specs.Entries.{put, latest, Entries}
-use Rattle.ordup_limits.specs.Limits.{Limits, are_on_one_scope, is_same_scope, AreScopesKnown}
+use Rattle.ordup_limits.specs.Limits.{Limits, are_on_one_scope, is_same_scope}
 use Rattle.ordup_limits.specs.SiteLedgers.{allowed, amount_on, counts_within, group_limits, may_weigh, most_scopes, scope_index, AreOver, AreWeights}
 use Rattle.ordup_limits.specs.SiteLedgers.{HaveAmounts, SiteLedgerState, WeightsAt}
 use Rattle.ordup_limits.specs.Sizes.{greatest_amount, most_limits}
@@ -49,11 +49,6 @@ group_limits-at (suc n) g d lt =
       | inr other ↦ get_or-append (group_limits n) (record { scope = Group n; amount = 0 } ∷ []) d g (omega (arith, count, lt, other))
           ∙ group_limits-at n g d (omega (arith, lt, other))
     ]
-
-pub group_limits-known : (n : ℕ) (groups : GroupList) → AreScopesKnown n groups (group_limits (length groups))
-group_limits-known n groups i d lt =
-    let below : i < length groups = omega (arith, lt, group_limits-length (length groups)) in
-    rw (group_limits-at (length groups) i d below) below
 
 -- ---- weights
 

@@ -2,4 +2,3 @@ pub mod RefusalLemmas
 pub mod NearestNumberLemmas
 pub mod AnsweringLemmas
 mod TextLemmas
-mod ProposalLemmas

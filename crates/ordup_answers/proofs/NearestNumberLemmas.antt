@@ -167,11 +167,3 @@ module _ (objects : List (List ℕ × ℤ)) where
   set_made (Err e) m items is made allowed refused =
       let same : refusal_of m ≡ Some e = sym (set_refusal-nearest m) ∙ ap (set_refusal (length objects)) (sym is) ∙ refused in
       inl (rw same refl)
-
-  -- of a single change
-  pub set_made-single : (r : Result (List Change) Refusal) (m : List ChangeWord) (word : ChangeWord) (change : Change)
-      → m ≡ word ∷ [] → change ≡ change_in objects (nearest_change word) → IfOk r (λ set. set ≡ change ∷ [])
-      → IfOk r (λ _. set_refusal (length objects) (change ∷ []) ≡ None)
-      → IfErr r (λ e. set_refusal (length objects) (change ∷ []) ≡ Some e)
-      → Gives (set_in objects m) r
-  set_made-single r m word change only is = set_made r m (change ∷ []) (rw (only, is) refl)

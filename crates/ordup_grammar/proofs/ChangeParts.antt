@@ -1,11 +1,15 @@
 -- What a change word spells, by the parts between its colons.
-use Rattle.std.proofs.Common.{◌≡◌, refl, ℕ, zero, suc, Bool, true, false, ◌<◌, ◌==◌, List, [], ◌∷◌, length, get_or, take, drop, ◌+◌, ◌-◌}
+use Rattle.std.proofs.Common.{◌≡◌, ◌∙◌, ◌++◌, ap, sym, inl, inr, refl, ℕ, zero, suc, Bool, true, false, ◌<◌, ◌==◌, List, [], ◌∷◌, length, get_or, take, drop, ◌+◌, ◌-◌}
 use Rattle.std.proofs.Common.{Option, Some, None, option_map, ℤ, pos, position, if◌then◌else◌, arith}
 use Rattle.std.proofs.lemmas.Bool.Decides.{nat_tests}
 use Rattle.std.proofs.lemmas.List.Quantifiers.{position-Some}
-use Rattle.std.proofs.lemmas.List.Splits.{length-slice_split}
-use Rattle.std.specs.List.{slice_split}
-use Rattle.std.specs.Prelude.{is_some}
+use Rattle.std.proofs.lemmas.List.Splits.{length-slice_split, join_with_byte-slice_split}
+use Rattle.std.specs.List.{slice_split, join_with_byte}
+use Rattle.std.specs.Prelude.{is_some, codes}
+use Rattle.std.specs.Str.{bytes_eq}
+use Rattle.std.specs.Cmp.Lexicographic.{bytes_decides}
+use Rattle.std.proofs.Math.Seq.{take-append-add}
+use Rattle.std.proofs.lemmas.Bool.{cases_Bool}
 use Rattle.std.specs.Str.{all_ascii_digits}
 use Rattle.std.specs.Str.Parse.{digits_value}
 use Rattle.ordup_grammar.specs.declared.change_words.ChangeWord.{ChangeWord}
@@ -52,6 +56,58 @@ pub change_of-behind : (word kind rest name operand : List ℕ)
     → change_of word ≡ change_by name (if is_some (position is_colon operand) then None else operation_of kind operand)
 change_of-behind word kind rest name operand first second =
     change_by_index word kind rest name operand (position is_colon operand) first second refl
+
+-- ---- the kind
+
+-- a word that does not begin with a kind and a colon has another first part
+another_kind : (word kind first rest : List ℕ) → bytes_eq (take (length kind + 1) word) (kind ++ 58 ∷ []) ≡ false
+    → word ≡ first ++ 58 ∷ rest
+    → bytes_eq first kind ≡ false
+another_kind word kind first rest begins is = elim (cases_Bool (bytes_eq first kind)) [
+  | inl same ↦ (let first_is : first ≡ kind = (bytes_decides first kind).0 same in
+      let seen : take (length kind + 1) word ≡ kind ++ 58 ∷ [] =
+      ap (take (length kind + 1)) is ∙ ap (λ text. take (length kind + 1) (text ++ 58 ∷ rest)) first_is
+      ∙ take-append-add kind (58 ∷ rest) 1 in
+      absurd (let e : true ≡ false = sym ((bytes_decides _ (kind ++ 58 ∷ [])).1 seen) ∙ begins in cc))
+  | inr other ↦ other
+]
+
+-- by the parts of the word
+no_kind_by : (word : List ℕ) (parts : List (List ℕ)) → slice_split is_colon word ≡ parts
+    → bytes_eq (take 4 word) (codes "add:") ≡ false
+    → bytes_eq (take 4 word) (codes "set:") ≡ false
+    → bytes_eq (take 4 word) (codes "mul:") ≡ false
+    → bytes_eq (take 4 word) (codes "max:") ≡ false
+    → bytes_eq (take 4 word) (codes "min:") ≡ false
+    → bytes_eq (take 5 word) (codes "take:") ≡ false
+    → change_of_parts parts ≡ None
+no_kind_by word [] is add set mul max min taken = refl
+no_kind_by word (kind ∷ []) is add set mul max min taken = refl
+no_kind_by word (kind ∷ name ∷ []) is add set mul max min taken = refl
+no_kind_by word (kind ∷ name ∷ operand ∷ []) is add set mul max min taken =
+    let joined : word ≡ kind ++ 58 ∷ (name ++ 58 ∷ operand) = sym (join_with_byte-slice_split 58 word) ∙ ap (join_with_byte 58) is in
+    rw (
+      another_kind word (codes "take") kind _ taken joined,
+      another_kind word (codes "add") kind _ add joined,
+      another_kind word (codes "set") kind _ set joined,
+      another_kind word (codes "mul") kind _ mul joined,
+      another_kind word (codes "max") kind _ max joined,
+      another_kind word (codes "min") kind _ min joined,
+    ) (either_way (length name == 0) None)
+no_kind_by word (kind ∷ name ∷ operand ∷ part ∷ parts) is add set mul max min taken = refl
+
+-- a word that begins with no kind spells no change
+pub no_kind : (word : List ℕ)
+    → bytes_eq (take 4 word) (codes "add:") ≡ false
+    → bytes_eq (take 4 word) (codes "set:") ≡ false
+    → bytes_eq (take 4 word) (codes "mul:") ≡ false
+    → bytes_eq (take 4 word) (codes "max:") ≡ false
+    → bytes_eq (take 4 word) (codes "min:") ≡ false
+    → bytes_eq (take 5 word) (codes "take:") ≡ false
+    → change_of word ≡ None
+no_kind word = no_kind_by word _ refl
+
+-- ---- numbers
 
 digit_at : (digits : List ℕ) (i : ℕ) → all_ascii_digits digits ≡ true → i < length digits → is_colon (get_or digits i 0) ≡ false
 digit_at [] i all below = absurd (omega (arith, below))

@@ -1,10 +1,12 @@
 -- Where a byte first stands among the first bytes of a text.
-use Rattle.std.proofs.Common.{◌≡◌, inl, inr, ℕ, ◌+◌, ◌<◌, ◌≤◌, true, List}
-use Rattle.std.proofs.Common.{length, take, get_or, length-take, arith}
+use Rattle.std.proofs.Common.{◌≡◌, ◌∙◌, ap, sym, inl, inr, ℕ, ◌+◌, ◌<◌, ◌≤◌, true, List, ◌++◌}
+use Rattle.std.proofs.Common.{length, take, drop, get_or, length-take, arith}
 use Rattle.std.specs.Prelude.{◌⊎◌, not, ◌==◌}
 use Rattle.std.specs.List.{prefix_len, position_or_len}
+use Rattle.std.specs.Str.{bytes_eq}
+use Rattle.std.specs.Cmp.Lexicographic.{bytes_decides}
 use Rattle.std.proofs.lemmas.Bool.{cases_lt}
-use Rattle.std.proofs.lemmas.List.{get_or-take}
+use Rattle.std.proofs.lemmas.List.{get_or-take, take-append-drop}
 use Rattle.std.proofs.lemmas.List.Sums.{position_or_len_is}
 use Rattle.std.proofs.lemmas.Simd.{run_in_chunk_fails, run_in_chunk_stops}
 
@@ -42,3 +44,10 @@ module _ (wanted : ℕ) (text : List ℕ) (len r m : ℕ) (within : len ≤ leng
         (λ k below. rw (get_or-take len text k 0 (omega (arith, below, least.1)))
         (run_in_chunk_fails (λ byte. byte == wanted) text 0 16 r 0 room counted k (omega arith) (omega (arith, below, least.0))))
         (λ inside. stops_at (omega (arith, long, inside)))
+
+-- what stands behind a prefix in a front
+pub goes_on_behind : (prefix front : List ℕ) → bytes_eq (take (length prefix) front) prefix ≡ true
+    → front ≡ prefix ++ drop (length prefix) front
+goes_on_behind prefix front begins =
+    sym (take-append-drop (length prefix) front)
+    ∙ ap (λ bytes. bytes ++ drop (length prefix) front) ((bytes_decides (take (length prefix) front) prefix).0 begins)

@@ -5,7 +5,6 @@ pub mod Lines
 pub mod Words
 pub mod Operations
 pub mod ChangeWords
-pub mod ChangeWordsInside
 pub mod Declarations
 pub mod Keywords
 pub mod Actions

@@ -6,6 +6,8 @@ use Rattle.ordup_objects.specs.declared.change.NumberOp.{NumberOp}
 use Rattle.ordup_objects.specs.declared.change.NumberOp.TheVariants.{Add, Set, Mul, Max, Min}
 use Rattle.ordup_grammar.specs.declared.operation.Operation.{Operation}
 use Rattle.ordup_grammar.specs.declared.operation.Operation.TheVariants.{WithNumber, Take}
+use Rattle.ordup_grammar.specs.declared.operation.Kind.{Kind}
+use Rattle.ordup_grammar.specs.declared.operation.Kind.TheVariants as kind
 
 -- the operation by a number that a word spells
 abbrev pub number_op_of : List ℕ → Option NumberOp
@@ -22,3 +24,12 @@ abbrev pub operation_of : List ℕ → List ℕ → Option Operation
 operation_of kind operand =
     if bytes_eq kind (codes "take") then (if length operand == 0 then None else Some (Take operand))
     else option_and_then (λ op. option_map (λ n. WithNumber op n) (number_of operand)) (number_op_of kind)
+
+-- the first part of a change word of a kind
+abbrev pub kind_text : Kind → List ℕ
+kind_text (kind.WithNumber Add) = codes "add"
+kind_text (kind.WithNumber Set) = codes "set"
+kind_text (kind.WithNumber Mul) = codes "mul"
+kind_text (kind.WithNumber Max) = codes "max"
+kind_text (kind.WithNumber Min) = codes "min"
+kind_text kind.Take = codes "take"

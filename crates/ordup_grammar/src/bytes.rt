@@ -9,8 +9,8 @@
 //! - **Where a word ends** (`index_of`): one comparison of sixteen bytes, whatever the length of the word. The text goes on
 //!   behind a word, as a rule (`Front`), so there are sixteen. Only at the end of a piece, or in a longer word, `memchr` looks for
 //!   the end.
-//! - **Whether a word is a keyword** (`is_spelled`, two comparisons of four bytes): a comparison of slices would be a call. The
-//!   compiler makes one jump by the length of them.
+//! - **Whether a word is a keyword, or begins with a kind of change** (`is_spelled`, two comparisons of four bytes): a comparison of
+//!   slices would be a call. The compiler makes one jump by the length of the keywords.
 //!
 //! `bench/NOTES.md` has what each brings.
 ghost use Rattle.std.specs.Prelude.{◌≡◌, ◌+◌, ◌≤◌, ◌==◌, length, not, take, drop};

@@ -90,25 +90,15 @@ impl<'a> ScopeWord<'a> {
     {
         let kind = kind.as_bytes();
         if is_word(kind, b"object") {
-            match rest.name_and_number() {
-                Some((object, amount)) => Some((ScopeWord::Object(object), amount)),
-                None => None,
-            }
+            let (object, amount) = rest.name_and_number()?;
+            Some((ScopeWord::Object(object), amount))
         } else if is_word(kind, b"group") {
-            match rest.name_and_number() {
-                Some((group, amount)) => Some((ScopeWord::Group(group), amount)),
-                None => None,
-            }
+            let (group, amount) = rest.name_and_number()?;
+            Some((ScopeWord::Group(group), amount))
         } else if is_word(kind, b"all") {
-            match rest.only_number() {
-                Some(amount) => Some((ScopeWord::All, amount)),
-                None => None,
-            }
+            Some((ScopeWord::All, rest.only_number()?))
         } else if is_word(kind, b"count") {
-            match rest.only_number() {
-                Some(amount) => Some((ScopeWord::Count, amount)),
-                None => None,
-            }
+            Some((ScopeWord::Count, rest.only_number()?))
         } else {
             None
         }

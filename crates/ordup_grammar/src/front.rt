@@ -1,8 +1,9 @@
-ghost use Rattle.std.specs.Prelude.{◌≡◌, ◌≤◌, ◌∷◌, [], ◌==◌, ℕ, List, MatchOption, drop, false, length, take};
+ghost use Rattle.std.specs.Prelude.{◌≡◌, ◌≤◌, ◌∷◌, ◌++◌, [], ◌==◌, ℕ, List, MatchOption, drop, false, length, take};
 ghost use Rattle.std.specs.List.{position_or_len, slice_split};
+ghost use Rattle.std.specs.Str.{bytes_eq};
 ghost use Rattle.ordup_grammar.specs.Words.{begins_with, words_of};
 
-use crate::bytes::index_of;
+use crate::bytes::{index_of, is_spelled};
 use std::marker::Model;
 
 /// The first bytes of a text.
@@ -98,6 +99,19 @@ impl<'a> Front<'a> {
         ensures { result ≡ begins_with byte self.now }
     {
         self.len > 0 && self.text[0] == byte
+    }
+
+    /// What stands behind these bytes, if it begins with them.
+    #[inline(always)]
+    pub(crate) fn strip_prefix(&self, prefix: &[u8]) -> Option<Front<'a>>
+        requires { (4 ≤ length prefix.now) × (length prefix.now ≤ 8) }
+        ensures { MatchOption result (bytes_eq (take (length prefix.now) self.now) prefix.now ≡ false) (λ rest.
+            self.now ≡ prefix.now ++ rest) }
+    {
+        if self.len < prefix.len() || !is_spelled(&self.text[..prefix.len()], prefix) {
+            return None;
+        }
+        Some(self.from(prefix.len()))
     }
 
     /// The bytes without the spaces that they begin with.

@@ -23,7 +23,7 @@ pub mod sizes;
 mod word;
 mod words;
 
-pub use change_words::{ChangeWord, ChangeWords};
+pub use change_words::ChangeWord;
 pub use declaration::{Declaration, ScopeWord};
 pub use keyword::Keyword;
 pub use line_buffer::{LineBuffer, LinePart, split_line};

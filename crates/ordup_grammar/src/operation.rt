@@ -1,7 +1,8 @@
-ghost use Rattle.std.specs.Prelude.{◌≡◌, ◌==◌, None, is_some, position, if◌then◌else◌};
-ghost use Rattle.ordup_grammar.specs.Operations.{number_op_of, operation_of};
+ghost use Rattle.std.specs.Prelude.{◌≡◌, ◌∷◌, ◌==◌, MatchOption, None, is_some, position, if◌then◌else◌};
+ghost use Rattle.std.specs.List.{slice_split};
+ghost use Rattle.ordup_grammar.specs.ChangeWords.{change_of};
+ghost use Rattle.ordup_grammar.specs.Operations.{kind_text, operation_of};
 
-use crate::bytes::is_word;
 use crate::front::Front;
 use crate::number::Number;
 use crate::word::Word;
@@ -17,39 +18,57 @@ pub enum Operation<'a> {
 }
 
 impl<'a> Operation<'a> {
-    /// The operation that the first part of a change word spells, with what stands behind the second colon. The operand is a single
-    /// part where it has no colon itself. A number has none.
-    pub(crate) fn parse(kind: &[u8], operand: Front<'a>) -> Option<Operation<'a>>
-        ensures { result ≡ (if is_some (position (λ byte. byte == 58) operand.entry) then None else operation_of kind.now operand.entry) }
+    /// The operation of a kind, with what stands behind the second colon. The operand is a single part where it has no colon itself. A
+    /// number has none.
+    #[inline(always)]
+    pub(crate) fn parse(kind: Kind, operand: Front<'a>) -> Option<Operation<'a>>
+        ensures { result ≡ (if is_some (position (λ byte. byte == 58) operand.entry) then None else operation_of (kind_text kind) operand.entry) }
     {
-        if is_word(kind, b"take") {
-            return if operand.len() == 0 || operand.index_of(b':') < operand.len() {
-                None
-            } else {
+        match kind {
+            Kind::WithNumber(op) => {
+                let number = Number::parse(operand.as_bytes())?;
+                Some(Operation::WithNumber(op, number))
+            }
+            Kind::Take => {
+                if operand.len() == 0 || operand.index_of(b':') < operand.len() {
+                    return None;
+                }
                 Some(Operation::Take(Word::of(operand)))
-            };
+            }
         }
-        let op = number_op(kind)?;
-        let number = Number::parse(operand.as_bytes())?;
-        Some(Operation::WithNumber(op, number))
     }
 }
 
-/// The kind of change by a number that the first part of a change word spells.
-fn number_op(kind: &[u8]) -> Option<NumberOp>
-    ensures { result ≡ number_op_of kind.now }
-{
-    if is_word(kind, b"add") {
-        Some(NumberOp::Add)
-    } else if is_word(kind, b"set") {
-        Some(NumberOp::Set)
-    } else if is_word(kind, b"mul") {
-        Some(NumberOp::Mul)
-    } else if is_word(kind, b"max") {
-        Some(NumberOp::Max)
-    } else if is_word(kind, b"min") {
-        Some(NumberOp::Min)
-    } else {
-        None
+/// The kind of a change, as the first part of a change word spells it.
+#[derive(Drop)]
+pub(crate) enum Kind {
+    /// By a number: `add`, `set`, `mul`, `max` or `min`.
+    WithNumber(NumberOp),
+    /// `take`.
+    Take,
+}
+
+impl Kind {
+    /// The kind of a change word, and what stands behind its first colon.
+    #[inline(always)]
+    pub(crate) fn split<'a>(word: &Front<'a>) -> Option<(Kind, Front<'a>)>
+        ensures { MatchOption result (change_of word.now ≡ None) (λ found.
+            slice_split (λ byte. byte == 58) word.now ≡ kind_text found.0 ∷ slice_split (λ byte. byte == 58) found.1) }
+    {
+        if let Some(rest) = word.strip_prefix(b"add:") {
+            Some((Kind::WithNumber(NumberOp::Add), rest))
+        } else if let Some(rest) = word.strip_prefix(b"set:") {
+            Some((Kind::WithNumber(NumberOp::Set), rest))
+        } else if let Some(rest) = word.strip_prefix(b"mul:") {
+            Some((Kind::WithNumber(NumberOp::Mul), rest))
+        } else if let Some(rest) = word.strip_prefix(b"max:") {
+            Some((Kind::WithNumber(NumberOp::Max), rest))
+        } else if let Some(rest) = word.strip_prefix(b"min:") {
+            Some((Kind::WithNumber(NumberOp::Min), rest))
+        } else if let Some(rest) = word.strip_prefix(b"take:") {
+            Some((Kind::Take, rest))
+        } else {
+            None
+        }
     }
 }

@@ -19,13 +19,6 @@ impl<'a> Model for Words<'a> {
 }
 
 impl<'a> Words<'a> {
-    /// The words of a line.
-    pub fn of(line: &'a [u8]) -> Self
-        ensures { result ≡ words_of line.now }
-    {
-        Words::in_line(Front::whole(line))
-    }
-
     /// The words of a line, behind which its text goes on.
     #[inline(always)]
     pub(crate) fn in_line(line: Front<'a>) -> Self
@@ -50,7 +43,7 @@ impl<'a> Words<'a> {
     pub fn is_empty(&self) -> bool
         ensures { result ≡ (length self.now == 0) }
     {
-        self.split_first().is_none()
+        self.line.without_spaces().len() == 0
     }
 
     /// The first word and those after it, if there is a word.

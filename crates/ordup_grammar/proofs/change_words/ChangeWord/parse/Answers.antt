@@ -1,5 +1,6 @@
 use Rattle.std.proofs.Common.{arith}
 use Rattle.std.proofs.lemmas.Grind.{common_steps}
+use Rattle.ordup_grammar.specs.Operations.{kind_text}
 use Rattle.ordup_grammar.proofs.ChangeParts.{change_of-behind}
 use Rattle.ordup_grammar.proofs.change_words.ChangeWord.parse.Goals as goal
 
@@ -8,7 +9,7 @@ returns-in_err-operation c =
     let kind = c.in_ok-kind in
     let object = c.in_ok-object in
     let behind =
-    change_of-behind c.front.result kind.kind kind.rest object.object object.operand kind.ensures object.ensures in
+    change_of-behind c.front.result (kind_text kind.kind) kind.rest object.object object.operand kind.ensures object.ensures in
     grind (arith, common_steps)
 
 pub returns : goal.returns
@@ -16,5 +17,5 @@ returns c =
     let kind = c.in_ok-kind in
     let object = c.in_ok-object in
     let behind =
-    change_of-behind c.front.result kind.kind kind.rest object.object object.operand kind.ensures object.ensures in
+    change_of-behind c.front.result (kind_text kind.kind) kind.rest object.object object.operand kind.ensures object.ensures in
     grind (arith, common_steps)

@@ -1,4 +1,4 @@
-use Rattle.std.proofs.Common.{arith, rules, tests}
+use Rattle.std.proofs.Common.{arith}
 use Rattle.std.proofs.lemmas.Grind.{common_steps}
 use Rattle.ordup_grammar.proofs.line_buffer.LineBuffer.hold.Goals as goal
 

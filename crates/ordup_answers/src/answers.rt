@@ -12,13 +12,13 @@ ghost use Rattle.ordup_answers.specs.Answers.{Leaves};
 
 use crate::declarations::declare;
 use crate::events::{
-    answer_abandon, answer_apply, answer_begin, answer_end, answer_propose, answer_read,
-    answer_relimit, answer_report, answer_send, answer_settle, answer_show,
+    answer_abandon, answer_at_site, answer_begin, answer_end, answer_propose, answer_read,
+    answer_relimit, answer_settle, answer_show, answer_words_at_site,
 };
 use crate::names::find_site;
 use crate::script_end::ScriptEnd;
 use crate::taker::AnswerTaker;
-use ordup_grammar::{Declaration, Keyword, ScriptLine, Word, Words};
+use ordup_grammar::{Declaration, Keyword, ScriptLine, SiteAction, Word, Words};
 use ordup_objects::Refusal;
 use ordup_world::{Setup, World};
 use std::alloc::{AllocError, Allocator};
@@ -45,6 +45,7 @@ pub fn answer<A: Allocator + Copy, O: AnswerTaker<A>>(
             Ok(())
         }
         ScriptLine::NoCommand => out.refused(Refusal::Syntax),
+        ScriptLine::AtSite(line) => answer_at_site(store, line.action, &line.site, out),
         ScriptLine::Words(first, rest) => answer_words(alloc, store, first, rest, out),
     }
 }
@@ -69,9 +70,9 @@ fn answer_words<A: Allocator + Copy, O: AnswerTaker<A>>(
         Keyword::Start => answer_start(alloc, store, rest, out),
         Keyword::Certify => answer_certify(store, rest, out),
         Keyword::Propose => answer_propose(alloc, store, rest, out),
-        Keyword::Send => answer_send(store, rest, out),
-        Keyword::Apply => answer_apply(store, rest, out),
-        Keyword::Report => answer_report(store, rest, out),
+        Keyword::Send => answer_words_at_site(store, SiteAction::Send, rest, out),
+        Keyword::Apply => answer_words_at_site(store, SiteAction::Apply, rest, out),
+        Keyword::Report => answer_words_at_site(store, SiteAction::Report, rest, out),
         Keyword::Settle => answer_settle(store, rest, out),
         Keyword::Begin => answer_begin(store, rest, out),
         Keyword::Read => answer_read(store, rest, out),

@@ -5,11 +5,13 @@
 //!
 //! Each function is a call. The memory of a function's values is cleared where the function begins, so that of these values is
 //! cleared for the lines of one keyword alone.
-ghost use Rattle.std.specs.Prelude.{◌≡◌, [], OnOk, IfErr};
+ghost use Rattle.std.specs.Prelude.{◌≡◌, [], Some, OnOk, IfErr, option_map};
 ghost use Rattle.ordup_primary.specs.Declarations.{Declared};
 ghost use Rattle.ordup_world.specs.Events.{Past};
 ghost use Rattle.ordup_world.specs.Worlds.{StandsFor};
-ghost use Rattle.ordup_grammar.specs.Commands.{command_by};
+ghost use Rattle.ordup_grammar.specs.Commands.{Act, command_by};
+ghost use Rattle.ordup_grammar.specs.SiteLines.{action_at};
+ghost use Rattle.ordup_grammar.specs.Words.{only_word};
 ghost use Rattle.ordup_grammar.specs.declared.keyword.Keyword.{Keyword};
 ghost use Rattle.ordup_answers.specs.Answers.{Leaves};
 ghost use Rattle.ordup_answers.specs.Events.{query_name, read_of};
@@ -21,66 +23,48 @@ use crate::changes::{set_in, syntax_or};
 use crate::names::{find_object, find_scope, find_site};
 use crate::script_end::ScriptEnd;
 use crate::taker::AnswerTaker;
-use ordup_grammar::{ScopeWord, Word, Words};
+use ordup_grammar::{ScopeWord, SiteAction, Word, Words};
 use ordup_objects::{Name, ObjectId, Refusal};
 use ordup_world::{Event, Setup, World};
 use std::alloc::{AllocError, Allocator};
 
-/// Answers `send S`.
-pub(crate) fn answer_send<A: Allocator + Copy, O: AnswerTaker<A>>(
+/// Answers the action of words after a keyword: `send S`, `apply S` or `report S`.
+pub(crate) fn answer_words_at_site<A: Allocator + Copy, O: AnswerTaker<A>>(
     store: &mut ScriptEnd<A>,
+    action: SiteAction,
     rest: &Words<'_>,
     out: &mut O,
 ) -> Result<(), AllocError>
-    ensures reply { OnOk result ((s : ScriptState A) → Stands store.old s → Leaves (Stands store.new) (O.took out.old out.new) (words_reply s (command_by Keyword.Send rest.now))) }
+    ensures reply { OnOk result ((s : ScriptState A) → Stands store.old s → Leaves (Stands store.new) (O.took out.old out.new) (words_reply s (option_map (λ a. Act a) (option_map (λ site. action_at action site) (only_word rest.now))))) }
     ensures kept { IfErr result (λ _. (store.new ≡ store.old) × O.took out.old out.new []) }
 {
-    let Some(site) = rest.only_word() else {
-        return out.refused(Refusal::Syntax);
-    };
-    let ScriptEnd::Running(world) = store else {
-        return out.refused(Refusal::NotStarted);
-    };
-    let event = Event::Send(find_site(world.primary().setup(), &site));
-    answer_event(world, event, site.as_bytes(), &[], out)
+    match rest.only_word() {
+        Some(site) => answer_at_site(store, action, &site, out),
+        None => out.refused(Refusal::Syntax),
+    }
 }
 
-/// Answers `apply S`.
-pub(crate) fn answer_apply<A: Allocator + Copy, O: AnswerTaker<A>>(
+/// Answers an action at a site.
+#[inline(never)]
+pub(crate) fn answer_at_site<A: Allocator + Copy, O: AnswerTaker<A>>(
     store: &mut ScriptEnd<A>,
-    rest: &Words<'_>,
+    action: SiteAction,
+    site: &Word<'_>,
     out: &mut O,
 ) -> Result<(), AllocError>
-    ensures reply { OnOk result ((s : ScriptState A) → Stands store.old s → Leaves (Stands store.new) (O.took out.old out.new) (words_reply s (command_by Keyword.Apply rest.now))) }
+    ensures reply { OnOk result ((s : ScriptState A) → Stands store.old s → Leaves (Stands store.new) (O.took out.old out.new) (words_reply s (Some (Act (action_at action site.now))))) }
     ensures kept { IfErr result (λ _. (store.new ≡ store.old) × O.took out.old out.new []) }
 {
-    let Some(site) = rest.only_word() else {
-        return out.refused(Refusal::Syntax);
-    };
     let ScriptEnd::Running(world) = store else {
         return out.refused(Refusal::NotStarted);
     };
-    let event = Event::Apply(find_site(world.primary().setup(), &site));
-    answer_event(world, event, site.as_bytes(), &[], out)
-}
-
-/// Answers `report S`.
-pub(crate) fn answer_report<A: Allocator + Copy, O: AnswerTaker<A>>(
-    store: &mut ScriptEnd<A>,
-    rest: &Words<'_>,
-    out: &mut O,
-) -> Result<(), AllocError>
-    ensures reply { OnOk result ((s : ScriptState A) → Stands store.old s → Leaves (Stands store.new) (O.took out.old out.new) (words_reply s (command_by Keyword.Report rest.now))) }
-    ensures kept { IfErr result (λ _. (store.new ≡ store.old) × O.took out.old out.new []) }
-{
-    let Some(site) = rest.only_word() else {
-        return out.refused(Refusal::Syntax);
-    };
-    let ScriptEnd::Running(world) = store else {
-        return out.refused(Refusal::NotStarted);
-    };
-    let event = Event::Report(find_site(world.primary().setup(), &site));
-    answer_event(world, event, site.as_bytes(), &[], out)
+    let name = site.as_bytes();
+    let site = find_site(world.primary().setup(), site);
+    match action {
+        SiteAction::Send => answer_event(world, Event::Send(site), name, &[], out),
+        SiteAction::Apply => answer_event(world, Event::Apply(site), name, &[], out),
+        SiteAction::Report => answer_event(world, Event::Report(site), name, &[], out),
+    }
 }
 
 /// Answers `show S`.

@@ -5,4 +5,5 @@ pub mod Splits
 pub mod PrintedLemmas
 pub mod PositionLemmas
 pub mod SpelledLemmas
+pub mod SiteLineLemmas
 mod Examples

@@ -9,6 +9,7 @@ pub mod Declarations
 pub mod Keywords
 pub mod Actions
 pub mod Commands
+pub mod SiteLines
 pub mod Requests
 pub mod LineBuffers
 pub mod LineParts

@@ -3,6 +3,7 @@ use Rattle.std.specs.Prelude.{ℕ, Bool, false, ◌&&◌, ◌==◌, List, [], �
 use Rattle.std.specs.List.{list_all}
 use Rattle.ordup_grammar.specs.Lines.{Line}
 use Rattle.ordup_grammar.specs.Words.{words_of}
+use Rattle.ordup_grammar.specs.SiteLines.{action_at}
 use Rattle.ordup_grammar.specs.Commands as commands
 use Rattle.ordup_grammar.specs.declared.script_line.ScriptLine.{ScriptLine}
 use Rattle.ordup_grammar.specs.declared.script_line.ScriptLine.TheVariants as line
@@ -47,4 +48,5 @@ request_of (Some line) =
 abbrev pub asked : ScriptLine → Request
 asked line.Nothing = Nothing
 asked line.NoCommand = NoCommand
+asked (line.AtSite l) = Command (commands.Act (action_at l.action l.site))
 asked (line.Words first rest) = request_by (commands.command_of first rest)

@@ -50,6 +50,14 @@ impl<'a> LinePart<'a> {
         self.bytes.as_bytes()
     }
 
+    /// Its bytes, behind which their text goes on.
+    #[inline(always)]
+    pub(crate) fn front(&self) -> Front<'a>
+        ensures { result ≡ self.now }
+    {
+        self.bytes.copy()
+    }
+
     /// Its words, where it is a line.
     #[inline(always)]
     pub(crate) fn words(&self) -> Words<'a>

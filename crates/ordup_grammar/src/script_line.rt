@@ -4,6 +4,7 @@ ghost use Rattle.ordup_grammar.specs.Lines.{cut};
 ghost use Rattle.ordup_grammar.specs.Requests.{request_of, asked, is_comment, is_printed};
 
 use crate::line_buffer::LinePart;
+use crate::site_line::SiteLine;
 use crate::sizes::MOST_LINE_BYTES;
 use crate::word::Word;
 use crate::words::Words;
@@ -15,6 +16,8 @@ pub enum ScriptLine<'a> {
     Nothing,
     /// It is no command: it is too long, or has a byte that is not printed.
     NoCommand,
+    /// It is a keyword, one space and a site: its words need not be looked at.
+    AtSite(SiteLine<'a>),
     /// It has a first word and the words after it, which may spell a command.
     Words(Word<'a>, Words<'a>),
 }
@@ -29,6 +32,9 @@ impl<'a> ScriptLine<'a> {
         let line = part.as_bytes();
         if line.len() > MOST_LINE_BYTES {
             return ScriptLine::NoCommand;
+        }
+        if let Some(line) = SiteLine::of(part) {
+            return ScriptLine::AtSite(line);
         }
         if is_comment(line) {
             return ScriptLine::Nothing;

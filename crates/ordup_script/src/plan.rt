@@ -97,6 +97,7 @@ impl<A: Allocator + Copy> Planning<A> {
         match line {
             ScriptLine::Nothing => Ok(()),
             ScriptLine::NoCommand => self.refuse(),
+            ScriptLine::AtSite(_) => self.refuse(),
             ScriptLine::Words(first, rest) => self.follow(first, rest),
         }
     }

@@ -1,0 +1,41 @@
+-- What a line of a keyword and a site asks for.
+use Rattle.std.proofs.Common.{◌≡◌, ◌∙◌, refl, ap, sym, ℕ, true, false, List, [], ◌∷◌, ◌++◌, length, take, drop, take-append-drop}
+use Rattle.std.specs.Prelude.{Some, codes}
+use Rattle.std.specs.List.{list_all}
+use Rattle.std.specs.Str.{bytes_eq}
+use Rattle.std.specs.Cmp.Lexicographic.{bytes_decides}
+use Rattle.ordup_grammar.specs.Actions.{Send, Apply, Report}
+use Rattle.ordup_grammar.specs.Commands.{Act, command_of}
+use Rattle.ordup_grammar.specs.Keywords.{keyword_of}
+use Rattle.ordup_grammar.specs.Requests.{Command, is_comment, is_printed, request_by, request_of}
+use Rattle.ordup_grammar.specs.Words.{words_of}
+
+-- what begins with these bytes, and what stands behind them
+pub begins_with_first : (line first : List ℕ) → bytes_eq (take (length first) line) first ≡ true
+    → line ≡ first ++ drop (length first) line
+begins_with_first line first same =
+    sym (take-append-drop (length first) line)
+    ∙ ap (λ t. t ++ drop (length first) line) ((bytes_decides (take (length first) line) first).0 same)
+
+-- what a line asks for by its words
+line_asks : (line first : List ℕ) (rest : List (List ℕ)) → is_comment line ≡ false → list_all is_printed line ≡ true
+    → words_of line ≡ first ∷ rest
+    → request_of (Some line) ≡ request_by (command_of first rest)
+unfolding request_of
+line_asks line first rest comment printed words = rw (comment, printed, words) refl
+
+module _ (line name : List ℕ) (word : words_of name ≡ name ∷ []) (printed : list_all is_printed line ≡ true) where
+  pub asks_to_send : line ≡ codes "send " ++ name → request_of (Some line) ≡ Command (Act (Send name))
+  unfolding keyword_of
+  asks_to_send is =
+      line_asks line (codes "send") (name ∷ []) (rw is refl) printed (ap words_of is ∙ ap (λ words. codes "send" ∷ words) word)
+
+  pub asks_to_apply : line ≡ codes "apply " ++ name → request_of (Some line) ≡ Command (Act (Apply name))
+  unfolding keyword_of
+  asks_to_apply is =
+      line_asks line (codes "apply") (name ∷ []) (rw is refl) printed (ap words_of is ∙ ap (λ words. codes "apply" ∷ words) word)
+
+  pub asks_to_report : line ≡ codes "report " ++ name → request_of (Some line) ≡ Command (Act (Report name))
+  unfolding keyword_of
+  asks_to_report is =
+      line_asks line (codes "report") (name ∷ []) (rw is refl) printed (ap words_of is ∙ ap (λ words. codes "report" ∷ words) word)

@@ -1,0 +1,67 @@
+ghost use Rattle.std.specs.Prelude.{◌≡◌, ◌++◌, ◌∷◌, [], ◌≤◌, IfSome, Some, true, length};
+ghost use Rattle.std.specs.List.{list_all};
+ghost use Rattle.ordup_grammar.specs.Commands.{Act};
+ghost use Rattle.ordup_grammar.specs.Requests.{Command, is_printed, request_of};
+ghost use Rattle.ordup_grammar.specs.SiteLines.{action_at};
+ghost use Rattle.ordup_grammar.specs.Words.{words_of};
+
+use crate::bytes::is_spelled;
+use crate::line_buffer::LinePart;
+use crate::word::Word;
+
+/// What a line of a keyword and a site asks for.
+#[derive(Clone, Copy)]
+pub enum SiteAction {
+    /// `send S`
+    Send,
+    /// `apply S`
+    Apply,
+    /// `report S`
+    Report,
+}
+
+/// A line of a keyword, one space and a site, as most lines of a script are.
+#[derive(Drop)]
+pub struct SiteLine<'a> {
+    pub action: SiteAction,
+    /// It may name nothing.
+    pub site: Word<'a>,
+}
+
+impl<'a> SiteLine<'a> {
+    /// The line of these bytes, if it is such a line.
+    // The keyword is known by two comparisons, and the site by one. So the words of such a line are not cut one by one.
+    #[inline(always)]
+    pub(crate) fn of(part: &LinePart<'a>) -> Option<SiteLine<'a>>
+        ensures { IfSome result (λ line. request_of (Some part.now) ≡ Command (Act (action_at line.action line.site))) }
+    {
+        let (action, site) = if let Some(site) = word_behind(part, b"send ") {
+            (SiteAction::Send, site)
+        } else if let Some(site) = word_behind(part, b"apply ") {
+            (SiteAction::Apply, site)
+        } else {
+            (SiteAction::Report, word_behind(part, b"report ")?)
+        };
+        Some(SiteLine { action, site })
+    }
+}
+
+/// The only word behind these bytes, where a line begins with them, and each of its bytes is printed.
+#[inline(always)]
+fn word_behind<'a>(part: &LinePart<'a>, first: &[u8]) -> Option<Word<'a>>
+    requires { (4 ≤ length first.now) × (length first.now ≤ 8) }
+    ensures line { IfSome result (λ word. part.now ≡ first.now ++ word) }
+    ensures word { IfSome result (λ word. words_of word ≡ word ∷ []) }
+    ensures printed { IfSome result (λ _. list_all is_printed part.now ≡ true) }
+{
+    let line = part.front();
+    let len = first.len();
+    if line.len() <= len || !is_spelled(line.up_to(len).as_bytes(), first) {
+        return None;
+    }
+    let word = line.from(len);
+    if word.split_once(b' ').is_some() || !part.is_printed() {
+        return None;
+    }
+    Some(Word::of(word))
+}

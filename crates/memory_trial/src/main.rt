@@ -1,16 +1,18 @@
-//! The program `memory_trial` makes the calls of a feed and of a cluster that may be refused memory, on one thread, and prints how
-//! each ended. A call that is refused memory is made a second time. Where it is refused again, the trial ends with what stands
-//! then. `checks/allocations` refuses it one allocation after the other.
+//! The program `memory_trial` makes the calls of a feed, of a cluster and of a service that goes on from store to store, as far as
+//! they may be refused memory, on one thread, and prints how each ended. A call that is refused memory is made a second time. Where
+//! it is refused again, the trial ends with what stands then. `checks/allocations` refuses it one allocation after the other.
 #![tactic(auto)]
 
 mod asking;
 mod closing;
 mod clusters;
 mod declarations;
+mod joins;
 
 use asking::{Stop, ask};
 use clusters::{try_cluster_that_waits, try_cluster_with_new_limits, try_cluster_without_limits};
 use declarations::{declare_objects, one_change, two_changes};
+use joins::try_joins;
 use ordup_feed::Feed;
 use ordup_objects::ObjectTable;
 use std::alloc::Global;
@@ -43,5 +45,6 @@ fn try_calls<R: Wait + Print>(rt: &R, alloc: Global, objects: &ObjectTable) -> R
     let two = ask(rt, "set", || two_changes(objects))?;
     try_cluster_without_limits(rt, alloc, &one)?;
     try_cluster_with_new_limits(rt, alloc, &one, &two)?;
-    try_cluster_that_waits(rt, alloc, &two)
+    try_cluster_that_waits(rt, alloc, &two)?;
+    try_joins(rt, alloc, &one)
 }

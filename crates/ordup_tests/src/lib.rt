@@ -1,6 +1,7 @@
 //! Tests by calls, of what no script says and no clause: of names, of lists of events and of worked rows (`calls`); of records; of
-//! streams that fail, plans and want of memory (`scripts`); of feeds, of holds, of clusters on one thread (`cluster`) and on several
-//! (`threads`). `promises.rt` repeats clauses of calls that no proof above cites.
+//! streams that fail, plans and want of memory (`scripts`); of feeds, of holds, of clusters (`cluster`) and of services that go on from
+//! store to store (`epochs`) on one thread, and of both on several (`threads`). `promises.rt` repeats clauses of calls that no proof
+//! above cites.
 #![tactic(auto)]
 
 /// Expects a condition, in a case where one is given. The proof of the test knows the condition from then on.
@@ -27,6 +28,8 @@ macro_rules! expect_eq {
 mod calls;
 #[cfg(test)]
 mod cluster;
+#[cfg(test)]
+mod epochs;
 #[cfg(test)]
 mod expect;
 #[cfg(test)]

@@ -1,6 +1,8 @@
-//! A cluster that threads share: its appliers, its callers and its readers each in a thread of their own.
+//! A cluster, and a service that goes on from store to store, which threads share: appliers, callers and readers each have a thread
+//! of their own.
 //!
 //! Each wait is bounded, so a test that would hang fails.
+mod across_joins;
 mod changing_limit;
 mod fixtures;
 mod held_site;
@@ -8,5 +10,7 @@ mod holding_gate;
 mod lagging_site;
 mod many_callers;
 mod one_turn;
+mod refused_join;
 mod together;
 mod two_callers;
+mod visits;

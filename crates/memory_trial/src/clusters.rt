@@ -65,13 +65,13 @@ fn propose_three<R: Wait + Print>(
 ) -> Result<(), Stop> {
     begin(rt, cluster)?;
     // The list of its limits grows for the first, and again for the fifth.
-    relimit(rt, cluster, Scope::Object(ObjectId::new(0)))?;
-    relimit(rt, cluster, Scope::Object(ObjectId::new(1)))?;
-    relimit(rt, cluster, Scope::All)?;
-    relimit(rt, cluster, Scope::Count)?;
+    relimit(rt, cluster, &Scope::Object(ObjectId::new(0)))?;
+    relimit(rt, cluster, &Scope::Object(ObjectId::new(1)))?;
+    relimit(rt, cluster, &Scope::All)?;
+    relimit(rt, cluster, &Scope::Count)?;
     acknowledge(rt, alloc, cluster, one, 1)?;
     begin(rt, cluster)?;
-    relimit(rt, cluster, Scope::Count)?;
+    relimit(rt, cluster, &Scope::Count)?;
     acknowledge(rt, alloc, cluster, two, 2)?;
     acknowledge(rt, alloc, cluster, one, 3)?;
     cluster.stop();
@@ -149,9 +149,7 @@ fn declare(alloc: Global, limits: Limits) -> Result<Setup, Refusal> {
 }
 
 /// Changes a limit of the first site, to one that no update passes.
-fn relimit<R: Wait + Print>(rt: &R, cluster: &Cluster, scope: Scope) -> Result<(), Stop> {
-    // The prover joins branches over a borrowed scope, not over a copied one.
-    let scope = &scope;
+fn relimit<R: Wait + Print>(rt: &R, cluster: &Cluster, scope: &Scope) -> Result<(), Stop> {
     for _ in 0..TRIES {
         match cluster.relimit(rt, SiteId::new(0), *scope, 100) {
             Ok(place) => {
@@ -254,8 +252,8 @@ fn settle<R: Wait + Print>(rt: &R, cluster: &Cluster, number: u64) -> Result<(),
 }
 
 /// A site applies all that it was sent. The cluster is stopped.
-fn apply<R: Wait + Print>(rt: &R, cluster: &Cluster, place: u8) -> io::Result<()> {
-    let site = SiteId::new(place);
+fn apply<R: Wait + Print>(rt: &R, cluster: &Cluster, index: u8) -> io::Result<()> {
+    let site = SiteId::new(index);
     if site.index() >= cluster.sites() {
         return print_refused(rt, "apply", Refusal::UnknownSite);
     }

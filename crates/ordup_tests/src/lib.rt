@@ -1,7 +1,7 @@
-//! Tests by calls, of what no script says and no clause: of names, of lists of events and of worked rows (`calls`); of records; of
-//! streams that fail, plans and want of memory (`scripts`); of feeds, of holds, of clusters (`cluster`) and of services that go on from
-//! store to store (`epochs`) on one thread, and of both on several (`threads`). `promises.rt` repeats clauses of calls that no proof
-//! above cites.
+//! Tests by calls, of what no script says and no clause: of names, of lists of events and of worked rows (`events`); of records; of
+//! streams that fail, and plans (`scripts`); of want of memory (`memory`); of feeds, of holds, of clusters (`cluster`) and of services
+//! that go on from store to store (`epochs`) on one thread, and of both on several (`threads`). `promises.rt` repeats clauses of calls
+//! that no proof above cites.
 #![tactic(auto)]
 
 /// Expects a condition, in a case where one is given. The proof of the test knows the condition from then on.
@@ -25,11 +25,11 @@ macro_rules! expect_eq {
 }
 
 #[cfg(test)]
-mod calls;
-#[cfg(test)]
 mod cluster;
 #[cfg(test)]
 mod epochs;
+#[cfg(test)]
+mod events;
 #[cfg(test)]
 mod expect;
 #[cfg(test)]
@@ -38,6 +38,8 @@ mod feed;
 mod fixtures;
 #[cfg(test)]
 mod holds;
+#[cfg(test)]
+mod memory;
 #[cfg(test)]
 mod promises;
 #[cfg(test)]

@@ -19,8 +19,8 @@ fn started(rt: &impl Abort, alloc: Global) -> Primary {
 }
 
 /// Why there is no record of the site at this index, if there is none.
-fn refusal_of(alloc: Global, primary: &Primary, place: u8) -> Option<Refusal> {
-    record_of(alloc, primary, SiteId::new(place)).err()
+fn refusal_of(alloc: Global, primary: &Primary, index: u8) -> Option<Refusal> {
+    record_of(alloc, primary, SiteId::new(index)).err()
 }
 
 /// Asks for records of unknown sites.
@@ -28,9 +28,9 @@ fn refusal_of(alloc: Global, primary: &Primary, place: u8) -> Option<Refusal> {
 fn a_site_that_is_not_there_has_no_record(rt: HostRuntime) {
     let primary = started(&rt, rt.alloc());
     expect_eq!(&rt; refusal_of(rt.alloc(), &primary, 0), None);
-    for place in [1, 15, 16, 255] {
-        let refusal = refusal_of(rt.alloc(), &primary, place);
-        expect_eq!(&rt; refusal, Some(Refusal::UnknownSite), place);
+    for index in [1, 15, 16, 255] {
+        let refusal = refusal_of(rt.alloc(), &primary, index);
+        expect_eq!(&rt; refusal, Some(Refusal::UnknownSite), index);
     }
     primary.discard();
 }

@@ -1,8 +1,8 @@
 //! The store that goes on from a primary: when there is one, what it begins with, and each growth of its setup refused in turn.
 use crate::fixtures::{a, propose_add, x, y};
+use crate::memory::scarce::{Heap, Scarce};
+use crate::memory::starts::started;
 use crate::promises::successor;
-use crate::scripts::scarce::{Heap, Scarce};
-use crate::scripts::starts::started;
 use ordup_limits::{Limit, LimitEntry, Scope};
 use ordup_objects::Refusal;
 use ordup_primary::{Primary, Settled, Setup};

@@ -1,5 +1,5 @@
 //! Whole lists of events, with all answers as a script shows them.
-use crate::calls::fixtures::{run_forced_and_awaited, run_limited_anew, run_swapped};
+use crate::events::fixtures::{run_forced_and_awaited, run_limited_anew, run_swapped};
 use ordup_answers::push_answer;
 use ordup_text::TextBuffer;
 use ordup_world::Run;

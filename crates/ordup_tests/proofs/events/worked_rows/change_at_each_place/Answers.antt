@@ -1,5 +1,5 @@
 use Rattle.std.proofs.Common.{arith}
-use Rattle.ordup_tests.proofs.calls.worked_rows.change_at_each_place.Goals as goal
+use Rattle.ordup_tests.proofs.events.worked_rows.change_at_each_place.Goals as goal
 
 pub loop-place-init : goal.loop-place-init
 loop-place-init g c = λ k d lt. omega (arith, c.requires k d lt)

@@ -2,10 +2,10 @@
 ghost use Rattle.std.specs.Prelude.{◌<◌, length};
 
 use crate::fixtures::{adding, x, y};
-use crate::scripts::digests::{Digest, add_groups, add_limits, add_log, add_primary, add_table};
-use crate::scripts::growths::GROUPED;
-use crate::scripts::lines::Session;
-use crate::scripts::scarce::{Heap, Scarce};
+use crate::memory::digests::{Digest, add_groups, add_limits, add_log, add_primary, add_table};
+use crate::memory::growths::GROUPED;
+use crate::memory::lines::Session;
+use crate::memory::scarce::{Heap, Scarce};
 use ordup_answers::ScriptEnd;
 use ordup_audit::Record;
 use ordup_limits::{Groups, LagLedger, LimitTable};

@@ -1,7 +1,7 @@
 //! Calls that add something to what they are called on, each with each of its growths refused in turn.
 use crate::fixtures::{self, adding, x, y};
-use crate::scripts::digests::{Digest, add_groups, add_limits, add_log, add_set, add_table};
-use crate::scripts::scarce::{Heap, Scarce};
+use crate::memory::digests::{Digest, add_groups, add_limits, add_log, add_set, add_table};
+use crate::memory::scarce::{Heap, Scarce};
 use ordup_limits::{Groups, LimitTable, Scope};
 use ordup_log::Log;
 use ordup_objects::{MessageSet, ObjectId, ObjectTable, Refusal};

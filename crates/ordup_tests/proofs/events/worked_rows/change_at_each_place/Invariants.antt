@@ -1,6 +1,6 @@
 use Rattle.std.proofs.Common.{◌≤◌, ◌<◌, ◌+◌, ℕ, length, slice_index_or}
 use Rattle.ordup_limits.specs.declared.limit_entry.LimitEntry.{LimitEntry}
-use Rattle.ordup_tests.proofs.calls.worked_rows.change_at_each_place.Given as goal
+use Rattle.ordup_tests.proofs.events.worked_rows.change_at_each_place.Given as goal
 
 -- each entry holds from before the place
 abbrev pub invariant-loop-place : goal.invariant-loop-place

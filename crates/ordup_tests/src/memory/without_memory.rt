@@ -3,9 +3,9 @@ ghost use Rattle.std.specs.Prelude.{◌≡◌, [], IfOk};
 ghost use Rattle.ordup_limits.specs.Ledgers.{StandsFor};
 
 use crate::fixtures::{a, adding, b, x, y};
-use crate::scripts::growths::GROUPED;
-use crate::scripts::lines::Session;
-use crate::scripts::scarce::{Heap, Scarce};
+use crate::memory::growths::GROUPED;
+use crate::memory::lines::Session;
+use crate::memory::scarce::{Heap, Scarce};
 use ordup_answers::ScriptEnd;
 use ordup_audit::Record;
 use ordup_limits::{GroupId, LagLedger, LimitTable, Scope};

@@ -2,9 +2,9 @@
 //!
 //! The store takes its memory from one allocator, which gives a count of allocations, and the text of the answers from another,
 //! which gives all.
-use crate::scripts::digests::{Digest, add_primary, add_setup};
-use crate::scripts::growths::TRANSCRIPTS;
-use crate::scripts::scarce::{Heap, Scarce};
+use crate::memory::digests::{Digest, add_primary, add_setup};
+use crate::memory::growths::TRANSCRIPTS;
+use crate::memory::scarce::{Heap, Scarce};
 use ordup_answers::{ScriptEnd, answer};
 use ordup_grammar::{LinePart, ScriptLine};
 use ordup_objects::SiteId;

@@ -5,7 +5,7 @@ ghost use Rattle.std.specs.Prelude.{◌≡◌, ◌<◌, IfOk};
 ghost use Rattle.ordup_limits.specs.Entries.{HoldFrom};
 ghost use Rattle.ordup_limits.specs.Ledgers.{StandsFor};
 
-use crate::calls::fixtures::{on_x, swap};
+use crate::events::fixtures::{on_x, swap};
 use crate::fixtures::{a, propose_add, set_of, set_of_one, started, x, y};
 use ordup_limits::{LagLedger, LimitTable};
 use ordup_log::{Groups, Log, Scope};
@@ -189,8 +189,8 @@ fn each_update_that_moves_an_object_has_a_posting(rt: HostRuntime) {
 /// A table of this count of objects at 0: o0, o1 and on.
 fn many_objects(rt: &impl Abort, alloc: Global, count: u16) -> ObjectTable {
     let mut objects = ObjectTable::new(alloc);
-    for place in 0..count {
-        let Ok(name) = format!(in alloc; "o{place}") else {
+    for index in 0..count {
+        let Ok(name) = format!(in alloc; "o{index}") else {
             panic!(rt; "there is no memory for a name")
         };
         expect!(rt; objects.declare(name.as_bytes(), 0).is_ok());
@@ -201,9 +201,9 @@ fn many_objects(rt: &impl Abort, alloc: Global, count: u16) -> ObjectTable {
 /// The changes that add 1 to each of this count of objects.
 fn many_changes(alloc: Global, count: u16) -> Result<Vec<Change>, Refusal> {
     let mut changes = Vec::new(alloc);
-    for place in 0..count {
+    for index in 0..count {
         let change = Change {
-            object: ObjectId::new(place),
+            object: ObjectId::new(index),
             op: Op::Add(1),
         };
         changes.push(change).or(Err(Refusal::NoMemory))?;

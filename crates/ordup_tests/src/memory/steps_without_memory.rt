@@ -1,10 +1,10 @@
 //! Steps of a world and of a primary that take no memory: with every growth refused they are answered as ever.
 use crate::fixtures::{a, propose_add, x, y, z};
-use crate::scripts::changed_limits::relimit;
-use crate::scripts::growths::GROUPED;
-use crate::scripts::lines::Session;
-use crate::scripts::scarce::{Heap, Scarce};
-use crate::scripts::starts::started;
+use crate::memory::changed_limits::relimit;
+use crate::memory::growths::GROUPED;
+use crate::memory::lines::Session;
+use crate::memory::scarce::{Heap, Scarce};
+use crate::memory::starts::started;
 use ordup_answers::ScriptEnd;
 use ordup_limits::Scope;
 use ordup_objects::{Name, ObjectId, Refusal, SiteId};

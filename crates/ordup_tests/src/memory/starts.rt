@@ -1,7 +1,7 @@
 //! A new primary, and a run of events, each with each of its growths refused in turn.
 use crate::fixtures::{add, x};
+use crate::memory::scarce::{Heap, Scarce};
 use crate::promises::run;
-use crate::scripts::scarce::{Heap, Scarce};
 use ordup_answers::push_answer;
 use ordup_limits::Scope;
 use ordup_objects::{ObjectId, ObjectTable, Refusal, SiteId};

@@ -39,11 +39,11 @@ use denote.RawPtr.{Ptr, block_ptr, null_ptr, ptr_val, rawptr_vals, rawptr_Tells}
 use denote.Builtin.{usize, RawPtr, RefOf}
 use denote.Triple.Call.{calls_at}
 use Rattle.std.proofs.alloc.Calls.{Al, α, seen, token, gives_key, Gives, at_gives, Gives-goes, Gives-Gives}
-use Rattle.ordup_tests.specs.contracts.scripts.scarce.Scarce as wrapper
-use Rattle.ordup_tests.specs.contracts.scripts.scarce.ScarceAllocator.deallocate as F
-use Rattle.ordup_tests.specs.contracts.scripts.scarce.ScarceAllocator.deallocate.Key as key
-use Rattle.ordup_tests.proofs.scripts.scarce.ScarceAllocator.deallocate.Statement as stated
-use Rattle.ordup_tests.proofs.scripts.scarce.ScarceAllocator.deallocate.Code as code
+use Rattle.ordup_tests.specs.contracts.memory.scarce.Scarce as wrapper
+use Rattle.ordup_tests.specs.contracts.memory.scarce.ScarceAllocator.deallocate as F
+use Rattle.ordup_tests.specs.contracts.memory.scarce.ScarceAllocator.deallocate.Key as key
+use Rattle.ordup_tests.proofs.memory.scarce.ScarceAllocator.deallocate.Statement as stated
+use Rattle.ordup_tests.proofs.memory.scarce.ScarceAllocator.deallocate.Code as code
 
 module _ (Z : Al) where
   abbrev args : Args

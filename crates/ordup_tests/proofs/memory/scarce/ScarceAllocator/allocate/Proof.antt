@@ -44,14 +44,14 @@ use Rattle.std.proofs.alloc.Calls.{Al, α, seen, token, Answer, answer_val, Answ
 use Rattle.std.proofs.alloc.Calls.{takes_key, Takes, at_takes, Answered, Takes-goes, Takes-gives, answers}
 use Rattle.std.proofs.alloc.Shapes.{after}
 use Rattle.std.specs.contracts.cell.Cell as cell
-use Rattle.ordup_tests.specs.contracts.scripts.scarce.take_one as taking
-use Rattle.ordup_tests.proofs.scripts.scarce.take_one.Symbol as c_sym
-use Rattle.ordup_tests.proofs.scripts.scarce.take_one.Met as c_met
-use Rattle.ordup_tests.specs.contracts.scripts.scarce.Scarce as wrapper
-use Rattle.ordup_tests.specs.contracts.scripts.scarce.ScarceAllocator.allocate as F
-use Rattle.ordup_tests.specs.contracts.scripts.scarce.ScarceAllocator.allocate.Key as key
-use Rattle.ordup_tests.proofs.scripts.scarce.ScarceAllocator.allocate.Statement as stated
-use Rattle.ordup_tests.proofs.scripts.scarce.ScarceAllocator.allocate.Code as code
+use Rattle.ordup_tests.specs.contracts.memory.scarce.take_one as taking
+use Rattle.ordup_tests.proofs.memory.scarce.take_one.Symbol as c_sym
+use Rattle.ordup_tests.proofs.memory.scarce.take_one.Met as c_met
+use Rattle.ordup_tests.specs.contracts.memory.scarce.Scarce as wrapper
+use Rattle.ordup_tests.specs.contracts.memory.scarce.ScarceAllocator.allocate as F
+use Rattle.ordup_tests.specs.contracts.memory.scarce.ScarceAllocator.allocate.Key as key
+use Rattle.ordup_tests.proofs.memory.scarce.ScarceAllocator.allocate.Statement as stated
+use Rattle.ordup_tests.proofs.memory.scarce.ScarceAllocator.allocate.Code as code
 
 -- ---- `take_one` at a call
 abbrev Left : RattleType

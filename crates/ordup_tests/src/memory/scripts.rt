@@ -1,6 +1,6 @@
 //! Each growth refused in turn: a script writes a front of its answers, and it and a plan end in `NoMemory`.
+use crate::memory::scarce::Scarce;
 use crate::readers::PieceReader;
-use crate::scripts::scarce::Scarce;
 use crate::scripts::transcripts::{FIRST_RUN, parts};
 use ordup_script::{PlanFault, ScriptFault, read_plan, run_script};
 use std::alloc::{AllocError, Global};

@@ -179,13 +179,13 @@ fn add_update<A: Allocator + Copy>(
     digest: &mut Digest,
     log: &Log<A>,
     groups: &Groups<A>,
-    place: u64,
+    index: u64,
 )
-    requires { place < length log.now.sets }
+    requires { index < length log.now.sets }
 {
-    // For the proof: there are few enough updates for the next place to fit.
+    // For the proof: there are few enough updates for the number to fit.
     let _updates = log.len();
-    let number = place + 1;
+    let number = index + 1;
     add_set(digest, log.set(number));
     digest.add_numbers(log.distances(number));
     digest.add(log.weight(number, Scope::All, groups));
@@ -196,8 +196,8 @@ fn add_update<A: Allocator + Copy>(
 /// What the readers of a log answer.
 pub(crate) fn add_log<A: Allocator + Copy>(digest: &mut Digest, log: &Log<A>, groups: &Groups<A>) {
     digest.add(log.len());
-    for place in 0..log.len() {
-        add_update(digest, log, groups, place);
+    for index in 0..log.len() {
+        add_update(digest, log, groups, index);
     }
     digest.add(log.objects() as u64);
     for index in 0..log.objects().min(256) {
@@ -215,8 +215,8 @@ fn add_site<A: Allocator + Copy>(digest: &mut Digest, primary: &Primary<A>, site
     digest.add(primary.sent(site));
     digest.add(primary.reported(site));
     add_limits(digest, primary.limits(site));
-    for place in 0..primary.decided() {
-        digest.add(primary.reported_at(site, place + 1));
+    for index in 0..primary.decided() {
+        digest.add(primary.reported_at(site, index + 1));
     }
     digest.add_changes(primary.report_changes(site));
     digest.add_numbers(primary.rounds(site));

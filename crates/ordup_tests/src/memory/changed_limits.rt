@@ -1,8 +1,8 @@
 //! A change of a limit of a primary, with each of its growths refused in turn.
 use crate::fixtures::{a, propose_add, x};
-use crate::scripts::copies::digest_of;
-use crate::scripts::scarce::{Heap, Scarce};
-use crate::scripts::starts::started;
+use crate::memory::copies::digest_of;
+use crate::memory::scarce::{Heap, Scarce};
+use crate::memory::starts::started;
 use ordup_limits::{Limit, LimitEntry, Scope};
 use ordup_objects::Refusal;
 use ordup_primary::{Primary, Settled};

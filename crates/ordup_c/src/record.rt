@@ -66,17 +66,17 @@ fn text_of_site(alloc: Global, primary: &Primary, site: &[u8]) -> Result<Vec<u8>
         return Err(UNKNOWN_SITE);
     };
     match view_of(primary, site) {
-        Ok(shown) => text_of(alloc, &shown),
+        Ok(audited) => text_of(alloc, &audited),
         Err(_) => Err(UNKNOWN_SITE),
     }
 }
 
 /// The text of a record.
-fn text_of(alloc: Global, shown: &RecordView<'_>) -> Result<Vec<u8>, u32>
-    ensures { MatchResult result (λ v. v.items ≡ rows_text (rows_of shown.now)) (λ status. status ≡ NO_MEMORY) }
+fn text_of(alloc: Global, audited: &RecordView<'_>) -> Result<Vec<u8>, u32>
+    ensures { MatchResult result (λ v. v.items ≡ rows_text (rows_of audited.now)) (λ status. status ≡ NO_MEMORY) }
 {
     let mut text = Vec::new(alloc);
-    match write_view(alloc, shown, &mut text) {
+    match write_view(alloc, audited, &mut text) {
         Ok(()) => Ok(text),
         Err(_) => {
             drop(text);

@@ -117,16 +117,16 @@ fn print_site<W: Write>(alloc: Global, site: &[u8], primary: &Primary, output: &
         return Err(Fault::UnknownSite);
     };
     match view_of(primary, site) {
-        Ok(shown) => print_rows(alloc, &shown, output),
+        Ok(audited) => print_rows(alloc, &audited, output),
         Err(_) => Err(Fault::UnknownSite),
     }
 }
 
 /// Prints a record: all of its rows, or a front of them where the writer fails, or nothing for want of memory.
-fn print_rows<W: Write>(alloc: Global, shown: &RecordView<'_>, output: &mut W) -> Outcome
-    ensures { PrintsRecord shown.now (W.contents output.old) (W.contents output.new) result }
+fn print_rows<W: Write>(alloc: Global, audited: &RecordView<'_>, output: &mut W) -> Outcome
+    ensures { PrintsRecord audited.now (W.contents output.old) (W.contents output.new) result }
 {
-    if let Err(fault) = write_view(alloc, shown, output) {
+    if let Err(fault) = write_view(alloc, audited, output) {
         return Err(Fault::of_writing(fault));
     }
     flush(output)?;
@@ -143,9 +143,9 @@ fn check_record<R: Read, W: Write>(alloc: Global, input: &mut R, output: &mut W)
     ensures { Checks (R.remaining input.old) (W.contents output.old) (W.contents output.new) result }
 {
     match read_record(alloc, input) {
-        Ok(read) => {
-            let verdict = check(&read);
-            read.discard();
+        Ok(audited) => {
+            let verdict = check(&audited);
+            audited.discard();
             print_verdict(alloc, verdict, output)
         }
         Err(fault) => Err(Fault::of_reading(fault)),
@@ -196,10 +196,10 @@ fn print_lag<R: Read, W: Write>(alloc: Global, input: &mut R, output: &mut W) ->
     ensures { Lags (R.remaining input.old) (W.contents output.old) (W.contents output.new) result }
 {
     match read_record(alloc, input) {
-        Ok(read) => {
-            let verdict = check(&read);
-            let printed = print_judged(alloc, &read, verdict, output);
-            read.discard();
+        Ok(audited) => {
+            let verdict = check(&audited);
+            let printed = print_judged(alloc, &audited, verdict, output);
+            audited.discard();
             printed
         }
         Err(fault) => Err(Fault::of_reading(fault)),
@@ -207,22 +207,22 @@ fn print_lag<R: Read, W: Write>(alloc: Global, input: &mut R, output: &mut W) ->
 }
 
 /// Prints the series of a record that this verdict calls valid, and else the verdict.
-fn print_judged<W: Write>(alloc: Global, read: &Record, verdict: Verdict, output: &mut W) -> Outcome
-    requires { IfFewest verdict (λ n. IsValid read.now) }
-    ensures { PrintsLag read.now verdict (W.contents output.old) (W.contents output.new) result }
+fn print_judged<W: Write>(alloc: Global, audited: &Record, verdict: Verdict, output: &mut W) -> Outcome
+    requires { IfFewest verdict (λ n. IsValid audited.now) }
+    ensures { PrintsLag audited.now verdict (W.contents output.old) (W.contents output.new) result }
 {
     match verdict {
-        Verdict::Fewest(_) => print_series(alloc, read, output),
+        Verdict::Fewest(_) => print_series(alloc, audited, output),
         Verdict::No { .. } => print_verdict(alloc, verdict, output),
     }
 }
 
 /// Prints the series of a valid record: all of it, or a front of it where the writer fails, or nothing for want of memory.
-fn print_series<W: Write>(alloc: Global, read: &Record, output: &mut W) -> Outcome
-    requires { IsValid read.now }
-    ensures { PrintsSeries read.now (W.contents output.old) (W.contents output.new) result }
+fn print_series<W: Write>(alloc: Global, audited: &Record, output: &mut W) -> Outcome
+    requires { IsValid audited.now }
+    ensures { PrintsSeries audited.now (W.contents output.old) (W.contents output.new) result }
 {
-    if let Err(fault) = write_series(alloc, read, output) {
+    if let Err(fault) = write_series(alloc, audited, output) {
         return Err(Fault::of_series(fault));
     }
     flush(output)?;

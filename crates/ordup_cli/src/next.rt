@@ -76,10 +76,10 @@ pub(crate) fn print_next_of_record<R: Read, W: Write>(
     ensures { DeclaresEnd (R.remaining input.old) (W.contents output.old) (W.contents output.new) result }
 {
     match read_record(alloc, input) {
-        Ok(read) => {
-            let verdict = check(&read);
-            let printed = print_end(alloc, &read, verdict, output);
-            read.discard();
+        Ok(audited) => {
+            let verdict = check(&audited);
+            let printed = print_end(alloc, &audited, verdict, output);
+            audited.discard();
             printed
         }
         Err(fault) => Err(Fault::of_reading(fault)),
@@ -87,26 +87,26 @@ pub(crate) fn print_next_of_record<R: Read, W: Write>(
 }
 
 /// Prints what a record that this verdict calls valid ends with, and else the verdict.
-fn print_end<W: Write>(alloc: Global, read: &Record, verdict: Verdict, output: &mut W) -> Outcome
-    requires { IfFewest verdict (λ n. IsValid read.now) }
-    ensures { PrintsEnd read.now verdict (W.contents output.old) (W.contents output.new) result }
+fn print_end<W: Write>(alloc: Global, audited: &Record, verdict: Verdict, output: &mut W) -> Outcome
+    requires { IfFewest verdict (λ n. IsValid audited.now) }
+    ensures { PrintsEnd audited.now verdict (W.contents output.old) (W.contents output.new) result }
 {
     match verdict {
-        Verdict::Fewest(_) => print_objects(alloc, read, output),
+        Verdict::Fewest(_) => print_objects(alloc, audited, output),
         Verdict::No { .. } => print_verdict(alloc, verdict, output),
     }
 }
 
 /// Prints the declarations of the objects of a valid record, at their values after its last update, and of its groups.
-fn print_objects<W: Write>(alloc: Global, read: &Record, output: &mut W) -> Outcome
-    requires { IsValid read.now }
-    ensures { PrintsObjects read.now (W.contents output.old) (W.contents output.new) result }
+fn print_objects<W: Write>(alloc: Global, audited: &Record, output: &mut W) -> Outcome
+    requires { IsValid audited.now }
+    ensures { PrintsObjects audited.now (W.contents output.old) (W.contents output.new) result }
 {
-    read.keeps();
-    let Ok(objects) = objects_at_end(alloc, read) else {
+    audited.keeps();
+    let Ok(objects) = objects_at_end(alloc, audited) else {
         return Err(Fault::NoMemory);
     };
-    let printed = print_declared(alloc, &objects, read.groups(), output);
+    let printed = print_declared(alloc, &objects, audited.groups(), output);
     drop(objects);
     printed
 }

@@ -75,58 +75,58 @@ fn first_parts<A: Allocator + Copy>(
 // It owns no part, so that the proof takes none apart where memory is refused.
 fn copy_parts<A: Allocator + Copy>(
     alloc: A,
-    lent: &RecordView<'_, A>,
+    audited: &RecordView<'_, A>,
     parts: &mut RecordParts<A>,
 ) -> Result<(), Refusal>
-    requires site { parts.old.site ≡ lent.now.site }
-    requires log { parts.old.log ≡ history_of lent.now }
+    requires site { parts.old.site ≡ audited.now.site }
+    requires log { parts.old.log ≡ history_of audited.now }
     requires rest { parts.old.rest.items ≡ [] }
     ensures parts { OnOk result (AreParts parts.new) }
-    ensures content { OnOk result (state_of parts.new ≡ lent.now) }
+    ensures content { OnOk result (state_of parts.new ≡ audited.now) }
     ensures refused { IfErr result (λ e. e ≡ Refusal.NoMemory) }
 {
-    lent.keeps();
-    copy_declared(alloc, lent, parts)?;
-    copy_decided(alloc, lent, parts)?;
+    audited.keeps();
+    copy_declared(alloc, audited, parts)?;
+    copy_decided(alloc, audited, parts)?;
     Ok(())
 }
 
 /// Copies what is declared. It is refused `NoMemory` alone.
 fn copy_declared<A: Allocator + Copy>(
     alloc: A,
-    lent: &RecordView<'_, A>,
+    audited: &RecordView<'_, A>,
     parts: &mut RecordParts<A>,
 ) -> Result<(), Refusal>
-    ensures objects { OnOk result (parts.new.objects ≡ lent.now.objects) }
-    ensures groups { OnOk result (parts.new.groups ≡ lent.now.groups) }
-    ensures limits { OnOk result (parts.new.limits ≡ lent.now.limits) }
+    ensures objects { OnOk result (parts.new.objects ≡ audited.now.objects) }
+    ensures groups { OnOk result (parts.new.groups ≡ audited.now.groups) }
+    ensures limits { OnOk result (parts.new.limits ≡ audited.now.limits) }
     ensures kept { OnOk result (parts.new ≡ record parts.old { objects = parts.new.objects; groups = parts.new.groups; limits = parts.new.limits }) }
     ensures refused { IfErr result (λ e. e ≡ Refusal.NoMemory) }
 {
-    parts.objects = lent.objects().copy(alloc)?;
-    parts.groups = lent.groups().copy(alloc)?;
-    parts.limits = lent.limits().copy(alloc)?;
+    parts.objects = audited.objects().copy(alloc)?;
+    parts.groups = audited.groups().copy(alloc)?;
+    parts.limits = audited.limits().copy(alloc)?;
     Ok(())
 }
 
 /// Copies what came of the decisions: the reports, the rounds and the windows. It is refused `NoMemory` alone.
 fn copy_decided<A: Allocator + Copy>(
     alloc: A,
-    lent: &RecordView<'_, A>,
+    audited: &RecordView<'_, A>,
     parts: &mut RecordParts<A>,
 ) -> Result<(), Refusal>
-    ensures reports { OnOk result (parts.new.reports.items ≡ lent.now.reports) }
-    ensures rounds { OnOk result (parts.new.rounds.items ≡ lent.now.rounds) }
-    ensures windows { OnOk result (parts.new.windows.items ≡ lent.now.windows) }
+    ensures reports { OnOk result (parts.new.reports.items ≡ audited.now.reports) }
+    ensures rounds { OnOk result (parts.new.rounds.items ≡ audited.now.rounds) }
+    ensures windows { OnOk result (parts.new.windows.items ≡ audited.now.windows) }
     ensures kept { OnOk result (parts.new ≡ record parts.old { reports = parts.new.reports; rounds = parts.new.rounds; windows = parts.new.windows }) }
     ensures refused { IfErr result (λ e. e ≡ Refusal.NoMemory) }
 {
-    parts.reports = copy_changes(alloc, lent.reports())?;
-    let Ok(rounds) = Vec::from_slice(alloc, lent.rounds()) else {
+    parts.reports = copy_changes(alloc, audited.reports())?;
+    let Ok(rounds) = Vec::from_slice(alloc, audited.rounds()) else {
         return Err(Refusal::NoMemory);
     };
     parts.rounds = rounds;
-    let Ok(windows) = Vec::from_slice(alloc, lent.windows()) else {
+    let Ok(windows) = Vec::from_slice(alloc, audited.windows()) else {
         return Err(Refusal::NoMemory);
     };
     parts.windows = windows;

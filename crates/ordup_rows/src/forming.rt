@@ -208,24 +208,24 @@ fn push_limits<A: Allocator + Copy>(
 pub(crate) fn push_first_rows<A: Allocator + Copy>(
     rows: &mut Writer<Vec<u8, A>>,
     column: &mut Vec<u8, A>,
-    whole: &RecordView<'_, A>,
+    audited: &RecordView<'_, A>,
 ) -> Result<(), AllocError>
     requires { IsClean rows.old }
     ensures clean { OnOk result (IsClean rows.new) }
-    ensures text { OnOk result (AddsRows rows.old rows.new (first_rows (version_for whole.now.limits) whole.now)) }
+    ensures text { OnOk result (AddsRows rows.old rows.new (first_rows (version_for audited.now.limits) audited.now)) }
 {
-    whole.keeps();
-    let entries = whole.limits().entries();
+    audited.keeps();
+    let entries = audited.limits().entries();
     let version = Version::of(entries);
-    push_head(rows, version, whole.site().as_bytes(), whole.decided())?;
-    push_objects(rows, whole.objects())?;
-    push_groups(rows, whole.objects(), whole.groups())?;
+    push_head(rows, version, audited.site().as_bytes(), audited.decided())?;
+    push_objects(rows, audited.objects())?;
+    push_groups(rows, audited.objects(), audited.groups())?;
     push_limits(
         rows,
         column,
         version,
-        whole.objects(),
-        whole.groups(),
+        audited.objects(),
+        audited.groups(),
         entries,
     )?;
     Ok(())

@@ -60,38 +60,38 @@ fn hand_out_many<A: Allocator + Copy, W: Write>(
     hand_out(rows, output)
 }
 
-/// Forms the rows of the decided update after this place.
+/// Forms the rows of the decided update with this index.
 fn push_update<A: Allocator + Copy>(
     rows: &mut Writer<Vec<u8, A>>,
     column: &mut Vec<u8, A>,
-    whole: &RecordView<'_, A>,
-    place: u64,
+    audited: &RecordView<'_, A>,
+    index: u64,
 ) -> Result<(), AllocError>
     requires clean { IsClean rows.old }
-    requires there { place < length whole.now.sets }
+    requires there { index < length audited.now.sets }
     ensures clean { OnOk result (IsClean rows.new) }
-    ensures text { OnOk result (AddsRows rows.old rows.new (counted (change_row whole.now.objects (place + 1)) 1 (get_or whole.now.sets place []))) }
+    ensures text { OnOk result (AddsRows rows.old rows.new (counted (change_row audited.now.objects (index + 1)) 1 (get_or audited.now.sets index []))) }
 {
-    whole.keeps();
-    let changes = whole.set(place + 1).changes();
-    push_set(rows, column, whole.objects(), place + 1, changes)
+    audited.keeps();
+    let changes = audited.set(index + 1).changes();
+    push_set(rows, column, audited.objects(), index + 1, changes)
 }
 
 /// Forms the rows of the decided updates, and sends most of them.
 pub(crate) fn send_sets<A: Allocator + Copy, W: Write>(
     rows: &mut Writer<Vec<u8, A>>,
     column: &mut Vec<u8, A>,
-    whole: &RecordView<'_, A>,
+    audited: &RecordView<'_, A>,
     output: &mut W,
 ) -> Result<(), WriteFault>
     requires { IsClean rows.old }
     ensures clean { OnOk result (IsClean rows.new) }
-    ensures sent { OnOk result (SendsUpto (W.contents output.old) (W.contents output.new) (unsent rows.old ++ csv_text (change_rows whole.now.objects 1 whole.now.sets)) (unsent rows.new)) }
-    ensures front { OnErr result (AppendsFront (W.contents output.old) (W.contents output.new) (unsent rows.old ++ csv_text (change_rows whole.now.objects 1 whole.now.sets))) }
+    ensures sent { OnOk result (SendsUpto (W.contents output.old) (W.contents output.new) (unsent rows.old ++ csv_text (change_rows audited.now.objects 1 audited.now.sets)) (unsent rows.new)) }
+    ensures front { OnErr result (AppendsFront (W.contents output.old) (W.contents output.new) (unsent rows.old ++ csv_text (change_rows audited.now.objects 1 audited.now.sets))) }
 {
-    whole.keeps();
-    for place in 0..whole.decided() {
-        let Ok(()) = push_update(rows, column, whole, place) else {
+    audited.keeps();
+    for index in 0..audited.decided() {
+        let Ok(()) = push_update(rows, column, audited, index) else {
             return Err(WriteFault);
         };
         hand_out_many(rows, output)?;

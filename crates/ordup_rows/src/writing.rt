@@ -34,30 +34,30 @@ const MOST_COLUMN_BYTES: usize = 64;
 /// - `refused`: where memory was refused, the writer is as it was.
 pub fn write_record<A: Allocator + Copy, W: Write>(
     alloc: A,
-    whole: &Record<A>,
+    audited: &Record<A>,
     output: &mut W,
 ) -> Result<(), RecordWriteFault>
-    ensures written { OnOk result (Appends (W.contents output.old) (W.contents output.new) (rows_text (rows_of whole.now))) }
-    ensures front { AppendsFront (W.contents output.old) (W.contents output.new) (rows_text (rows_of whole.now)) }
+    ensures written { OnOk result (Appends (W.contents output.old) (W.contents output.new) (rows_text (rows_of audited.now))) }
+    ensures front { AppendsFront (W.contents output.old) (W.contents output.new) (rows_text (rows_of audited.now)) }
     ensures refused { IfErr result (λ e. e ≡ RecordWriteFault.NoMemory → output.new ≡ output.old) }
 {
-    write_view(alloc, &whole.view(), output)
+    write_view(alloc, &audited.view(), output)
 }
 
 /// Writes a record that is lent, as [`write_record`] does: its rows go to the writer as they are formed, and its text is never
 /// held whole. The clauses are those of [`write_record`].
 pub fn write_view<A: Allocator + Copy, W: Write>(
     alloc: A,
-    whole: &RecordView<'_, A>,
+    audited: &RecordView<'_, A>,
     output: &mut W,
 ) -> Result<(), RecordWriteFault>
-    ensures written { OnOk result (Appends (W.contents output.old) (W.contents output.new) (rows_text (rows_of whole.now))) }
-    ensures front { AppendsFront (W.contents output.old) (W.contents output.new) (rows_text (rows_of whole.now)) }
+    ensures written { OnOk result (Appends (W.contents output.old) (W.contents output.new) (rows_text (rows_of audited.now))) }
+    ensures front { AppendsFront (W.contents output.old) (W.contents output.new) (rows_text (rows_of audited.now)) }
     ensures refused { IfErr result (λ e. e ≡ RecordWriteFault.NoMemory → output.new ≡ output.old) }
 {
     let mut column = Vec::new(alloc);
     let mut rows = WriterBuilder::new().from_writer(Vec::new(alloc));
-    let written = write_rows(&mut rows, &mut column, whole, output);
+    let written = write_rows(&mut rows, &mut column, audited, output);
     // By calls: where they go out of scope, the proof takes them apart.
     drop(rows);
     drop(column);
@@ -68,18 +68,18 @@ pub fn write_view<A: Allocator + Copy, W: Write>(
 fn write_rows<A: Allocator + Copy, W: Write>(
     rows: &mut Writer<Vec<u8, A>>,
     column: &mut Vec<u8, A>,
-    whole: &RecordView<'_, A>,
+    audited: &RecordView<'_, A>,
     output: &mut W,
 ) -> Result<(), RecordWriteFault>
-    ensures written { OnOk result (Appends (W.contents output.old) (W.contents output.new) (rows_text (rows_of whole.now))) }
-    ensures front { AppendsFront (W.contents output.old) (W.contents output.new) (rows_text (rows_of whole.now)) }
+    ensures written { OnOk result (Appends (W.contents output.old) (W.contents output.new) (rows_text (rows_of audited.now))) }
+    ensures front { AppendsFront (W.contents output.old) (W.contents output.new) (rows_text (rows_of audited.now)) }
     ensures refused { IfErr result (λ e. e ≡ RecordWriteFault.NoMemory → output.new ≡ output.old) }
 {
-    whole.keeps();
-    let Ok(()) = form_first_rows(rows, column, whole) else {
+    audited.keeps();
+    let Ok(()) = form_first_rows(rows, column, audited) else {
         return Err(RecordWriteFault::NoMemory);
     };
-    match send_rows(rows, column, whole, output) {
+    match send_rows(rows, column, audited, output) {
         Ok(()) => Ok(()),
         Err(_) => Err(RecordWriteFault::Write),
     }
@@ -90,33 +90,33 @@ fn write_rows<A: Allocator + Copy, W: Write>(
 fn form_first_rows<A: Allocator + Copy>(
     rows: &mut Writer<Vec<u8, A>>,
     column: &mut Vec<u8, A>,
-    whole: &RecordView<'_, A>,
+    audited: &RecordView<'_, A>,
 ) -> Result<(), AllocError>
     ensures clean { OnOk result (IsClean rows.new) }
-    ensures text { OnOk result (unsent rows.new ≡ csv_text (first_rows (version_for whole.now.limits) whole.now)) }
+    ensures text { OnOk result (unsent rows.new ≡ csv_text (first_rows (version_for audited.now.limits) audited.now)) }
 {
     let alloc = *column.allocator();
     column.reserve(MOST_COLUMN_BYTES)?;
     *rows = WriterBuilder::new().from_writer(Vec::with_capacity(alloc, MOST_UNSENT_BYTES)?);
-    push_first_rows(rows, column, whole)
+    push_first_rows(rows, column, audited)
 }
 
 /// Sends the first rows, and all further ones as they are formed.
 fn send_rows<A: Allocator + Copy, W: Write>(
     rows: &mut Writer<Vec<u8, A>>,
     column: &mut Vec<u8, A>,
-    whole: &RecordView<'_, A>,
+    audited: &RecordView<'_, A>,
     output: &mut W,
 ) -> Result<(), WriteFault>
     requires { IsClean rows.old }
-    ensures sent { OnOk result (Appends (W.contents output.old) (W.contents output.new) (unsent rows.old ++ csv_text (last_rows whole.now))) }
-    ensures front { AppendsFront (W.contents output.old) (W.contents output.new) (unsent rows.old ++ csv_text (last_rows whole.now)) }
+    ensures sent { OnOk result (Appends (W.contents output.old) (W.contents output.new) (unsent rows.old ++ csv_text (last_rows audited.now))) }
+    ensures front { AppendsFront (W.contents output.old) (W.contents output.new) (unsent rows.old ++ csv_text (last_rows audited.now)) }
 {
     hand_out(rows, output)?;
-    send_sets(rows, column, whole, output)?;
-    send_reports(rows, whole.reports(), output)?;
-    send_rounds(rows, whole.rounds(), output)?;
-    send_windows(rows, whole.windows(), output)?;
+    send_sets(rows, column, audited, output)?;
+    send_reports(rows, audited.reports(), output)?;
+    send_rounds(rows, audited.rounds(), output)?;
+    send_windows(rows, audited.windows(), output)?;
     hand_out(rows, output)?;
     Ok(())
 }

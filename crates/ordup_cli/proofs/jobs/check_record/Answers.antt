@@ -3,7 +3,7 @@ use Rattle.ordup_cli.proofs.jobs.check_record.Goals as goal
 
 pub returns-in-Ok : goal.returns-in-Ok
 returns-in-Ok g c = verdict_printed _ _ _ _ (
-  c.in-Ok.read,
+  c.in-Ok.audited,
   c.check-verdict.result,
   c.in-Ok.ensures.limited,
   c.in-Ok.ensures.read,

@@ -6,7 +6,7 @@ print_judged-printed-requires g c = called_valid _ _ c.check-verdict.ensures.few
 
 pub returns-in-Ok : goal.returns-in-Ok
 returns-in-Ok g c = lag_printed _ _ _ _ (
-  c.in-Ok.read,
+  c.in-Ok.audited,
   c.check-verdict.result,
   c.in-Ok.ensures.limited,
   c.in-Ok.ensures.read,

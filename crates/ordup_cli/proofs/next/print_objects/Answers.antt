@@ -5,7 +5,7 @@ use Rattle.ordup_cli.proofs.next.print_objects.Goals as goal
 
 pub print_declared-printed-requires : goal.print_declared-printed-requires
 print_declared-printed-requires g c =
-    let r = c.args.read.now in
+    let r = c.args.audited.now in
     let objects = c.in-Ok.objects in
     let count : length objects ≡ length r.objects =
     sym (length-map objects (λ e. e.0)) ∙ ap (λ (l : List (List ℕ)). length l) c.in-Ok.ensures.objects.names ∙ length-map r.objects (λ e. e.0) in

@@ -16,7 +16,7 @@ returns-in_err-copy_decided g c =
 
 pub returns : goal.returns
 returns g c =
-    let r = c.args.lent.now in
+    let r = c.args.audited.now in
     let declared = c.in_ok-copy_declared.ensures in
     let decided = c.in_ok-copy_decided.ensures in
     let q : RecordParts g.row.A.Denot = c.copy_decided.new.parts in

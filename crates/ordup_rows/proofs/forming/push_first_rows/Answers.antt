@@ -7,7 +7,7 @@ use Rattle.ordup_rows.proofs.forming.push_first_rows.Goals as goal
 
 pub returns-clause-text : goal.returns-clause-text
 returns-clause-text g c =
-    let r = c.args.whole.now in
+    let r = c.args.audited.now in
     let version = version_for r.limits in
     let is : c.of-version.result ≡ version = c.of-version.ensures ∙ ap version_for (c.entries-entries.ensures ∙ c.limits.ensures) in
     first_written (first_row version r.site (length r.sets)) (counted object_row 1 r.objects) (member_rows r.objects 1 r.groups)

@@ -6,12 +6,12 @@ use Rattle.ordup_rows.proofs.writing.send_rows.Goals as goal
 
 pub returns-in_err-hand_out-clause-front : goal.returns-in_err-hand_out-clause-front
 returns-in_err-hand_out-clause-front g c =
-    let text = csv_text (last_rows c.args.whole.now) in
+    let text = csv_text (last_rows c.args.audited.now) in
     stops _ _ _ _ _ text (sends_none _ (unsent c.args.rows.now ++ text)) c.in_err-hand_out.ensures.front
 
 pub returns-in_err-send_sets-clause-front : goal.returns-in_err-send_sets-clause-front
 returns-in_err-send_sets-clause-front g c =
-    let r = c.args.whole.now in
+    let r = c.args.audited.now in
     let reports = csv_text (map report_row r.reports) in
     let rounds = csv_text (counted round_row 1 r.rounds) in
     let windows = csv_text (counted window_row 1 r.windows) in
@@ -20,7 +20,7 @@ returns-in_err-send_sets-clause-front g c =
 
 pub returns-in_err-send_reports-clause-front : goal.returns-in_err-send_reports-clause-front
 returns-in_err-send_reports-clause-front g c =
-    let r = c.args.whole.now in
+    let r = c.args.audited.now in
     let reports = csv_text (map report_row r.reports) in
     let rounds = csv_text (counted round_row 1 r.rounds) in
     let windows = csv_text (counted window_row 1 r.windows) in
@@ -30,7 +30,7 @@ returns-in_err-send_reports-clause-front g c =
 
 pub returns-in_err-send_rounds-clause-front : goal.returns-in_err-send_rounds-clause-front
 returns-in_err-send_rounds-clause-front g c =
-    let r = c.args.whole.now in
+    let r = c.args.audited.now in
     let reports = csv_text (map report_row r.reports) in
     let rounds = csv_text (counted round_row 1 r.rounds) in
     let windows = csv_text (counted window_row 1 r.windows) in
@@ -41,7 +41,7 @@ returns-in_err-send_rounds-clause-front g c =
 
 pub returns-in_err-send_windows-clause-front : goal.returns-in_err-send_windows-clause-front
 returns-in_err-send_windows-clause-front g c =
-    let r = c.args.whole.now in
+    let r = c.args.audited.now in
     let reports = csv_text (map report_row r.reports) in
     let rounds = csv_text (counted round_row 1 r.rounds) in
     let windows = csv_text (counted window_row 1 r.windows) in
@@ -53,7 +53,7 @@ returns-in_err-send_windows-clause-front g c =
 
 pub returns-in_err-hand_out-2-clause-front : goal.returns-in_err-hand_out-2-clause-front
 returns-in_err-hand_out-2-clause-front g c =
-    let r = c.args.whole.now in
+    let r = c.args.audited.now in
     let reports = csv_text (map report_row r.reports) in
     let rounds = csv_text (counted round_row 1 r.rounds) in
     let windows = csv_text (counted window_row 1 r.windows) in
@@ -66,7 +66,7 @@ returns-in_err-hand_out-2-clause-front g c =
 
 pub returns-clause-sent : goal.returns-clause-sent
 returns-clause-sent g c =
-    let r = c.args.whole.now in
+    let r = c.args.audited.now in
     let reports = csv_text (map report_row r.reports) in
     let rounds = csv_text (counted round_row 1 r.rounds) in
     let windows = csv_text (counted window_row 1 r.windows) in
@@ -79,7 +79,7 @@ returns-clause-sent g c =
 
 pub returns-clause-front : goal.returns-clause-front
 returns-clause-front g c =
-    let r = c.args.whole.now in
+    let r = c.args.audited.now in
     let reports = csv_text (map report_row r.reports) in
     let rounds = csv_text (counted round_row 1 r.rounds) in
     let windows = csv_text (counted window_row 1 r.windows) in

@@ -43,7 +43,7 @@ LaterSpansKeepLimits =
 abbrev pub EmptySpansKeepLimits : Type 0
 EmptySpansKeepLimits = (h : History) (groups : GroupList) (limits : Limits) (a b : ℕ) → b ≤ a → within h groups limits a b ≡ true
 
--- the place of the first limit that the span from a to b passes
+-- the index of the first limit that the span from a to b passes
 abbrev pub first_passed : History → GroupList → Limits → ℕ → ℕ → Option ℕ
 first_passed h groups limits a b = position (λ limit. not (keeps h groups a b limit)) limits
 

@@ -1,8 +1,8 @@
 -- Sites that change one after the other, by the bits of a mask.
-use Rattle.std.proofs.Common.{◌≡◌, ℕ, ◌<◌, ◌^◌, ◌*◌, ◌%◌, ◌==◌, Bool, true, false, arith, refl, sym, ap, ◌∙◌, inl, inr, w64}
+use Rattle.std.proofs.Common.{◌≡◌, ℕ, ◌<◌, ◌^◌, ◌*◌, ◌%◌, ◌==◌, true, false, arith, sym, ap, ◌∙◌, inl, inr, w64}
 use Rattle.std.specs.Int.{bit_at, bit_not}
 use mir.Val.{bits}
-use Rattle.std.proofs.lemmas.Bool.{cases_eq, cases_lt, eqb-true, false≢true}
+use Rattle.std.proofs.lemmas.Bool.{cases_eq, cases_lt, false≢true}
 use Rattle.std.proofs.lemmas.Nat.Bits.{bit_at_above, bit_at_and, bit_at_clear_same, bit_at_clear_other}
 use Rattle.ordup_limits.proofs.MaskLemmas.{cleared}
 

@@ -1,6 +1,5 @@
-use Rattle.std.proofs.Common.{arith, ap, sym, refl, inl, inr, ◌∙◌, ◌≡◌, ◌<◌, length, true, false, w64}
+use Rattle.std.proofs.Common.{arith, ap, sym, refl, inl, inr, ◌∙◌, ◌≡◌, ◌<◌, length, w64}
 use Rattle.std.specs.Int.{bit_at, trailing_zeros}
-use Rattle.std.specs.Prelude.{◌==◌}
 use Rattle.std.proofs.Math.Facts.{Fits-lt-pow}
 use Rattle.std.proofs.Math.ListN.{length-set}
 use Rattle.std.proofs.Math.Seq.{map-set_same}

@@ -1,9 +1,7 @@
-use Rattle.std.proofs.Common.{refl, rules, subst, sym, ◌≡◌}
-use Rattle.std.specs.Prelude.{None}
+use Rattle.std.proofs.Common.{refl, rules}
 use Rattle.std.proofs.lemmas.Result.{on_ok_weaker, on_err_weaker}
 use Rattle.ordup_objects.specs.Sets.{IsSet}
-use Rattle.ordup_objects.specs.Serial.{History, with_update}
-use Rattle.ordup_log.specs.Appending.{append_refusal}
+use Rattle.ordup_objects.specs.Serial.{History}
 use Rattle.ordup_primary.specs.PrimaryInside.{state_of, KeepsPrimary}
 use Rattle.ordup_primary.proofs.PrimaryLemmas.{IsPrimary-proposed, kept-appended}
 use Rattle.ordup_primary.proofs.LedgerLemmas.{AreLedgers-proposed}

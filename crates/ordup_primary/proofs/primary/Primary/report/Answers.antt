@@ -1,4 +1,4 @@
-use Rattle.std.proofs.Common.{arith, refl, ap, sym, true, ◌<◌, ◌^◌, ◌*◌, ◌%◌, ◌∙◌}
+use Rattle.std.proofs.Common.{arith, refl, ap, sym, ◌<◌, ◌^◌, ◌*◌, ◌%◌, ◌∙◌}
 use Rattle.std.specs.Int.RustNames.{bit_or}
 use Rattle.std.proofs.lemmas.Bool.{eq-eqb, ne_eqb, false≢true}
 use Rattle.std.proofs.lemmas.Grind.{common_steps}

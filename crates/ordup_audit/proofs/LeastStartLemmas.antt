@@ -11,7 +11,7 @@ use Rattle.ordup_log.proofs.SpanLemmas.{span-inner}
 use Rattle.ordup_rounds.specs.Schedules.{IsLimitTest}
 use Rattle.ordup_limits.specs.Entries.{latest}
 use Rattle.ordup_limits.specs.Ledgers.{LedgerState, StandsFor, StandsAt}
-use Rattle.ordup_limits.specs.Limits.{keeps, Limits, within}
+use Rattle.ordup_limits.specs.Limits.{keeps_limit, Limits, within}
 use Rattle.ordup_limits.proofs.EntryLemmas.{in_force-first}
 use Rattle.ordup_limits.proofs.LimitLemmas.{within-empty, within-later}
 use Rattle.ordup_audit.specs.Beginning.{HaveBegun}
@@ -22,9 +22,9 @@ within-earlier : (h : History) (groups : GroupList) (limits : Limits) (a b c : �
     → within h groups limits a c ≡ true → within h groups limits a b ≡ true
 within-earlier h groups [] a b c le is = refl
 within-earlier h groups (limit ∷ limits) a b c le is =
-    let both : keeps h groups a c limit ≡ true × within h groups limits a c ≡ true = and_parts _ _ is in
+    let both : keeps_limit h groups a c limit ≡ true × within h groups limits a c ≡ true = and_parts _ _ is in
     let most : span h groups limit.scope a c ≤ limit.amount = leb-true (span h groups limit.scope a c) limit.amount both.0 in
-    let first : keeps h groups a b limit ≡ true =
+    let first : keeps_limit h groups a b limit ≡ true =
     le-leb (span h groups limit.scope a b) limit.amount
     (omega (arith, span-inner h groups limit.scope a a b c (omega arith) le, most)) in
     rw (first, within-earlier h groups limits a b c le both.1) refl

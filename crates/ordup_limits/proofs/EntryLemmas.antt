@@ -24,7 +24,7 @@ use Rattle.ordup_log.specs.declared.scope.Scope.TheVariants.{Object, Group, All 
 use Rattle.ordup_objects.specs.Repeats.{repeats}
 use Rattle.ordup_limits.specs.declared.limit.Limit.{Limit}
 use Rattle.ordup_limits.specs.declared.limit_entry.LimitEntry.{LimitEntry}
-use Rattle.ordup_limits.specs.Limits.{Limits, is_same_scope, are_on_one_scope, AreScopesKnown, keeps, within, scope_refusal}
+use Rattle.ordup_limits.specs.Limits.{Limits, is_same_scope, are_on_one_scope, AreScopesKnown, keeps_limit, within, scope_refusal}
 use Rattle.ordup_limits.specs.Entries.{change_refusal}
 use Rattle.ordup_limits.specs.Entries.{Entries, put, latest, in_force, are_one_entry, changed, has_few, HoldFrom, AreEntries}
 use Rattle.ordup_limits.specs.Entries.{AreEntriesKnown, LimitsInForceAreTests, LimitsInForceKeepTheirNumbers}
@@ -412,10 +412,10 @@ change-allowed n groups entries e allowed =
 
 -- limits that a span keeps, with one more that it keeps
 pub within-put : (h : History) (groups : GroupList) (limits : Limits) (l : Limit) (a b : ℕ) → within h groups limits a b ≡ true
-    → keeps h groups a b l ≡ true → within h groups (put are_on_one_scope limits l) a b ≡ true
+    → keeps_limit h groups a b l ≡ true → within h groups (put are_on_one_scope limits l) a b ≡ true
 within-put h groups [] l a b all here = rw here refl
 within-put h groups (m ∷ limits) l a b all here =
-    let parts = and_parts (keeps h groups a b m) (within h groups limits a b) all in
+    let parts = and_parts (keeps_limit h groups a b m) (within h groups limits a b) all in
     elim (cases_Bool (is_same_scope m.scope l.scope)) [
       | inl same ↦ rw same (rw (here, parts.1) refl)
       | inr other ↦ rw other (rw (parts.0, within-put h groups limits l a b parts.1 here) refl)

@@ -13,7 +13,7 @@ use Rattle.ordup_log.specs.declared.scope.Scope.TheVariants.{Object, Group, All 
 use Rattle.ordup_log.proofs.MostLemmas.{span-object-most, span-group-most}
 use Rattle.ordup_log.proofs.SpanLemmas.{span-inner, span-longer, span-count}
 use Rattle.ordup_limits.specs.declared.limit.Limit.{Limit}
-use Rattle.ordup_limits.specs.Limits.{Limits, keeps, within, first_passed}
+use Rattle.ordup_limits.specs.Limits.{Limits, keeps_limit, within, first_passed}
 use Rattle.ordup_limits.specs.Limits.{LongerHistoriesKeepLimits, LaterSpansKeepLimits, EmptySpansKeepLimits}
 
 -- an empty span weighs nothing, so it keeps each limit
@@ -25,60 +25,60 @@ within-empty h groups (limit ∷ limits) a b le =
     rw (none, le-leb 0 limit.amount (omega arith), rest) refl
 
 none_passed : (h : History) (groups : GroupList) (limits : Limits) (a b : ℕ) → within h groups limits a b ≡ true
-    → length limits ≤ position_or_len (λ limit. not (keeps h groups a b limit)) limits
+    → length limits ≤ position_or_len (λ limit. not (keeps_limit h groups a b limit)) limits
 none_passed h groups [] a b is = omega arith
 none_passed h groups (limit ∷ limits) a b is =
-    let both : keeps h groups a b limit ≡ true × within h groups limits a b ≡ true = and_parts _ _ is in
+    let both : keeps_limit h groups a b limit ≡ true × within h groups limits a b ≡ true = and_parts _ _ is in
     rw both.0 (omega (arith, none_passed h groups limits a b both.1))
 
 -- where a span keeps each limit, it passes none first
 pub first_passed-within : (h : History) (groups : GroupList) (limits : Limits) (a b : ℕ) → within h groups limits a b ≡ true
     → None ≡ first_passed h groups limits a b
 first_passed-within h groups limits a b is =
-    rw (le-ltb (position_or_len (λ limit. not (keeps h groups a b limit)) limits) (length limits) (none_passed h groups limits a b is))
+    rw (le-ltb (position_or_len (λ limit. not (keeps_limit h groups a b limit)) limits) (length limits) (none_passed h groups limits a b is))
     refl
 
 -- the first limit that is not kept, after such that are
 passed_at : (h : History) (groups : GroupList) (limits : Limits) (a b i : ℕ) (d : Limit) → i < length limits
-    → within h groups (take i limits) a b ≡ true → keeps h groups a b (get_or limits i d) ≡ false
-    → position_or_len (λ limit. not (keeps h groups a b limit)) limits ≡ i
+    → within h groups (take i limits) a b ≡ true → keeps_limit h groups a b (get_or limits i d) ≡ false
+    → position_or_len (λ limit. not (keeps_limit h groups a b limit)) limits ≡ i
 passed_at h groups [] a b i d lt before over = absurd (omega arith)
 passed_at h groups (limit ∷ limits) a b zero d lt before over = rw over refl
 passed_at h groups (limit ∷ limits) a b (suc i) d lt before over =
-    let both : keeps h groups a b limit ≡ true × within h groups (take i limits) a b ≡ true = and_parts _ _ before in
+    let both : keeps_limit h groups a b limit ≡ true × within h groups (take i limits) a b ≡ true = and_parts _ _ before in
     rw both.0 (omega (arith, passed_at h groups limits a b i d (omega arith) both.1 over))
 
 -- it is the first that the span passes
 pub first_passed-at : (h : History) (groups : GroupList) (limits : Limits) (a b i : ℕ) (d : Limit) → i < length limits
-    → within h groups (take i limits) a b ≡ true → keeps h groups a b (get_or limits i d) ≡ false
+    → within h groups (take i limits) a b ≡ true → keeps_limit h groups a b (get_or limits i d) ≡ false
     → Some i ≡ first_passed h groups limits a b
 first_passed-at h groups limits a b i d lt before over =
     let at = passed_at h groups limits a b i d lt before over in
-    let here : nat_lt (position_or_len (λ limit. not (keeps h groups a b limit)) limits) (length limits) ≡ true =
+    let here : nat_lt (position_or_len (λ limit. not (keeps_limit h groups a b limit)) limits) (length limits) ≡ true =
     rw at (lt-ltb i (length limits) lt) in
     rw (here, at) refl
 
 -- so the span does not keep all
 pub passed-not_within : (h : History) (groups : GroupList) (limits : Limits) (a b i : ℕ) (d : Limit) → i < length limits
-    → keeps h groups a b (get_or limits i d) ≡ false
+    → keeps_limit h groups a b (get_or limits i d) ≡ false
     → (true ≡ false → IsTrue (within h groups limits a b)) × (IsTrue (within h groups limits a b) → true ≡ false)
 passed-not_within h groups limits a b i d lt over =
-    let not_all : within h groups limits a b ≡ false = list_all_at (keeps h groups a b) limits i d lt over in
+    let not_all : within h groups limits a b ≡ false = list_all_at (keeps_limit h groups a b) limits i d lt over in
     (λ e. absurd (false≢true (sym e)), λ is. sym is ∙ not_all)
 
 -- one limit more that is kept
 pub within-more : (h : History) (groups : GroupList) (limits : Limits) (a b i : ℕ) (d : Limit) → i < length limits
-    → within h groups (take i limits) a b ≡ true → keeps h groups a b (get_or limits i d) ≡ true
+    → within h groups (take i limits) a b ≡ true → keeps_limit h groups a b (get_or limits i d) ≡ true
     → within h groups (take (i + 1) limits) a b ≡ true
-within-more h groups limits a b i d lt before here = rw (list_all_more (keeps h groups a b) limits i d lt, before, here) refl
+within-more h groups limits a b i d lt before here = rw (list_all_more (keeps_limit h groups a b) limits i d lt, before, here) refl
 
 -- the limits that a later span passes, the longer one passes too
 pub within-later : LaterSpansKeepLimits
 within-later h groups [] a b c later is = refl
 within-later h groups (limit ∷ limits) a b c later is =
-    let both : keeps h groups a c limit ≡ true × within h groups limits a c ≡ true = and_parts _ _ is in
+    let both : keeps_limit h groups a c limit ≡ true × within h groups limits a c ≡ true = and_parts _ _ is in
     let most : span h groups limit.scope a c ≤ limit.amount = leb-true (span h groups limit.scope a c) limit.amount both.0 in
-    let first : keeps h groups b c limit ≡ true =
+    let first : keeps_limit h groups b c limit ≡ true =
     le-leb (span h groups limit.scope b c) limit.amount
     (omega (arith, span-inner h groups limit.scope a b c c later (omega arith), most)) in
     rw (first, within-later h groups limits a b c later both.1) refl
@@ -91,7 +91,7 @@ within-longer h more groups (limit ∷ limits) a b le =
 
 -- a limit on the count of updates
 pub keeps-count : (h : History) (groups : GroupList) (a b : ℕ) (limit : Limit) → limit.scope ≡ Count
-    → nat_le (b - a) limit.amount ≡ keeps h groups a b limit
+    → nat_le (b - a) limit.amount ≡ keeps_limit h groups a b limit
 keeps-count h groups a b limit count = rw (count, span-count h groups a b) refl
 
 -- a limit of no less than all objects weigh is kept
@@ -106,7 +106,7 @@ kept_by_all h groups Count a b amount are known forward last all other = absurd 
 
 pub keeps-all : (h : History) (groups : GroupList) (a b : ℕ) (limit : Limit) → All (λ g. IsGroup g.1) groups
     → IsScopeKnown (length h.start) groups limit.scope → a ≤ b → b ≤ length h.sets
-    → span h groups Everything a b ≤ limit.amount → (limit.scope ≡ Count → ⊥) → true ≡ keeps h groups a b limit
+    → span h groups Everything a b ≤ limit.amount → (limit.scope ≡ Count → ⊥) → true ≡ keeps_limit h groups a b limit
 keeps-all h groups a b limit are known forward last all other =
     sym (le-leb (span h groups limit.scope a b) limit.amount
     (kept_by_all h groups limit.scope a b limit.amount are known forward last all other))

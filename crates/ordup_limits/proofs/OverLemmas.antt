@@ -23,7 +23,7 @@ use Rattle.ordup_log.specs.declared.scope.Scope.TheVariants.{Object, Group, All 
 use Rattle.ordup_log.proofs.SpanLemmas.{span-inner, span-longer}
 use Rattle.ordup_limits.specs.declared.limit.Limit.{Limit}
 use Rattle.ordup_limits.specs.Entries.{put}
-use Rattle.ordup_limits.specs.Limits.{Limits, are_on_one_scope, is_same_scope, keeps, within}
+use Rattle.ordup_limits.specs.Limits.{Limits, are_on_one_scope, is_same_scope, keeps_limit, within}
 use Rattle.ordup_limits.specs.SiteLedgers.{allowed, amount_on, may_weigh, most_scopes, scope_index, AreOver, AreWeights, HasLimits}
 use Rattle.ordup_limits.specs.SiteLedgers.{LedgersState, SiteLedgerState, StandFor, WeightsAt}
 use Rattle.ordup_limits.specs.Sizes.{greatest_amount}
@@ -125,7 +125,7 @@ passes h legal groups are limits site scope place has known last few over =
           let same : l.scope ≡ scope = (found.1.1 d).0 in
           let more : l.amount < span h groups scope site.reported.place place =
           omega (arith, over, most, last, few, amount, (found.1.1 d).1, span-difference h groups scope site.reported.place place) in
-          list_all_at (keeps h groups site.reported.place place) limits i d found.1.0
+          list_all_at (keeps_limit h groups site.reported.place place) limits i d found.1.0
           (keeps-false h groups site.reported.place place l (rw same more)))
       | inr none ↦ absurd (omega (arith, over, most, last, few, amount, none))
     ]
@@ -133,9 +133,9 @@ passes h legal groups are limits site scope place has known last few over =
 -- a limit that the span keeps
 keeps-at : (h : History) (groups : GroupList) (limits : Limits) (a b i : ℕ) (d : Limit) → i < length limits
     → within h groups limits a b ≡ true → span h groups (get_or limits i d).scope a b ≤ (get_or limits i d).amount
-keeps-at h groups limits a b i d lt is = elim (cases_Bool (keeps h groups a b (get_or limits i d))) [
+keeps-at h groups limits a b i d lt is = elim (cases_Bool (keeps_limit h groups a b (get_or limits i d))) [
   | inl kept ↦ leb-true (span h groups (get_or limits i d).scope a b) (get_or limits i d).amount kept
-  | inr not_kept ↦ absurd (false≢true (sym (list_all_at (keeps h groups a b) limits i d lt not_kept) ∙ is))
+  | inr not_kept ↦ absurd (false≢true (sym (list_all_at (keeps_limit h groups a b) limits i d lt not_kept) ∙ is))
 ]
 
 -- A mask tells of a site whether the update at a place takes it over a limit, where it was over none before it.
@@ -152,7 +152,7 @@ over-exact h legal groups are place mask sites some last few over s d limits lt 
       | inl bit ↦ (let found = over.some s d lt bit in
           rw (bit, passes h legal groups are limits site found.0 place has found.1.0 last few found.1.1) refl)
       | inr none ↦ (let all : within h groups limits a place ≡ true =
-          list_all-from_AllPass (keeps h groups a place) limits
+          list_all-from_AllPass (keeps_limit h groups a place) limits
           (λ i e below. (let l = get_or limits i e in
           let known = has.known i e below in
           let amount = has.amounts l.scope known ∙ amount_on-at limits i e has.distinct below in

@@ -18,7 +18,7 @@ use Rattle.ordup_log.specs.declared.scope.Scope.{Scope}
 use Rattle.ordup_log.specs.declared.scope.Scope.TheVariants.{Object, Group, All as Everything, Count}
 use Rattle.ordup_log.proofs.SpanLemmas.{span-count}
 use Rattle.ordup_limits.specs.declared.limit.Limit.{Limit}
-use Rattle.ordup_limits.specs.Limits.{Limits, keeps, within}
+use Rattle.ordup_limits.specs.Limits.{Limits, keeps_limit, within}
 use Rattle.ordup_limits.specs.Ledgers.{LedgerState, IsLedger, StandsFor}
 use Rattle.ordup_limits.specs.PassedLimits.{no_limit, least_with, least_count, ArePassed}
 use Rattle.ordup_limits.specs.Sizes.{most_limits, greatest_amount}
@@ -99,8 +99,8 @@ least-passed test u n (l ∷ limits) fails most above = elim (cases_lt (least_wi
 
 -- a span that is heavier than an amount does not keep the limit
 pub keeps-false : (h : History) (groups : GroupList) (a b : ℕ) (l : Limit) → l.amount < span h groups l.scope a b
-    → keeps h groups a b l ≡ false
-keeps-false h groups a b l lt = elim (cases_Bool (keeps h groups a b l)) [
+    → keeps_limit h groups a b l ≡ false
+keeps-false h groups a b l lt = elim (cases_Bool (keeps_limit h groups a b l)) [
   | inl kept ↦ absurd (omega (arith, lt, leb-true (span h groups l.scope a b) l.amount kept))
   | inr not_kept ↦ not_kept
 ]
@@ -172,12 +172,12 @@ pub within-passed : (l : LedgerState) (passed count : ℕ) → IsLedger l → pa
 within-passed l passed count is fits least are h groups stands = elim (cases_eq passed 0) [
   | inl none ↦ elim (cases_lt count (l.extended - l.reported)) [
     | inl lt ↦ (let over : within h groups l.limits l.reported l.extended ≡ false =
-        least-passed (keeps h groups l.reported l.extended) (l.extended - l.reported) most_updates l.limits
+        least-passed (keeps_limit h groups l.reported l.extended) (l.extended - l.reported) most_updates l.limits
         (λ m on less. keeps-false h groups l.reported l.extended m
         (rw on (omega (arith, less, span-count h groups l.reported l.extended)))) (omega (arith, is.last)) (rw least at lt) in
         rw (none, lt-ltb count (l.extended - l.reported) lt, over) refl)
     | inr le ↦ (let all : within h groups l.limits l.reported l.extended ≡ true =
-        list_all-from_AllPass (keeps h groups l.reported l.extended) l.limits
+        list_all-from_AllPass (keeps_limit h groups l.reported l.extended) l.limits
         (λ i d lt. (let m = get_or l.limits i no_limit in
         let kept : get_or l.added i 0 ≤ get_or l.allowed i 0 =
         elim (cases_lt (get_or l.allowed i 0) (get_or l.added i 0)) [
@@ -189,7 +189,7 @@ within-passed l passed count is fits least are h groups stands = elim (cases_eq 
         span-allowed h groups m.scope l.reported l.extended m.amount (get_or l.added i 0) (get_or l.allowed i 0)
         (stands.added.each i no_limit lt) (stands.allowed.each i no_limit lt)
         (λ on. (let low = least-at most_updates l.limits i no_limit lt on in omega (arith, low, le, least))) kept in
-        ap (keeps h groups l.reported l.extended) (get_or_default l.limits i d no_limit lt)
+        ap (keeps_limit h groups l.reported l.extended) (get_or_default l.limits i d no_limit lt)
         ∙ le-leb (span h groups m.scope l.reported l.extended) m.amount weight)) in
         rw (none, le-ltb count (l.extended - l.reported) le, all) refl)
   ]
@@ -204,7 +204,7 @@ within-passed l passed count is fits least are h groups stands = elim (cases_eq 
       ] in
       let m = get_or l.limits z no_limit in
       let over : within h groups l.limits l.reported l.extended ≡ false =
-      list_all_at (keeps h groups l.reported l.extended) l.limits z no_limit lt
+      list_all_at (keeps_limit h groups l.reported l.extended) l.limits z no_limit lt
       (keeps-false h groups l.reported l.extended m
       (span-passed h groups m.scope l.reported l.extended m.amount (get_or l.added z 0) (get_or l.allowed z 0)
       (stands.added.each z no_limit lt) (stands.allowed.each z no_limit lt) (stands.added.few z) is.last more)) in

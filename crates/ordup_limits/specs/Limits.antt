@@ -19,12 +19,12 @@ abbrev pub Limits : Type 0
 Limits = List Limit
 
 -- a span keeps a limit where it weighs no more than the amount
-abbrev pub keeps : History → GroupList → ℕ → ℕ → Limit → Bool
-keeps h groups a b limit = nat_le (span h groups limit.scope a b) limit.amount
+abbrev pub keeps_limit : History → GroupList → ℕ → ℕ → Limit → Bool
+keeps_limit h groups a b limit = nat_le (span h groups limit.scope a b) limit.amount
 
 -- the span from a to b passes no limit
 abbrev pub within : History → GroupList → Limits → ℕ → ℕ → Bool
-within h groups limits a b = list_all (keeps h groups a b) limits
+within h groups limits a b = list_all (keeps_limit h groups a b) limits
 
 -- updates that are added later leave it as it was whether a span passes a limit
 abbrev pub LongerHistoriesKeepLimits : Type 0
@@ -45,7 +45,7 @@ EmptySpansKeepLimits = (h : History) (groups : GroupList) (limits : Limits) (a b
 
 -- the index of the first limit that the span from a to b passes
 abbrev pub first_passed : History → GroupList → Limits → ℕ → ℕ → Option ℕ
-first_passed h groups limits a b = position (λ limit. not (keeps h groups a b limit)) limits
+first_passed h groups limits a b = position (λ limit. not (keeps_limit h groups a b limit)) limits
 
 -- why a scope over n objects and these groups is refused, if it is
 abbrev pub scope_refusal : ℕ → GroupList → Scope → Option Refusal

@@ -2,7 +2,7 @@ ghost use Rattle.std.specs.Prelude.{◌≡◌, ◌≤◌, ◌<◌, ◌↔◌, �
 ghost use Rattle.std.specs.List.{list_any};
 ghost use Rattle.ordup_objects.specs.Refusals.{IsRefusal};
 ghost use Rattle.ordup_log.specs.Spans.{span, IsScopeKnown};
-ghost use Rattle.ordup_limits.specs.Limits.{scope_refusal, limit_refusal, is_same_scope, keeps, within, first_passed, AreScopesKnown};
+ghost use Rattle.ordup_limits.specs.Limits.{scope_refusal, limit_refusal, is_same_scope, keeps_limit, within, first_passed, AreScopesKnown};
 ghost use Rattle.ordup_limits.specs.Entries.{entry_of, changed, change_refusal, from_start, in_force, latest, HoldFrom, AreEntries, AreEntriesKnown};
 
 use crate::entries::{has_room, hold_from, in_force, put_entry};
@@ -259,7 +259,7 @@ fn first_passed<A: Allocator + Copy>(
 {
     let mut all = None;
     for (index, limit) in limits.iter().enumerate() {
-        if !keeps(log, groups, from, to, &mut all, *limit) {
+        if !keeps_limit(log, groups, from, to, &mut all, *limit) {
             return Some(index);
         }
     }
@@ -270,7 +270,7 @@ fn first_passed<A: Allocator + Copy>(
 ///
 /// No object and no group weighs more than all objects do, so most limits are kept without a sum of their own. What all
 /// objects weigh is added up where a limit first asks for it.
-fn keeps<A: Allocator + Copy>(
+fn keeps_limit<A: Allocator + Copy>(
     log: &Log<A>,
     groups: &Groups<A>,
     from: u64,
@@ -282,7 +282,7 @@ fn keeps<A: Allocator + Copy>(
     requires last { to ≤ length log.now.sets }
     requires known { IsScopeKnown (length log.now.start) groups.now limit.scope }
     requires all { IfSome all.old (λ weight. weight ≡ span log.now groups.now Scope.All from to) }
-    ensures kept { result ≡ keeps log.now groups.now from to limit }
+    ensures kept { result ≡ keeps_limit log.now groups.now from to limit }
     ensures all { IfSome all.new (λ weight. weight ≡ span log.now groups.now Scope.All from to) }
 {
     groups.keeps();

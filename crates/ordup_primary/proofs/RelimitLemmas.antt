@@ -14,7 +14,7 @@ use Rattle.ordup_log.specs.Spans.{span, IsScopeKnown}
 use Rattle.ordup_log.specs.declared.scope.Scope.{Scope}
 use Rattle.ordup_rounds.proofs.RoundLemmas.{rounds_upto-same, windows_upto-same}
 use Rattle.ordup_limits.specs.declared.limit_entry.LimitEntry.{LimitEntry}
-use Rattle.ordup_limits.specs.Limits.{Limits, keeps, within, are_on_one_scope}
+use Rattle.ordup_limits.specs.Limits.{Limits, within, are_on_one_scope}
 use Rattle.ordup_limits.specs.Entries.{entry_of, put, latest, in_force, are_one_entry, changed, change_refusal, HoldFrom, AreEntries}
 use Rattle.ordup_limits.specs.Entries.{AreEntriesKnown}
 use Rattle.ordup_limits.specs.SiteLedgers.{HasLimits, LedgersState, SiteLedgerState, StandFor, WeightsAt}

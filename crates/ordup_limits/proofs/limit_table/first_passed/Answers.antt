@@ -1,14 +1,14 @@
 use Rattle.std.proofs.Common.{arith, sym, ◌≡◌, false, true, get_or}
 use Rattle.std.proofs.lemmas.List.{take_all}
-use Rattle.ordup_limits.specs.Limits.{keeps}
+use Rattle.ordup_limits.specs.Limits.{keeps_limit}
 use Rattle.ordup_limits.proofs.LimitLemmas.{first_passed-within, first_passed-at, passed-not_within, within-more}
 use Rattle.ordup_limits.proofs.limit_table.first_passed.Goals as goal
 
-pub returns-then-not-keeps : goal.returns-then-not-keeps
-returns-then-not-keeps g c =
-    let over : keeps c.args.log.now c.args.groups.now c.args.from c.args.to
+pub returns-then-not-keeps_limit : goal.returns-then-not-keeps_limit
+returns-then-not-keeps_limit g c =
+    let over : keeps_limit c.args.log.now c.args.groups.now c.args.from c.args.to
     (get_or c.args.limits.now c.loop-index.index c.index-limits-index.result) ≡ false =
-    rw (← c.index-limits-index.is) (sym c.if-not-keeps.ensures.kept) in
+    rw (← c.index-limits-index.is) (sym c.if-not-keeps_limit.ensures.kept) in
     record {
       over = first_passed-at c.args.log.now c.args.groups.now c.args.limits.now c.args.from c.args.to
           c.loop-index.index c.index-limits-index.result (omega arith) c.loop-index.invariant.kept over;
@@ -18,13 +18,13 @@ returns-then-not-keeps g c =
 
 pub loop-index-preserved : goal.loop-index-preserved
 loop-index-preserved g c =
-    let kept : keeps c.args.log.now c.args.groups.now c.args.from c.args.to
+    let kept : keeps_limit c.args.log.now c.args.groups.now c.args.from c.args.to
     (get_or c.args.limits.now c.loop-index.index c.index-limits-index.result) ≡ true =
-    rw (← c.index-limits-index.is) (sym c.if-not-keeps.ensures.kept) in
+    rw (← c.index-limits-index.is) (sym c.if-not-keeps_limit.ensures.kept) in
     record {
       kept = within-more c.args.log.now c.args.groups.now c.args.limits.now c.args.from c.args.to
           c.loop-index.index c.index-limits-index.result (omega arith) c.loop-index.invariant.kept kept;
-      all = c.if-not-keeps.ensures.all;
+      all = c.if-not-keeps_limit.ensures.all;
     }
 
 pub returns-clause-over : goal.returns-clause-over

@@ -1,7 +1,7 @@
 use Rattle.std.proofs.Common.{◌∙◌, arith, inl, inr}
 use Rattle.std.proofs.lemmas.Bool.{le-leb}
 use Rattle.ordup_limits.proofs.LimitLemmas.{keeps-all, keeps-count}
-use Rattle.ordup_limits.proofs.limit_table.keeps.Goals as goal
+use Rattle.ordup_limits.proofs.limit_table.keeps_limit.Goals as goal
 
 pub returns-in-Count-clause-kept : goal.returns-in-Count-clause-kept
 returns-in-Count-clause-kept g c = keeps-count c.args.log.now c.args.groups.now c.args.from c.args.to c.args.limit c.in-Count.is

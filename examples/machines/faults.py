@@ -149,11 +149,14 @@ class Faults:
         self.restart(writer, 0.1, 0.5)
 
     def cut_site_at_a_join(self):
-        """A site that may lag. The epoch may not end before it is back."""
-        site = self.chance.choice(["south", "east", "west"])
-        self.deployment.hosts("cut", site)
-        self.pause(0.2, 0.5)
-        self.trial.ask(lambda engine: engine.create("next", self.trial.wanted()))
+        """A site that may lag, and that the head does not wait for. The epoch may not end before it is back."""
+        site = self.chance.choice([name for name in ("south", "east", "west") if name not in self.trial.out])
+        with self.trial.alone():
+            self.deployment.hosts("cut", site)
+            for _ in range(3):
+                self.trial.propose_alone("add:tea:1")
+            self.trial.ask(lambda engine: engine.create("next", self.trial.wanted()))
+        # Its lease lives, so it is read.
         self.pause(1, 2)
         self.deployment.hosts("mend", site)
 

@@ -43,6 +43,10 @@ MISTAKES = {
             '    return [line for line in lines if is_command(line)] + ["start"]\n\n\ndef archive(members, folder, first):\n',
         ),
     ],
+    # The next epoch begins once all is acknowledged.
+    "goes_over_before_all_have_told": [
+        ("primary.py", "{self.acknowledged, *self.applied.values()} == {self.updates}", "self.acknowledged == self.updates"),
+    ],
     # Two processes of a site serve readers, since neither asks for the lease.
     "serves_without_the_lease": [
         ("replica.py", "not self.lease.lives() or ", ""),

@@ -33,10 +33,14 @@ from ordup import Acked, Applied, Declared, Proposed, Settled, Store
 
 # A turn takes at most so many requests, and so many updates that sites told. So it fits into a transaction of 1.5 MB.
 REQUESTS, TOLD = 200, 5000
+# It tells so many answers. A request may have one key that goes and one that says that it came late, which goes too in the end.
+ANSWERS = streams.OPERATIONS - 3 * REQUESTS - 2
 # A turn asks for at most so many acknowledgements, so many at once.
 SETTLED, AT_ONCE = 5000, 50
 # The end of an epoch begins once each site is missing no more updates than so many.
 NEAR = 1000
+# What sites told, and nobody waits for, is written with the next request, or so many seconds after the last entry.
+LATER = 0.1
 
 # The line by which this process takes over.
 OWN = f"# primary {socket.gethostname()} {os.getpid()} {time.time_ns()}"
@@ -60,8 +64,9 @@ class Primary:
     def forget(self):
         """Forgets what it ran. Then it begins with the last epoch."""
         self.epoch, self.entries, self.writer = 0, 0, ""
-        # For each client the number of its last request that was taken, and its last answer that is not in the engine.
-        self.taken, self.due = {}, {}
+        # For each client the number of its last request that was taken, and its last answer that is not in the engine. Then
+        # the clients that were told that a request came after a later one.
+        self.taken, self.due, self.late = {}, {}, set()
         self.begin(0)
 
     def begin(self, epoch):
@@ -77,8 +82,8 @@ class Primary:
         self.round, self.waits_since = (), None
         # For each site how many updates it has applied, its rounds, and when it told last. Then the sites that are taken out.
         self.applied, self.rounds, self.heard, self.leaving = {}, {}, {}, set()
-        # The last declarations of the operator that were looked at.
-        self.looked_at = ""
+        # The last declarations of the operator that were looked at, and when the last entry was written.
+        self.looked_at, self.wrote = "", 0
 
     def end(self):
         if self.store:
@@ -127,50 +132,72 @@ class Primary:
                 # The primary before was faster, or a write of it was late. So run that too.
                 self.forget()
         # What was answered in epochs before is known from the answers alone.
-        for client, answer in self.engine.read("answer/")[0].items():
-            client, number = client[len("answer/") :], int(answer.split(" ", 1)[0])
+        for key, answer in self.engine.read("answer/")[0].items():
+            _, client, *late = key.split("/")
+            if late:
+                self.late.add(client)
+                continue
+            number = int(answer.split(" ", 1)[0])
             self.taken[client] = max(number, self.taken.get(client, 0))
             if client in self.due and self.due[client][0] <= number:
                 del self.due[client]
         epochs.archive(self.words.engine, self.words.archive, self.first)
 
     def turn(self):
-        """Takes what is asked and told, runs it, and writes it with what comes of it. Returns whether there was anything."""
+        """Takes what is asked and told, runs it, and writes it with what comes of it.
+
+        Returns for how many seconds there is nothing to do, where nothing comes.
+        """
         serving, wanted = self.view.under("site/"), self.view.under("next").get("")
-        deletes = []
+        late, deletes = {}, []
         if wanted and wanted != self.looked_at and not self.may_follow(wanted):
             deletes, wanted = ["next"], None
-        lines = self.reports(serving)
-        ends = self.ends(serving, wanted, lines)
+        places = self.places(serving)
+        lines = self.reports(places)
+        told = len(lines)
+        ends = self.ends(wanted, lines)
         if not ends:
-            self.take(lines, deletes)
+            self.take(lines, late, deletes)
+        somebody_waits = ends or deletes or self.due or len(lines) > told or self.may_settle(places)
+        if not somebody_waits and streams.now() < self.wrote + LATER:
+            return LATER
         self.run(lines)
         lines += self.settle()
         if ends and not lines and not self.due and {self.acknowledged, *self.applied.values()} == {self.updates}:
             self.go_over(wanted)
-            return True
-        told = dict(islice(self.due.items(), streams.OPERATIONS - 1 - len(deletes)))
+            return 0
+        told = dict(islice(self.due.items(), ANSWERS))
         if not (lines or deletes or told):
-            return False
-        self.write(lines, {f"answer/{client}": f"{number} {answer}" for client, (number, answer) in told.items()}, deletes)
+            return 1
+        puts = {f"answer/{client}": f"{number} {answer}" for client, (number, answer) in told.items()}
+        puts |= {f"answer/{client}/{number}": f"after {last}" for (client, number), last in late.items() if client not in told}
+        past = list(islice(self.late & set(told), REQUESTS))
+        self.write(lines, puts, deletes + [f"answer/{client}/" for client in past])
+        self.late = self.late - set(past) | {client for client, _ in late if client not in told}
         self.view.drop(deletes)
         self.answers += len(told)
         for client in told:
             del self.due[client]
-        return True
+        return 0
 
-    def reports(self, serving):
-        """The lines for what sites told."""
-        lines, room, places = [], TOLD, self.view.under("place/")
-        for site in self.applied:
-            place = self.place_of(site, places.get(site, "0 0"))
+    def places(self, serving):
+        """How many updates of this epoch each site told."""
+        told = self.view.under("place/")
+        places = {site: self.place_of(site, told.get(site, "0 0")) for site in self.applied}
+        for site, place in places.items():
             # A site that is taken out has no reader once no process serves it.
             if site in self.leaving and not is_served(site, serving):
-                place = self.updates
-            if place > self.updates:
+                places[site] = self.updates
+            elif place > self.updates:
                 if self.engine.entries(self.entries + 1)[0]:
                     raise streams.Taken("another primary writes the script")
                 raise Wrong(f"the key place/{site} has {place} updates of epoch {self.epoch}, and the script has {self.updates}")
+        return places
+
+    def reports(self, places):
+        """The lines for what sites told."""
+        lines, room = [], TOLD
+        for site, place in places.items():
             new = min(place - self.applied[site], room)
             if new > 0:
                 lines += [f"send {site}", f"apply {site}"] * new + [f"report {site}"]
@@ -185,8 +212,8 @@ class Primary:
         epoch, place = map(int, text.split())
         return place if epoch == self.epoch else 0
 
-    def take(self, lines, deletes):
-        """Adds the lines of new requests, and the keys of all that were looked at."""
+    def take(self, lines, late, deletes):
+        """Adds the lines of new requests, those whose client asked under a later number before, and the keys of all."""
         for key, changes in islice(self.view.under("request/").items(), REQUESTS):
             client, _, number = key.rpartition("/")
             if not (streams.is_client(client) and streams.is_number(number)):
@@ -197,17 +224,23 @@ class Primary:
                 lines += [f"# request {client} {number}", f"propose {changes}"]
                 self.taken[client] = int(number)
                 self.requests += 1
+            elif int(number) < self.taken[client]:
+                late[client, number] = self.taken[client]
             deletes.append(f"request/{key}")
 
-    def ends(self, serving, wanted, lines):
+    def ends(self, wanted, lines):
         """Whether no more requests are taken, since the next epoch is to begin. Adds lines for the sites that are taken out."""
         if wanted is None and self.updates < self.words.every:
             return False
         goes = set(self.applied) - epochs.sites_of(wanted) if wanted else set()
         lines += [f"# leave {site}" for site in sorted(goes - self.leaving)]
         # A site that is away would hold all up. So until it is back the epoch goes on.
-        stays = [site for site in self.applied if site not in goes]
-        return all(is_served(site, serving) and self.updates - self.applied[site] <= NEAR for site in stays)
+        return all(self.is_here(site) for site in self.applied if site not in goes)
+
+    def is_here(self, site):
+        """Whether the site has told all, or has told much of it and something a short time ago. A fleet is where its last site is."""
+        missing = self.updates - self.applied[site]
+        return missing == 0 or missing <= NEAR and streams.now() - self.heard.get(site, 0) < streams.TTL
 
     def may_follow(self, wanted):
         try:
@@ -229,14 +262,15 @@ class Primary:
     def settle(self):
         """Asks for acknowledgements until the head waits. Returns the lines."""
         lines = []
-        while self.acknowledged < self.updates and len(lines) < SETTLED and self.may_settle():
+        while len(lines) < SETTLED and self.may_settle(self.applied):
             some = ["settle"] * min(AT_ONCE, self.updates - self.acknowledged)
             self.run(some)
             lines += some
         return lines
 
-    def may_settle(self):
-        return all(self.applied[site] > self.acknowledged for site in self.round)
+    def may_settle(self, places):
+        """Whether the head waits for no site that is at these places."""
+        return self.acknowledged < self.updates and all(places[site] > self.acknowledged for site in self.round)
 
     def write(self, lines, puts, deletes):
         """Writes the next entry. What was asked and not answered is asked again: it is done once."""
@@ -247,6 +281,7 @@ class Primary:
             except streams.Away as away:
                 away.say("primary")
                 time.sleep(0.1)
+        self.wrote = streams.now()
         if lines:
             self.keep(lines)
 
@@ -328,8 +363,8 @@ def main():
             primary.take_over(declarations)
             while primary.lease.is_held():
                 version = primary.view.version
-                if not primary.turn():
-                    primary.view.wait(version, 1)
+                if seconds := primary.turn():
+                    primary.view.wait(version, seconds)
         except streams.Away as away:
             away.say("primary")
             time.sleep(0.2)

@@ -8,45 +8,56 @@ Ends with status 5 where the engine is full. Whether the request was taken is th
 """
 
 import argparse
+import os
 import sys
 import time
 
 import streams
 
 
-class Client:
-    """A client with a name of its own."""
+class Clients:
+    """Clients of one process, at most 200. Each has a name of its own. What they ask together is one transaction."""
 
-    def __init__(self, members, name):
-        if not streams.is_client(name):
-            raise ValueError(f"{name!r} is no client: that has 1 to 16 of a to z, 0 to 9 and _")
-        self.name, self.engine, self.view = name, streams.Engine(members), streams.View(members, [f"answer/{name}"], name)
+    def __init__(self, members, names):
+        for name in names:
+            if not streams.is_client(name):
+                raise ValueError(f"{name!r} is no client: that has 1 to 16 of a to z, 0 to 9 and _")
+        begins = os.path.commonprefix(names)
+        self.names, self.engine, self.view = names, streams.Engine(members), streams.View(members, [f"answer/{begins}"], begins)
 
     def propose(self, number, changes):
-        """Asks, and waits for the answer: `ok acked K epoch E`, or why the update was refused."""
+        """Asks under one number for what each client wants, and waits for the answer of each.
+
+        An answer is `ok acked K epoch E`, or why the update was refused.
+        """
         if not streams.is_number(str(number)):
             raise ValueError(f"{number} is no number of a request: that is from 1 to 999,999,999,999,999,999")
         asked = False
         while True:
-            version = self.view.version
-            last, _, answer = self.view.under(f"answer/{self.name}").get("", "0 ").partition(" ")
-            if int(last) == number:
-                return answer
-            if int(last) > number:
-                raise ValueError(f"{self.name} had an answer to the later request {last}")
-            if asked or self.view.version == 0:
+            version, told, answers = self.view.version, self.view.under("answer/"), {}
+            for name in changes:
+                if late := told.get(f"{name}/{number}"):
+                    raise ValueError(f"{name} asked under a later number before: {number} comes {late}")
+                last, _, answer = told.get(name, "0 ").partition(" ")
+                if int(last) > number:
+                    raise ValueError(f"{name} had an answer to the later request {last}")
+                if int(last) == number:
+                    answers[name] = answer
+            if len(answers) == len(changes):
+                return answers
+            if asked or version == 0:
                 self.view.wait(version)
             else:
-                asked = self.ask(number, changes)
+                asked = self.ask(number, {name: text for name, text in changes.items() if name not in answers})
 
     def ask(self, number, changes):
         try:
-            self.engine.put(f"request/{self.name}/{number}", changes)
+            self.engine.put_all({f"request/{name}/{number}": text for name, text in changes.items()})
             return True
         except streams.Full:
             raise
         except streams.Away as away:
-            away.say(self.name)
+            away.say(self.names[0])
             time.sleep(0.1)
             return False
 
@@ -59,7 +70,8 @@ def main():
     parser.add_argument("change", nargs="+")
     words = parser.parse_args()
     try:
-        print(Client(words.engine, words.client).propose(words.number, " ".join(words.change)))
+        changes = {words.client: " ".join(words.change)}
+        print(Clients(words.engine, [words.client]).propose(words.number, changes)[words.client])
     except ValueError as error:
         parser.error(str(error))
     except streams.Full as full:

@@ -7,6 +7,7 @@ No other file knows the engine. The keys:
 - `epoch`: the last epoch, and the number of its first entry.
 - `request/CLIENT/NUMBER`: the changes that a client wants proposed. The primary takes the key away as it writes the entry.
 - `answer/CLIENT`: the number of the client's last request, and what came of it.
+- `answer/CLIENT/NUMBER`: `after LAST`, where the client had asked under the later number LAST before. It goes with the next answer.
 - `place/SITE`: an epoch, and how many of its updates the site has applied.
 - `primary` and `site/FLEET/SITE`: the process that writes, and the one that serves the readers of a site. See `Lease`.
 - `next`: the declarations that the operator wants for the next epoch.
@@ -130,6 +131,11 @@ class Engine:
         self.etcd.put(key, value)
 
     @asks
+    def put_all(self, puts):
+        """Puts keys by one transaction."""
+        self.etcd.transaction([], [self.txn.put(*put) for put in puts.items()], [])
+
+    @asks
     def create(self, key, value):
         """Creates the key, if it is not there. Returns whether it was not."""
         return self.etcd.put_if_not_exists(key, value)
@@ -141,11 +147,13 @@ class Engine:
 
     @asks
     def commit(self, number, lines, puts, deletes):
-        """One transaction: creates the entry, if it has lines; puts keys, and takes keys away. Once it returns, all is kept."""
+        """One transaction: creates the entry, if it has lines; puts keys, and takes keys away, or all that begin so where one
+        ends with a slash. Once it returns, all is kept."""
         entry, value = key_of(number), "\n".join(lines)
         holds = [self.txn.create(entry) == 0] + ([self.txn.create(key_of(number - 1)) > 0] if number > 1 else [])
         changes = [self.txn.put(entry, value)] if lines else []
-        changes += [self.txn.put(*put) for put in puts.items()] + [self.txn.delete(key) for key in deletes]
+        changes += [self.txn.put(*put) for put in puts.items()]
+        changes += [self.txn.delete(key, end_of(key) if key.endswith("/") else None) for key in deletes]
         written, came = self.etcd.transaction(holds, changes, [self.txn.get(entry), self.txn.get("epoch")])
         if written:
             return

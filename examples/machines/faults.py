@@ -18,20 +18,18 @@ class Faults:
         self.deployment, self.chance, self.trial = deployment, chance, trial
         self.times, self.wrong, self.found = {}, [], {}
 
-    def run(self, seconds):
-        """Each fault once, in an order by chance, and then any of them."""
-        ends = time.monotonic() + seconds
+    def run(self, goes_on):
+        """Each fault once, in an order by chance, and then any of them while the trial goes on."""
         kinds = ("kill_", "stop_", "cut_", "start_", "lose_", "fill_", "slow_", "ask_")
         names = [name for name in dir(self) if name.startswith(kinds)]
         first = self.chance.sample(names, len(names))
-        while first or time.monotonic() < ends:
+        while first or goes_on():
             name = first.pop() if first else self.chance.choice(names)
             self.times[name] = self.times.get(name, 0) + 1
             print(f"{time.monotonic():.1f} {name}", file=self.deployment.log, flush=True)
             getattr(self, name)()
             self.pause(0.2, 0.6)
             self.revive(name)
-            self.look_at_alarms()
 
     def revive(self, after):
         for name, process in self.deployment.processes.items():
@@ -40,6 +38,7 @@ class Faults:
                 if name not in self.trial.out or process.returncode != 4:
                     self.wrong.append(f"{name} ended by itself with {process.returncode} after {after}")
                 self.deployment.start(name)
+        self.look_at_alarms()
 
     def look_at_alarms(self):
         """A member on an empty disk goes through what was written since the others made a snapshot. So it may be full."""
@@ -48,8 +47,11 @@ class Faults:
             self.make_room()
 
     def make_room(self):
-        if not self.trial.make_room(member_address):
-            self.wrong.append("there was no room again")
+        self.check(self.trial.make_room(member_address), "there was no room again")
+
+    def check(self, good, words):
+        if not good:
+            self.wrong.append(words)
 
     def note(self, what):
         self.found[what] = self.found.get(what, 0) + 1
@@ -83,6 +85,7 @@ class Faults:
             for name in PRIMARIES:
                 if value and value.split()[3] == str(self.deployment.processes[name].pid):
                     return name
+            self.look_at_alarms()
             time.sleep(0.1)
         self.wrong.append("no primary holds the lease")
         return PRIMARIES[0]
@@ -139,14 +142,22 @@ class Faults:
             self.deployment.start(name)
 
     def kill_primary_at_a_join(self):
-        """At any step of it, or soon after."""
-        writer = self.writer()
+        """As the epoch is to end, once the next one has begun, or once what was before is archived: each in its turn."""
+        writer, step = self.writer(), self.times["kill_primary_at_a_join"] % 3
         epoch = self.trial.ask(lambda engine: engine.epoch()[0])
         self.trial.ask(lambda engine: engine.create("next", self.trial.wanted()))
-        ends = time.monotonic() + self.chance.choice([0, 0.02, 0.05, 0.1, 0.2, 0.5])
-        while self.trial.ask(lambda engine: engine.epoch()[0]) == epoch and time.monotonic() < ends:
+        ends = time.monotonic() + (PATIENCE if step else self.chance.uniform(0, 0.3))
+        while self.steps_of_join(epoch) < max(step, 1) and time.monotonic() < ends:
             pass
-        self.restart(writer, 0.1, 0.5)
+        self.deployment.kill(writer)
+        self.note(f"primaries killed {('before', 'after', 'after the archive of')[self.steps_of_join(epoch)]} a join")
+        self.pause(0.1, 0.5)
+        self.deployment.start(writer)
+
+    def steps_of_join(self, epoch):
+        """0 before the next epoch has begun, 1 after that, and 2 once what was before is archived."""
+        last, first = self.trial.ask(lambda engine: engine.epoch())
+        return 0 if last == epoch else 1 + (self.trial.ask(lambda engine: engine.ends()[0]) >= first)
 
     def cut_site_at_a_join(self):
         """A site that may lag, and that the head does not wait for. The epoch may not end before it is back."""
@@ -159,6 +170,15 @@ class Faults:
         # Its lease lives, so it is read.
         self.pause(1, 2)
         self.deployment.hosts("mend", site)
+
+    def kill_site_of_fleet_at_a_join(self):
+        """The other one is served, so the fleet is. Until both are back the epoch goes on."""
+        with self.trial.alone():
+            self.deployment.kill("east")
+            self.trial.propose_alone("add:tea:1")
+            self.trial.ask(lambda engine: engine.create("next", self.trial.wanted()))
+            self.trial.propose_alone("add:tea:1")
+        self.deployment.start("east")
 
     def stop_primary(self):
         self.suspend(self.writer(), LONG, LONG + 2)
@@ -208,8 +228,7 @@ class Faults:
         time.sleep(1)
         before = len(self.trial.answers)
         self.pause(1, 5)
-        if len(self.trial.answers) != before:
-            self.wrong.append("there were answers without a majority")
+        self.check(len(self.trial.answers) == before, "there were answers without a majority")
         self.deployment.hosts("mend", *two)
 
     def stop_member(self):

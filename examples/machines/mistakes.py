@@ -47,6 +47,12 @@ MISTAKES = {
     "goes_over_before_all_have_told": [
         ("primary.py", "{self.acknowledged, *self.applied.values()} == {self.updates}", "self.acknowledged == self.updates"),
     ],
+    # A join waits for a site of a fleet that is away, since the fleet is served.
+    "waits_for_a_fleet_that_is_away": [
+        ("primary.py", "missing <= NEAR and streams.now() - self.heard.get(site, 0) < streams.TTL", "missing <= NEAR"),
+    ],
+    # Who asks under a number that is before the last one waits for ever.
+    "tells_nothing_of_late_requests": [("primary.py", "elif int(number) < self.taken[client]:", "elif False:")],
     # Two processes of a site serve readers, since neither asks for the lease.
     "serves_without_the_lease": [
         ("replica.py", "not self.lease.lives() or ", ""),

@@ -157,7 +157,9 @@ class Observer:
     def judge_lag(self, site, known_as, at, known):
         """A reading at a place, begun as a later one was known as acknowledged."""
         self.seen["readings behind an acknowledged update"] += 1
-        epoch = self.epochs[known[0]]
+        epoch = self.epochs[known[0]] if known[0] < len(self.epochs) else None
+        if epoch is None or known[1] > epoch.end():
+            return self.check("what is acknowledged is in the script", False, f"{known} is not")
         is_there = known_as in epoch.limits and known_as in self.epochs[at[0]].limits
         self.check("served by a site of the script", is_there, f"{site} at {at} of {known} is taken out")
         if at[0] < known[0]:

@@ -5,7 +5,7 @@ import shutil
 import signal
 import time
 
-from deployment import FLEET, MEMBERS, PRIMARIES, SITES, member_address
+from deployment import FLEET, MEMBERS, PRIMARIES, SITES
 
 # For how many seconds all may come to rest.
 PATIENCE = 60
@@ -17,6 +17,8 @@ class Faults:
     def __init__(self, deployment, chance, trial):
         self.deployment, self.chance, self.trial = deployment, chance, trial
         self.times, self.wrong, self.found = {}, [], {}
+        # Whether the engine is to be full.
+        self.fills = False
 
     def run(self, goes_on):
         """Each fault once, in an order by chance, and then any of them while the trial goes on."""
@@ -38,16 +40,6 @@ class Faults:
                 if name not in self.trial.out or process.returncode != 4:
                     self.wrong.append(f"{name} ended by itself with {process.returncode} after {after}")
                 self.deployment.start(name)
-        self.look_at_alarms()
-
-    def look_at_alarms(self):
-        """A member on an empty disk goes through what was written since the others made a snapshot. So it may be full."""
-        if self.trial.ask(lambda engine: engine.alarms()):
-            self.note("alarms of a new member")
-            self.make_room()
-
-    def make_room(self):
-        self.check(self.trial.make_room(member_address), "there was no room again")
 
     def check(self, good, words):
         if not good:
@@ -85,7 +77,6 @@ class Faults:
             for name in PRIMARIES:
                 if value and value.split()[3] == str(self.deployment.processes[name].pid):
                     return name
-            self.look_at_alarms()
             time.sleep(0.1)
         self.wrong.append("no primary holds the lease")
         return PRIMARIES[0]
@@ -259,7 +250,12 @@ class Faults:
             self.deployment.start(name)
 
     def fill_engine(self):
-        """Up to its quota. Then there is room again, by what an operator would type."""
+        """Up to its quota. Then the operator makes room again."""
+        self.fills = True
         self.trial.fill_engine()
         self.pause(0.5, 2)
-        self.make_room()
+        self.fills = False
+        ends = time.monotonic() + PATIENCE
+        while (full := self.trial.ask(lambda engine: engine.alarms())) and time.monotonic() < ends:
+            time.sleep(0.1)
+        self.check(not full, "there was no room again")

@@ -29,8 +29,8 @@ MISTAKES = {
     "takes_requests_before_it_writes": [
         (
             "primary.py",
-            "        self.write(lines, {f",
-            '        self.engine.remove("request/")\n        time.sleep(0.05)\n        self.write(lines, {f',
+            "        self.write(lines, puts, ",
+            '        self.engine.remove("request/")\n        time.sleep(0.05)\n        self.write(lines, puts, ',
         ),
     ],
     # The next epoch begins with the values that the last one began with.

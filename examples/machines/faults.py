@@ -17,8 +17,8 @@ class Faults:
     def __init__(self, deployment, chance, trial):
         self.deployment, self.chance, self.trial = deployment, chance, trial
         self.times, self.wrong, self.found = {}, [], {}
-        # Whether the engine is to be full.
-        self.fills = False
+        # Whether the engine is to be full, and the processes that were started while their site was taken out.
+        self.fills, self.may_leave = False, set()
 
     def run(self, goes_on):
         """Each fault once, in an order by chance, and then any of them while the trial goes on."""
@@ -36,8 +36,8 @@ class Faults:
     def revive(self, after):
         for name, process in self.deployment.processes.items():
             if process.poll() is not None:
-                # A site that is taken out ends, and so it does until it is a site again.
-                if name not in self.trial.out or process.returncode != 4:
+                # A site that is taken out ends, and so does a process of it that was started before it is a site again.
+                if process.returncode != 4 or name not in self.trial.out and process not in self.may_leave:
                     self.wrong.append(f"{name} ended by itself with {process.returncode} after {after}")
                 self.deployment.start(name)
 
@@ -81,6 +81,13 @@ class Faults:
         self.wrong.append("no primary holds the lease")
         return PRIMARIES[0]
 
+    def busy_writer(self):
+        """The host of the primary that writes, as requests wait for it."""
+        writer, ends = self.writer(), time.monotonic() + 5
+        while not self.trial.ask(lambda engine: engine.read("request/")[0]) and time.monotonic() < ends:
+            pass
+        return writer
+
     # Sites.
 
     def kill_site(self):
@@ -120,11 +127,7 @@ class Faults:
     # Primaries.
 
     def kill_primary(self):
-        """The one that writes, while requests wait for it."""
-        writer, ends = self.writer(), time.monotonic() + 5
-        while not self.trial.ask(lambda engine: engine.read("request/")[0]) and time.monotonic() < ends:
-            pass
-        self.restart(writer, 0.1, 0.5)
+        self.restart(self.busy_writer(), 0.1, 0.5)
 
     def kill_primaries(self):
         self.deployment.kill(*PRIMARIES)
@@ -172,10 +175,11 @@ class Faults:
         self.deployment.start("east")
 
     def stop_primary(self):
-        self.suspend(self.writer(), LONG, LONG + 2)
+        self.suspend(self.busy_writer(), LONG, LONG + 2)
 
     def cut_primary(self):
-        self.cut([self.writer()], 0.3, LONG)
+        """For so long that another one takes over."""
+        self.cut([self.busy_writer()], LONG, LONG + 2)
 
     def ask_for_the_next_epoch(self):
         """A site goes, or comes back, with an object and other limits."""

@@ -10,7 +10,7 @@ FLEET = "far"
 HOSTS = [*MEMBERS, *PRIMARIES, *SITES, "spare", "users"]
 NET = f"ordup{getpid()}"
 # What the engine may hold, and what the disk of the last member has, in MB.
-QUOTA, DISK = 64, 640
+QUOTA, DISK = 64, 768
 
 
 def member_address(name):

@@ -171,6 +171,8 @@ class Faults:
             self.deployment.kill("east")
             self.trial.propose_alone("add:tea:1")
             self.trial.ask(lambda engine: engine.create("next", self.trial.wanted()))
+            # Until the primary has seen that.
+            time.sleep(1)
             self.trial.propose_alone("add:tea:1")
         self.deployment.start("east")
 

@@ -33,7 +33,7 @@ from ordup import Acked, Applied, Declared, Proposed, Settled, Store
 
 # A turn takes at most so many requests, and so many updates that sites told. So it fits into a transaction of 1.5 MB.
 REQUESTS, TOLD = 200, 5000
-# It tells so many answers. A request may have one key that goes and one that says that it came late, which goes too in the end.
+# It tells so many answers. A request has a key that goes, and if it came late one that says so, which goes later.
 ANSWERS = streams.OPERATIONS - 3 * REQUESTS - 2
 # A turn asks for at most so many acknowledgements, so many at once.
 SETTLED, AT_ONCE = 5000, 50
@@ -213,7 +213,7 @@ class Primary:
         return place if epoch == self.epoch else 0
 
     def take(self, lines, late, deletes):
-        """Adds the lines of new requests, those whose client asked under a later number before, and the keys of all."""
+        """Adds the lines of new requests, those that came after a later one, and the keys of all that were looked at."""
         for key, changes in islice(self.view.under("request/").items(), REQUESTS):
             client, _, number = key.rpartition("/")
             if not (streams.is_client(client) and streams.is_number(number)):

@@ -72,9 +72,9 @@ MISTAKES = {
             "        self.tell(self.engine)\n        self.shown = old\n        time.sleep(0.3)\n        self.shown = new\n",
         ),
     ],
-    # A site that lost its connection takes the next entries as read.
+    # A site that lost its connection takes the next entry as read.
     "skips_what_came_while_it_was_away": [
-        ("replica.py", '            away.say(f"site {site.name}")\n', "            site.entries = site.engine.ends()[1]\n"),
+        ("replica.py", '            away.say(f"site {site.name}")\n', "            site.entries += 1\n"),
     ],
     # A site that is taken out goes on.
     "serves_after_it_was_taken_out": [

@@ -211,6 +211,8 @@ class Faults:
             shutil.rmtree(kept)
         if self.trial.replace_member(name):
             self.deployment.start(name, "--initial-cluster-state", "existing")
+            # Killed before it has joined, it would begin as the one that was taken away.
+            self.check(self.trial.has_joined(name), f"the member {name} did not join")
         else:
             self.wrong.append(f"the member {name} could not be replaced")
 

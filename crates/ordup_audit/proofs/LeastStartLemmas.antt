@@ -1,7 +1,7 @@
 -- Least starts of spans, and a ledger that finds them.
-use Rattle.ordup_audit.proofs.Common.{◌++◌, ◌+◌, ◌<◌, ◌∙◌, ◌∷◌, ◌≡◌, ◌≤◌, [], AreEntriesKnown, arith, Bool, cases_Bool, cases_lt, Entries}
+use Rattle.ordup_audit.proofs.Common.{◌++◌, ◌+◌, ◌<◌, ◌==◌, ◌∙◌, ◌∷◌, ◌≡◌, ◌≤◌, [], AreEntriesKnown, arith, Bool, cases_Bool, cases_lt, Entries}
 use Rattle.ordup_audit.proofs.Common.{false, false≢true, get_or-append_seam, GroupList, History, history_of, in_force, inl, inr}
-use Rattle.ordup_audit.proofs.Common.{initial_state, is_within, IsRecord, le-leb, leb-true, length, length-map, length_push, List, lt-ltb}
+use Rattle.ordup_audit.proofs.Common.{eqb-true, initial_state, is_within, IsRecord, le-leb, leb-true, length, length-map, length_push, List, lt-ltb}
 use Rattle.ordup_audit.proofs.Common.{most_objects, nat_lt, not, RecordState, refl, sym, take, true, ℕ, and_parts}
 use Rattle.ordup_audit.proofs.Common.{Err, IfOk, Ok, Result}
 use Rattle.std.proofs.lemmas.Bool.{le-ltb, not-true}
@@ -109,6 +109,18 @@ least-in_force r n a b begun least =
       before = λ k lt. rw same (least.before k lt);
       here = rw same least.here;
     }
+
+-- each span that begins before a place passes a limit: one of those so far where no other has begun, and else by a test of the
+-- limits in force
+pub passes-before : (r : RecordState) (n m a b : ℕ) (is_earlier : Bool) → HaveBegun (b + 1) r.limits n
+    → PassesBefore (within (history_of r) r.groups (latest (take m r.limits))) a b
+    → (not (n == m) ≡ true → is_earlier ≡ false → PassesBefore (is_within r) a (b + 1))
+    → is_earlier ≡ false → PassesBefore (within (history_of r) r.groups (latest (take n r.limits))) a (b + 1)
+passes-before r n m a b is_earlier begun before other is = elim (cases_Bool (n == m)) [
+  | inl same ↦ (let none : n ≡ m = eqb-true n m same in
+      rw none (passes-longer (history_of r) r.groups (latest (take m r.limits)) a b (b + 1) (omega arith) before))
+  | inr more ↦ (λ k lt. rw (begun-in_force r.limits (b + 1) n begun) at (other (rw more refl) is k lt))
+]
 
 -- a new ledger without limits
 begins : (r : RecordState) (ledger : LedgerState) → IsRecord r → ledger.limits ≡ []

@@ -1,6 +1,6 @@
 //! The least place from which the span up to a decided place passes no limit.
 
-ghost use Rattle.std.specs.Prelude.{◌≡◌, ◌≤◌, ◌+◌, [], IfSome, length, not, false};
+ghost use Rattle.std.specs.Prelude.{◌≡◌, ◌≤◌, ◌+◌, [], IfSome, length, not, false, true};
 ghost use Rattle.ordup_objects.specs.Serial.{IsLegalHistory};
 ghost use Rattle.ordup_limits.specs.Limits.{within};
 ghost use Rattle.ordup_limits.specs.Ledgers.{StandsFor, StandsAt};
@@ -19,7 +19,7 @@ use std::alloc::{Allocator, Global};
 /// is found in the log.
 #[derive(Drop)]
 pub(crate) struct LeastStarts<A: Allocator + Copy = Global> {
-    starts: Option<Vec<u64, A>>,
+    starts: Option<Vec<u32, A>>,
 }
 
 impl<A: Allocator + Copy> LeastStarts<A> {
@@ -40,19 +40,26 @@ impl<A: Allocator + Copy> LeastStarts<A> {
         requires starts { AreStartsOf audited.now self.now }
         ensures { result ≡ not (is_within audited.now from to) }
     {
-        audited.keeps();
         match &self.starts {
-            Some(starts) => from < starts[to as usize],
-            None => {
-                let (log, groups) = (audited.log(), audited.groups());
-                audited.limits().over(log, groups, from, to).is_some()
-            }
+            Some(starts) => from < u64::from(starts[to as usize]),
+            None => passes(audited, from, to),
         }
     }
 }
 
+/// Whether the span from one place to another passes a limit, by the log.
+fn passes<A: Allocator + Copy>(audited: &Record<A>, from: u64, to: u64) -> bool
+    requires legal { IsLegalHistory (history_of audited.now) }
+    requires last { to ≤ length audited.now.sets }
+    ensures { result ≡ not (is_within audited.now from to) }
+{
+    audited.keeps();
+    let (log, groups) = (audited.log(), audited.groups());
+    audited.limits().over(log, groups, from, to).is_some()
+}
+
 /// The least starts of 0 and of each decided place; none where they are refused memory.
-fn find_starts<A: Allocator + Copy>(audited: &Record<A>) -> Option<Vec<u64, A>>
+fn find_starts<A: Allocator + Copy>(audited: &Record<A>) -> Option<Vec<u32, A>>
     requires { IsLegalHistory (history_of audited.now) }
     ensures { IfSome result (λ starts. AreLeastStarts (is_within audited.now) (length audited.now.sets + 1) starts.items) }
 {
@@ -68,7 +75,7 @@ fn find_starts<A: Allocator + Copy>(audited: &Record<A>) -> Option<Vec<u64, A>>
 fn starts_by<A: Allocator + Copy>(
     audited: &Record<A>,
     ledger: &mut LagLedger<A>,
-) -> Option<Vec<u64, A>>
+) -> Option<Vec<u32, A>>
     requires legal { IsLegalHistory (history_of audited.now) }
     requires first { StandsAt (history_of audited.now) audited.now.groups [] 0 0 ledger.old }
     ensures { IfSome result (λ starts. AreLeastStarts (is_within audited.now) (length audited.now.sets + 1) starts.items) }
@@ -87,29 +94,49 @@ fn starts_by<A: Allocator + Copy>(
         ledger.extend(log, groups, place + 1);
         let before = begun;
         begun = begin_limits(ledger, log, groups, entries, before, place + 1);
-        start = next_start(ledger, log, groups, begun != before, start, place + 1);
-        starts.push_reserved(start);
+        let is_earlier = starts_earlier(audited, begun != before, start, place + 1);
+        start = next_start(ledger, log, groups, is_earlier, start, place + 1);
+        starts.push_reserved(start as u32);
     }
     Some(starts)
 }
 
-/// Moves the start of a ledger's span to the least start of its end, and answers it. It is no earlier than the start was, unless
-/// limits have begun to hold at the end.
+/// Whether limits that have begun to hold at a place put its least start before this one, as a raised limit may.
+fn starts_earlier<A: Allocator + Copy>(
+    audited: &Record<A>,
+    have_begun: bool,
+    start: u64,
+    place: u64,
+) -> bool
+    requires legal { IsLegalHistory (history_of audited.now) }
+    requires last { place ≤ length audited.now.sets }
+    ensures { have_begun ≡ true → result ≡ false → PassesBefore (is_within audited.now) start place }
+{
+    if !have_begun {
+        return false;
+    }
+    if start == 0 {
+        return false;
+    }
+    !passes(audited, start - 1, place)
+}
+
+/// Moves the start of a ledger's span to the least start of its end, and answers it. It may be earlier than the start was.
 fn next_start<A: Allocator + Copy>(
     ledger: &mut LagLedger<A>,
     log: &Log<A>,
     groups: &Groups<A>,
-    have_begun: bool,
+    is_earlier: bool,
     from: u64,
     to: u64,
 ) -> u64
     requires last { to ≤ length log.now.sets }
     requires stands { StandsAt log.now groups.now ledger.old.limits from to ledger.old }
-    requires before { have_begun ≡ false → PassesBefore (within log.now groups.now ledger.old.limits) from to }
+    requires before { is_earlier ≡ false → PassesBefore (within log.now groups.now ledger.old.limits) from to }
     ensures least { IsLeastStart (within log.now groups.now ledger.old.limits) result to }
     ensures stands { StandsAt log.now groups.now ledger.old.limits result to ledger.new }
 {
-    if have_begun {
+    if is_earlier {
         return search(ledger, log, groups, to);
     }
     take_off(ledger, log, groups, from, to)

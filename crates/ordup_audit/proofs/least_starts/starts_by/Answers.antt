@@ -1,11 +1,10 @@
-use Rattle.ordup_audit.proofs.Common.{◌≡◌, ◌+◌, ◌∙◌, ap, arith, eqb-true, History, history_of, is_within, length, length-map, refl, take}
-use Rattle.std.proofs.lemmas.Bool.{not-false}
+use Rattle.ordup_audit.proofs.Common.{◌≡◌, ◌+◌, ◌∙◌, ap, arith, History, history_of, is_within, length, length-map, refl, take}
 use Rattle.ordup_limits.specs.Limits.{within}
 use Rattle.ordup_limits.specs.Entries.{latest}
 use Rattle.ordup_limits.proofs.EntryLemmas.{in_force-test}
 use Rattle.ordup_audit.specs.Beginning.{HaveBegun}
 use Rattle.ordup_audit.specs.LeastStarts.{IsLeastStart}
-use Rattle.ordup_audit.proofs.LeastStartLemmas.{least-in_force, passes-longer, starts-first, starts-more}
+use Rattle.ordup_audit.proofs.LeastStartLemmas.{least-in_force, passes-before, starts-first, starts-more}
 use Rattle.ordup_audit.proofs.least_starts.starts_by.Goals as goal
 
 pub push_reserved-requires : goal.push_reserved-requires
@@ -66,17 +65,35 @@ next_start-start-requires-clause-stands g c =
       stands = c.begin_limits-begun.ensures.stands;
     }
 
+pub starts_earlier-is_earlier-requires : goal.starts_earlier-is_earlier-requires
+starts_earlier-is_earlier-requires g c = record {
+  legal = c.requires.legal;
+  last = omega (arith, c.loop-place-test.true, c.decided-decided.ensures.decided);
+}
+
 pub next_start-start-requires-clause-before : goal.next_start-start-requires-clause-before
-next_start-start-requires-clause-before g c = λ same.
-    (let r = c.args.audited.now in
+next_start-start-requires-clause-before g c =
+    let r = c.args.audited.now in
+    let n = c.begin_limits-begun.result in
     let inside = c.loop-place.invariant in
     let entries = c.entries-entries.ensures ∙ c.limits-2.ensures in
-    let count : c.begin_limits-begun.result ≡ c.loop-place.begun = eqb-true _ _ (not-false _ same) in
-    let limits : c.begin_limits-begun.new.ledger.limits ≡ latest (take c.loop-place.begun r.limits) =
-    rw (count, entries) at c.begin_limits-begun.ensures.limits in
+    let begun : HaveBegun (c.loop-place.place + 1) r.limits n = rw entries at c.begin_limits-begun.ensures.begun in
+    let limits : c.begin_limits-begun.new.ledger.limits ≡ latest (take n r.limits) = rw entries at c.begin_limits-begun.ensures.limits in
     rw (c.log-log.ensures.whole c.requires.legal, c.groups-groups.ensures, limits)
-    (passes-longer (history_of r) r.groups (latest (take c.loop-place.begun r.limits)) c.loop-place.start c.loop-place.place
-    (c.loop-place.place + 1) (omega arith) inside.before))
+    (passes-before r n c.loop-place.begun c.loop-place.start c.loop-place.place c.starts_earlier-is_earlier.result begun inside.before
+    c.starts_earlier-is_earlier.ensures)
+
+pub overflow_cast-start : goal.overflow_cast-start
+overflow_cast-start g c =
+    let log = c.log-log.ensures.whole c.requires.legal in
+    let count = ap (λ (h : History). length h.sets) log in
+    omega (
+      arith,
+      c.next_start-start.ensures.stands.from,
+      c.next_start-start.ensures.stands.stands.reported,
+      count,
+      c.decided-decided.ensures.sound.few,
+    )
 
 pub loop-place-preserved : goal.loop-place-preserved
 loop-place-preserved g c =

@@ -1,6 +1,6 @@
-use Rattle.ordup_audit.proofs.Common.{◌≡◌, ◌+◌, ◌∙◌, ap, arith, History, history_of, is_within, length}
+use Rattle.ordup_audit.proofs.Common.{◌≡◌, ◌+◌, arith, history_of, is_within, length}
 use Rattle.std.specs.Prelude.{slice_index}
-use Rattle.std.proofs.lemmas.List.{get_or_read, length-map}
+use Rattle.std.proofs.lemmas.List.{get_or_read}
 use Rattle.ordup_limits.proofs.EntryLemmas.{in_force-test}
 use Rattle.ordup_audit.specs.LeastStarts.{AreLeastStarts}
 use Rattle.ordup_audit.proofs.LeastStartLemmas.{over-by-start}
@@ -13,7 +13,7 @@ returns-in-Some g c =
     let are : AreLeastStarts (is_within r) (length r.sets + 1) starts = rw c.in-Some.is at c.requires.starts in
     let here : c.index.result.now ≡ slice_index starts c.args.to =
     get_or_read starts c.args.to c.index.result.now (omega (arith, are.count, c.requires.last)) c.index.ensures 0 in
-    rw here (over-by-start (is_within r) c.args.from (slice_index starts c.args.to) c.args.to
+    rw (c.from.ensures, here) (over-by-start (is_within r) c.args.from (slice_index starts c.args.to) c.args.to
     (in_force-test (history_of r) r.groups r.limits) (are.each c.args.to (omega (arith, c.requires.last))))
 
 pub index-requires : goal.index-requires
@@ -21,12 +21,3 @@ index-requires g c =
     let r = c.args.audited.now in
     let are : AreLeastStarts (is_within r) (length r.sets + 1) c.in-Some.starts.items = rw c.in-Some.is at c.requires.starts in
     omega (arith, are.count, c.requires.last)
-
-pub over-requires : goal.over-requires
-over-requires g c =
-    let log = c.log-log.ensures.whole c.requires.legal in
-    let start = ap (λ (h : History). length h.start) log ∙ length-map c.args.audited.now.objects _ in
-    record {
-      last = rw log c.requires.last;
-      known = rw (c.limits.ensures, start, c.groups-groups.ensures) c.keeps.ensures.scopes;
-    }

@@ -4,6 +4,7 @@ ghost use Rattle.std.specs.Bool.{then_some};
 ghost use Rattle.std.specs.Option.{is_none};
 ghost use Rattle.ordup_log.specs.Postings.{last_number};
 ghost use Rattle.ordup_limits.specs.Entries.{change_refusal, entry_of};
+ghost use Rattle.ordup_rows.specs.Columns.{natural_of};
 ghost use Rattle.ordup_rows.specs.Stages.{has_entry, has_objects, has_updates, is_before_changes, is_before_limits, is_before_members};
 ghost use Rattle.ordup_rows.specs.Stages.{is_before_reports, is_before_rounds, is_before_windows, is_last_group, last_place};
 ghost use Rattle.ordup_rows.specs.Stages.{may_hold_from, may_report, may_round, with_any_change, with_change_row};
@@ -14,7 +15,7 @@ ghost use Rattle.ordup_check.specs.ColumnViews.{columns_view};
 ghost use Rattle.ordup_check.specs.PartialRecords.{Takes, record_so_far};
 
 use crate::partial_updates::PartialUpdates;
-use crate::row_columns::{RowColumns, amount, change, natural, scope, value, writes};
+use crate::row_columns::{RowColumns, amount, change, is_number, natural, scope, value, writes};
 use ordup_audit::sizes::MOST_WINDOWS;
 use ordup_audit::{ReportChange, member_count};
 use ordup_limits::{GroupId, Groups, LimitTable, Scope};
@@ -236,14 +237,20 @@ impl PartialRecord {
         Ok(true)
     }
 
-    /// Takes the next change of the last update.
-    fn add_next_change(&mut self, c: &RowColumns<'_>, change: Change) -> Result<bool, AllocError>
-        requires { 0 < length (record_so_far self.old).sets }
+    /// Takes the next change of the last update, by the position that the row writes.
+    fn add_next_change(
+        &mut self,
+        c: &RowColumns<'_>,
+        position: Option<u64>,
+        change: Change,
+    ) -> Result<bool, AllocError>
+        requires some { 0 < length (record_so_far self.old).sets }
+        requires position { position ≡ natural_of c.now.second.now }
         ensures { Takes result self.new (with_next_change (record_so_far self.old) (columns_view c.now) change) }
     {
         if !self.is_before_reports()
             || !writes(c.first, self.updates.len())
-            || !writes(c.second, self.updates.last_len() + 1)
+            || !is_number(self.updates.last_len() + 1, position)
         {
             return Ok(false);
         }
@@ -262,12 +269,13 @@ impl PartialRecord {
     ) -> Result<bool, AllocError>
         ensures { Takes result self.new (with_any_change decided (record_so_far self.old) (columns_view c.now) change) }
     {
-        if writes(c.second, 1) {
+        let position = natural(c.second);
+        if is_number(1, position) {
             self.add_first_change(decided, c, change)
         } else if self.updates.len() == 0 {
             Ok(false)
         } else {
-            self.add_next_change(c, change)
+            self.add_next_change(c, position, change)
         }
     }
 

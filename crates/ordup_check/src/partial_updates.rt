@@ -181,6 +181,8 @@ impl PartialUpdates {
 }
 
 /// Puts an update behind others: into the log, where it and all before it are legal, and else behind the rest.
+// Inlined: a call would move the update once more.
+#[inline(always)]
 fn put(log: &mut Log, rest: &mut Vec<MessageSet>, set: MessageSet) -> Result<(), AllocError>
     requires known { AreKnown (length log.old.start) set }
     requires apart { BeginsIllegal log.old rest.old.items }

@@ -2,7 +2,7 @@
 ghost use Rattle.std.specs.Prelude.{◌≡◌, ◌==◌, option_map};
 ghost use Rattle.std.specs.List.{position, slice_split};
 ghost use Rattle.csv.specs.Records.{fields_of};
-ghost use Rattle.ordup_rows.specs.Columns.{columns_of, amount_and_place, amount_by, natural_of, writes, scope_of};
+ghost use Rattle.ordup_rows.specs.Columns.{columns_of, amount_and_place, amount_by, is_number, natural_of, writes, scope_of};
 ghost use Rattle.ordup_check.specs.ColumnViews.{columns_at, columns_view, value_of, number_in_range, op_in_range, change_in_range};
 
 use csv::ByteRecord;
@@ -64,7 +64,14 @@ pub fn natural(column: &[u8]) -> Option<u64>
 pub fn writes(column: &[u8], number: u64) -> bool
     ensures { result ≡ writes column.now number }
 {
-    match natural(column) {
+    is_number(number, natural(column))
+}
+
+/// Whether this number was found in a column.
+pub fn is_number(number: u64, found: Option<u64>) -> bool
+    ensures { result ≡ is_number number found }
+{
+    match found {
         Some(found) => found == number,
         None => false,
     }

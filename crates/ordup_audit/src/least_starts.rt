@@ -90,12 +90,12 @@ fn starts_by<A: Allocator + Copy>(
     starts.push_reserved(0);
     let mut start = 0;
     let mut begun = 0;
-    for place in 0..decided {
-        ledger.extend(log, groups, place + 1);
+    for index in 0..decided {
+        ledger.extend(log, groups, index + 1);
         let before = begun;
-        begun = begin_limits(ledger, log, groups, entries, before, place + 1);
-        let is_earlier = starts_earlier(audited, begun != before, start, place + 1);
-        start = next_start(ledger, log, groups, is_earlier, start, place + 1);
+        begun = begin_limits(ledger, log, groups, entries, before, index + 1);
+        let is_earlier = starts_earlier(audited, begun != before, start, index + 1);
+        start = next_start(ledger, log, groups, is_earlier, start, index + 1);
         starts.push_reserved(start as u32);
     }
     Some(starts)

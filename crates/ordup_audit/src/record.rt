@@ -239,8 +239,8 @@ impl<A: Allocator + Copy> Record<A> {
         if count != other.decided() {
             return false;
         }
-        for place in 0..count {
-            if !same::is_same_set(self.set(place + 1), other.set(place + 1)) {
+        for index in 0..count {
+            if !same::is_same_set(self.set(index + 1), other.set(index + 1)) {
                 return false;
             }
         }

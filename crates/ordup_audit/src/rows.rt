@@ -70,8 +70,8 @@ fn change_count<A: Allocator + Copy>(audited: &Record<A>, updates: u64) -> u64
 {
     audited.keeps();
     let mut count = 0;
-    for place in 0..updates {
-        count += audited.set(place + 1).changes().len() as u64;
+    for index in 0..updates {
+        count += audited.set(index + 1).changes().len() as u64;
     }
     count
 }

@@ -10,8 +10,8 @@ use Rattle.ordup_audit.proofs.least_starts.starts_by.Goals as goal
 pub push_reserved-requires : goal.push_reserved-requires
 push_reserved-requires g c = omega (arith, c.in-Ok.ensures.len, c.in-Ok.ensures.capacity)
 
-pub loop-place-init : goal.loop-place-init
-loop-place-init g c =
+pub loop-index-init : goal.loop-index-init
+loop-index-init g c =
     let r = c.args.audited.now in
     let is = c.decided-decided.ensures.sound in
     record {
@@ -25,11 +25,11 @@ loop-place-init g c =
 
 pub extend-requires : goal.extend-requires
 extend-requires g c =
-    let is = c.loop-place.invariant.stands in
+    let is = c.loop-index.invariant.stands in
     let log = c.log-log.ensures.whole c.requires.legal in
     record {
       forward = omega (arith, is.to);
-      last = rw log (omega (arith, c.loop-place-test.true, c.decided-decided.ensures.decided));
+      last = rw log (omega (arith, c.loop-index-test.true, c.decided-decided.ensures.decided));
       stands = rw (log, c.groups-groups.ensures) is.stands;
     }
 
@@ -37,7 +37,7 @@ pub begin_limits-begun-requires : goal.begin_limits-begun-requires
 begin_limits-begun-requires g c =
     let r = c.args.audited.now in
     let is = c.decided-decided.ensures.sound in
-    let inside = c.loop-place.invariant in
+    let inside = c.loop-index.invariant in
     let entries = c.entries-entries.ensures ∙ c.limits-2.ensures in
     let start = ap (λ (h : History). length h.start) (c.log-log.ensures.whole c.requires.legal) ∙ length-map r.objects _ in
     record {
@@ -51,11 +51,11 @@ begin_limits-begun-requires g c =
 
 pub next_start-start-requires-clause-last : goal.next_start-start-requires-clause-last
 next_start-start-requires-clause-last g c =
-    rw (c.log-log.ensures.whole c.requires.legal) (omega (arith, c.loop-place-test.true, c.decided-decided.ensures.decided))
+    rw (c.log-log.ensures.whole c.requires.legal) (omega (arith, c.loop-index-test.true, c.decided-decided.ensures.decided))
 
 pub next_start-start-requires-clause-stands : goal.next_start-start-requires-clause-stands
 next_start-start-requires-clause-stands g c =
-    let is = c.loop-place.invariant.stands in
+    let is = c.loop-index.invariant.stands in
     let extended = c.extend.ensures.places in
     let begun = c.begin_limits-begun.ensures.places in
     record {
@@ -68,19 +68,19 @@ next_start-start-requires-clause-stands g c =
 pub starts_earlier-is_earlier-requires : goal.starts_earlier-is_earlier-requires
 starts_earlier-is_earlier-requires g c = record {
   legal = c.requires.legal;
-  last = omega (arith, c.loop-place-test.true, c.decided-decided.ensures.decided);
+  last = omega (arith, c.loop-index-test.true, c.decided-decided.ensures.decided);
 }
 
 pub next_start-start-requires-clause-before : goal.next_start-start-requires-clause-before
 next_start-start-requires-clause-before g c =
     let r = c.args.audited.now in
     let n = c.begin_limits-begun.result in
-    let inside = c.loop-place.invariant in
+    let inside = c.loop-index.invariant in
     let entries = c.entries-entries.ensures ∙ c.limits-2.ensures in
-    let begun : HaveBegun (c.loop-place.place + 1) r.limits n = rw entries at c.begin_limits-begun.ensures.begun in
+    let begun : HaveBegun (c.loop-index.index + 1) r.limits n = rw entries at c.begin_limits-begun.ensures.begun in
     let limits : c.begin_limits-begun.new.ledger.limits ≡ latest (take n r.limits) = rw entries at c.begin_limits-begun.ensures.limits in
     rw (c.log-log.ensures.whole c.requires.legal, c.groups-groups.ensures, limits)
-    (passes-before r n c.loop-place.begun c.loop-place.start c.loop-place.place c.starts_earlier-is_earlier.result begun inside.before
+    (passes-before r n c.loop-index.begun c.loop-index.start c.loop-index.index c.starts_earlier-is_earlier.result begun inside.before
     c.starts_earlier-is_earlier.ensures)
 
 pub overflow_cast-start : goal.overflow_cast-start
@@ -95,23 +95,23 @@ overflow_cast-start g c =
       c.decided-decided.ensures.sound.few,
     )
 
-pub loop-place-preserved : goal.loop-place-preserved
-loop-place-preserved g c =
+pub loop-index-preserved : goal.loop-index-preserved
+loop-index-preserved g c =
     let r = c.args.audited.now in
-    let inside = c.loop-place.invariant in
+    let inside = c.loop-index.invariant in
     let n = c.begin_limits-begun.result in
     let start = c.next_start-start.result in
     let log = c.log-log.ensures.whole c.requires.legal in
     let entries = c.entries-entries.ensures ∙ c.limits-2.ensures in
-    let begun : HaveBegun (c.loop-place.place + 1) r.limits n = rw entries at c.begin_limits-begun.ensures.begun in
+    let begun : HaveBegun (c.loop-index.index + 1) r.limits n = rw entries at c.begin_limits-begun.ensures.begun in
     let limits : c.begin_limits-begun.new.ledger.limits ≡ latest (take n r.limits) = rw entries at c.begin_limits-begun.ensures.limits in
-    let least : IsLeastStart (within (history_of r) r.groups (latest (take n r.limits))) start (c.loop-place.place + 1) =
+    let least : IsLeastStart (within (history_of r) r.groups (latest (take n r.limits))) start (c.loop-index.index + 1) =
     rw (log, c.groups-groups.ensures, limits) at c.next_start-start.ensures.least in
     record {
-      room = omega (arith, inside.room, c.push_reserved-in-loop-place.ensures.capacity);
-      starts = rw c.push_reserved-in-loop-place.ensures.items
-          (starts-more (is_within r) (c.loop-place.place + 1) start c.loop-place.starts.items inside.starts
-          (least-in_force r n start (c.loop-place.place + 1) begun least));
+      room = omega (arith, inside.room, c.push_reserved-in-loop-index.ensures.capacity);
+      starts = rw c.push_reserved-in-loop-index.ensures.items
+          (starts-more (is_within r) (c.loop-index.index + 1) start c.loop-index.starts.items inside.starts
+          (least-in_force r n start (c.loop-index.index + 1) begun least));
       begun = begun;
       before = least.before;
       stands = rw (log, c.groups-groups.ensures, limits) at c.next_start-start.ensures.stands;
@@ -119,5 +119,5 @@ loop-place-preserved g c =
 
 pub returns : goal.returns
 returns g c =
-    let all : c.loop-place.place ≡ length c.args.audited.now.sets = omega (arith, c.decided-decided.ensures.decided) in
-    rw all at c.loop-place.invariant.starts
+    let all : c.loop-index.index ≡ length c.args.audited.now.sets = omega (arith, c.decided-decided.ensures.decided) in
+    rw all at c.loop-index.invariant.starts

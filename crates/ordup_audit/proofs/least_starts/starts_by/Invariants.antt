@@ -9,11 +9,11 @@ use Rattle.ordup_audit.proofs.least_starts.starts_by.Given as goal
 
 -- the starts of the places so far, with room for the others; how many limits have begun; and a ledger of these at the span from the
 -- last of the starts
-abbrev pub invariant-loop-place : goal.invariant-loop-place
-invariant-loop-place g l = record {
+abbrev pub invariant-loop-index : goal.invariant-loop-index
+invariant-loop-index g l = record {
   room : l.decided + 1 ≤ vec_capacity l.starts;
-  starts : AreLeastStarts (is_within l.audited) (l.place + 1) l.starts.items;
-  begun : HaveBegun l.place l.audited.limits l.begun;
-  before : PassesBefore (within (history_of l.audited) l.audited.groups (latest (take l.begun l.audited.limits))) l.start l.place;
-  stands : StandsAt (history_of l.audited) l.audited.groups (latest (take l.begun l.audited.limits)) l.start l.place l.ledger;
+  starts : AreLeastStarts (is_within l.audited) (l.index + 1) l.starts.items;
+  begun : HaveBegun l.index l.audited.limits l.begun;
+  before : PassesBefore (within (history_of l.audited) l.audited.groups (latest (take l.begun l.audited.limits))) l.start l.index;
+  stands : StandsAt (history_of l.audited) l.audited.groups (latest (take l.begun l.audited.limits)) l.start l.index l.ledger;
 }

@@ -1,2 +1,3 @@
 pub mod Series
 pub mod Texts
+pub mod AmountCellInside

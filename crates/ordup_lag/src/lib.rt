@@ -4,9 +4,11 @@
 //!
 //! `writing.rt` goes through the places in order, and moves a ledger from place to place: by the update, by the limits that begin
 //! to hold, and by what the site has reported since. So a place costs by its changes and its limits, however long the span is. It
-//! takes all memory before the first line, and hands the lines out a piece at a time.
+//! takes all memory before the first line, and hands the lines out a piece at a time. `amount_cell.rt` keeps the digits of an amount
+//! from row to row.
 #![tactic(auto)]
 
+mod amount_cell;
 mod places;
 mod row_text;
 mod writing;

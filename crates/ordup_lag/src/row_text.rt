@@ -1,6 +1,6 @@
 //! The text of the series: its header, and the line of a row.
 
-ghost use Rattle.std.specs.Prelude.{◌≡◌, ◌++◌, OnOk, Option, length, min, slice_get, Some};
+ghost use Rattle.std.specs.Prelude.{◌≡◌, ◌++◌, ◌≤◌, OnOk, Option, length, min, slice_get, Some};
 ghost use Rattle.ordup_objects.specs.Serial.{History};
 ghost use Rattle.ordup_log.specs.Groups.{GroupList};
 ghost use Rattle.ordup_log.specs.Spans.{IsScopeKnown};
@@ -12,11 +12,12 @@ ghost use Rattle.ordup_audit.specs.Validity.{IsValid};
 ghost use Rattle.ordup_lag.specs.Series.{row_at, uses_of};
 ghost use Rattle.ordup_lag.specs.Texts.{head_text, round_text, row_text, scope_head, scope_heads, use_text, uses_text, window_text};
 
+use crate::amount_cell::{AmountCell, CELL_ROOM};
 use crate::places::{has_round, window_of};
 use ordup_audit::Record;
 use ordup_limits::{Groups, LagLedger, Scope};
 use ordup_objects::ObjectTable;
-use ordup_text::{TextBuffer, push_with_number};
+use ordup_text::{TextBuffer, push_with_number, put_with_number};
 use std::alloc::{AllocError, Allocator};
 
 /// Adds a text and a name.
@@ -96,18 +97,22 @@ pub(crate) fn push_head<A: Allocator + Copy>(
 /// Adds how much of a limit is used: a weight, and the amount of the limit.
 fn push_use<A: Allocator + Copy>(
     out: &mut TextBuffer<A>,
+    cell: &mut AmountCell,
     weight: u64,
     amount: u64,
 ) -> Result<(), AllocError>
     ensures { OnOk result (out.new.text ≡ out.old.text ++ use_text (Some (record { weight = weight; amount = amount }))) }
 {
-    push_with_number(out, b",", weight)?;
-    push_with_number(out, b",", amount)
+    out.reserve(2 * CELL_ROOM)?;
+    put_with_number(out, b",", weight);
+    cell.put(out, amount);
+    Ok(())
 }
 
 /// Adds how much of the limit with this index the span of a ledger uses, or two empty cells where there is no such limit yet.
 fn push_any_use<A: Allocator + Copy>(
     out: &mut TextBuffer<A>,
+    cell: &mut AmountCell,
     ledger: &LagLedger<A>,
     index: usize,
 ) -> Result<(), AllocError>
@@ -116,7 +121,7 @@ fn push_any_use<A: Allocator + Copy>(
 {
     let limits = ledger.limits();
     if index < limits.len() {
-        push_use(out, ledger.weight(index), limits[index].amount)
+        push_use(out, cell, ledger.weight(index), limits[index].amount)
     } else {
         out.push(b",,")
     }
@@ -125,14 +130,17 @@ fn push_any_use<A: Allocator + Copy>(
 /// Adds how much of each limit the span of a ledger uses, with cells for this many limits.
 fn push_uses<A: Allocator + Copy>(
     out: &mut TextBuffer<A>,
+    cells: &mut Vec<AmountCell, A>,
     ledger: &LagLedger<A>,
     scopes: usize,
 ) -> Result<(), AllocError>
-    ensures { OnOk result ((h : History) (groups : GroupList) → StandsFor ledger.now h groups →
+    requires { scopes ≤ length cells.old.items }
+    ensures count { OnOk result (length cells.new.items ≡ length cells.old.items) }
+    ensures text { OnOk result ((h : History) (groups : GroupList) → StandsFor ledger.now h groups →
         out.new.text ≡ out.old.text ++ uses_text (uses_of ledger.now h groups) scopes) }
 {
     for index in 0..scopes {
-        push_any_use(out, ledger, index)?;
+        push_any_use(out, &mut cells[index], ledger, index)?;
     }
     Ok(())
 }
@@ -170,19 +178,22 @@ fn push_window<A: Allocator + Copy>(
 /// Adds the line of a place, by a ledger at the span of the updates that the site had not reported at its decision.
 pub(crate) fn push_row<A: Allocator + Copy>(
     out: &mut TextBuffer<A>,
+    cells: &mut Vec<AmountCell, A>,
     audited: &Record<A>,
     ledger: &LagLedger<A>,
     scopes: usize,
     place: u64,
 ) -> Result<(), AllocError>
+    requires scopes { scopes ≤ length cells.old.items }
     requires valid { IsValid audited.now }
     requires stands { StandsAt (history_of audited.now) audited.now.groups (in_force audited.now.limits place)
         (min (report_at audited.now.reports place) place) place ledger.now }
-    ensures { OnOk result (out.new.text ≡ out.old.text ++ row_text scopes (row_at audited.now place)) }
+    ensures count { OnOk result (length cells.new.items ≡ length cells.old.items) }
+    ensures text { OnOk result (out.new.text ≡ out.old.text ++ row_text scopes (row_at audited.now place)) }
 {
     out.push_number(place)?;
     push_with_number(out, b",", audited.reported_at(place))?;
-    push_uses(out, ledger, scopes)?;
+    push_uses(out, cells, ledger, scopes)?;
     push_round(out, has_round(audited.rounds(), place))?;
     push_window(out, window_of(audited.windows(), place))
 }

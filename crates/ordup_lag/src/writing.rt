@@ -11,6 +11,7 @@ ghost use Rattle.ordup_audit.specs.Records.{history_of, report_at};
 ghost use Rattle.ordup_audit.specs.Validity.{IsValid};
 ghost use Rattle.ordup_lag.specs.Texts.{head_text, rows_upto, series_text};
 
+use crate::amount_cell::{AmountCell, amount_cells};
 use crate::row_text::{push_head, push_row};
 use ordup_audit::{Record, begin_limits, first_ledger};
 use ordup_limits::LagLedger;
@@ -52,23 +53,47 @@ pub fn write_series<A: Allocator + Copy, W: Write>(
     let Ok(mut ledger) = first_ledger(alloc, audited) else {
         return Err(SeriesFault::NoMemory);
     };
-    let mut out = TextBuffer::new(alloc);
-    let written = write_rows(&mut out, &mut ledger, audited, output);
-    // By calls: where they go out of scope, the proof takes them apart.
-    drop(out);
+    let written = write_with(alloc, &mut ledger, audited, output);
+    // By a call: where it goes out of scope, the proof takes it apart.
     drop(ledger);
     written
 }
 
-/// Writes the series as [`write_series`] does, by a buffer that is empty and a first ledger.
+/// Writes the series as [`write_series`] does, by a first ledger.
+fn write_with<A: Allocator + Copy, W: Write>(
+    alloc: A,
+    ledger: &mut LagLedger<A>,
+    audited: &Record<A>,
+    output: &mut W,
+) -> Result<(), SeriesFault>
+    requires valid { IsValid audited.now }
+    requires first { StandsAt (history_of audited.now) audited.now.groups [] 0 0 ledger.old }
+    ensures written { OnOk result (Appends (W.contents output.old) (W.contents output.new) (series_text audited.now)) }
+    ensures front { AppendsFront (W.contents output.old) (W.contents output.new) (series_text audited.now) }
+    ensures refused { IfErr result (λ e. e ≡ SeriesFault.NoMemory → output.new ≡ output.old) }
+{
+    let Ok(mut cells) = amount_cells(alloc, audited.limits().len()) else {
+        return Err(SeriesFault::NoMemory);
+    };
+    let mut out = TextBuffer::new(alloc);
+    let written = write_rows(&mut out, &mut cells, ledger, audited, output);
+    // By calls, as above.
+    drop(out);
+    drop(cells);
+    written
+}
+
+/// Writes the series as [`write_series`] does, by a buffer that is empty, a cell for each limit and a first ledger.
 fn write_rows<A: Allocator + Copy, W: Write>(
     out: &mut TextBuffer<A>,
+    cells: &mut Vec<AmountCell, A>,
     ledger: &mut LagLedger<A>,
     audited: &Record<A>,
     output: &mut W,
 ) -> Result<(), SeriesFault>
     requires valid { IsValid audited.now }
     requires empty { out.old.text ≡ [] }
+    requires limits { length cells.old.items ≡ length (latest audited.now.limits) }
     requires first { StandsAt (history_of audited.now) audited.now.groups [] 0 0 ledger.old }
     ensures written { OnOk result (Appends (W.contents output.old) (W.contents output.new) (series_text audited.now)) }
     ensures front { AppendsFront (W.contents output.old) (W.contents output.new) (series_text audited.now) }
@@ -77,7 +102,7 @@ fn write_rows<A: Allocator + Copy, W: Write>(
     let Ok(()) = form_head(out, audited) else {
         return Err(SeriesFault::NoMemory);
     };
-    match send_rows(out, ledger, audited, output) {
+    match send_rows(out, cells, ledger, audited, output) {
         Ok(()) => Ok(()),
         Err(_) => Err(SeriesFault::Write),
     }
@@ -97,11 +122,13 @@ fn form_head<A: Allocator + Copy>(
 /// Sends what is formed, and the row of each decided place after it.
 fn send_rows<A: Allocator + Copy, W: Write>(
     out: &mut TextBuffer<A>,
+    cells: &mut Vec<AmountCell, A>,
     ledger: &mut LagLedger<A>,
     audited: &Record<A>,
     output: &mut W,
 ) -> Result<(), WriteFault>
     requires valid { IsValid audited.now }
+    requires limits { length cells.old.items ≡ length (latest audited.now.limits) }
     requires first { StandsAt (history_of audited.now) audited.now.groups [] 0 0 ledger.old }
     ensures sent { OnOk result (Appends (W.contents output.old) (W.contents output.new) (out.old.text ++ rows_upto audited.now (length audited.now.sets))) }
     ensures front { AppendsFront (W.contents output.old) (W.contents output.new) (out.old.text ++ rows_upto audited.now (length audited.now.sets)) }
@@ -111,7 +138,7 @@ fn send_rows<A: Allocator + Copy, W: Write>(
     let mut begun = 0;
     for updates in 0..audited.decided() {
         begun = advance(ledger, audited, begun, updates);
-        let Ok(()) = push_row(out, audited, ledger, scopes, updates + 1) else {
+        let Ok(()) = push_row(out, cells, audited, ledger, scopes, updates + 1) else {
             return Err(WriteFault);
         };
         send_many(out, output)?;

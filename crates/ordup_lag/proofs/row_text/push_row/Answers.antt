@@ -6,12 +6,12 @@ use Rattle.ordup_lag.specs.Series.{has_place}
 use Rattle.ordup_lag.proofs.SeriesLemmas.{row_written}
 use Rattle.ordup_lag.proofs.row_text.push_row.Goals as goal
 
-pub returns : goal.returns
-returns g c =
+pub returns-clause-text : goal.returns-clause-text
+returns-clause-text g c =
     let r = c.args.audited.now in
     let k = c.args.place in
     let at = c.requires.stands in
-    let uses = rw (at.same, at.from, at.to) at (c.in_ok-push_uses.ensures (history_of r) r.groups at.stands) in
+    let uses = rw (at.same, at.from, at.to) at (c.in_ok-push_uses.ensures.text (history_of r) r.groups at.stands) in
     row_written _ r k c.args.scopes _ _ _ _ _ _ _ _ _ _ _ (ap (λ n. min n k) (sym c.reported_at.ensures))
     c.reported_at.ensures refl
     (c.has_round.ensures ∙ ap (λ rounds. list_any (λ p. p == k) rounds) c.rounds.ensures)

@@ -1,4 +1,4 @@
-use Rattle.std.proofs.Common.{◌≡◌, ◌++◌}
+use Rattle.std.proofs.Common.{◌≡◌, ◌++◌, length}
 use Rattle.ordup_objects.specs.Serial.{History}
 use Rattle.ordup_log.specs.Groups.{GroupList}
 use Rattle.ordup_limits.specs.Ledgers.{StandsFor}
@@ -8,5 +8,8 @@ use Rattle.ordup_lag.proofs.row_text.push_uses.Given as goal
 
 -- the cells of the limits so far
 abbrev pub invariant-loop-index : goal.invariant-loop-index
-invariant-loop-index g l = (h : History) (groups : GroupList) → StandsFor l.ledger h groups
-    → l.out.text ≡ l.initial.out.text ++ uses_text (uses_of l.ledger h groups) l.index
+invariant-loop-index g l = record {
+  count : length l.cells.items ≡ length l.fn.cells.items;
+  text : (h : History) (groups : GroupList) → StandsFor l.ledger h groups
+      → l.out.text ≡ l.initial.out.text ++ uses_text (uses_of l.ledger h groups) l.index;
+}

@@ -1,4 +1,4 @@
-use Rattle.ordup_audit.proofs.Common.{◌≡◌, ◌+◌, ◌∙◌, ap, arith, length, report_at}
+use Rattle.ordup_audit.proofs.Common.{◌≡◌, ◌+◌, ◌∙◌, ap, arith, length, refl, report_at}
 use Rattle.std.specs.Prelude.{min}
 use Rattle.ordup_limits.specs.Entries.{latest}
 use Rattle.ordup_limits.proofs.EntryLemmas.{in_force-first}
@@ -9,10 +9,16 @@ pub loop-updates-init : goal.loop-updates-init
 loop-updates-init g c =
     let none : min (report_at c.args.audited.now.reports 0) 0 ≡ 0 = omega arith in
     record {
+      count = refl;
       begun = record { upto = λ i d lt. absurd (omega arith); later = c.keeps.ensures.limits.begun };
       stands = rw none c.requires.first;
       sent = sends_none _ _;
     }
+
+pub push_row-requires-clause-scopes : goal.push_row-requires-clause-scopes
+push_row-requires-clause-scopes g c =
+    let scopes = c.len-scopes.ensures.len ∙ ap (λ entries. length (latest entries)) c.limits.ensures in
+    omega (arith, scopes, c.requires.limits, c.loop-updates.invariant.count)
 
 pub push_row-requires-clause-stands : goal.push_row-requires-clause-stands
 push_row-requires-clause-stands g c =
@@ -28,15 +34,16 @@ pub returns-in_err-send_many-clause-front : goal.returns-in_err-send_many-clause
 returns-in_err-send_many-clause-front g c =
     let r = c.args.audited.now in
     let scopes = c.len-scopes.ensures.len ∙ ap (λ entries. length (latest entries)) c.limits.ensures in
-    let sent = row_formed _ _ _ r c.loop-updates.updates _ _ c.loop-updates.invariant.sent (rw scopes at c.in-Ok.ensures) in
+    let sent = row_formed _ _ _ r c.loop-updates.updates _ _ c.loop-updates.invariant.sent (rw scopes at c.in-Ok.ensures.text) in
     stops_at _ _ _ _ r (c.loop-updates.updates + 1) _ (omega arith) sent c.in_err-send_many.ensures.front
 
 pub loop-updates-preserved : goal.loop-updates-preserved
 loop-updates-preserved g c =
     let r = c.args.audited.now in
     let scopes = c.len-scopes.ensures.len ∙ ap (λ entries. length (latest entries)) c.limits.ensures in
-    let sent = row_formed _ _ _ r c.loop-updates.updates _ _ c.loop-updates.invariant.sent (rw scopes at c.in-Ok.ensures) in
+    let sent = row_formed _ _ _ r c.loop-updates.updates _ _ c.loop-updates.invariant.sent (rw scopes at c.in-Ok.ensures.text) in
     record {
+      count = c.in-Ok.ensures.count ∙ c.loop-updates.invariant.count;
       begun = c.advance-begun.ensures.begun;
       stands = c.advance-begun.ensures.stands;
       sent = sends_more _ _ _ _ _ _ sent c.in_ok-send_many.ensures.sent;

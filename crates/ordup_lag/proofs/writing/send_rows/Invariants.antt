@@ -1,4 +1,4 @@
-use Rattle.std.proofs.Common.{◌++◌, take}
+use Rattle.std.proofs.Common.{◌≡◌, ◌++◌, length, take}
 use Rattle.std.specs.Prelude.{min}
 use Rattle.ordup_limits.specs.Entries.{latest}
 use Rattle.ordup_audit.specs.Beginning.{HaveBegun}
@@ -8,9 +8,10 @@ use Rattle.ordup_rows.specs.Forming.{SendsUpto}
 use Rattle.ordup_lag.specs.Texts.{rows_upto}
 use Rattle.ordup_lag.proofs.writing.send_rows.Given as goal
 
--- the limits that have begun, a ledger of them at the span of the last row, and the rows so far: sent, but for what is left
+-- a cell for each limit, the limits that have begun, a ledger of them at the span of the last row, and the rows so far: sent, but for what is left
 abbrev pub invariant-loop-updates : goal.invariant-loop-updates
 invariant-loop-updates g l = record {
+  count : length l.cells.items ≡ length l.fn.cells.items;
   begun : HaveBegun l.updates l.audited.limits l.begun;
   stands : StandsAt (history_of l.audited) l.audited.groups (latest (take l.begun l.audited.limits))
       (min (report_at l.audited.reports l.updates) l.updates) l.updates l.ledger;

@@ -1,0 +1,96 @@
+//! The cell of an amount, kept from row to row.
+
+ghost use Rattle.std.specs.Prelude.{◌≡◌, ◌≤◌, ◌++◌, IfOk, codes, length};
+ghost use Rattle.std.specs.Fmt.{decimal};
+ghost use Rattle.ordup_lag.specs.declared.amount_cell.TheConstants.{CELL_ROOM};
+
+use ordup_text::{MOST_DIGITS, TextBuffer, put_with_number};
+use std::alloc::{AllocError, Allocator};
+use std::marker::Model;
+
+/// The most bytes of a cell: a comma, and the most digits of a number.
+pub(crate) const CELL_ROOM: usize = MOST_DIGITS + 1;
+
+/// The cell of an amount, as it was last written. Its digits are made where the amount changes, and not in each row.
+#[derive(Drop)]
+pub(crate) struct AmountCell {
+    amount: u64,
+    /// The text of the cell, and then bytes without meaning.
+    bytes: [u8; CELL_ROOM],
+    len: usize,
+}
+
+impl Model for AmountCell {
+    ghost use Rattle.ordup_lag.specs.AmountCellInside.{IsAmountCell};
+    ghost use Rattle.std.specs.Prelude.{ℕ};
+
+    ghost Value = { ℕ };
+
+    ghost view = { λ c. c.amount };
+
+    ghost invariant = { IsAmountCell };
+}
+
+impl AmountCell {
+    /// The cell of 0.
+    pub(crate) fn new() -> Self {
+        let mut bytes = [0; CELL_ROOM];
+        bytes[0] = b',';
+        bytes[1] = b'0';
+        AmountCell {
+            amount: 0,
+            bytes,
+            len: 2,
+        }
+    }
+
+    /// Puts the cell of an amount. The most bytes of a cell must fit into the spare capacity.
+    #[inline(always)]
+    pub(crate) fn put<A: Allocator + Copy>(&mut self, out: &mut TextBuffer<A>, amount: u64)
+        requires { CELL_ROOM ≤ out.old.room }
+        ensures { out.new.text ≡ out.old.text ++ (codes "," ++ decimal amount) }
+    {
+        if self.amount != amount {
+            self.put_other(out, amount);
+            return;
+        }
+        out.put(&self.bytes[..self.len]);
+    }
+
+    /// Puts the cell of another amount, and keeps it.
+    #[inline(never)]
+    fn put_other<A: Allocator + Copy>(&mut self, out: &mut TextBuffer<A>, amount: u64)
+        requires { CELL_ROOM ≤ out.old.room }
+        ensures { out.new.text ≡ out.old.text ++ (codes "," ++ decimal amount) }
+    {
+        let before = out.len();
+        put_with_number(out, b",", amount);
+        self.keep(&out.as_slice()[before..], amount);
+    }
+
+    /// Keeps the text of a cell.
+    fn keep(&mut self, text: &[u8], amount: u64)
+        requires { text.now ≡ codes "," ++ decimal amount }
+    {
+        let len = text.len();
+        if len <= CELL_ROOM {
+            self.bytes[..len].copy_from_slice(text);
+            self.amount = amount;
+            self.len = len;
+        }
+    }
+}
+
+/// Cells of 0, as many as these.
+pub(crate) fn amount_cells<A: Allocator + Copy>(
+    alloc: A,
+    count: usize,
+) -> Result<Vec<AmountCell, A>, AllocError>
+    ensures { IfOk result (λ cells. length cells.items ≡ count) }
+{
+    let mut cells = Vec::with_capacity(alloc, count)?;
+    for _ in 0..count {
+        cells.push_reserved(AmountCell::new());
+    }
+    Ok(cells)
+}

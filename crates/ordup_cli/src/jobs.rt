@@ -207,7 +207,12 @@ fn print_lag<R: Read, W: Write>(alloc: Global, input: &mut R, output: &mut W) ->
 }
 
 /// Prints the series of a record that this verdict calls valid, and else the verdict.
-fn print_judged<W: Write>(alloc: Global, audited: &Record, verdict: Verdict, output: &mut W) -> Outcome
+fn print_judged<W: Write>(
+    alloc: Global,
+    audited: &Record,
+    verdict: Verdict,
+    output: &mut W,
+) -> Outcome
     requires { IfFewest verdict (λ n. IsValid audited.now) }
     ensures { PrintsLag audited.now verdict (W.contents output.old) (W.contents output.new) result }
 {

@@ -214,5 +214,5 @@ allocate_spec 𝓤 𝓛 𝓜 𝓡 wired Y L g d d' met _ =
     (λ κs qs bounds a τ are.
     walk Z 𝓛 𝓜.mem 𝓡.returns 𝓣 (met.allocate d')
     (cited 𝓤 𝓛.H _ 𝓜 𝓡 𝓡.env c_sym.name (𝓡.env c_sym.name) refl
-    (c_met.met 𝓤 𝓛 𝓜 𝓡 (code.calls-ordup_tests::scripts::scarce::take_one 𝓡.env wired)))
+    (c_met.met 𝓤 𝓛 𝓜 𝓡 (code.calls-ordup_tests::memory::scarce::take_one 𝓡.env wired)))
     κs.0 κs.1.0 qs.0 qs.1.0 bounds.0 a.0 a.1.0 a.1.1.0 τ are.1.0.1 are.1.1.0.1)))

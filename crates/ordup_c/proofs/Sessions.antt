@@ -81,7 +81,7 @@ follows_stays a b c lines follows (end, text) s stands =
 pub no_bytes : (xs : List ℕ) → length xs ≡ 0 → xs ≡ []
 no_bytes xs zero = sym (take-length xs) ∙ ap (λ n. take n xs) zero
 
--- the lines that ended are a front
+-- the lines that ended are a prefix
 pub takes_ended : (a b : Session) (done rest text : List ℕ) (lines : List Line) (n : ℕ) → text ≡ done ++ rest
     → n + length rest ≡ length text → IsCut done lines [] → Follows a b lines → TakesFront a b text n
 takes_ended a b done rest text lines n is count at follows =
@@ -100,7 +100,7 @@ no_line : lines_of true [] ≡ []
 unfolding lines_of
 no_line = refl
 
--- all of a text is a front
+-- all of a text is a prefix
 pub takes_all : (a b : Session) (text : List ℕ) (lines : List Line) → lines_of true text ≡ lines → Follows a b lines
     → TakesFront a b text (length text)
 takes_all a b text lines is follows =

@@ -14,7 +14,7 @@ Opens None None status = status ≡ NO_MEMORY
 abbrev pub status_of : Session → ℕ → ℕ
 status_of v left = if left == 0 then (if length (kept v) == 0 then DONE else MORE) else NO_MEMORY
 
--- a front of a text was taken, its lines were answered, and these answers given
+-- a prefix of a text was taken, its lines were answered, and these answers given
 abbrev pub RunsCall : Option Session → Option Session → List ℕ → ℕ → List ℕ → ℕ → Type 0
 RunsCall None None text taken gave status = (status ≡ CLOSED) × (taken ≡ 0) × (gave ≡ [])
 RunsCall None (Some w) text taken gave status = ⊥

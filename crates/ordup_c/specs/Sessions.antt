@@ -43,7 +43,7 @@ Answers old new text = (s : ScriptState Global) → Stands old.end s
     → Stands new.end (answers_to s (lines_of true text)).0
     × (kept new ≡ kept old ++ (answers_to s (lines_of true text)).1)
 
--- a front of what was kept was given, and no line was taken
+-- a prefix of what was kept was given, and no line was taken
 abbrev pub Gives : Session → Session → List ℕ → Type 0
 Gives old new gave = (new.end ≡ old.end) × (kept old ≡ gave ++ kept new)
 

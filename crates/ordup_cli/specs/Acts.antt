@@ -6,7 +6,7 @@ use Rattle.ordup_script.specs.Streams.{Bytes, Streams}
 use Rattle.ordup_cli.specs.Faults.{Outcome, fault_text, status_of}
 use Rattle.ordup_cli.specs.Jobs.{Does}
 
--- nothing was told of a job that was done, and of any other the line of its fault, or a front of it
+-- nothing was told of a job that was done, and of any other the line of its fault, or a prefix of it
 abbrev pub IsTold : Bytes → Bytes → Outcome → Type 0
 IsTold old new (Ok status) = new ≡ old
 IsTold old new (Err fault) = AppendsFront old new (fault_text fault)

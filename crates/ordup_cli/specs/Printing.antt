@@ -1,4 +1,4 @@
--- What is printed: all of a text, or a front of it where the writer failed.
+-- What is printed: all of a text, or a prefix of it where the writer failed.
 use Rattle.std.specs.Prelude.{◌≡◌, ℕ, List, Ok, Err}
 use Rattle.std.specs.Io.KnownBytes.{Appends}
 use Rattle.ordup_text.specs.Fronts.{AppendsFront}

@@ -14,7 +14,7 @@ use std::thread::Threads;
 
 /// Does what the words ask for, and answers the exit status. The first word is the program's name.
 ///
-/// Either one of the jobs was done over the input and the output: then nothing but the line of its fault, or a front of that
+/// Either one of the jobs was done over the input and the output: then nothing but the line of its fault, or a prefix of that
 /// line, was written to `faults`, and the status is that of how the job ended. Or no job was done and nothing was read: the help
 /// or the version was printed, or the words were wrong or there was no memory to look at them, and then nothing was printed.
 pub fn act<T: Threads + Wait + Sync, R: Read, W: Write, E: Write>(

@@ -130,7 +130,7 @@ impl Fault {
     }
 }
 
-/// Tells a fault: answers its exit status, and writes its line, or a front of it where the writer fails.
+/// Tells a fault: answers its exit status, and writes its line, or a prefix of it where the writer fails.
 pub(crate) fn tell<E: Write>(faults: &mut E, fault: Fault) -> u8
     ensures status { result ≡ fault_status fault }
     ensures text { AppendsFront (E.contents faults.old) (E.contents faults.new) (fault_text fault) }

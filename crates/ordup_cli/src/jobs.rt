@@ -122,7 +122,7 @@ fn print_site<W: Write>(alloc: Global, site: &[u8], primary: &Primary, output: &
     }
 }
 
-/// Prints a record: all of its rows, or a front of them where the writer fails, or nothing for want of memory.
+/// Prints a record: all of its rows, or a prefix of them where the writer fails, or nothing for want of memory.
 fn print_rows<W: Write>(alloc: Global, audited: &RecordView<'_>, output: &mut W) -> Outcome
     ensures { PrintsRecord audited.now (W.contents output.old) (W.contents output.new) result }
 {
@@ -136,7 +136,7 @@ fn print_rows<W: Write>(alloc: Global, audited: &RecordView<'_>, output: &mut W)
 /// Checks a record and prints the verdict.
 ///
 /// - Where it ends with a status or a write fault, the text is not too long, and it tells a record. The verdict on it was
-///   printed, or a front of that line.
+///   printed, or a prefix of that line.
 /// - `Malformed`: the row is the first that breaks a rule. Nothing was written.
 /// - `Read`, `NoMemory`: nothing was written.
 fn check_record<R: Read, W: Write>(alloc: Global, input: &mut R, output: &mut W) -> Outcome
@@ -189,7 +189,7 @@ fn status_of(verdict: Verdict) -> u8
 /// Reads a record and prints its series, or the verdict on it where it is not valid.
 ///
 /// - Where it ends with a status or a write fault, the text is not too long, and it tells a record. The series of a valid record
-///   was printed, or a front of it; of any other record the verdict was, or a front of that line.
+///   was printed, or a prefix of it; of any other record the verdict was, or a prefix of that line.
 /// - `Malformed`: the row is the first that breaks a rule. Nothing was written.
 /// - `Read`, `NoMemory`: nothing was written.
 fn print_lag<R: Read, W: Write>(alloc: Global, input: &mut R, output: &mut W) -> Outcome
@@ -222,7 +222,7 @@ fn print_judged<W: Write>(
     }
 }
 
-/// Prints the series of a valid record: all of it, or a front of it where the writer fails, or nothing for want of memory.
+/// Prints the series of a valid record: all of it, or a prefix of it where the writer fails, or nothing for want of memory.
 fn print_series<W: Write>(alloc: Global, audited: &Record, output: &mut W) -> Outcome
     requires { IsValid audited.now }
     ensures { PrintsSeries audited.now (W.contents output.old) (W.contents output.new) result }

@@ -65,7 +65,7 @@ fn print_successor<W: Write>(alloc: Global, primary: &Primary, output: &mut W) -
 /// verdict on it where it is not valid.
 ///
 /// - Where it ends with a status or a write fault, the text is not too long, and it tells a record. The declarations of a valid record
-///   were printed, or a front of them; of any other record the verdict was, or a front of that line.
+///   were printed, or a prefix of them; of any other record the verdict was, or a prefix of that line.
 /// - `Malformed`: the row is the first that breaks a rule. Nothing was written.
 /// - `Read`, `NoMemory`: nothing was written.
 pub(crate) fn print_next_of_record<R: Read, W: Write>(

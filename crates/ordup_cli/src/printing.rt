@@ -8,7 +8,7 @@ use crate::jobs::{DONE, Outcome};
 use ordup_text::send;
 use std::io::Write;
 
-/// Prints a text: all of it, or a front of it where the writer fails.
+/// Prints a text: all of it, or a prefix of it where the writer fails.
 pub(crate) fn print<W: Write>(text: &[u8], output: &mut W) -> Outcome
     ensures { Prints 0 text.now (W.contents output.old) (W.contents output.new) result }
 {

@@ -28,7 +28,7 @@ sends_more a b c whole text left (sent, is, grew) (more, cut, grew_more) = (
   Appends-trans a b c sent more grew grew_more,
 )
 
--- a front of what is left is sent
+-- a prefix of what is left is sent
 stops_early : (a b c : Option (List ℕ)) (whole text all more : List ℕ) → SendsUpto a b whole text → AppendsFront b c text
     → all ≡ whole ++ more
     → AppendsFront a c all
@@ -59,7 +59,7 @@ row_formed a b head r k left text sent next =
     formed a b (head ++ rows_upto r k) left row (head ++ rows_upto r (k + 1)) text sent
     (ap (λ t. head ++ t) (sym (upto-next r k)) ∙ sym (append_assoc head (rows_upto r k) row)) next
 
--- of the lines up to a place a front is sent, and no more of all
+-- of the lines up to a place a prefix is sent, and no more of all
 pub stops_at : (a b c : Option (List ℕ)) (head : List ℕ) (r : RecordState) (k : ℕ) (text : List ℕ) → k ≤ length r.sets
     → SendsUpto a b (head ++ rows_upto r k) text → AppendsFront b c text
     → AppendsFront a c (head ++ rows_upto r (length r.sets))

@@ -139,7 +139,7 @@ pub heads-next : (objects : Objects) (groups : GroupList) (limits : Limits) (n a
 heads-next objects groups limits n amount s at =
     ap (λ o. scope_heads objects groups limits n ++ limit_head objects groups o) (sym at) ∙ heads-more objects groups limits n
 
--- the lines up to a place are a front of those up to a later one
+-- the lines up to a place are a prefix of those up to a later one
 pub upto-front : (r : RecordState) (k n : ℕ) → k ≤ n → (more : List ℕ) × (rows_upto r n ≡ rows_upto r k ++ more)
 upto-front r k zero le = (let none : k ≡ 0 = omega arith in rw none ([], refl))
 upto-front r k (suc n) le = elim (cases_eq k (suc n)) [

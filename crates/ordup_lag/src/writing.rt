@@ -38,7 +38,7 @@ const MOST_UNSENT_BYTES: usize = PIECE + 16_384;
 /// promises, clause by clause, of a writer whose bytes are known:
 ///
 /// - `written`: after success the text of the series stands after what the writer held before.
-/// - `front`: in every case a front of that text stands there, which may be none of it or all.
+/// - `front`: in every case a prefix of that text stands there, which may be none of it or all.
 /// - `refused`: where memory was refused, the writer is as it was.
 pub fn write_series<A: Allocator + Copy, W: Write>(
     alloc: A,

@@ -28,7 +28,7 @@ sends_on a b c whole text left rest (sent, is, grew) (more, cut, grew_more) = (
   Appends-trans a b c sent more grew grew_more,
 )
 
--- a front of a text is sent, with more behind it
+-- a prefix of a text is sent, with more behind it
 pub stops : (a b c : Option (List ℕ)) (whole text rest : List ℕ) → SendsUpto a b whole (text ++ rest) → AppendsFront b c text
     → AppendsFront a c whole
 stops a b c whole text rest (sent, is, grew) (front, back, cut, grew_more) = (

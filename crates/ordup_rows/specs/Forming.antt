@@ -51,6 +51,6 @@ last_rows r =
 abbrev pub unsent : {A : Type 0} → Writer (Vec ℕ A) → List ℕ
 unsent w = (writer_under w).items ++ writer_pending w
 
--- of this text a front was sent, and this is left
+-- of this text a prefix was sent, and this is left
 abbrev pub SendsUpto : Option (List ℕ) → Option (List ℕ) → List ℕ → List ℕ → Type 0
 SendsUpto old new text left = (front : List ℕ) × (text ≡ front ++ left) × Appends old new front

@@ -30,7 +30,7 @@ const MOST_COLUMN_BYTES: usize = 64;
 /// Writes a record. It does not flush the writer. It promises, clause by clause, of a writer whose bytes are known:
 ///
 /// - `written`: after success the text of the record stands after what the writer held before.
-/// - `front`: in every case a front of that text stands there, which may be none of it or all.
+/// - `front`: in every case a prefix of that text stands there, which may be none of it or all.
 /// - `refused`: where memory was refused, the writer is as it was.
 pub fn write_record<A: Allocator + Copy, W: Write>(
     alloc: A,

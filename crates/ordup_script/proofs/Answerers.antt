@@ -47,7 +47,7 @@ module _ {W A : Type 0} (contents : W → Option (List ℕ)) where
             ∙ ap (λ t. h.sent ++ t) (sym grew);
       }
 
-  -- a front of the answers that were kept is sent
+  -- a prefix of the answers that were kept is sent
   pub sends_front : (first before after : Answerer W A) (earlier : List Line) → HasAnswered contents first before earlier
       → IsLater before after → AppendsFront (contents before.output.now) (contents after.output.now) before.answers.now.text
       → (e : ScriptFault) → (e ≡ fault.Write) ⊎ (e ≡ fault.NoMemory) → (later : List Line)

@@ -21,7 +21,7 @@ text_grows w (line ∷ lines) =
     let added : List ℕ = (reply w.0 line).1 in
     (added ++ more, is ∙ append_assoc w.1 added more)
 
--- a front of the answers to some lines is one of the answers to more
+-- a prefix of the answers to some lines is one of the answers to more
 pub front_of_more : (A : Type 0) (old new : Option (List ℕ)) (lines more : List Line) → AppendsFront old new (written A lines).1
     → AppendsFront old new (written A (lines ++ more)).1
 front_of_more A old new lines more (front, back, is, grew) =

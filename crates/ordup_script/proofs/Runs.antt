@@ -15,7 +15,7 @@ use Rattle.ordup_script.specs.declared.stream.Answerer.{Answerer}
 use Rattle.ordup_script.specs.declared.stream.ScriptFault.{ScriptFault}
 use Rattle.ordup_script.specs.declared.stream.ScriptFault.TheVariants as fault
 
--- a front of the answers to the lines of what was read, whatever comes after it, is one of the answers to all that the reader had
+-- a prefix of the answers to the lines of what was read, whatever comes after it, is one of the answers to all that the reader had
 told_front : (A : Type 0) (had has old new : Option (List ℕ)) (limit : ℕ) (script : List ℕ) → Consumes had has script
     → ((rest : List ℕ) → AppendsFront old new (out A (take limit script ++ rest)))
     → IfSome had (λ all. AppendsFront old new (out A all))
@@ -32,7 +32,7 @@ told_end : (A : Type 0) (had has old new : Option (List ℕ)) (script : List ℕ
     → IfSome had (λ all. AppendsFront old new (out A all))
 told_end A had has old new script took end front = Consumes-whole had has script (λ all. AppendsFront old new (out A all)) took end front
 
--- all answers are a front of themselves
+-- all answers are a prefix of themselves
 pub told_all : (A : Type 0) (had has old new : Option (List ℕ)) (script : List ℕ) → Consumes had has script → IsAtEnd has
     → Appends old new (out A script)
     → IfSome had (λ all. AppendsFront old new (out A all))

@@ -24,7 +24,7 @@ module _ {W A : Type 0} (contents : W → Option (List ℕ)) where
     pub wrote : Appends (contents first.output.now) (contents now.output.now) sent
     pub text : (written A lines).1 ≡ sent ++ now.answers.now.text
 
-  -- it stopped for this fault, and the writer grew by a front of the answers to these lines of a script, its first
+  -- it stopped for this fault, and the writer grew by a prefix of the answers to these lines of a script, its first
   pub record HasStopped (first now : Answerer W A) (lines : List Line) (e : ScriptFault) : Type 0 where
     pub later : IsLater first now
     pub cause : (e ≡ fault.Write) ⊎ (e ≡ fault.NoMemory)

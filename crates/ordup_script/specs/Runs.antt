@@ -14,7 +14,7 @@ abbrev pub EndsAfter : {A : Type 0} → ScriptEnd A → List ℕ → Type 0
 EndsAfter {A} end script = Stands end (state_after A script)
 
 -- what was read, and what was written for it: all of it where the run ended well; after an error of the reader, and
--- where the script was too long, the answers to the lines that a line feed ended, within the limit; and else a front of
+-- where the script was too long, the answers to the lines that a line feed ended, within the limit; and else a prefix of
 -- all that is written for what the reader had
 abbrev pub Runs : {A : Type 0} → Streams → ℕ → Result (ScriptEnd A) ScriptFault → Type 0
 Runs {A} s limit (Ok end) =

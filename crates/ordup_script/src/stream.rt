@@ -21,9 +21,9 @@ pub enum ScriptFault {
     Read,
     /// The script has more bytes than it may. The lines that a line feed ended within them were answered.
     TooLong,
-    /// A write or a flush failed, or a write took nothing. A front of the answers was written.
+    /// A write or a flush failed, or a write took nothing. A prefix of the answers was written.
     Write,
-    /// An allocation was refused. A front of the answers was written.
+    /// An allocation was refused. A prefix of the answers was written.
     NoMemory,
 }
 
@@ -120,8 +120,8 @@ fn run_in<A: Allocator + Copy, R: Read, W: Write>(
 ///   The script stands where its last line leaves it.
 /// - `Read`: a read failed. The answers to the lines that a line feed ended before were written.
 /// - `TooLong`: there are more bytes. The answers to the lines that a line feed ended within the limit were written.
-/// - `Write`: a write or a flush failed, or a write took nothing. A front of the answers to all that the reader had was written.
-/// - `NoMemory`: an allocation was refused. Such a front was written too.
+/// - `Write`: a write or a flush failed, or a write took nothing. A prefix of the answers to all that the reader had was written.
+/// - `NoMemory`: an allocation was refused. Such a prefix was written too.
 pub fn run_script_within<A: Allocator + Copy, R: Read, W: Write>(
     alloc: A,
     input: &mut R,

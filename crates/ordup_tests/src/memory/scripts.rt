@@ -1,4 +1,4 @@
-//! Each growth refused in turn: a script writes a front of its answers, and it and a plan end in `NoMemory`.
+//! Each growth refused in turn: a script writes a prefix of its answers, and it and a plan end in `NoMemory`.
 use crate::memory::scarce::Scarce;
 use crate::readers::PieceReader;
 use crate::scripts::transcripts::{FIRST_RUN, parts};
@@ -111,7 +111,7 @@ fn run_with(
     run_script(&scarce, &mut input, output).err()
 }
 
-/// How many growths the script of a transcript meets, which is read in pieces: each of them is refused in turn, and a front of its
+/// How many growths the script of a transcript meets, which is read in pieces: each of them is refused in turn, and a prefix of its
 /// answers is written then. How much of them was written at most.
 fn growths_of(
     rt: &(impl Abort + AllocGlobal),

@@ -4,7 +4,7 @@ use Rattle.std.proofs.KnownBytes.{Appends-trans}
 use Rattle.std.proofs.lemmas.Grind.{common_steps}
 use Rattle.ordup_text.proofs.output.send.Goals as goal
 
--- a front of what is left goes
+-- a prefix of what is left goes
 goes_on : (bytes front rest : List ℕ) (count : ℕ) → bytes ≡ front ++ rest
     → bytes ≡ (front ++ take count rest) ++ take (length rest - count) (drop count rest)
 goes_on bytes front rest count is =

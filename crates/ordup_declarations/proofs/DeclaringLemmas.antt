@@ -171,10 +171,10 @@ before_repeat same (x ∷ xs) y ys distinct =
     rw (here.0, before_repeat same xs y ys parts.1) refl
 
 -- a limit on a scope of its own is put behind the others
-put_last : (done : Limits) (l : Limit) (todo : Limits) → repeats are_on_one_scope (done ++ l ∷ todo) ≡ false
+put_last : (done : Limits) (l : Limit) (later : Limits) → repeats are_on_one_scope (done ++ l ∷ later) ≡ false
     → put are_on_one_scope done l ≡ done ++ l ∷ []
-put_last done l todo distinct = put-new are_on_one_scope done l
-    (position-absent (λ m. are_on_one_scope m l) done (before_repeat are_on_one_scope done l todo distinct))
+put_last done l later distinct = put-new are_on_one_scope done l
+    (position-absent (λ m. are_on_one_scope m l) done (before_repeat are_on_one_scope done l later distinct))
 
 -- limits of distinct scopes, in force from the start, are the last ones
 latest_added : (done limits : Limits) → repeats are_on_one_scope (done ++ limits) ≡ false
@@ -229,12 +229,12 @@ scope_allowed n groups (Group g) known = rw (lt-ltb g (length groups) known) ref
 scope_allowed n groups Everything known = refl
 scope_allowed n groups Count known = refl
 
-limit_allowed : (d : Declared) (s : ℕ) (done : Limits) (l : Limit) (todo : Limits) → s < length d.sites
+limit_allowed : (d : Declared) (s : ℕ) (done : Limits) (l : Limit) (later : Limits) → s < length d.sites
     → IsScopeKnown (length d.objects) d.groups l.scope → l.amount ≤ greatest_amount
-    → repeats are_on_one_scope (done ++ l ∷ todo) ≡ false → length (done ++ l ∷ todo) ≤ most_limits → latest (limits_of d s) ≡ done
+    → repeats are_on_one_scope (done ++ l ∷ later) ≡ false → length (done ++ l ∷ later) ≤ most_limits → latest (limits_of d s) ≡ done
     → site_limit_refusal d s l.scope l.amount ≡ None
-limit_allowed d s done l todo there known amount distinct few is =
-    let shorter = seam_shorter done l todo in
+limit_allowed d s done l later there known amount distinct few is =
+    let shorter = seam_shorter done l later in
     let size : nat_lt greatest_amount l.amount ≡ false = grind (arith, nat_tests, amount) in
     let room : (length done == most_limits) ≡ false = grind (arith, nat_tests, shorter, few) in
     rw (
@@ -243,7 +243,7 @@ limit_allowed d s done l todo there known amount distinct few is =
       is,
       size,
       room,
-      before_repeat are_on_one_scope done l todo distinct,
+      before_repeat are_on_one_scope done l later distinct,
     ) refl
 
 -- a list with an element in the place of the one behind the first of them
@@ -256,38 +256,38 @@ abbrev with_limits : Declared → ℕ → Entries → Declared
 with_limits d s entries = record d { limits = set d.limits s entries }
 
 module _ {A : Type 0} where
-  site_limits_declared : (d : Declared) (s : ℕ) (done todo : Limits) (more : List (List (List ℕ))) → AreDistinct d.objects
+  site_limits_declared : (d : Declared) (s : ℕ) (done later : Limits) (more : List (List (List ℕ))) → AreDistinct d.objects
       → AreDistinct d.groups → AreDistinct d.sites → s < length d.sites → s < length d.limits
-      → All (λ l. IsScopeKnown (length d.objects) d.groups l.scope) todo → All (λ l. l.amount ≤ greatest_amount) todo
-      → repeats are_on_one_scope (done ++ todo) ≡ false → length (done ++ todo) ≤ most_limits → latest (limits_of d s) ≡ done
-      → state_by {A = A} (declaring d) (map (limit_words d.objects d.groups (name_at d.sites s)) todo ++ more)
-      ≡ state_by (declaring (with_limits d s (limits_of d s ++ from_start todo))) more
+      → All (λ l. IsScopeKnown (length d.objects) d.groups l.scope) later → All (λ l. l.amount ≤ greatest_amount) later
+      → repeats are_on_one_scope (done ++ later) ≡ false → length (done ++ later) ≤ most_limits → latest (limits_of d s) ≡ done
+      → state_by {A = A} (declaring d) (map (limit_words d.objects d.groups (name_at d.sites s)) later ++ more)
+      ≡ state_by (declaring (with_limits d s (limits_of d s ++ from_start later))) more
   site_limits_declared d s done [] more objects groups sites there row known amounts distinct few is =
       ap (λ limits. state_by {A = A} (declaring (record d { limits = limits })) more)
       (sym (ap (set d.limits s) (append-nil (limits_of d s)) ∙ set-get_or d.limits s []))
-  site_limits_declared d s done (l ∷ todo) more objects groups sites there row known amounts distinct few is =
-      let scope = All-head (λ m. IsScopeKnown (length d.objects) d.groups m.scope) l todo known in
-      let amount = All-head (λ m. m.amount ≤ greatest_amount) l todo amounts in
+  site_limits_declared d s done (l ∷ later) more objects groups sites there row known amounts distinct few is =
+      let scope = All-head (λ m. IsScopeKnown (length d.objects) d.groups m.scope) l later known in
+      let amount = All-head (λ m. m.amount ≤ greatest_amount) l later amounts in
       let step = limit_line {A = A} d s l objects groups sites there scope (omega (arith, amount))
-      (limit_allowed d s done l todo there scope amount distinct few is) in
+      (limit_allowed d s done l later there scope amount distinct few is) in
       let next : Declared = with_limit d s l.scope l.amount in
       let mine : limits_of next s ≡ limits_of d s ++ entry_of l.scope l.amount 1 ∷ [] =
       get_or-set_same d.limits s (limits_of d s ++ entry_of l.scope l.amount 1 ∷ []) [] row in
       let last : latest (limits_of next s) ≡ done ++ l ∷ [] =
       ap latest mine ∙ fold-append _ [] (limits_of d s) (entry_of l.scope l.amount 1 ∷ [])
-      ∙ ap (λ ls. put are_on_one_scope ls l) is ∙ put_last done l todo distinct in
-      let all : (done ++ l ∷ []) ++ todo ≡ done ++ l ∷ todo = append_assoc done (l ∷ []) todo in
+      ∙ ap (λ ls. put are_on_one_scope ls l) is ∙ put_last done l later distinct in
+      let all : (done ++ l ∷ []) ++ later ≡ done ++ l ∷ later = append_assoc done (l ∷ []) later in
       let rows : s < length next.limits = omega (arith, row, length-set d.limits s (limits_of d s ++ entry_of l.scope l.amount 1 ∷ [])) in
-      ap (λ state. state_by state (map (limit_words d.objects d.groups (name_at d.sites s)) todo ++ more)) step
-      ∙ site_limits_declared next s (done ++ l ∷ []) todo more objects groups sites there rows
-      (All-tail (λ m. IsScopeKnown (length d.objects) d.groups m.scope) l todo known)
-      (All-tail (λ m. m.amount ≤ greatest_amount) l todo amounts)
+      ap (λ state. state_by state (map (limit_words d.objects d.groups (name_at d.sites s)) later ++ more)) step
+      ∙ site_limits_declared next s (done ++ l ∷ []) later more objects groups sites there rows
+      (All-tail (λ m. IsScopeKnown (length d.objects) d.groups m.scope) l later known)
+      (All-tail (λ m. m.amount ≤ greatest_amount) l later amounts)
       (subst (λ (ls : Limits). repeats are_on_one_scope ls ≡ false) (sym all) distinct)
       (subst (λ (ls : Limits). length ls ≤ most_limits) (sym all) few) last
       ∙ ap (λ limits. state_by {A = A} (declaring (record d { limits = limits })) more)
       (set-set d.limits s _ _
-      ∙ ap (set d.limits s) (ap (λ (es : Entries). es ++ from_start todo) mine
-      ∙ append_assoc (limits_of d s) (entry_of l.scope l.amount 1 ∷ []) (from_start todo)))
+      ∙ ap (set d.limits s) (ap (λ (es : Entries). es ++ from_start later) mine
+      ∙ append_assoc (limits_of d s) (entry_of l.scope l.amount 1 ∷ []) (from_start later)))
 
   limits_declared : (d : Declared) (done : List Entries) (before sites : List (List ℕ × ℕ)) (tables : List Entries)
       (more : List (List (List ℕ))) → d.sites ≡ before ++ sites → length before ≡ length done → d.limits ≡ done ++ no_limits sites

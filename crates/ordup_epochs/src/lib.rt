@@ -5,8 +5,8 @@
 //! 2. Run `Epochs::applier` for each site, in a thread of its own. It goes on from one epoch to the next.
 //! 3. Run `Epochs::keep` in a thread of its own. It ends an epoch that has its updates, and opens the next one.
 //! 4. Let callers work, each with a `Session` of its own. A call is made in a visit, `Epochs::enter`, and a visit is short: an epoch
-//!    ends once all visits have. `propose`, `settle`, `read`, `begin` and `relimit` are those of a cluster, with numbers and places
-//!    that count over all epochs.
+//!    ends once all visits have. `propose`, `settle`, `read`, `begin` and `relimit` are those of a cluster, with numbers that
+//!    count over all epochs.
 //! 5. Once all callers are done, call `Epochs::stop`, join the other threads, and take the last epoch out: `Epochs::close`.
 //!
 //! The one contract above this layer: an epoch begins with just what the one before ended with, all of whose updates were

@@ -9,9 +9,9 @@
 /// `limit` 1. Of a `start` 12, with a limit 13, and with two sites of a limit each 19. Of a first `propose` of one change 5: the
 /// list of the sets, those of the distances and of where they begin, the postings of the object and those of all. With two changes
 /// 7: one posting more, and the list of the changes, which is the one growth of a later one. Of a `relimit` that adds an entry 1,
-/// and of one that replaces an entry or is refused none. Of a first `settle` 3 for each site: what it
-/// reported, its rounds and its windows. Of a first `begin` 5, with its marks, and of a later one 1; of a `show` 1. A `certify`
-/// meets none.
+/// and of one that replaces an entry or is refused none. Of a first `settle` that forces a site 3:
+/// what it reported, its rounds and its windows; of one that forces none, before any report, none. Of a first `begin` 5, with its
+/// marks, and of a later one 1; of a `show` 1. A `certify` meets none.
 pub(crate) const TRANSCRIPTS: [&str; 5] = [
     // The first run, whole.
     "\
@@ -44,11 +44,11 @@ ok limit a
 ok start
 >+ propose add:x:5
 ok proposed 1
->+ settle
+>- settle
 ok acked 1
 >? propose add:x:1
 ok proposed 2
->? settle
+>+ settle
 ok round 2 a
 >- certify a
 ok certified a 1 0-2
@@ -89,7 +89,7 @@ ok limit a
 ok start
 >+ propose add:x:3
 ok proposed 1
->+ settle
+>- settle
 ok acked 1
 >- send a
 ok sent a 1
@@ -132,7 +132,7 @@ ok start
 ok relimit a 1
 >+ propose add:x:3
 ok proposed 1
->+ settle
+>- settle
 ok acked 1
 >- relimit a object x 2
 refused 25 LagOver
@@ -146,7 +146,7 @@ ok relimit a 2
 refused 25 LagOver
 >? propose add:x:1
 ok proposed 2
->? settle
+>+ settle
 ok round 2 a
 >- relimit a object x 9
 refused 24 HeadPending
@@ -194,11 +194,11 @@ ok limit b
 ok start
 >+ propose add:x:3 add:y:3
 ok proposed 1
->+ settle
+>- settle
 ok acked 1
 >? propose add:y:1
 ok proposed 2
->? settle
+>+ settle
 ok round 2 a
 >- send a
 ok sent a 1

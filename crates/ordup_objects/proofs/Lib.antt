@@ -3,6 +3,7 @@ pub mod NameLemmas
 pub mod RepeatLemmas
 pub mod SumLemmas
 pub mod SetLemmas
+pub mod MoveLemmas
 pub mod RefusalLemmas
 pub mod TableLemmas
 pub mod SerialLemmas

@@ -1,6 +1,6 @@
-use Rattle.std.proofs.Common.{◌≡◌, ℕ, ◌+◌, ◌<◌, ◌≤◌, true, false, cond}
+use Rattle.std.proofs.Common.{◌≡◌, ℕ, ◌<◌, ◌≤◌, true, false, cond}
 use Rattle.std.proofs.Common.{List, [], ◌∷◌, length, get_or, arith, refl, sym}
-use Rattle.std.proofs.Common.{ap, ◌∙◌, ◌++◌, take}
+use Rattle.std.proofs.Common.{ap, ◌∙◌}
 use Rattle.std.specs.Prelude.{All, ◌==◌}
 use Rattle.std.specs.List.{list_any, fold, slice_set}
 use Rattle.std.proofs.lemmas.List.Elements.{All-set, All-nil, All-cons}
@@ -8,7 +8,7 @@ use Rattle.std.proofs.Common.{ℤ, pos, sum, suc, inl, inr}
 use Rattle.std.proofs.lemmas.Int.{ints}
 use Rattle.std.proofs.Math.ListN.{length-set}
 use Rattle.std.proofs.lemmas.Bool.{and_parts, or_parts, leb-true, eq-eqb, cases_lt, eqb-false, eqb-true, cases_Bool}
-use Rattle.std.proofs.lemmas.List.{get_or-set_other, get_or_past, get_or-take, get_or-map, map_more}
+use Rattle.std.proofs.lemmas.List.{get_or-set_other, get_or_past, get_or-take, get_or-map}
 use Rattle.std.proofs.lemmas.Grind.{get_or-set_at}
 use Rattle.std.proofs.lemmas.List.Sums.{sum_by-cons}
 use Rattle.std.specs.Int.RustNames.{unsigned_abs}
@@ -71,14 +71,6 @@ pub result_is : (v : State) (m : List Change) (results : List ℤ) (i : ℕ) (c 
 result_is v m results i c lt are same =
     sym (get_or-take (length m) results i (pos 0) lt) ∙ ap (λ rs. get_or rs i (pos 0)) are
     ∙ get_or-map (result_at v) m i c (pos 0) lt ∙ ap (result_at v) (sym same)
-
--- one distance more, by the result of its change
-pub distances_of-more : (v : State) (m : List Change) (results : List ℤ) (i d : ℕ) (c : Change) → i < length m
-    → AreResults v m results → c ≡ get_or m i c → d ≡ distance (get_or results i (pos 0)) (value_at v c.object)
-    → distances_of v (take i m) ++ d ∷ [] ≡ distances_of v (take (i + 1) m)
-distances_of-more v m results i d c lt are same is =
-    let by : d ≡ distance_by v c = is ∙ ap (λ r. distance r (value_at v c.object)) (result_is v m results i c lt are same) in
-    rw by (ap (λ x. distances_of v (take i m) ++ distance_by v x ∷ []) same ∙ sym (map_more (distance_by v) m i c lt))
 
 -- what a set makes of one value
 pub value_at-after : (v : State) (m : List Change) (x : ℕ) → repeats are_of_one_object m ≡ false → AreKnown (length v) m

@@ -11,5 +11,6 @@ pub mod Tables
 pub mod Serial
 pub mod Sums
 pub mod Weights
+pub mod Moves
 pub mod Marks
 pub mod Joins

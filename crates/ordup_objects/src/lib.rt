@@ -4,7 +4,7 @@
 //! What the layers above rely on: a message set applies as its definition says, as a whole or not at all.
 //!
 //! Operations and changes stand in `change.rt`, tables of names in `name_table.rt`, and what a set makes of the values in
-//! `results.rt`. `bytes.rt` has what makes it cheap to find a name.
+//! `results.rt` and `moved.rt`. `bytes.rt` has what makes it cheap to find a name.
 #![tactic(auto)]
 
 mod bytes;
@@ -12,6 +12,7 @@ mod change;
 mod ids;
 mod laws;
 mod message_set;
+mod moved;
 mod name;
 mod name_table;
 mod object_table;
@@ -29,6 +30,7 @@ pub use laws::{
     serial_results_join, values_move_by_their_weights,
 };
 pub use message_set::MessageSet;
+pub use moved::Moved;
 pub use name::Name;
 pub use name_table::NameTable;
 pub use object_table::ObjectTable;

@@ -6,7 +6,7 @@ use std::marker::Model;
 
 /// What each change of a message set makes of its object's value, in the order of the changes.
 ///
-/// `Values::results` computes them once, in place. `Values::push_distances` and `Values::put` use them.
+/// `Values::results` computes them once, in place. `Values::push_moves` and `Values::put` use them.
 #[derive(Drop)]
 pub struct Results {
     pub(crate) results: [i64; MOST_CHANGES],

@@ -3,11 +3,12 @@ ghost use Rattle.ordup_objects.specs.States.{value_at, result_at, in_range, is_l
 ghost use Rattle.ordup_objects.specs.Ops.{number_of, source_of};
 ghost use Rattle.ordup_objects.specs.Sets.{IsKnown, AreKnown, AreInRange};
 ghost use Rattle.ordup_objects.specs.Tables.{initial_state};
-ghost use Rattle.ordup_objects.specs.Weights.{distances_of};
+ghost use Rattle.ordup_objects.specs.Moves.{moves_of};
 
 use crate::change::Change;
 use crate::ids::ObjectId;
 use crate::message_set::MessageSet;
+use crate::moved::Moved;
 use crate::object_table::ObjectTable;
 use crate::refusal::Refusal;
 use crate::results::Results;
@@ -128,21 +129,17 @@ impl<A: Allocator + Copy> Values<A> {
         results_of(self.values.as_slice(), set.changes(), &mut results.results)
     }
 
-    /// Adds how far each change of a set would move its object's value to a list that has spare capacity. The results are those of the set on
+    /// Adds what each change of a legal set makes of its object to a list that has spare capacity. The results are those of the set on
     /// these values.
-    pub fn push_distances(
-        &self,
-        set: &MessageSet<A>,
-        results: &Results,
-        distances: &mut Vec<u64, A>,
-    )
+    pub fn push_moves(&self, set: &MessageSet<A>, results: &Results, moves: &mut Vec<Moved, A>)
         requires known { AreKnown (length self.now) set.now }
+        requires legal { IsTrue (is_legal set.now self.now) }
         requires results { AreResults self.now set.now results.now }
-        requires room { vec_len distances.old + length set.now ≤ vec_capacity distances.old }
-        ensures { distances.new.items ≡ distances.old.items ++ distances_of self.now set.now }
+        requires room { vec_len moves.old + length set.now ≤ vec_capacity moves.old }
+        ensures { moves.new.items ≡ moves.old.items ++ moves_of self.now set.now }
     {
         let values = self.values.as_slice();
-        put_distances(distances, values, set.changes(), &results.results);
+        put_moves(moves, values, set.changes(), &results.results);
     }
 
     /// Applies a legal set. The results are those of the set on these values, and none is computed again.
@@ -236,20 +233,28 @@ fn put_results(values: &mut [i64], changes: &[Change], results: &[i64])
     }
 }
 
-/// Adds how far each change moves its object's value, from the one that it has to its result.
-fn put_distances<A: Allocator + Copy>(
-    distances: &mut Vec<u64, A>,
+/// Adds what each change makes of its object, from the value that the object has and the change's result.
+fn put_moves<A: Allocator + Copy>(
+    moves: &mut Vec<Moved, A>,
     values: &[i64],
     changes: &[Change],
     results: &[i64],
 )
     requires objects { All (λ c. c.object < length values.now) changes.now }
+    requires state { IsState values.now }
+    requires legal { IsTrue (is_legal changes.now values.now) }
     requires results { AreResults values.now changes.now results.now }
     requires length { length changes.now ≤ length results.now }
-    requires room { vec_len distances.old + length changes.now ≤ vec_capacity distances.old }
-    ensures { distances.new.items ≡ distances.old.items ++ distances_of values.now changes.now }
+    requires room { vec_len moves.old + length changes.now ≤ vec_capacity moves.old }
+    ensures { moves.new.items ≡ moves.old.items ++ moves_of values.now changes.now }
 {
     for (i, change) in changes.iter().enumerate() {
-        distances.push_reserved(results[i].abs_diff(values[change.object.index()]));
+        let value = results[i];
+        let distance = value.abs_diff(values[change.object.index()]);
+        moves.push_reserved(Moved {
+            object: change.object,
+            value: value as i32,
+            distance: distance as u32,
+        });
     }
 }

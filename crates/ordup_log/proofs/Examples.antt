@@ -1,11 +1,12 @@
 -- The definitions at small numbers, worked out by hand: no definition can change its meaning unseen.
-use Rattle.std.proofs.Common.{◌≡◌, ℕ, pos, List, [], ◌∷◌, length, replicate, map, true, refl}
+use Rattle.std.proofs.Common.{◌≡◌, ℕ, ℤ, sum_by, pos, List, [], ◌∷◌, length, replicate, map, true, refl}
 use Rattle.std.specs.Prelude.{neg_ℤ, Some, None, codes, slice_index_or}
 use Rattle.ordup_objects.specs.declared.change.Change.{Change}
 use Rattle.ordup_objects.specs.declared.change.Op.{Op}
 use Rattle.ordup_objects.specs.declared.change.Op.TheVariants.{Add, Take}
 use Rattle.ordup_objects.specs.declared.refusal.Refusal.TheVariants.{BadName, NameTaken, UnknownObject, OutOfRange}
 use Rattle.ordup_objects.specs.declared.refusal.Refusal.TheVariants.{TooMany, Empty, Repeated, LogFull}
+use Rattle.ordup_objects.specs.declared.moved.Moved.{Moved}
 use Rattle.ordup_objects.specs.States.{is_legal}
 use Rattle.ordup_objects.specs.Serial.{History, serial}
 use Rattle.ordup_objects.specs.Weights.{object_weight}
@@ -13,6 +14,8 @@ use Rattle.ordup_log.specs.Groups.{GroupList, group_refusal, member_refusal, las
 use Rattle.ordup_log.specs.Spans.{weight, span}
 use Rattle.ordup_log.specs.Appending.{append_refusal}
 use Rattle.ordup_log.specs.Steps.{steps_of, as_of}
+use Rattle.ordup_log.specs.Moving.{moves_below, distance_on, distance_of}
+use Rattle.ordup_log.specs.Rows.{row_due, marks_due}
 use Rattle.ordup_log.specs.Postings.{postings_of, posted}
 use Rattle.ordup_log.specs.declared.scope.Scope.TheVariants.{Object, Group, All as Everything, Count}
 
@@ -63,11 +66,27 @@ postings : (postings_of (object_weight swap_and_add 0) 2 ≡ (1, 10) ∷ (2, 13)
     × (postings_of (weight swap_and_add [] Everything) 1 ≡ (1, 20) ∷ [])
 postings = (refl, refl, refl, refl)
 
--- one update more: it adds to the running weight, where it weighs something
-postings_more : (posted [] 1 3 ≡ (1, 3) ∷ [])
-    × (posted ((1, 3) ∷ []) 2 0 ≡ (1, 3) ∷ [])
-    × (posted ((1, 3) ∷ []) 3 2 ≡ (1, 3) ∷ (3, 5) ∷ [])
+-- one update more: it has a posting, where it weighs something
+postings_more : (posted [] 1 3 3 ≡ (1, 3) ∷ [])
+    × (posted ((1, 3) ∷ []) 2 0 3 ≡ (1, 3) ∷ [])
+    × (posted ((1, 3) ∷ []) 3 2 5 ≡ (1, 3) ∷ (3, 5) ∷ [])
 postings_more = (refl, refl, refl)
+
+abbrev move : ℕ → ℤ → ℕ → Moved
+move x value distance = record { object = x; value = value; distance = distance }
+
+-- the moves of both updates: each has the value after its update
+moves : (moves_below swap_and_add 1 ≡ move 0 (pos 10) 10 ∷ move 1 (pos 0) 10 ∷ [])
+    × (moves_below swap_and_add 2 ≡ move 0 (pos 10) 10 ∷ move 1 (pos 0) 10 ∷ move 0 (pos 7) 3 ∷ move 2 (pos 4) 4 ∷ [])
+    × (map (λ x. sum_by (distance_on x) (moves_below swap_and_add 2)) (0 ∷ 1 ∷ 2 ∷ []) ≡ 13 ∷ 10 ∷ 4 ∷ [])
+    × (sum_by distance_of (moves_below swap_and_add 2) ≡ 27)
+moves = (refl, refl, refl, refl)
+
+-- the update 256 adds the first row of marks, and the update 512 the next
+rows : (map (λ k. row_due k (13 ∷ 10 ∷ [])) (1 ∷ 255 ∷ 256 ∷ 257 ∷ 511 ∷ 512 ∷ [])
+    ≡ [] ∷ [] ∷ (13 ∷ 10 ∷ []) ∷ [] ∷ [] ∷ (13 ∷ 10 ∷ []) ∷ [])
+    × (map (λ k. marks_due k 2) (1 ∷ 255 ∷ 256 ∷ 257 ∷ 511 ∷ 512 ∷ []) ≡ 0 ∷ 0 ∷ 2 ∷ 0 ∷ 0 ∷ 2 ∷ [])
+rows = (refl, refl)
 
 -- a log at 1,000,000,000 takes no 1 more, and 1 less: what counts is the state after all updates
 abbrev at_the_edge : History

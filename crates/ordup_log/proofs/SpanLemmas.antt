@@ -58,6 +58,13 @@ span-add h groups s a b le =
     ap (sum_from (weight h groups s) 0) all ∙ sum_from-add (weight h groups s) 0 (a - 0) (b - a)
     ∙ ap (λ k. span h groups s 0 a + sum_from (weight h groups s) k (b - a)) middle
 
+-- one place more
+pub span-suc : (h : History) (groups : GroupList) (s : Scope) (j : ℕ) → span h groups s 0 (suc j) ≡ span h groups s 0 j + weight h groups s j
+span-suc h groups s j =
+    let e : suc j - 0 ≡ suc (j - 0) = omega arith in
+    let f : 0 + (j - 0) ≡ j = omega arith in
+    rw (e, f) refl
+
 -- the span of one place weighs what the update at the place weighs
 pub span-one : (h : History) (groups : GroupList) (s : Scope) (k : ℕ) → 0 < k → span h groups s (k - 1) k ≡ weight h groups s (k - 1)
 span-one h groups s k some =

@@ -1,19 +1,16 @@
 -- Steps of numbers, and the search among them.
-use Rattle.std.proofs.Common.{◌≡◌, ℕ, zero, suc, ◌+◌, ◌-◌, ◌<◌, ◌≤◌, true, false, List, [], ◌∷◌, ◌++◌, length, get_or}
+use Rattle.std.proofs.Common.{◌≡◌, ℕ, zero, suc, ◌-◌, ◌<◌, ◌≤◌, true, false, List, [], ◌∷◌, ◌++◌, length, get_or}
 use Rattle.std.proofs.Common.{arith, refl, sym, ap, ◌∙◌, inl, inr}
 use Rattle.std.specs.Prelude.{◌==◌, Some, All, nat_le, if◌then◌else◌}
 use Rattle.std.specs.List.{fold, slice_get}
 use Rattle.std.specs.List.Sorted.{IsNonDecreasingBy, IsPartitionPoint}
-use Rattle.std.proofs.lemmas.Bool.{cases_Bool, cases_lt, eqb-true, eqb-false, eq-eqb, ne_eqb}
+use Rattle.std.proofs.lemmas.Bool.{cases_Bool, cases_lt, eqb-true}
 use Rattle.std.proofs.lemmas.Bool.Decides.{nat_tests}
-use Rattle.std.proofs.lemmas.List.{length_push, get_or_push}
 use Rattle.std.proofs.lemmas.List.Elements.{All-nil, All-push, All-weaker}
 use Rattle.std.proofs.lemmas.List.Sums.{fold-append}
 use Rattle.std.proofs.lemmas.Option.{slice_get_within, get_or_from_slice_get}
 use Rattle.std.proofs.lemmas.List.Sorted.{IsNonDecreasingBy-short, IsNonDecreasingBy-push}
-use Rattle.ordup_objects.specs.Sums.{sum_from}
 use Rattle.ordup_log.specs.Steps.{steps_of, as_of}
-use Rattle.ordup_log.specs.Postings.{postings_of, last_weight, posted}
 
 -- ---- one step more
 
@@ -124,73 +121,3 @@ as_of-last steps k last sorted at le =
     ) in
     as_of-some steps k (length steps) last (omega (arith, some)) (omega arith) all
     ∙ ap (λ (step : ℕ × ℕ). step.1) (get_or_from_slice_get steps end last last at)
-
--- ---- postings are the steps of the running weight
-
-postings-steps : (f : ℕ → ℕ) (n : ℕ) → postings_of f n ≡ steps_of (sum_from f 0) n
-postings-steps f zero = refl
-postings-steps f (suc n) =
-    let e : 0 + n ≡ n = omega arith in
-    let next : ℕ = sum_from f 0 (suc n) in
-    let here : ℕ = sum_from f 0 n in
-    elim (cases_Bool (f n == 0)) [
-      | inl none ↦ (let same : (next == here) ≡ true = eq-eqb next here (omega (arith, ap f e, eqb-true (f n) 0 none)) in
-          rw (none, same) (postings-steps f n))
-      | inr some ↦ (let other : (next == here) ≡ false =
-          ne_eqb next here (λ h. eqb-false (f n) 0 some (omega (arith, h, ap f e))) in
-          rw (some, other) (ap (λ l. l ++ (suc n, next) ∷ []) (postings-steps f n)))
-    ]
-
--- as of a place they tell the running weight
-as_of-postings : (f : ℕ → ℕ) (n k : ℕ) → k ≤ n → as_of (postings_of f n) k ≡ sum_from f 0 k
-as_of-postings f n k le = ap (λ l. as_of l k) (postings-steps f n) ∙ as_of-steps (sum_from f 0) n k refl le
-
-postings-rise : (f : ℕ → ℕ) (n : ℕ) → IsNonDecreasingBy (λ posting. posting.0) (postings_of f n)
-postings-rise f n = rw (postings-steps f n) (steps-rise (sum_from f 0) n)
-
--- the last of them tells the running weight through all
-last_weight-push : (steps : List (ℕ × ℕ)) (p v : ℕ) → last_weight (steps ++ (p, v) ∷ []) ≡ v
-last_weight-push steps p v =
-    ap (λ s. s.1)
-    (get_or_push steps (p, v) (0, 0) (length (steps ++ (p, v) ∷ []) - 1) (omega (arith, length_push steps (p, v))))
-
-pub last_weight-postings : (f : ℕ → ℕ) (n : ℕ) → last_weight (postings_of f n) ≡ sum_from f 0 n
-last_weight-postings f zero = refl
-last_weight-postings f (suc n) = elim (cases_Bool (f n == 0)) [
-  | inl none ↦ (let e : 0 + n ≡ n = omega arith in rw none (omega (arith, last_weight-postings f n, eqb-true (f n) 0 none, ap f e)))
-  | inr some ↦ rw some (last_weight-push (postings_of f n) (suc n) (sum_from f 0 (suc n)))
-]
-
--- the postings of one place more
-postings-more : (f : ℕ → ℕ) (n : ℕ) → postings_of f (suc n) ≡ posted (postings_of f n) (suc n) (f n)
-postings-more f n =
-    let e : 0 + n ≡ n = omega arith in
-    let sum : sum_from f 0 (suc n) ≡ last_weight (postings_of f n) + f n = omega (arith, last_weight-postings f n, ap f e) in
-    rw sum refl
-
--- weights that are the same have the same postings
-postings-same : (f g : ℕ → ℕ) (n : ℕ) → ((j : ℕ) → j < n → f j ≡ g j) → postings_of f n ≡ postings_of g n
-postings-same f g zero same = refl
-postings-same f g (suc n) same =
-    postings-more f n
-    ∙ rw (postings-same f g n (λ j lt. same j (omega arith)), same n (omega arith)) (sym (postings-more g n))
-
--- postings that one place more was posted on
-pub postings-grown : (f g : ℕ → ℕ) (n number w : ℕ) (old new : List (ℕ × ℕ)) → old ≡ postings_of f n → new ≡ posted old number w
-    → ((j : ℕ) → j < n → f j ≡ g j) → w ≡ g n → number ≡ suc n
-    → new ≡ postings_of g (suc n)
-postings-grown f g n number w old new is more same weight at =
-    more ∙ rw (is, at, weight, postings-same f g n same) (sym (postings-more g n))
-
--- ---- postings that a caller has
-
-module _ (f : ℕ → ℕ) (n : ℕ) (postings : List (ℕ × ℕ)) (are : postings ≡ postings_of f n) where
-  -- they can be searched
-  pub sorted-in : IsNonDecreasingBy (λ posting. posting.0) postings
-  sorted-in = rw are (postings-rise f n)
-
-  -- and tell the weight of each span from the start
-  pub as_of-in : (k : ℕ) → k ≤ n → as_of postings k ≡ sum_from f 0 (k - 0)
-  as_of-in k le =
-      let e : k - 0 ≡ k = omega arith in
-      rw (are, e) (as_of-postings f n k le)

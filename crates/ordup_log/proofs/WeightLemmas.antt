@@ -1,5 +1,5 @@
 -- What updates weigh.
-use Rattle.std.proofs.Common.{◌≡◌, ℕ, ◌<◌, ◌≤◌, List, [], length, get_or, arith, refl, sym, ◌∙◌, sum, sum_by}
+use Rattle.std.proofs.Common.{◌≡◌, ℕ, ◌-◌, ◌*◌, ◌<◌, ◌≤◌, List, [], length, get_or, arith, refl, sym, ◌∙◌, sum, sum_by}
 use Rattle.std.specs.Prelude.{All}
 use Rattle.std.proofs.lemmas.List.{length-map}
 use Rattle.std.proofs.lemmas.List.Sums.{sum_by-le}
@@ -7,13 +7,13 @@ use Rattle.ordup_objects.specs.States.{value_at, after}
 use Rattle.ordup_objects.specs.Serial.{History, serial, IsLegalHistory}
 use Rattle.ordup_objects.specs.Sizes.{greatest_distance, most_members, greatest_weight}
 use Rattle.ordup_objects.specs.Sums.{sum_from}
-use Rattle.ordup_objects.specs.Weights.{distance, object_weight, distance_by, distances_of, distance_beside}
-use Rattle.ordup_objects.proofs.SumLemmas.{sum_from-same}
+use Rattle.ordup_objects.specs.Weights.{distance, object_weight, object_span, distance_by, distances_of, distance_beside}
+use Rattle.ordup_objects.proofs.SumLemmas.{sum_from-same, sum_from-few}
 use Rattle.ordup_objects.proofs.SetLemmas.{distance_beside-few, distance_beside-distances_of, distances_of-few, distance-after}
 use Rattle.ordup_objects.proofs.SetLemmas.{distances-after}
 use Rattle.ordup_objects.proofs.SerialLemmas.{serial-suc, length-serial, IsState-serial}
 use Rattle.ordup_log.specs.Groups.{GroupList, IsGroup, members_at}
-use Rattle.ordup_log.specs.Spans.{weight, IsScopeKnown}
+use Rattle.ordup_log.specs.Spans.{weight, span, IsScopeKnown}
 use Rattle.ordup_log.specs.declared.scope.Scope.{Scope}
 use Rattle.ordup_log.specs.declared.scope.Scope.TheVariants.{Object, Group, All as Everything, Count}
 
@@ -90,3 +90,19 @@ weight-few h legal groups are (Group g) known j lt =
     members_weight-few h legal (members_at groups g) j (are g ([], []) known).few lt
 weight-few h legal groups are Everything known j lt = all_weight-few h legal j lt
 weight-few h legal groups are Count known j lt = omega arith
+
+-- so are the weights of the updates up to a place, on an object
+pub object_span-few : (h : History) → IsLegalHistory h → (x p : ℕ) → p ≤ length h.sets → object_span h x 0 p ≤ greatest_distance * p
+object_span-few h legal x p le =
+    omega (
+      arith,
+      sum_from-few (object_weight h x) greatest_distance 0 (p - 0) (λ j lt. object_weight-few h legal x j (omega (arith, lt, le))),
+    )
+
+-- and on all objects
+pub all_span-few : (h : History) → IsLegalHistory h → (p : ℕ) → p ≤ length h.sets → span h [] Everything 0 p ≤ greatest_weight * p
+all_span-few h legal p le =
+    omega (
+      arith,
+      sum_from-few (weight h [] Everything) greatest_weight 0 (p - 0) (λ j lt. all_weight-few h legal j (omega (arith, lt, le))),
+    )

@@ -2,6 +2,8 @@ pub mod Groups
 pub mod Spans
 pub mod Appending
 pub mod Steps
+pub mod Moving
+pub mod Rows
 pub mod Postings
 pub mod LogInside
 pub mod Joins

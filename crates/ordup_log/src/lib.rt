@@ -3,26 +3,23 @@
 //! What the layers above rely on: each place of the log holds a set that is legal there, so each prefix of a log is a log; and
 //! spans are sums of weights.
 //!
-//! The log keeps five things (`LogInside.antt` says that they fit together):
+//! The log keeps (`LogInside.antt` says that it fits together):
 //!
-//! - the sets, and the values at the end;
-//! - how far each change moved its object, in one list for all sets;
-//! - for each object its postings: the places that weigh something on it, each with the running weight, which is the span from 0 to
-//!   it;
-//! - a running weight at each place on all objects together.
+//! - the sets, and the values at the start and at the end;
+//! - what each change made of its object, its move, in one list for all sets;
+//! - for each object what all updates weigh on it, and a row of these numbers for each 256 updates, as they were after them.
 //!
-//! So nothing is replayed or added up again. A span on an object or on all objects is the difference of two running weights: on an
-//! object each is found by binary search (`as_of`), on all by its place. A span on a group is the sum over its members. `append`
-//! takes the memory for all of it before it changes anything.
+//! So nothing is replayed. What the updates up to a place weigh, the running weight, is at hand at the end of the log. Elsewhere it is
+//! that of the last row, and the distances of the moves of at most 255 updates after it. A span on an object or on all objects is the
+//! difference of two running weights, and on a group it is the sum over its members. `append` takes the memory for all of it before it
+//! changes anything.
 #![tactic(auto)]
 
 mod groups;
 mod ids;
 mod laws;
 mod log;
-mod postings;
 mod scope;
-mod steps;
 
 pub use groups::Groups;
 pub use ids::GroupId;
@@ -32,4 +29,3 @@ pub use laws::{
 pub use log::Log;
 pub use ordup_objects::prefixes_of_legal_histories_are_legal;
 pub use scope::Scope;
-pub use steps::as_of;

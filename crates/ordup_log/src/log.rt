@@ -1,20 +1,24 @@
 ghost use Rattle.std.specs.Prelude.{◌≡◌, ◌≤◌, ◌+◌, ◌-◌, ℕ, ◌<◌, None, IfOk, IfErr, OnOk, List, [], ◌∷◌, ◌++◌, length, take, drop, sum, sum_by, ◌^◌, ◌*◌};
-ghost use Rattle.std.specs.Prelude.{false, All, Vec, slice_index_or, vec_len, vec_capacity};
-ghost use Rattle.ordup_objects.specs.Sizes.{greatest_distance, most_members, most_updates, greatest_weight};
+ghost use Rattle.std.specs.Prelude.{All, slice_index_or, vec_len, vec_capacity, if◌then◌else◌, ◌==◌};
+ghost use Rattle.ordup_objects.specs.Sizes.{greatest_distance, most_changes, most_members, most_updates, greatest_weight};
 ghost use Rattle.ordup_objects.specs.Tables.{initial_state};
-ghost use Rattle.ordup_objects.specs.Weights.{distances_of, distance_beside, object_weight, object_span};
-ghost use Rattle.ordup_objects.specs.Repeats.{repeats};
-ghost use Rattle.ordup_objects.specs.Sets.{are_of_one_object};
-ghost use Rattle.ordup_log.specs.Postings.{last_of, last_number, last_weight, posted, HasRoomAt};
+ghost use Rattle.ordup_objects.specs.Weights.{object_weight, object_span};
+ghost use Rattle.ordup_objects.specs.Moves.{moves_of};
+ghost use Rattle.ordup_objects.specs.Marks.{AreMarks, mark_at};
+ghost use Rattle.ordup_log.specs.Moving.{moves_below, distance_on, distance_of};
+ghost use Rattle.ordup_log.specs.Rows.{updates_a_row, row_due, marks_due};
+ghost use Rattle.ordup_log.specs.Postings.{posted};
 
 use crate::groups::Groups;
-use crate::postings::{no_postings, post_all, reserve_postings};
 use crate::scope::Scope;
-use crate::steps::as_of;
 use ordup_objects::sizes::MOST_UPDATES;
-use ordup_objects::{Change, MessageSet, ObjectId, ObjectTable, Refusal, Results, Values};
+use ordup_objects::{Change, MessageSet, Moved, ObjectId, ObjectTable, Refusal, Results, Values};
 use std::alloc::{AllocError, Allocator, Global};
 use std::marker::Model;
+
+/// The updates from one row of marks to the next: so few that a running weight goes over little, and so many that rows take little
+/// memory, at most 8 bytes an update.
+const UPDATES_A_ROW: u64 = 256;
 
 /// The updates in their global order: each is a message set, legal on the serial result of those before it.
 ///
@@ -23,14 +27,14 @@ use std::marker::Model;
 pub struct Log<A: Allocator + Copy = Global> {
     start: Values<A>,
     sets: Vec<MessageSet<A>, A>,
-    /// How far each change of each set moved its object's value, set after set.
-    distances: Vec<u64, A>,
-    /// Where the distances of each set begin. A log has at most 64,000,000 of them, so a place fits in four bytes.
+    /// What each change of each set made of its object, set after set.
+    moves: Vec<Moved, A>,
+    /// Where the moves of each set begin. A log has at most 64,000,000 of them, so an index fits in four bytes.
     begins: Vec<u32, A>,
-    /// For each object the places with a weight above 0 on it, each with the running weight up to it.
-    postings: Vec<Vec<(u64, u64), A>, A>,
-    /// What the updates up to each one weigh on all objects together.
-    running: Vec<u64, A>,
+    /// For each object what all updates weigh on it.
+    travelled: Vec<u64, A>,
+    /// A row for each 256 updates: a copy of `travelled` as it was after them.
+    marks: Vec<u64, A>,
     end: Values<A>,
     // Kept from one update to the next, since new memory is zeroed.
     results: Results,
@@ -102,16 +106,15 @@ impl<A: Allocator + Copy> Log<A> {
         ensures empty { IfOk result (λ log. log ≡ record { start = start; sets = [] }) }
         ensures refused { IfErr result (λ e. e ≡ Refusal.NoMemory) }
     {
-        let count = start.len();
         let end = start.copy(alloc)?;
-        let postings = no_postings(alloc, count)?;
+        let travelled = vec![in alloc; 0; start.len()]?;
         Ok(Log {
             start,
             sets: Vec::new(alloc),
-            distances: Vec::new(alloc),
+            moves: Vec::new(alloc),
             begins: Vec::new(alloc),
-            postings,
-            running: Vec::new(alloc),
+            travelled,
+            marks: Vec::new(alloc),
             end,
             results: Results::new(),
         })
@@ -176,25 +179,26 @@ impl<A: Allocator + Copy> Log<A> {
         let Ok(()) = self.end.results(&set, &mut self.results) else {
             return Err((Refusal::OutOfRange, set));
         };
+        let number = self.sets.len() as u64 + 1;
         let Ok(()) = reserve_update(
             &mut self.sets,
-            &mut self.distances,
+            &mut self.moves,
             &mut self.begins,
-            &mut self.running,
-            &mut self.postings,
+            &mut self.marks,
             set.changes(),
+            number,
+            self.travelled.len(),
         ) else {
             return Err((Refusal::NoMemory, set));
         };
-        let number = self.sets.len() as u64 + 1;
-        self.end
-            .push_distances(&set, &self.results, &mut self.distances);
-        post_update(
+        let begin = self.moves.len();
+        self.end.push_moves(&set, &self.results, &mut self.moves);
+        note_update(
             &mut self.begins,
-            &mut self.running,
-            &mut self.postings,
-            set.changes(),
-            self.distances.as_slice(),
+            &mut self.travelled,
+            &mut self.marks,
+            self.moves.as_slice(),
+            begin,
             number,
         );
         self.end.put(&set, &self.results);
@@ -239,16 +243,37 @@ impl<A: Allocator + Copy> Log<A> {
         self.end.get(object)
     }
 
-    /// How far each change of the update with this number moved its object's value, in the order of the changes.
-    pub fn distances(&self, number: u64) -> &[u64]
+    /// What each change of the update with this number made of its object, in the order of the changes.
+    pub fn moves(&self, number: u64) -> &[Moved]
         requires first { 0 < number }
         requires last { number ≤ length self.now.sets }
-        ensures distances { result.now ≡ distances_of (serial self.now (number - 1)) (set_at self.now number) }
+        ensures moves { result.now ≡ moves_of (serial self.now (number - 1)) (set_at self.now number) }
         ensures legal { IsLegalHistory self.now }
     {
-        let begin = self.begins[number as usize - 1] as usize;
-        let count = self.set(number).changes().len();
-        part(self.distances.as_slice(), begin, count)
+        self.moves_between(number - 1, number)
+    }
+
+    /// What the changes of the updates after a place, up to another, made of their objects, update after update.
+    fn moves_between(&self, from: u64, to: u64) -> &[Moved]
+        requires forward { from ≤ to }
+        requires last { to ≤ length self.now.sets }
+        ensures moves { moves_below self.now from ++ result.now ≡ moves_below self.now to }
+        ensures few { length result.now ≤ most_changes * most_updates }
+        ensures legal { IsLegalHistory self.now }
+    {
+        part(self.moves.as_slice(), self.begin(from), self.begin(to))
+    }
+
+    /// Where the moves of the updates after a place begin.
+    fn begin(&self, place: u64) -> usize
+        requires { place ≤ length self.now.sets }
+        ensures { result ≡ length (moves_below self.now place) }
+    {
+        if place == self.len() {
+            self.moves.len()
+        } else {
+            self.begins[place as usize] as usize
+        }
     }
 
     /// The weight of an update on a scope: the distance that values travelled, or 1 on `Count`.
@@ -266,7 +291,8 @@ impl<A: Allocator + Copy> Log<A> {
 
     /// The weight of the span from a place to another: the sum over the updates after the first, up to the second.
     ///
-    /// It is the difference of two running weights, each found by binary search. On a group it is the sum over the members.
+    /// It is the difference of two running weights, each of which goes over the changes of at most 255 updates. On a group it is the
+    /// sum over the members.
     pub fn span(&self, scope: Scope, groups: &Groups<A>, from: u64, to: u64) -> u64
         requires forward { from ≤ to }
         requires last { to ≤ length self.now.sets }
@@ -284,23 +310,58 @@ impl<A: Allocator + Copy> Log<A> {
     }
 
     /// The places with a weight above 0 on an object, ascending, each with the running weight: that of the span from 0 to it.
-    pub fn postings(&self, object: ObjectId) -> &[(u64, u64)]
-        requires { object < length self.now.start }
-        ensures postings { result.now ≡ postings_of (object_weight self.now object) (length self.now.sets) }
+    ///
+    /// They are made for the call, which goes over all changes of the log once. The only refusal is `NoMemory`.
+    pub fn postings(&self, alloc: A, object: ObjectId) -> Result<Vec<(u64, u64), A>, Refusal>
+        ensures postings { IfOk result (λ p. p.items ≡ postings_of (object_weight self.now object) (length self.now.sets)) }
+        ensures refused { IfErr result (λ e. e ≡ Refusal.NoMemory) }
         ensures legal { IsLegalHistory self.now }
     {
-        self.postings[object.index()].as_slice()
+        self.keeps();
+        let mut postings = Vec::new(alloc);
+        match self.add_postings(object, &mut postings) {
+            Ok(()) => Ok(postings),
+            Err(refusal) => {
+                drop(postings);
+                Err(refusal)
+            }
+        }
     }
 
-    /// What the updates up to a place weigh on an object, found by binary search. An object that is not there weighs nothing.
+    /// Adds the postings of an object to an empty list. The only refusal is `NoMemory`.
+    fn add_postings(
+        &self,
+        object: ObjectId,
+        postings: &mut Vec<(u64, u64), A>,
+    ) -> Result<(), Refusal>
+        requires { postings.old.items ≡ [] }
+        ensures postings { OnOk result (postings.new.items ≡ postings_of (object_weight self.now object) (length self.now.sets)) }
+        ensures refused { IfErr result (λ e. e ≡ Refusal.NoMemory) }
+    {
+        let mut running = 0;
+        for index in 0..self.len() {
+            let weight = total_on(object, self.moves(index + 1));
+            running += weight;
+            post(postings, index + 1, weight, running)?;
+        }
+        Ok(())
+    }
+
+    /// What the updates up to a place weigh on an object. An object that is not there weighs nothing.
+    ///
+    /// At the end of the log it is at hand. Elsewhere it is that of the last row of marks, and what the updates after the row weigh.
     pub fn running_weight(&self, object: ObjectId, place: u64) -> u64
         requires { place ≤ length self.now.sets }
         ensures { result ≡ object_span self.now object 0 place }
     {
-        if object.index() < self.objects() {
-            as_of(self.postings(object), place)
-        } else {
+        if object.index() >= self.objects() {
             0
+        } else if place == self.len() {
+            self.travelled[object.index()]
+        } else {
+            let row = place / UPDATES_A_ROW;
+            self.mark(object, row)
+                + total_on(object, self.moves_between(row * UPDATES_A_ROW, place))
         }
     }
 
@@ -309,10 +370,36 @@ impl<A: Allocator + Copy> Log<A> {
         requires { place ≤ length self.now.sets }
         ensures { result ≡ span self.now [] Scope.All 0 place }
     {
-        if place == 0 {
+        self.keeps();
+        let row = place / UPDATES_A_ROW;
+        total(self.row(row)) + total_on_all(self.moves_between(row * UPDATES_A_ROW, place))
+    }
+
+    /// What the updates up to a row weigh on an object that is there.
+    fn mark(&self, object: ObjectId, row: u64) -> u64
+        requires object { object < length self.now.start }
+        requires last { updates_a_row * row ≤ length self.now.sets }
+        ensures { result ≡ object_span self.now object 0 (updates_a_row * row) }
+    {
+        if row == 0 {
             0
         } else {
-            self.running[place as usize - 1]
+            self.row(row)[object.index()]
+        }
+    }
+
+    /// The marks of a row, counted from 1; the row 0 has none.
+    fn row(&self, row: u64) -> &[u64]
+        requires last { updates_a_row * row ≤ length self.now.sets }
+        ensures count { length result.now ≡ (if row == 0 then 0 else length self.now.start) }
+        ensures marks { AreMarks self.now (updates_a_row * row) result.now }
+    {
+        let count = self.start.len();
+        if row == 0 {
+            &[]
+        } else {
+            let begin = (row as usize - 1) * count;
+            &self.marks[begin..begin + count]
         }
     }
 
@@ -342,82 +429,161 @@ impl<A: Allocator + Copy> Log<A> {
     }
 }
 
-/// Reserves memory for one update more, which makes these changes.
+/// Reserves memory for the update with this number, which makes these changes, in a log over so many objects.
 fn reserve_update<A: Allocator + Copy>(
     sets: &mut Vec<MessageSet<A>, A>,
-    distances: &mut Vec<u64, A>,
+    moves: &mut Vec<Moved, A>,
     begins: &mut Vec<u32, A>,
-    running: &mut Vec<u64, A>,
-    postings: &mut Vec<Vec<(u64, u64), A>, A>,
+    marks: &mut Vec<u64, A>,
     changes: &[Change],
+    number: u64,
+    objects: usize,
 ) -> Result<(), AllocError>
-    requires { All (λ c. c.object < length postings.old.items) changes.now }
     ensures sets { sets.new.items ≡ sets.old.items }
-    ensures distances { distances.new.items ≡ distances.old.items }
+    ensures moves { moves.new.items ≡ moves.old.items }
     ensures begins { begins.new.items ≡ begins.old.items }
-    ensures running { running.new.items ≡ running.old.items }
-    ensures count { length postings.new.items ≡ length postings.old.items }
-    ensures same { (x : ℕ) (d : Vec (ℕ × ℕ) A) → (slice_index_or postings.new.items x d).items ≡ (slice_index_or postings.old.items x d).items }
+    ensures marks { marks.new.items ≡ marks.old.items }
     ensures set_room { OnOk result (vec_len sets.new < vec_capacity sets.new) }
-    ensures distance_room { OnOk result (vec_len distances.new + length changes.now ≤ vec_capacity distances.new) }
+    ensures move_room { OnOk result (vec_len moves.new + length changes.now ≤ vec_capacity moves.new) }
     ensures begin_room { OnOk result (vec_len begins.new < vec_capacity begins.new) }
-    ensures running_room { OnOk result (vec_len running.new < vec_capacity running.new) }
-    ensures room { OnOk result (All (λ c. HasRoomAt postings.new.items c.object) changes.now) }
+    ensures mark_room { OnOk result (vec_len marks.new + marks_due number objects ≤ vec_capacity marks.new) }
 {
     sets.reserve(1)?;
-    distances.reserve(changes.len())?;
+    moves.reserve(changes.len())?;
     begins.reserve(1)?;
-    running.reserve(1)?;
-    reserve_postings(postings, changes)
+    reserve_row(marks, number, objects)
 }
 
-/// Posts an update whose distances are the last ones: where they begin, and what it weighs on each object and on all together.
-fn post_update<A: Allocator + Copy>(
+/// Reserves memory for a row of marks, if the update with this number adds one.
+fn reserve_row<A: Allocator + Copy>(
+    marks: &mut Vec<u64, A>,
+    number: u64,
+    objects: usize,
+) -> Result<(), AllocError>
+    ensures marks { marks.new.items ≡ marks.old.items }
+    ensures room { OnOk result (vec_len marks.new + marks_due number objects ≤ vec_capacity marks.new) }
+{
+    if number % UPDATES_A_ROW == 0 {
+        marks.reserve(objects)
+    } else {
+        Ok(())
+    }
+}
+
+/// Notes the update with this number: where its moves begin, which are the last ones, what it weighs on each object, and a row of
+/// marks if one is due.
+fn note_update<A: Allocator + Copy>(
     begins: &mut Vec<u32, A>,
-    running: &mut Vec<u64, A>,
-    postings: &mut Vec<Vec<(u64, u64), A>, A>,
-    changes: &[Change],
-    distances: &[u64],
+    travelled: &mut Vec<u64, A>,
+    marks: &mut Vec<u64, A>,
+    moves: &[Moved],
+    begin: usize,
     number: u64,
 )
-    requires known { All (λ c. c.object < length postings.old.items) changes.now }
-    requires len { length changes.now ≤ length distances.now }
-    requires short { length distances.now < 2 ^ 32 }
-    requires distinct { repeats are_of_one_object changes.now ≡ false }
+    requires begin { begin ≤ length moves.now }
+    requires short { begin < 2 ^ 32 }
+    requires known { All (λ m. m.object < length travelled.old.items) (drop begin moves.now) }
+    requires few { (x : ℕ) → x < length travelled.old.items → mark_at travelled.old.items x + sum_by (distance_on x) (drop begin moves.now) < 2 ^ 64 }
     requires begin_room { vec_len begins.old < vec_capacity begins.old }
-    requires running_room { vec_len running.old < vec_capacity running.old }
-    requires room { All (λ c. HasRoomAt postings.old.items c.object) changes.now }
-    requires few { last_number running.old.items + sum (last_of (length changes.now) distances.now) < 2 ^ 64 }
-    requires few_on_each { (x : ℕ) (d : Vec (ℕ × ℕ) A) → x < length postings.old.items →
-        last_weight (slice_index_or postings.old.items x d).items + distance_beside changes.now (last_of (length changes.now) distances.now) x < 2 ^ 64 }
-    ensures begins { begins.new.items ≡ begins.old.items ++ (length distances.now - length changes.now) ∷ [] }
-    ensures running { running.new.items ≡ running.old.items ++ (last_number running.old.items + sum (last_of (length changes.now) distances.now)) ∷ [] }
-    ensures count { length postings.new.items ≡ length postings.old.items }
-    ensures each { (x : ℕ) (d : Vec (ℕ × ℕ) A) → x < length postings.old.items →
-        (slice_index_or postings.new.items x d).items ≡ posted (slice_index_or postings.old.items x d).items number (distance_beside changes.now (last_of (length changes.now) distances.now) x) }
+    requires mark_room { vec_len marks.old + marks_due number (length travelled.old.items) ≤ vec_capacity marks.old }
+    ensures begins { begins.new.items ≡ begins.old.items ++ begin ∷ [] }
+    ensures count { length travelled.new.items ≡ length travelled.old.items }
+    ensures travelled { (x : ℕ) → x < length travelled.old.items →
+        mark_at travelled.new.items x ≡ mark_at travelled.old.items x + sum_by (distance_on x) (drop begin moves.now) }
+    ensures marks { marks.new.items ≡ marks.old.items ++ row_due number travelled.new.items }
 {
-    let begin = distances.len() - changes.len();
-    let distances = &distances[begin..];
-    let before = match running.last() {
-        Some(last) => *last,
-        None => 0,
-    };
     begins.push_reserved(begin as u32);
-    running.push_reserved(before + total(distances));
-    post_all(postings, changes, distances, number);
+    travel(travelled, &moves[begin..]);
+    add_row(marks, travelled.as_slice(), number);
 }
 
-/// `count` numbers of a list, from `begin` on.
-fn part(numbers: &[u64], begin: usize, count: usize) -> &[u64]
-    requires { begin + count ≤ length numbers.now }
-    ensures { result.now ≡ take count (drop begin numbers.now) }
+/// Adds how far each move moved its object to what the object travelled.
+fn travel<A: Allocator + Copy>(travelled: &mut Vec<u64, A>, moves: &[Moved])
+    requires known { All (λ m. m.object < length travelled.old.items) moves.now }
+    requires few { (x : ℕ) → x < length travelled.old.items → mark_at travelled.old.items x + sum_by (distance_on x) moves.now < 2 ^ 64 }
+    ensures count { length travelled.new.items ≡ length travelled.old.items }
+    ensures travelled { (x : ℕ) → x < length travelled.old.items →
+        mark_at travelled.new.items x ≡ mark_at travelled.old.items x + sum_by (distance_on x) moves.now }
 {
-    &numbers[begin..begin + count]
+    for moved in moves {
+        travelled[moved.object.index()] += u64::from(moved.distance);
+    }
 }
 
-fn total(distances: &[u64]) -> u64
-    requires { sum distances.now < 2 ^ 64 }
-    ensures { result ≡ sum distances.now }
+/// Adds a row of marks, if the update with this number adds one, to marks that have spare capacity for it.
+fn add_row<A: Allocator + Copy>(marks: &mut Vec<u64, A>, travelled: &[u64], number: u64)
+    requires { vec_len marks.old + marks_due number (length travelled.now) ≤ vec_capacity marks.old }
+    ensures { marks.new.items ≡ marks.old.items ++ row_due number travelled.now }
 {
-    distances.iter().sum()
+    if number % UPDATES_A_ROW == 0 {
+        push_all(marks, travelled);
+    }
+}
+
+/// Adds numbers to a list that has spare capacity for them.
+fn push_all<A: Allocator + Copy>(list: &mut Vec<u64, A>, numbers: &[u64])
+    requires { vec_len list.old + length numbers.now ≤ vec_capacity list.old }
+    ensures { list.new.items ≡ list.old.items ++ numbers.now }
+{
+    for number in numbers {
+        list.push_reserved(*number);
+    }
+}
+
+/// Adds a posting at a place, if the place weighs something.
+fn post<A: Allocator + Copy>(
+    postings: &mut Vec<(u64, u64), A>,
+    number: u64,
+    weight: u64,
+    running: u64,
+) -> Result<(), Refusal>
+    ensures posted { OnOk result (postings.new.items ≡ posted postings.old.items number weight running) }
+    ensures refused { IfErr result (λ e. e ≡ Refusal.NoMemory) }
+{
+    if weight > 0 {
+        postings.push((number, running))?;
+    }
+    Ok(())
+}
+
+/// The moves from one index to another.
+fn part(moves: &[Moved], from: usize, to: usize) -> &[Moved]
+    requires forward { from ≤ to }
+    requires last { to ≤ length moves.now }
+    ensures { result.now ≡ take (to - from) (drop from moves.now) }
+{
+    &moves[from..to]
+}
+
+/// How far moves move an object.
+fn total_on(object: ObjectId, moves: &[Moved]) -> u64
+    requires { length moves.now ≤ most_changes * most_updates }
+    ensures { result ≡ sum_by (distance_on object) moves.now }
+{
+    let mut total = 0;
+    for moved in moves {
+        if moved.object == object {
+            total += u64::from(moved.distance);
+        }
+    }
+    total
+}
+
+/// How far moves move all objects.
+fn total_on_all(moves: &[Moved]) -> u64
+    requires { length moves.now ≤ most_changes * most_updates }
+    ensures { result ≡ sum_by distance_of moves.now }
+{
+    let mut total = 0;
+    for moved in moves {
+        total += u64::from(moved.distance);
+    }
+    total
+}
+
+fn total(numbers: &[u64]) -> u64
+    requires { sum numbers.now < 2 ^ 64 }
+    ensures { result ≡ sum numbers.now }
+{
+    numbers.iter().sum()
 }

@@ -1,11 +1,16 @@
-use Rattle.std.proofs.Common.{arith, ◌∙◌, ◌≡◌, ◌∷◌, [], ◌++◌, ◌+◌, ◌-◌, ap, refl, true, length, sum, sym}
-use Rattle.std.specs.Prelude.{slice_index_or}
+use Rattle.std.proofs.Common.{arith, ◌∙◌, ◌≡◌, ◌∷◌, [], ◌++◌, ◌+◌, ◌<◌, ap, refl, true, length, sym, subst, drop, sum_by, List}
+use Rattle.std.specs.Prelude.{All, ◌^◌}
+use Rattle.std.proofs.lemmas.List.{length-append}
+use Rattle.ordup_objects.specs.declared.moved.Moved.{Moved}
 use Rattle.ordup_objects.specs.States.{is_legal}
 use Rattle.ordup_objects.specs.Serial.{History}
-use Rattle.ordup_objects.specs.Sets.{IsSet, AreKnown}
-use Rattle.ordup_objects.specs.Weights.{distance_beside, distances_of}
-use Rattle.ordup_log.specs.Postings.{last_number, last_of, posted}
-use Rattle.ordup_log.proofs.LogLemmas.{allowed, not_allowed, weighed-last, IsLog-same, IsLog-longer, posted-fits, all-fits, last-are, last-begin}
+use Rattle.ordup_objects.specs.Sets.{AreKnown}
+use Rattle.ordup_objects.specs.Marks.{mark_at}
+use Rattle.ordup_objects.specs.Moves.{moves_of}
+use Rattle.ordup_log.specs.Moving.{distance_on}
+use Rattle.ordup_log.specs.Rows.{row_due}
+use Rattle.ordup_log.proofs.LogLemmas.{allowed, not_allowed, last-moves, moves-short, IsLog-same, IsLog-longer, travelled-fits}
+use Rattle.ordup_log.proofs.MovingLemmas.{known-moves}
 use Rattle.ordup_log.proofs.log.Log.append_or_return.Goals as goal
 
 pub results-requires : goal.results-requires
@@ -16,7 +21,7 @@ results-requires g c =
 pub invariant_of-self : goal.invariant_of-self
 invariant_of-self g c =
     let l = c.self.inside in
-    IsLog-same l c.self.invariant l.sets l.distances l.begins l.postings l.running refl refl refl refl (λ x d. refl) refl
+    IsLog-same l c.self.invariant l.sets l.moves l.begins l.marks refl refl refl refl
 
 pub returns-in_default : goal.returns-in_default
 returns-in_default g c = record {
@@ -29,16 +34,14 @@ returns-in_default g c = record {
   err = c.self.view_is;
 }
 
-pub reserve_update-requires : goal.reserve_update-requires
-reserve_update-requires g c =
-    let known : AreKnown (length c.self.inside.start) c.args.set = rw (← c.self.view_is) at c.requires in
-    rw (c.changes.ensures.changes, c.self.invariant.count) (λ k d lt. (known k d lt).0)
+pub overflow_add-number : goal.overflow_add-number
+overflow_add-number g c = omega arith
 
 pub invariant_of-self-in_default-reserve_update : goal.invariant_of-self-in_default-reserve_update
 invariant_of-self-in_default-reserve_update g c =
     let r = c.reserve_update in
-    IsLog-same c.self.inside c.self.invariant r.new.sets r.new.distances r.new.begins r.new.postings r.new.running
-    r.ensures.sets r.ensures.distances r.ensures.begins r.ensures.count r.ensures.same r.ensures.running
+    IsLog-same c.self.inside c.self.invariant r.new.sets r.new.moves r.new.begins r.new.marks
+    r.ensures.sets r.ensures.moves r.ensures.begins r.ensures.marks
 
 pub returns-in_default-reserve_update : goal.returns-in_default-reserve_update
 returns-in_default-reserve_update g c = record {
@@ -51,47 +54,45 @@ returns-in_default-reserve_update g c = record {
   err = rw c.reserve_update.ensures.sets c.self.view_is;
 }
 
-pub overflow_add-number : goal.overflow_add-number
-overflow_add-number g c = omega arith
-
-pub push_distances-requires-clause-known : goal.push_distances-requires-clause-known
-push_distances-requires-clause-known g c =
+pub push_moves-requires-clause-known : goal.push_moves-requires-clause-known
+push_moves-requires-clause-known g c =
     let known : AreKnown (length c.self.inside.start) c.args.set = rw (← c.self.view_is) at c.requires in
     rw c.self.invariant.same known
 
-pub push_distances-requires-clause-results : goal.push_distances-requires-clause-results
-push_distances-requires-clause-results g c = c.in-Ok.ensures.results
+pub push_moves-requires-clause-legal : goal.push_moves-requires-clause-legal
+push_moves-requires-clause-legal g c = sym c.in-Ok.ensures.legal
 
-pub push_distances-requires-clause-room : goal.push_distances-requires-clause-room
-push_distances-requires-clause-room g c = rw c.changes.ensures.changes at c.in-Ok-reserve_update.ensures.distance_room
+pub push_moves-requires-clause-results : goal.push_moves-requires-clause-results
+push_moves-requires-clause-results g c = c.in-Ok.ensures.results
 
-pub post_update-requires : goal.post_update-requires
-post_update-requires g c =
+pub push_moves-requires-clause-room : goal.push_moves-requires-clause-room
+push_moves-requires-clause-room g c = rw c.changes.ensures.changes at c.in-Ok-reserve_update.ensures.move_room
+
+pub note_update-requires : goal.note_update-requires
+note_update-requires g c =
     let l = c.self.inside in
     let is = c.self.invariant in
     let room = c.reserve_update.ensures in
     let known : AreKnown (length l.start) c.args.set = rw (← c.self.view_is) at c.requires in
     let legal : is_legal c.args.set l.end ≡ true = sym c.in-Ok.ensures.legal in
-    let set : IsSet c.args.set = c.changes.ensures.set in
-    let changes = c.changes-2.ensures.changes in
-    let ds = last_of (length c.args.set) c.as_slice.result.now in
-    let are : ds ≡ distances_of l.end c.args.set =
-    last-are l.end c.args.set c.reserve_update.new.distances.items c.push_distances.new.distances.items c.as_slice.result.now
-    c.push_distances.ensures c.as_slice.ensures.value in
-    let begin = last-begin l.end c.args.set c.reserve_update.new.distances.items c.push_distances.new.distances.items
-    c.as_slice.result.now c.push_distances.ensures c.as_slice.ensures.value in
+    let begin : c.len-begin.result ≡ length c.reserve_update.new.moves.items = c.len-begin.ensures ∙ c.reserve_update.new.moves.ok.0 in
+    let are : drop c.len-begin.result c.as_slice.result.now ≡ moves_of l.end c.args.set =
+    last-moves c.reserve_update.new.moves.items c.push_moves.new.moves.items c.as_slice.result.now (moves_of l.end c.args.set)
+    c.len-begin.result c.push_moves.ensures c.as_slice.ensures.value begin in
     record {
-      known = rw (changes, room.count, is.count) (λ k d lt. (known k d lt).0);
-      len = rw changes (omega (arith, begin.0));
-      short = omega (arith, begin.0, ap length room.distances, l.distances.ok.0, is.short, set.few);
-      distinct = rw changes set.distinct;
+      begin = omega (
+        arith,
+        begin,
+        ap length (c.as_slice.ensures.value ∙ c.push_moves.ensures),
+        length-append c.reserve_update.new.moves.items (moves_of l.end c.args.set),
+      );
+      short = omega (arith, begin, ap length room.moves, moves-short l is);
+      known = subst (All (λ (d : Moved). d.object < length l.travelled.items)) (sym are)
+          (known-moves l.end c.args.set (length l.travelled.items) (rw is.count (λ k d lt. (known k d lt).0)));
+      few = λ x lt. subst (λ (ms : List Moved). mark_at l.travelled.items x + sum_by (distance_on x) ms < 2 ^ 64) (sym are)
+          (travelled-fits l is c.args.set c.changes.ensures.set legal known (omega arith) x (omega (arith, lt, is.count)));
       begin_room = c.in-Ok-reserve_update.ensures.begin_room;
-      running_room = c.in-Ok-reserve_update.ensures.running_room;
-      room = rw changes (rw c.changes.ensures.changes at c.in-Ok-reserve_update.ensures.room);
-      few = rw (changes, room.running) (all-fits l is c.args.set ds set legal are (last_number l.running.items) (weighed-last l is));
-      few_on_each = λ x d lt.
-          rw changes (posted-fits l is c.args.set ds set legal are x d (slice_index_or c.reserve_update.new.postings.items x d)
-          (omega (arith, lt, room.count, is.count)) (room.same x d));
+      mark_room = rw (c.len-3.ensures ∙ l.travelled.ok.0) at c.in-Ok-reserve_update.ensures.mark_room;
     }
 
 pub put-requires-clause-known : goal.put-requires-clause-known
@@ -112,39 +113,29 @@ pub invariant_of-self-2 : goal.invariant_of-self-2
 invariant_of-self-2 g c =
     let l = c.self.inside in
     let room = c.reserve_update.ensures in
-    let posts = rw c.changes-2.ensures.changes at c.post_update.ensures in
+    let note = c.note_update.ensures in
+    let known : AreKnown (length l.start) c.args.set = rw (← c.self.view_is) at c.requires in
     let legal : is_legal c.args.set l.end ≡ true = sym c.in-Ok.ensures.legal in
-    let set : IsSet c.args.set = c.changes.ensures.set in
-    let ds = last_of (length c.args.set) c.as_slice.result.now in
-    let are : ds ≡ distances_of l.end c.args.set =
-    last-are l.end c.args.set c.reserve_update.new.distances.items c.push_distances.new.distances.items c.as_slice.result.now
-    c.push_distances.ensures c.as_slice.ensures.value in
-    let begin = last-begin l.end c.args.set c.reserve_update.new.distances.items c.push_distances.new.distances.items
-    c.as_slice.result.now c.push_distances.ensures c.as_slice.ensures.value in
-    IsLog-longer l c.self.invariant c.args.set ds set legal are c.push_reserved.new.self c.push_distances.new.distances
-    c.post_update.new.begins c.post_update.new.postings c.post_update.new.running c.put.new.self (c.len-2.result + 1)
-    (last_number l.running.items)
-    (rw (← c.self.view_is) at c.requires)
+    let begin : c.len-begin.result ≡ length c.reserve_update.new.moves.items = c.len-begin.ensures ∙ c.reserve_update.new.moves.ok.0 in
+    let are : drop c.len-begin.result c.as_slice.result.now ≡ moves_of l.end c.args.set =
+    last-moves c.reserve_update.new.moves.items c.push_moves.new.moves.items c.as_slice.result.now (moves_of l.end c.args.set)
+    c.len-begin.result c.push_moves.ensures c.as_slice.ensures.value begin in
+    IsLog-longer l c.self.invariant c.args.set c.changes.ensures.set legal known c.push_reserved.new.self c.push_moves.new.moves
+    c.note_update.new.begins c.note_update.new.travelled c.note_update.new.marks c.put.new.self (c.len-2.result + 1) c.len-begin.result
     (omega arith)
-    (omega (arith, ap length room.sets, l.sets.ok.0, c.reserve_update.new.sets.ok.0))
+    (omega (arith, c.len-2.ensures))
+    (begin ∙ ap length room.moves)
     (c.push_reserved.ensures.items ∙ ap (λ xs. xs ++ c.args.set ∷ []) room.sets)
-    (c.push_distances.ensures ∙ ap (λ xs. xs ++ distances_of l.end c.args.set) room.distances
-    ∙ ap (λ xs. l.distances.items ++ xs) (sym are))
-    (posts.begins
-    ∙ ap (λ xs. xs ++ (length c.as_slice.result.now - length c.args.set) ∷ []) room.begins
-    ∙ ap (λ n. l.begins.items ++ n ∷ []) (begin.1 ∙ ap length room.distances))
-    (posts.count ∙ room.count)
-    (λ x d lt.
-    posts.each x d (omega (arith, lt, room.count))
-    ∙ ap (λ p. posted p (c.len-2.result + 1) (distance_beside c.args.set ds x)) (room.same x d))
-    (weighed-last l c.self.invariant)
-    (posts.running ∙ ap (λ xs. xs ++ (last_number xs + sum ds) ∷ []) room.running)
+    (c.push_moves.ensures ∙ ap (λ xs. xs ++ moves_of l.end c.args.set) room.moves)
+    (note.begins ∙ ap (λ xs. xs ++ c.len-begin.result ∷ []) room.begins)
+    note.count
+    (λ x lt. note.travelled x lt ∙ ap (λ ms. mark_at l.travelled.items x + sum_by (distance_on x) ms) are)
+    (note.marks ∙ ap (λ xs. xs ++ row_due (c.len-2.result + 1) c.note_update.new.travelled.items) room.marks)
     c.put.ensures.after
 
 pub returns : goal.returns
 returns g c = record {
-  number = ap (λ n. n + 1) (c.len-2.ensures ∙ c.reserve_update.new.sets.ok.0 ∙ ap length c.reserve_update.ensures.sets)
-      ∙ ap (λ (h : History). length h.sets + 1) c.self.view_is;
+  number = ap (λ n. n + 1) (c.len-2.ensures ∙ c.self.inside.sets.ok.0) ∙ ap (λ (h : History). length h.sets + 1) c.self.view_is;
   added = rw (c.push_reserved.ensures.items, c.reserve_update.ensures.sets, ← c.self.view_is) refl;
   allowed = allowed c.self.inside c.self.invariant c.args.self.now c.args.set c.self.view_is (omega arith) (sym c.in-Ok.ensures.legal);
   refused = tt;

@@ -1,25 +1,55 @@
-use Rattle.std.proofs.Common.{arith, ap, refl, ◌∙◌, ◌≡◌, ◌-◌, ◌<◌, [], suc, length}
-use Rattle.std.proofs.lemmas.List.{get_or_read}
-use Rattle.ordup_objects.specs.Sums.{sum_from}
-use Rattle.ordup_log.specs.LogInside.{history_of}
-use Rattle.ordup_log.specs.Spans.{weight}
+use Rattle.std.proofs.Common.{arith, ◌≡◌, ◌/◌, ◌*◌, [], ap}
+use Rattle.ordup_log.specs.Rows.{updates_a_row}
+use Rattle.ordup_log.specs.Spans.{span}
 use Rattle.ordup_log.specs.declared.scope.Scope.TheVariants.{All as Everything}
+use Rattle.ordup_log.proofs.MovingLemmas.{all-between}
+use Rattle.ordup_log.proofs.RowLemmas.{sum-row}
+use Rattle.ordup_log.proofs.WeightLemmas.{all_span-few}
 use Rattle.ordup_log.proofs.log.Log.running_weight_on_all.Goals as goal
 
-pub index-requires : goal.index-requires
-index-requires g c =
-    omega (arith, rw (← c.self.view_is) at c.requires, c.if-place-eq0.false, c.self.invariant.counted, c.self.inside.sets.ok.0)
+pub total-requires : goal.total-requires
+total-requires g c =
+    let h = c.args.self.now in
+    let row = c.args.place / updates_a_row in
+    omega (
+      arith,
+      sum-row h row c.row.result.now c.row.ensures.count c.row.ensures.marks,
+      all_span-few h c.keeps.ensures.legal (updates_a_row * row) (omega (arith, c.requires)),
+      c.keeps.ensures.few,
+      c.requires,
+    )
 
-pub returns-then-place-eq0 : goal.returns-then-place-eq0
-returns-then-place-eq0 g c = rw c.if-place-eq0.true refl
+pub overflow_add-result : goal.overflow_add-result
+overflow_add-result g c =
+    let h = c.args.self.now in
+    let place = c.args.place in
+    let row = place / updates_a_row in
+    let same : row * updates_a_row ≡ updates_a_row * row = omega arith in
+    omega (
+      arith,
+      c.total.ensures,
+      sum-row h row c.row.result.now c.row.ensures.count c.row.ensures.marks,
+      ap (span h [] Everything 0) same,
+      all-between h c.moves_between.ensures.legal (row * updates_a_row) place c.moves_between.result.now (omega arith) c.requires
+          c.moves_between.ensures.moves,
+      c.total_on_all.ensures,
+      all_span-few h c.moves_between.ensures.legal place c.requires,
+      c.keeps.ensures.few,
+      c.requires,
+    )
 
-pub returns-else-place-eq0 : goal.returns-else-place-eq0
-returns-else-place-eq0 g c =
-    let h = history_of c.self.inside in
-    let last = rw (← c.self.view_is) at c.requires in
-    let place : suc (c.args.place - 1) ≡ c.args.place - 0 = omega (arith, c.if-place-eq0.false) in
-    let below : c.args.place - 1 < length c.self.inside.running.items =
-    omega (arith, last, c.if-place-eq0.false, c.self.invariant.counted, c.self.inside.sets.ok.0, c.self.inside.running.ok.0) in
-    get_or_read c.self.inside.running.items (c.args.place - 1) c.index.result.now below c.index.ensures 0
-    ∙ c.self.invariant.running (c.args.place - 1) (omega (arith, last, c.if-place-eq0.false))
-    ∙ rw (← c.self.view_is) (ap (sum_from (weight h [] Everything) 0) place)
+pub returns : goal.returns
+returns g c =
+    let h = c.args.self.now in
+    let place = c.args.place in
+    let row = place / updates_a_row in
+    let same : row * updates_a_row ≡ updates_a_row * row = omega arith in
+    omega (
+      arith,
+      c.total.ensures,
+      sum-row h row c.row.result.now c.row.ensures.count c.row.ensures.marks,
+      ap (span h [] Everything 0) same,
+      all-between h c.moves_between.ensures.legal (row * updates_a_row) place c.moves_between.result.now (omega arith) c.requires
+          c.moves_between.ensures.moves,
+      c.total_on_all.ensures,
+    )

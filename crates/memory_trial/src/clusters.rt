@@ -13,27 +13,31 @@ use std::sync::Wait;
 /// Enough that the lists of what was decided grow a second time.
 const UPDATES_THAT_WAIT: u64 = 5;
 
-/// An update of a cluster whose sites never get a limit: it is acknowledged in the hold that numbers it.
+/// Updates of a cluster whose sites never get a limit: each is acknowledged in the hold that numbers it, and copied for each site. A
+/// copy that is refused memory is made after the next one is numbered.
 pub(crate) fn try_cluster_without_limits<R: Wait + Print>(
     rt: &R,
     alloc: Global,
-    set: &MessageSet,
+    one: &MessageSet,
+    two: &MessageSet,
 ) -> Result<(), Stop> {
     let cluster = open(rt, alloc, Limits::None)?;
-    let tried = propose_one(rt, alloc, &cluster, set);
+    let tried = propose_two(rt, alloc, &cluster, one, two);
     let closed = close(rt, cluster);
     tried?;
     closed?;
     Ok(())
 }
 
-fn propose_one<R: Wait + Print>(
+fn propose_two<R: Wait + Print>(
     rt: &R,
     alloc: Global,
     cluster: &Cluster,
-    set: &MessageSet,
+    one: &MessageSet,
+    two: &MessageSet,
 ) -> Result<(), Stop> {
-    acknowledge(rt, alloc, cluster, set, 1)?;
+    acknowledge(rt, alloc, cluster, two, 1)?;
+    acknowledge(rt, alloc, cluster, one, 2)?;
     cluster.stop();
     apply(rt, cluster, 0)?;
     apply(rt, cluster, 1)?;

@@ -74,3 +74,22 @@ fn add_site_without_lag(setup: &mut Setup) -> Result<(), Refusal> {
     let site = setup.site(b"a", 1)?;
     setup.limit(site, Scope::All, 0)
 }
+
+/// A site that may not lag on y.
+pub(crate) fn declare_without_lag_on_y(alloc: Global) -> Result<Setup, Refusal> {
+    let mut setup = Setup::new(alloc);
+    match add_site_without_lag_on_y(&mut setup) {
+        Ok(()) => Ok(setup),
+        Err(refusal) => {
+            setup.discard();
+            Err(refusal)
+        }
+    }
+}
+
+fn add_site_without_lag_on_y(setup: &mut Setup) -> Result<(), Refusal> {
+    setup.object(b"x", 0)?;
+    setup.object(b"y", 10)?;
+    let site = setup.site(b"a", 4)?;
+    setup.limit(site, Scope::Object(ObjectId::new(1)), 0)
+}

@@ -1,8 +1,9 @@
 //! The joins of a service that goes on from store to store.
 use crate::asking::{Stop, TRIES, ask, print_refused};
-use crate::declarations::declare_without_limits;
+use crate::declarations::{declare_without_lag_on_y, declare_without_limits};
 use ordup_epochs::{EndedEpoch, Epochs, Session};
 use ordup_objects::{MessageSet, ObjectId, Refusal};
+use ordup_primary::Setup;
 use std::alloc::Global;
 use std::io;
 use std::sync::Wait;
@@ -10,43 +11,92 @@ use std::sync::Wait;
 /// After how many updates an epoch would end by itself.
 const UPDATES: u64 = 10;
 
-/// Two updates, and a join after each.
+/// How many services wait at their last join: before that they go on to no next epoch, and to one.
+const SERVICES_THAT_WAIT: u64 = 2;
+
+/// Two updates, and a join after each. An update is acknowledged in the hold that numbers it, and copied for each site.
 pub(crate) fn try_joins<R: Wait + Print>(
     rt: &R,
     alloc: Global,
     set: &MessageSet,
 ) -> Result<(), Stop> {
-    let epochs = open(rt, alloc)?;
-    let tried = offer_and_join(rt, alloc, &epochs, set);
+    let epochs = open(rt, alloc, Limits::None)?;
+    let tried = offer_and_join(rt, alloc, &epochs, set, 2);
     let closed = close(rt, epochs);
     tried?;
     closed?;
     Ok(())
 }
 
+/// Services in which the last update waits for a site that applies nothing, so that the last join is refused, and the epoch goes on.
+pub(crate) fn try_joins_that_wait<R: Wait + Print>(
+    rt: &R,
+    alloc: Global,
+    free: &MessageSet,
+    held: &MessageSet,
+) -> Result<(), Stop> {
+    for joins in 0..SERVICES_THAT_WAIT {
+        let epochs = open(rt, alloc, Limits::NoLagOnY)?;
+        let tried = join_and_wait(rt, alloc, &epochs, free, held, joins);
+        let closed = close(rt, epochs);
+        tried?;
+        closed?;
+    }
+    Ok(())
+}
+
+fn join_and_wait<R: Wait + Print>(
+    rt: &R,
+    alloc: Global,
+    epochs: &Epochs,
+    free: &MessageSet,
+    held: &MessageSet,
+    joins: u64,
+) -> Result<(), Stop> {
+    offer_and_join(rt, alloc, epochs, free, joins)?;
+    offer(rt, alloc, epochs, held)?;
+    join(rt, alloc, epochs)
+}
+
+/// Offers a set this many times, and joins after each.
 fn offer_and_join<R: Wait + Print>(
     rt: &R,
     alloc: Global,
     epochs: &Epochs,
     set: &MessageSet,
+    joins: u64,
 ) -> Result<(), Stop> {
-    for _ in 0..2 {
+    for _ in 0..joins {
         offer(rt, alloc, epochs, set)?;
         join(rt, alloc, epochs)?;
     }
     Ok(())
 }
 
+/// Which limits the sites of a service have.
+#[derive(Clone, Copy)]
+enum Limits {
+    None,
+    NoLagOnY,
+}
+
 /// Opens the first epoch. Where it is refused, its setup is lost and is declared again.
-fn open<R: Print>(rt: &R, alloc: Global) -> Result<Epochs, Stop> {
+fn open<R: Print>(rt: &R, alloc: Global, limits: Limits) -> Result<Epochs, Stop> {
     for _ in 0..TRIES {
-        let setup = ask(rt, "setup", || declare_without_limits(alloc))?;
+        let setup = ask(rt, "setup", || declare(alloc, limits))?;
         match Epochs::new(alloc, setup, UPDATES) {
             Ok(epochs) => return opened(rt, epochs),
             Err(refusal) => print_refused(rt, "epochs", refusal)?,
         }
     }
     Err(Stop::NoMemory)
+}
+
+fn declare(alloc: Global, limits: Limits) -> Result<Setup, Refusal> {
+    match limits {
+        Limits::None => declare_without_limits(alloc),
+        Limits::NoLagOnY => declare_without_lag_on_y(alloc),
+    }
 }
 
 fn opened(rt: &impl Print, epochs: Epochs) -> Result<Epochs, Stop> {
@@ -59,7 +109,8 @@ fn opened(rt: &impl Print, epochs: Epochs) -> Result<Epochs, Stop> {
     }
 }
 
-/// Proposes a copy of a set with one turn, until it is numbered. Where that turn is refused, the join settles the update.
+/// Proposes a copy of a set with one turn, until it is numbered. Where that turn is refused, the join settles what is not yet
+/// acknowledged.
 fn offer<R: Wait + Print>(
     rt: &R,
     alloc: Global,
@@ -105,6 +156,9 @@ fn join<R: Wait + Print>(rt: &R, alloc: Global, epochs: &Epochs) -> Result<(), S
             Err(refusal) => {
                 print_refused(rt, "join", refusal)?;
                 visit(rt, epochs)?;
+                if refusal != Refusal::NoMemory {
+                    return Ok(());
+                }
             }
         }
     }

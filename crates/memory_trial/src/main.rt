@@ -12,7 +12,7 @@ mod joins;
 use asking::{Stop, ask};
 use clusters::{try_cluster_that_waits, try_cluster_with_new_limits, try_cluster_without_limits};
 use declarations::{declare_objects, one_change, two_changes};
-use joins::try_joins;
+use joins::{try_joins, try_joins_that_wait};
 use ordup_feed::Feed;
 use ordup_objects::ObjectTable;
 use std::alloc::Global;
@@ -43,8 +43,9 @@ fn try_calls<R: Wait + Print>(rt: &R, alloc: Global, objects: &ObjectTable) -> R
     drop(ends);
     let one = ask(rt, "set", || one_change(objects))?;
     let two = ask(rt, "set", || two_changes(objects))?;
-    try_cluster_without_limits(rt, alloc, &one)?;
+    try_cluster_without_limits(rt, alloc, &one, &two)?;
     try_cluster_with_new_limits(rt, alloc, &one, &two)?;
     try_cluster_that_waits(rt, alloc, &two)?;
-    try_joins(rt, alloc, &one)
+    try_joins(rt, alloc, &two)?;
+    try_joins_that_wait(rt, alloc, &one, &two)
 }

@@ -1,4 +1,4 @@
-ghost use Rattle.std.specs.Prelude.{◌≡◌, ◌≤◌, ℕ, ◌<◌, ◌↔◌, IsTrue, IfSome, IsOk, is_ok, IfOk, IfErr, OnOk, OnErr, length, All, ◌+◌, ◌++◌, vec_len, vec_capacity};
+ghost use Rattle.std.specs.Prelude.{◌≡◌, ◌≤◌, ℕ, ◌<◌, ◌↔◌, IsTrue, IfSome, IsOk, is_ok, IfOk, IfErr, OnOk, OnErr, length, All, ◌+◌, ◌++◌, vec_len, vec_capacity, slice_set};
 ghost use Rattle.ordup_objects.specs.States.{value_at, result_at, in_range, is_legal, AreResults, after, IsInRange, IsState};
 ghost use Rattle.ordup_objects.specs.Ops.{number_of, source_of};
 ghost use Rattle.ordup_objects.specs.Sets.{IsKnown, AreKnown, AreInRange};
@@ -151,6 +151,18 @@ impl<A: Allocator + Copy> Values<A> {
         ensures len { length self.new ≡ length self.old }
     {
         put_results(&mut self.values, set.changes(), &results.results);
+    }
+
+    /// Puts a value in the place of an object's.
+    #[inline(always)]
+    pub fn put_value(&mut self, object: ObjectId, value: i64)
+        requires object { object < length self.old }
+        requires range { IsInRange value }
+        ensures put { self.new ≡ slice_set self.old object value }
+        ensures len { length self.new ≡ length self.old }
+    {
+        let index = object.index();
+        self.values[index] = value;
     }
 }
 

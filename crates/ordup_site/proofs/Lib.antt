@@ -1,2 +1,3 @@
 pub mod TravelLemmas
+pub mod MoveLemmas
 pub mod SiteLemmas

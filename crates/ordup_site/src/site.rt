@@ -5,10 +5,10 @@ ghost use Rattle.ordup_objects.specs.States.{value_at, is_legal, after, AreResul
 ghost use Rattle.ordup_objects.specs.Sets.{AreKnown};
 ghost use Rattle.ordup_objects.specs.Serial.{History, set_at, with_update};
 ghost use Rattle.ordup_objects.specs.Weights.{distance};
-ghost use Rattle.ordup_site.specs.Sites.{HasApplied, travelled_at};
+ghost use Rattle.ordup_site.specs.Sites.{HasApplied, AreMovesOf, travelled_at};
 ghost use Rattle.ordup_site.specs.Travelling.{Moves, travelled_on};
 
-use ordup_objects::{Change, MessageSet, ObjectId, ObjectTable, Refusal, Results, Values};
+use ordup_objects::{Change, MessageSet, Moved, ObjectId, ObjectTable, Refusal, Results, Values};
 use std::alloc::{AllocError, Allocator, Global};
 use std::marker::Model;
 
@@ -77,6 +77,32 @@ impl<A: Allocator + Copy> Site<A> {
             set,
         );
         self.applied += 1;
+    }
+
+    /// Applies a message set by its moves, as `apply` does, and computes nothing again. It takes no memory, and its work grows with the
+    /// moves alone.
+    ///
+    /// The caller makes sure that these are the moves of a set which the site may apply, and that the site applied fewer than
+    /// 1,000,000 updates.
+    pub fn apply_moves(&mut self, moves: &[Moved])
+        requires moves { (m : List Change) × AreMovesOf self.old.values m moves.now }
+        requires room { self.old.applied < most_updates }
+        ensures applied { self.new.applied ≡ self.old.applied + 1 }
+        ensures values { (m : List Change) → AreMovesOf self.old.values m moves.now → self.new.values ≡ after m self.old.values }
+        ensures travelled { (x : ℕ) → travelled_at self.new x ≡ travelled_at self.old x + distance (value_at self.new.values x) (value_at self.old.values x) }
+        // The set is now the last of those that the site applied.
+        ensures last { (h : History) (m : List Change) → AreMovesOf self.old.values m moves.now → HasApplied self.old h (length h.sets) → HasApplied self.new (with_update h m) (length h.sets + 1) }
+        // Where it is the next of a log, the site applied one update more of that log.
+        ensures next { (h : History) (j : ℕ) → HasApplied self.old h j → j < length h.sets → AreMovesOf self.old.values (set_at h (j + 1)) moves.now → HasApplied self.new h (j + 1) }
+    {
+        let Site {
+            applied,
+            values,
+            travelled,
+            ..
+        } = self;
+        put_moves(values, travelled, moves);
+        *applied += 1;
     }
 
     /// How many objects there are.
@@ -160,5 +186,19 @@ fn travel_on<A: Allocator + Copy>(
     for (i, change) in changes.iter().enumerate() {
         let moved = results[i].abs_diff(values.get(change.object));
         travelled[change.object.index()] += moved;
+    }
+}
+
+/// Puts the value of each move in the place of its object's, and adds how far it moved to what that travelled.
+fn put_moves<A: Allocator + Copy>(values: &mut Values<A>, travelled: &mut [u64], moves: &[Moved])
+    requires moves { (m : List Change) × AreMovesOf values.old m moves.now }
+    requires same { length travelled.old ≡ length values.old }
+    requires bounded { All (λ t. t ≤ greatest_distance * most_updates) travelled.old }
+    ensures { (m : List Change) → AreMovesOf values.old m moves.now → Moves m values.old travelled.old values.new travelled.new }
+{
+    values.keeps();
+    for moved in moves {
+        values.put_value(moved.object, i64::from(moved.value));
+        travelled[moved.object.index()] += u64::from(moved.distance);
     }
 }

@@ -19,6 +19,8 @@ mod groups;
 mod ids;
 mod laws;
 mod log;
+mod marks;
+mod moved_weights;
 mod scope;
 
 pub use groups::Groups;

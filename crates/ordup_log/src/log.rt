@@ -10,15 +10,13 @@ ghost use Rattle.ordup_log.specs.Rows.{updates_a_row, row_due, marks_due};
 ghost use Rattle.ordup_log.specs.Postings.{posted};
 
 use crate::groups::Groups;
+use crate::marks::{UPDATES_A_ROW, add_row, reserve_row};
+use crate::moved_weights::{part, total, total_on, total_on_all, travel};
 use crate::scope::Scope;
 use ordup_objects::sizes::MOST_UPDATES;
 use ordup_objects::{Change, MessageSet, Moved, ObjectId, ObjectTable, Refusal, Results, Values};
 use std::alloc::{AllocError, Allocator, Global};
 use std::marker::Model;
-
-/// The updates from one row of marks to the next: so few that a running weight goes over little, and so many that rows take little
-/// memory, at most 8 bytes an update.
-const UPDATES_A_ROW: u64 = 256;
 
 /// The updates in their global order: each is a message set, legal on the serial result of those before it.
 ///
@@ -454,22 +452,6 @@ fn reserve_update<A: Allocator + Copy>(
     reserve_row(marks, number, objects)
 }
 
-/// Reserves memory for a row of marks, if the update with this number adds one.
-fn reserve_row<A: Allocator + Copy>(
-    marks: &mut Vec<u64, A>,
-    number: u64,
-    objects: usize,
-) -> Result<(), AllocError>
-    ensures marks { marks.new.items ≡ marks.old.items }
-    ensures room { OnOk result (vec_len marks.new + marks_due number objects ≤ vec_capacity marks.new) }
-{
-    if number % UPDATES_A_ROW == 0 {
-        marks.reserve(objects)
-    } else {
-        Ok(())
-    }
-}
-
 /// Notes the update with this number: where its moves begin, which are the last ones, what it weighs on each object, and a row of
 /// marks if one is due.
 fn note_update<A: Allocator + Copy>(
@@ -497,39 +479,6 @@ fn note_update<A: Allocator + Copy>(
     add_row(marks, travelled.as_slice(), number);
 }
 
-/// Adds how far each move moved its object to what the object travelled.
-fn travel<A: Allocator + Copy>(travelled: &mut Vec<u64, A>, moves: &[Moved])
-    requires known { All (λ m. m.object < length travelled.old.items) moves.now }
-    requires few { (x : ℕ) → x < length travelled.old.items → mark_at travelled.old.items x + sum_by (distance_on x) moves.now < 2 ^ 64 }
-    ensures count { length travelled.new.items ≡ length travelled.old.items }
-    ensures travelled { (x : ℕ) → x < length travelled.old.items →
-        mark_at travelled.new.items x ≡ mark_at travelled.old.items x + sum_by (distance_on x) moves.now }
-{
-    for moved in moves {
-        travelled[moved.object.index()] += u64::from(moved.distance);
-    }
-}
-
-/// Adds a row of marks, if the update with this number adds one, to marks that have spare capacity for it.
-fn add_row<A: Allocator + Copy>(marks: &mut Vec<u64, A>, travelled: &[u64], number: u64)
-    requires { vec_len marks.old + marks_due number (length travelled.now) ≤ vec_capacity marks.old }
-    ensures { marks.new.items ≡ marks.old.items ++ row_due number travelled.now }
-{
-    if number % UPDATES_A_ROW == 0 {
-        push_all(marks, travelled);
-    }
-}
-
-/// Adds numbers to a list that has spare capacity for them.
-fn push_all<A: Allocator + Copy>(list: &mut Vec<u64, A>, numbers: &[u64])
-    requires { vec_len list.old + length numbers.now ≤ vec_capacity list.old }
-    ensures { list.new.items ≡ list.old.items ++ numbers.now }
-{
-    for number in numbers {
-        list.push_reserved(*number);
-    }
-}
-
 /// Adds a posting at a place, if the place weighs something.
 fn post<A: Allocator + Copy>(
     postings: &mut Vec<(u64, u64), A>,
@@ -544,46 +493,4 @@ fn post<A: Allocator + Copy>(
         postings.push((number, running))?;
     }
     Ok(())
-}
-
-/// The moves from one index to another.
-fn part(moves: &[Moved], from: usize, to: usize) -> &[Moved]
-    requires forward { from ≤ to }
-    requires last { to ≤ length moves.now }
-    ensures { result.now ≡ take (to - from) (drop from moves.now) }
-{
-    &moves[from..to]
-}
-
-/// How far moves move an object.
-fn total_on(object: ObjectId, moves: &[Moved]) -> u64
-    requires { length moves.now ≤ most_changes * most_updates }
-    ensures { result ≡ sum_by (distance_on object) moves.now }
-{
-    let mut total = 0;
-    for moved in moves {
-        if moved.object == object {
-            total += u64::from(moved.distance);
-        }
-    }
-    total
-}
-
-/// How far moves move all objects.
-fn total_on_all(moves: &[Moved]) -> u64
-    requires { length moves.now ≤ most_changes * most_updates }
-    ensures { result ≡ sum_by distance_of moves.now }
-{
-    let mut total = 0;
-    for moved in moves {
-        total += u64::from(moved.distance);
-    }
-    total
-}
-
-fn total(numbers: &[u64]) -> u64
-    requires { sum numbers.now < 2 ^ 64 }
-    ensures { result ≡ sum numbers.now }
-{
-    numbers.iter().sum()
 }

@@ -1,6 +1,6 @@
 use Rattle.std.proofs.Common.{◌≡◌, ◌++◌, ◌≤◌, ◌+◌, length, take, vec_len}
 use Rattle.std.specs.Prelude.{vec_capacity}
-use Rattle.ordup_log.proofs.log.push_all.Given as goal
+use Rattle.ordup_log.proofs.marks.push_all.Given as goal
 
 -- the numbers so far come after the old ones, and the others have room
 abbrev pub invariant-loop-number : goal.invariant-loop-number

@@ -1,6 +1,6 @@
 use Rattle.std.proofs.Common.{◌≡◌, ◌≤◌, ◌*◌, ◌^◌, take, sum_by}
 use Rattle.ordup_log.specs.Moving.{distance_of}
-use Rattle.ordup_log.proofs.log.total_on_all.Given as goal
+use Rattle.ordup_log.proofs.moved_weights.total_on_all.Given as goal
 
 -- the sum so far, which fits
 abbrev pub invariant-loop-moved : goal.invariant-loop-moved

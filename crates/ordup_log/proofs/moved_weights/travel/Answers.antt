@@ -1,7 +1,7 @@
 use Rattle.std.proofs.Common.{arith, ◌<◌, length}
 use Rattle.std.proofs.lemmas.Grind.{common_steps}
 use Rattle.ordup_log.proofs.MovingLemmas.{travel-fits}
-use Rattle.ordup_log.proofs.log.travel.Goals as goal
+use Rattle.ordup_log.proofs.moved_weights.travel.Goals as goal
 
 pub overflow_add-index_mut : goal.overflow_add-index_mut
 overflow_add-index_mut g c =

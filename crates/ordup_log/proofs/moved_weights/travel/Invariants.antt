@@ -1,7 +1,7 @@
 use Rattle.std.proofs.Common.{◌≡◌, ◌+◌, ◌<◌, ℕ, length, drop, sum_by}
 use Rattle.ordup_objects.specs.Marks.{mark_at}
 use Rattle.ordup_log.specs.Moving.{distance_on}
-use Rattle.ordup_log.proofs.log.travel.Given as goal
+use Rattle.ordup_log.proofs.moved_weights.travel.Given as goal
 
 -- what is left goes on from where the objects so far travelled
 abbrev pub invariant-loop-moved : goal.invariant-loop-moved

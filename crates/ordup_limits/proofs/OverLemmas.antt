@@ -13,7 +13,9 @@ use Rattle.std.proofs.lemmas.List.Sums.{list_all-from_AllPass}
 use Rattle.ordup_objects.specs.declared.change.Change.{Change}
 use Rattle.ordup_objects.specs.Marks.{AreMarks}
 use Rattle.ordup_objects.specs.Repeats.{repeats}
-use Rattle.ordup_objects.specs.Serial.{History, IsLegalHistory, set_at, with_more}
+use Rattle.ordup_objects.specs.Moves.{moves_of}
+use Rattle.ordup_objects.specs.Serial.{History, serial, IsLegalHistory, set_at, with_more}
+use Rattle.ordup_objects.specs.States.{State}
 use Rattle.ordup_objects.specs.Sizes.{most_groups, most_objects, most_updates}
 use Rattle.ordup_objects.specs.Sums.{sum_from}
 use Rattle.ordup_log.specs.Groups.{GroupList, IsGroup}
@@ -70,12 +72,12 @@ amount_on-at (l ∷ limits) (suc i) d distinct lt =
 
 -- ---- scopes on which an update does not weigh
 
-weight_of-untouched : (p : ℕ → Bool) (m : List Change) (ds : List ℕ) → list_any (λ c. p c.object) m ≡ false → weight_of p m ds ≡ 0
-weight_of-untouched p [] ds none = refl
-weight_of-untouched p (c ∷ m) [] none = refl
-weight_of-untouched p (c ∷ m) (d ∷ ds) none =
+weight_of-untouched : (p : ℕ → Bool) (v : State) (m : List Change) → list_any (λ c. p c.object) m ≡ false
+    → weight_of p (moves_of v m) ≡ 0
+weight_of-untouched p v [] none = refl
+weight_of-untouched p v (c ∷ m) none =
     let parts = or_parts (p c.object) (list_any (λ e. p e.object) m) none in
-    rw parts.0 (omega (arith, weight_of-untouched p m ds parts.1))
+    rw parts.0 (omega (arith, weight_of-untouched p v m parts.1))
 
 sum-one : (f : ℕ → ℕ) (j n : ℕ) → n ≡ suc zero → sum_from f j n ≡ f j
 sum-one f j n one = let same : j + 0 ≡ j = omega arith in rw one (omega (arith, ap f same))
@@ -87,7 +89,7 @@ span-unmoved : (h : History) → IsLegalHistory h → (groups : GroupList) → A
 span-unmoved h legal groups are (Object x) known place some last none =
     let f = weight_where (counts_on groups (Object x)) h in
     let untouched : list_any (λ c. counts_on groups (Object x) c.object) (set_at h place) ≡ false = none in
-    let light : f (place - 1) ≡ 0 = weight_of-untouched (counts_on groups (Object x)) (set_at h place) _ untouched in
+    let light : f (place - 1) ≡ 0 = weight_of-untouched (counts_on groups (Object x)) (serial h (place - 1)) (set_at h place) untouched in
     omega (
       arith,
       weighed-more h legal groups are (Object x) known (place - 1) place (omega arith) last,
@@ -97,7 +99,7 @@ span-unmoved h legal groups are (Object x) known place some last none =
 span-unmoved h legal groups are (Group g) known place some last none =
     let f = weight_where (counts_on groups (Group g)) h in
     let untouched : list_any (λ c. counts_on groups (Group g) c.object) (set_at h place) ≡ false = none in
-    let light : f (place - 1) ≡ 0 = weight_of-untouched (counts_on groups (Group g)) (set_at h place) _ untouched in
+    let light : f (place - 1) ≡ 0 = weight_of-untouched (counts_on groups (Group g)) (serial h (place - 1)) (set_at h place) untouched in
     omega (
       arith,
       weighed-more h legal groups are (Group g) known (place - 1) place (omega arith) last,

@@ -5,9 +5,10 @@ use Rattle.std.specs.Prelude.{◌==◌, All}
 use Rattle.std.specs.List.{list_any}
 use Rattle.std.proofs.lemmas.Bool.{cases_Bool, cases_eq, cases_lt, or_parts, eq-eqb, ne_eqb, eqb-true, lt-ltb, le-ltb}
 use Rattle.std.proofs.Math.Nat.{min-le_right}
-use Rattle.std.proofs.lemmas.List.{get_or_past, length-map}
+use Rattle.std.proofs.lemmas.List.{get_or_past}
 use Rattle.std.proofs.lemmas.List.Sums.{sum_by-cons}
 use Rattle.ordup_objects.specs.declared.change.Change.{Change}
+use Rattle.ordup_objects.specs.declared.moved.Moved.{Moved}
 use Rattle.ordup_objects.specs.Repeats.{repeats}
 use Rattle.ordup_objects.specs.Sets.{are_of_one_object}
 use Rattle.ordup_objects.specs.Serial.{History, serial, IsLegalHistory}
@@ -15,12 +16,16 @@ use Rattle.ordup_objects.specs.Sizes.{most_objects, greatest_distance, greatest_
 use Rattle.ordup_objects.specs.States.{State}
 use Rattle.ordup_objects.specs.Sums.{sum_from}
 use Rattle.ordup_objects.specs.Weights.{object_weight, distance_by, distances_of}
+use Rattle.ordup_objects.specs.Moves.{moves_of}
+use Rattle.ordup_objects.specs.Moves.{moved_by as move_by}
 use Rattle.ordup_objects.proofs.SetLemmas.{moved_by, distance_beside-distances_of}
 use Rattle.ordup_objects.proofs.SumLemmas.{sum_from-add, sum_from-same, sum_from-constant}
 use Rattle.ordup_log.specs.Groups.{GroupList, IsGroup, members_at}
 use Rattle.ordup_log.specs.Spans.{weight, span, IsScopeKnown}
 use Rattle.ordup_log.specs.declared.scope.Scope.{Scope}
 use Rattle.ordup_log.specs.declared.scope.Scope.TheVariants.{Object, Group, All as Everything, Count}
+use Rattle.std.proofs.lemmas.List.Elements.{All-nil, All-cons}
+use Rattle.ordup_log.proofs.MovingLemmas.{known-moves}
 use Rattle.ordup_log.proofs.SpanLemmas.{span-count}
 use Rattle.ordup_log.proofs.WeightLemmas.{distance_beside-at, distances-few, sum-at, sum-few}
 use Rattle.ordup_limits.specs.declared.limit.Limit.{Limit}
@@ -36,52 +41,55 @@ eqb-sym a b = elim (cases_eq a b) [
   | inr other ↦ rw (ne_eqb a b other, ne_eqb b a (λ e. other (sym e))) refl
 ]
 
--- tests that agree on the objects of changes
-weight_of-same : (p q : ℕ → Bool) (m : List Change) (ds : List ℕ)
-    → ((k : ℕ) (c : Change) → k < length m → p (get_or m k c).object ≡ q (get_or m k c).object)
-    → weight_of p m ds ≡ weight_of q m ds
-weight_of-same p q (c ∷ m) (d ∷ ds) same =
-    omega (arith, ap (λ b. share b d) (same 0 c (omega arith)), weight_of-same p q m ds (λ k e lt. same (suc k) e (omega arith)))
-weight_of-same p q _ _ same = refl
+-- tests that agree on the objects of moves
+weight_of-same : (p q : ℕ → Bool) (ds : List Moved)
+    → ((k : ℕ) (d : Moved) → k < length ds → p (get_or ds k d).object ≡ q (get_or ds k d).object)
+    → weight_of p ds ≡ weight_of q ds
+weight_of-same p q [] same = refl
+weight_of-same p q (d ∷ ds) same =
+    omega (
+      arith,
+      ap (λ b. share b d.distance) (same 0 d (omega arith)),
+      weight_of-same p q ds (λ k e lt. same (suc k) e (omega arith)),
+    )
 
 -- a test that none passes
-weight_of-none : (m : List Change) (ds : List ℕ) → weight_of (λ z. false) m ds ≡ 0
-weight_of-none (c ∷ m) (d ∷ ds) = omega (arith, weight_of-none m ds)
-weight_of-none _ _ = refl
+weight_of-none : (ds : List Moved) → weight_of (λ z. false) ds ≡ 0
+weight_of-none [] = refl
+weight_of-none (d ∷ ds) = omega (arith, weight_of-none ds)
 
 -- a test that is either of two
-weight_of-either : (p q r : ℕ → Bool) (m : List Change) (ds : List ℕ)
+weight_of-either : (p q r : ℕ → Bool) (ds : List Moved)
     → ((z d : ℕ) → share (r z) d ≡ share (p z) d + share (q z) d)
-    → weight_of r m ds ≡ weight_of p m ds + weight_of q m ds
-weight_of-either p q r (c ∷ m) (d ∷ ds) each = omega (arith, each c.object d, weight_of-either p q r m ds each)
-weight_of-either p q r _ _ each = refl
+    → weight_of r ds ≡ weight_of p ds + weight_of q ds
+weight_of-either p q r [] each = refl
+weight_of-either p q r (d ∷ ds) each = omega (arith, each d.object d.distance, weight_of-either p q r ds each)
 
--- no more than all changes
-weight_of-most : (p : ℕ → Bool) (m : List Change) (ds : List ℕ) → weight_of p m ds ≤ sum ds
-weight_of-most p (c ∷ m) (d ∷ ds) =
-    let rest : weight_of p m ds ≤ sum ds = weight_of-most p m ds in
-    let more = sum_by-cons (λ (x : ℕ). x) d ds in
+-- ---- the changes of a message set
+
+-- no more than all of them
+weight_of-most : (p : ℕ → Bool) (v : State) (m : List Change) → weight_of p (moves_of v m) ≤ sum (distances_of v m)
+weight_of-most p v [] = omega arith
+weight_of-most p v (c ∷ m) =
+    let rest : weight_of p (moves_of v m) ≤ sum (distances_of v m) = weight_of-most p v m in
+    let more = sum_by-cons (λ (x : ℕ). x) (distance_by v c) (distances_of v m) in
     elim (cases_Bool (p c.object)) [
       | inl counts ↦ rw counts (omega (arith, rest, more))
       | inr other ↦ rw other (omega (arith, rest, more))
     ]
-weight_of-most p _ _ = omega arith
-
--- ---- the changes of a message set
 
 -- of one object, where none of them is of it
-weight_of-absent : (m : List Change) (ds : List ℕ) (x : ℕ) → list_any (λ c. c.object == x) m ≡ false
-    → weight_of (λ z. x == z) m ds ≡ 0
-weight_of-absent [] ds x none = refl
-weight_of-absent (c ∷ m) [] x none = refl
-weight_of-absent (c ∷ m) (d ∷ ds) x none =
+weight_of-absent : (v : State) (m : List Change) (x : ℕ) → list_any (λ c. c.object == x) m ≡ false
+    → weight_of (λ z. x == z) (moves_of v m) ≡ 0
+weight_of-absent v [] x none = refl
+weight_of-absent v (c ∷ m) x none =
     let both : (c.object == x) ≡ false × list_any (λ d. d.object == x) m ≡ false = or_parts _ _ none in
     let other : (x == c.object) ≡ false = eqb-sym x c.object ∙ both.0 in
-    rw other (omega (arith, weight_of-absent m ds x both.1))
+    rw other (omega (arith, weight_of-absent v m x both.1))
 
 -- of one object
 weight_of-object : (v : State) (m : List Change) (x : ℕ) → repeats are_of_one_object m ≡ false
-    → weight_of (λ z. x == z) m (distances_of v m) ≡ moved_by v m x
+    → weight_of (λ z. x == z) (moves_of v m) ≡ moved_by v m x
 weight_of-object v [] x distinct = refl
 weight_of-object v (c ∷ m) x distinct =
     let apart : list_any (λ d. d.object == c.object) m ≡ false × repeats are_of_one_object m ≡ false = or_parts _ _ distinct in
@@ -89,7 +97,7 @@ weight_of-object v (c ∷ m) x distinct =
       | inl e ↦ (let here : c.object ≡ x = eqb-true c.object x e in
           let back : (x == c.object) ≡ true = eqb-sym x c.object ∙ e in
           let none : list_any (λ d. d.object == x) m ≡ false = rw here at apart.0 in
-          rw (e, back) (omega (arith, weight_of-absent m (distances_of v m) x none)))
+          rw (e, back) (omega (arith, weight_of-absent v m x none)))
       | inr e ↦ (let back : (x == c.object) ≡ false = eqb-sym x c.object ∙ e in
           rw (e, back) (omega (arith, weight_of-object v m x apart.1)))
     ]
@@ -104,8 +112,8 @@ any-sym x (y ∷ members) none =
 
 -- of distinct members
 weight_of-members : (v : State) (m : List Change) (members : List ℕ) → repeats are_of_one_object m ≡ false
-    → repeats nat_eq members ≡ false → weight_of (λ z. list_any (λ y. y == z) members) m (distances_of v m) ≡ sum_by (moved_by v m) members
-weight_of-members v m [] distinct apart = weight_of-none m (distances_of v m)
+    → repeats nat_eq members ≡ false → weight_of (λ z. list_any (λ y. y == z) members) (moves_of v m) ≡ sum_by (moved_by v m) members
+weight_of-members v m [] distinct apart = weight_of-none (moves_of v m)
 weight_of-members v m (x ∷ members) distinct apart =
     let parts : list_any (nat_eq x) members ≡ false × repeats nat_eq members ≡ false = or_parts _ _ apart in
     let either : (z d : ℕ) → share (list_any (λ y. y == z) (x ∷ members)) d ≡ share (x == z) d + share (list_any (λ y. y == z) members) d =
@@ -117,7 +125,7 @@ weight_of-members v m (x ∷ members) distinct apart =
     ] in
     omega (
       arith,
-      weight_of-either (λ z. x == z) (λ z. list_any (λ y. y == z) members) (λ z. list_any (λ y. y == z) (x ∷ members)) m (distances_of v m)
+      weight_of-either (λ z. x == z) (λ z. list_any (λ y. y == z) members) (λ z. list_any (λ y. y == z) (x ∷ members)) (moves_of v m)
           either,
       weight_of-object v m x distinct,
       weight_of-members v m members distinct parts.1,
@@ -125,7 +133,7 @@ weight_of-members v m (x ∷ members) distinct apart =
     )
 
 -- of all
-weight_of-all : (v : State) (m : List Change) → weight_of (λ z. true) m (distances_of v m) ≡ sum (distances_of v m)
+weight_of-all : (v : State) (m : List Change) → weight_of (λ z. true) (moves_of v m) ≡ sum (distances_of v m)
 weight_of-all v [] = refl
 weight_of-all v (c ∷ m) =
     omega (arith, weight_of-all v m, sum_by-cons (λ (x : ℕ). x) (distance_by v c) (distances_of v m))
@@ -152,36 +160,42 @@ weight_where-group h legal members j apart lt =
 pub weight_where-few : (h : History) → IsLegalHistory h → (p : ℕ → Bool) (j : ℕ) → j < length h.sets
     → weight_where p h j ≤ greatest_weight
 weight_where-few h legal p j lt =
-    omega (arith, weight_of-most p (get_or h.sets j []) (distances_of (serial h j) (get_or h.sets j [])), sum-few h legal j lt)
+    omega (arith, weight_of-most p (serial h j) (get_or h.sets j []), sum-few h legal j lt)
 
--- each of its distances is small
-pub distance-few : (h : History) → IsLegalHistory h → (j i : ℕ) (m : List Change) (ds : List ℕ) → j < length h.sets
-    → m ≡ get_or h.sets j [] → ds ≡ distances_of (serial h j) (get_or h.sets j []) → i < length m
-    → get_or ds i 0 ≤ greatest_distance
-distance-few h legal j i m ds lt same are below =
-    rw are (distances-few h legal j lt i 0
-    (omega (arith, below, ap length same, length-map (get_or h.sets j []) (distance_by (serial h j)))))
+-- distances that are small are those of small moves
+few-moves : (v : State) (m : List Change) → All (λ d. d ≤ greatest_distance) (distances_of v m)
+    → All (λ (d : Moved). d.distance ≤ greatest_distance) (moves_of v m)
+few-moves v [] few = All-nil (λ (d : Moved). d.distance ≤ greatest_distance)
+few-moves v (c ∷ m) few =
+    All-cons (λ (d : Moved). d.distance ≤ greatest_distance) (move_by v c) (moves_of v m) (few 0 0 (omega arith))
+    (few-moves v m (λ k d lt. few (suc k) d (omega arith)))
 
-pub distances-count : (h : History) (j : ℕ) (m : List Change) (ds : List ℕ) → m ≡ get_or h.sets j []
-    → ds ≡ distances_of (serial h j) (get_or h.sets j []) → length ds ≡ length m
-distances-count h j m ds same are = ap length are ∙ length-map (get_or h.sets j []) (distance_by (serial h j)) ∙ sym (ap length same)
+-- the moves of an update are on objects that are there
+moves-known : (h : History) → IsLegalHistory h → (j : ℕ) → j < length h.sets
+    → All (λ (d : Moved). d.object < length h.start) (moves_of (serial h j) (get_or h.sets j []))
+moves-known h legal j lt =
+    known-moves (serial h j) (get_or h.sets j []) (length h.start) (λ k c few. (legal.known j [] lt k c few).0)
 
--- the object of a change of an update is there
-pub object-known : (h : History) → IsLegalHistory h → (j i : ℕ) (m : List Change) (c : Change) → j < length h.sets
-    → m ≡ get_or h.sets j [] → i < length m → c ≡ get_or m i c
-    → c.object < length h.start
-object-known h legal j i m c lt same below at = rw (at, same) (legal.known j [] lt i c (rw same at below)).0
+module _ (h : History) (legal : IsLegalHistory h) (j i : ℕ) (ds : List Moved) (d : Moved) (lt : j < length h.sets)
+    (are : ds ≡ moves_of (serial h j) (get_or h.sets j [])) (below : i < length ds) (at : d ≡ get_or ds i d) where
+  -- a move of an update is small
+  pub distance-few : d.distance ≤ greatest_distance
+  distance-few =
+      rw (at, are) (few-moves (serial h j) (get_or h.sets j []) (distances-few h legal j lt) i d (rw are at below))
+
+  -- and its object is there
+  pub object-known : d.object < length h.start
+  object-known =
+      rw (at, are) (moves-known h legal j lt i d (rw are at below))
 
 -- ---- one after the other
 
--- one change less is left
-pub weight_of-next : (p : ℕ → Bool) (m : List Change) (ds : List ℕ) (i : ℕ) (c : Change) → i < length m → length ds ≡ length m
-    → c ≡ get_or m i c
-    → weight_of p (drop i m) (drop i ds) ≡ share (p c.object) (get_or ds i 0) + weight_of p (drop (i + 1) m) (drop (i + 1) ds)
-weight_of-next p m ds i c lt same at =
-    let e : drop i m ≡ c ∷ drop (i + 1) m = rw add-one (drop-cons m i c lt) ∙ ap (λ d. d ∷ drop (i + 1) m) (sym at) in
-    let f : drop i ds ≡ get_or ds i 0 ∷ drop (i + 1) ds = rw add-one (drop-cons ds i 0 (omega arith)) in
-    rw (e, f) refl
+-- one move less is left
+pub weight_of-next : (p : ℕ → Bool) (ds : List Moved) (i : ℕ) (d : Moved) → i < length ds → d ≡ get_or ds i d
+    → weight_of p (drop i ds) ≡ share (p d.object) d.distance + weight_of p (drop (i + 1) ds)
+weight_of-next p ds i d lt at =
+    let e : drop i ds ≡ d ∷ drop (i + 1) ds = rw add-one (drop-cons ds i d lt) ∙ ap (λ x. x ∷ drop (i + 1) ds) (sym at) in
+    rw e refl
 
 -- one place more
 pub sum_from-next : (f : ℕ → ℕ) (a b : ℕ) → a ≤ b → sum_from f a (b + 1 - a) ≡ sum_from f a (b - a) + f b
@@ -234,7 +248,7 @@ weighed-more h legal groups are Count known a b le last =
     omega (
       arith,
       sum_from-same (weight_where (counts_on groups Count) h) (λ j. 0) a (b - a)
-          (λ j lt. weight_of-none (get_or h.sets j []) (distances_of (serial h j) (get_or h.sets j []))),
+          (λ j lt. weight_of-none (moves_of (serial h j) (get_or h.sets j []))),
       sum_from-constant 0 a (b - a),
     )
 
@@ -279,10 +293,10 @@ raised-weight h groups limits masks a b legal are known objects most masked le l
     let s = (get_or limits i d).scope in
     let same : sum_from (weight_where (has_bit masks i) h) a (b - a) ≡ sum_from (weight_where (counts_on groups s) h) a (b - a) =
     sum_from-same _ _ a (b - a)
-    (λ j below. weight_of-same (has_bit masks i) (counts_on groups s) (get_or h.sets j [])
-    (distances_of (serial h j) (get_or h.sets j []))
-    (λ k c at. counts_at groups limits masks most masked (get_or (get_or h.sets j []) k c).object i d
-    (let there = (legal.known j [] (omega arith) k c at).0 in omega (arith, there)) lt)) in
+    (λ j below. let moves = moves_of (serial h j) (get_or h.sets j []) in
+    weight_of-same (has_bit masks i) (counts_on groups s) moves
+    (λ k e at. counts_at groups limits masks most masked (get_or moves k e).object i d
+    (let there = moves-known h legal j (omega arith) k e at in omega (arith, there)) lt)) in
     let more = weighed-more h legal groups are s (known i d lt) a b le last in
     omega (arith, more, same)
 
@@ -296,11 +310,10 @@ raised-none h groups limits masks a b legal objects masked le last i past few =
     omega (
       arith,
       sum_from-same (weight_where (has_bit masks i) h) (λ j. 0) a (b - a)
-          (λ j below. weight_of-same (has_bit masks i) (λ z. false) (get_or h.sets j [])
-          (distances_of (serial h j) (get_or h.sets j []))
-          (λ k c at. no (get_or (get_or h.sets j []) k c).object
-          (let there = (legal.known j [] (omega arith) k c at).0 in omega (arith, there)))
-          ∙ weight_of-none (get_or h.sets j []) (distances_of (serial h j) (get_or h.sets j []))),
+          (λ j below. let moves = moves_of (serial h j) (get_or h.sets j []) in
+          weight_of-same (has_bit masks i) (λ z. false) moves
+          (λ k e at. no (get_or moves k e).object (let there = moves-known h legal j (omega arith) k e at in omega (arith, there)))
+          ∙ weight_of-none moves),
       sum_from-constant 0 a (b - a),
     )
 

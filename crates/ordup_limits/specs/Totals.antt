@@ -3,10 +3,10 @@ use Rattle.std.specs.Prelude.{◌≡◌, ℕ, ◌+◌, ◌*◌, ◌<◌, ◌≤�
 use Rattle.std.specs.Prelude.{length, min, nat_lt, slice_index, slice_index_or}
 use Rattle.std.specs.Int.{bit_at}
 use Rattle.std.specs.List.{list_any}
-use Rattle.ordup_objects.specs.declared.change.Change.{Change}
+use Rattle.ordup_objects.specs.declared.moved.Moved.{Moved}
 use Rattle.ordup_objects.specs.Serial.{History, serial}
 use Rattle.ordup_objects.specs.Sizes.{most_objects, greatest_weight}
-use Rattle.ordup_objects.specs.Weights.{distances_of}
+use Rattle.ordup_objects.specs.Moves.{moves_of}
 use Rattle.ordup_log.specs.Groups.{GroupList, members_at}
 use Rattle.ordup_log.specs.Spans.{span}
 use Rattle.ordup_log.specs.declared.scope.Scope.{Scope}
@@ -60,12 +60,11 @@ AreMasks groups limits masks =
 abbrev pub share : Bool → ℕ → ℕ
 share counts weight = if counts then weight else 0
 
--- of changes with a distance beside each: how much those of objects that pass a test weigh
-abbrev pub weight_of : (ℕ → Bool) → List Change → List ℕ → ℕ
-weight_of test [] ds = 0
-weight_of test (c ∷ m) [] = 0
-weight_of test (c ∷ m) (d ∷ ds) = share (test c.object) d + weight_of test m ds
+-- how far moves move the objects that pass a test
+abbrev pub weight_of : (ℕ → Bool) → List Moved → ℕ
+weight_of test [] = 0
+weight_of test (d ∷ ds) = share (test d.object) d.distance + weight_of test ds
 
--- the same of the update after the first j
+-- the same of the moves of the update after the first j
 abbrev pub weight_where : (ℕ → Bool) → History → ℕ → ℕ
-weight_where test h j = weight_of test (slice_index_or h.sets j []) (distances_of (serial h j) (slice_index_or h.sets j []))
+weight_where test h j = weight_of test (moves_of (serial h j) (slice_index_or h.sets j []))

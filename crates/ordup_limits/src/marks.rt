@@ -14,9 +14,8 @@ pub(crate) fn take_off<A: Allocator + Copy>(marks: &mut Vec<u64, A>, log: &Log<A
     ensures marks { AreMarks log.now (place - 1) marks.new.items }
 {
     log.keeps();
-    let changes = log.set(place).changes();
-    let distances = log.distances(place);
-    for (i, change) in changes.iter().enumerate() {
-        marks[change.object.index()] -= distances[i];
+    let moves = log.moves(place);
+    for moved in moves {
+        marks[moved.object.index()] -= u64::from(moved.distance);
     }
 }

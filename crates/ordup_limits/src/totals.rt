@@ -210,12 +210,12 @@ fn extend<A: Allocator + Copy>(
     ensures passed { ArePassed result added.new.items allowed.now }
 {
     log.keeps();
-    let changes = log.set(place).changes();
-    let distances = log.distances(place);
+    let moves = log.moves(place);
     let mut passed = over;
-    for (i, change) in changes.iter().enumerate() {
-        let mask = masks[change.object.index()];
-        passed = add(added, allowed, passed, mask, distances[i]);
+    for moved in moves {
+        let mask = masks[moved.object.index()];
+        let distance = u64::from(moved.distance);
+        passed = add(added, allowed, passed, mask, distance);
     }
     passed
 }
@@ -290,10 +290,10 @@ fn raise<A: Allocator + Copy>(allowed: &mut Vec<u64, A>, log: &Log<A>, masks: &[
         slice_index allowed.new.items i ≡ slice_index allowed.old.items i + weight_where (has_bit masks.now i) log.now (place - 1) }
 {
     log.keeps();
-    let changes = log.set(place).changes();
-    let distances = log.distances(place);
-    for (i, change) in changes.iter().enumerate() {
-        raise_by(allowed, masks[change.object.index()], distances[i]);
+    let moves = log.moves(place);
+    for moved in moves {
+        let mask = masks[moved.object.index()];
+        raise_by(allowed, mask, u64::from(moved.distance));
     }
 }
 

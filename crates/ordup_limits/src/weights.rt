@@ -138,12 +138,12 @@ fn raise<A: Allocator + Copy>(
     log.keeps();
     groups.keeps();
     add(totals, log, groups, Scope::Count, 1);
-    let changes = log.set(place).changes();
-    let distances = log.distances(place);
-    for (i, change) in changes.iter().enumerate() {
-        let object = change.object;
+    let moves = log.moves(place);
+    for moved in moves {
+        let object = moved.object;
         let mask = masks[object.index()];
-        raise_by(totals, log, groups, object, mask, distances[i]);
+        let distance = u64::from(moved.distance);
+        raise_by(totals, log, groups, object, mask, distance);
     }
 }
 

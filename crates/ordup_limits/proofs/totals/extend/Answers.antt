@@ -1,76 +1,81 @@
-use Rattle.std.proofs.Common.{arith, ap, inl, inr, ◌==◌, ◌-◌, ◌∙◌, refl}
+use Rattle.std.proofs.Common.{arith, ap, inl, inr, ◌==◌, ◌-◌, refl}
 use Rattle.std.specs.Prelude.{slice_index}
 use Rattle.std.specs.Int.{bit_at}
 use Rattle.std.proofs.lemmas.Bool.{cases_lt}
 use Rattle.std.proofs.lemmas.List.{get_or_past, drop_all}
 use Rattle.ordup_limits.specs.Sizes.{most_limits}
 use Rattle.ordup_limits.specs.Totals.{has_bit, share}
-use Rattle.ordup_limits.proofs.TotalLemmas.{distance-few, weight_of-next, weight_where-few, distances-count, object-known}
+use Rattle.ordup_limits.proofs.TotalLemmas.{distance-few, weight_of-next, weight_where-few, object-known}
 use Rattle.ordup_limits.proofs.totals.extend.Goals as goal
 
-pub set-requires : goal.set-requires
-set-requires g c = record { first = c.requires.first; last = c.requires.last }
+pub moves-moves-requires : goal.moves-moves-requires
+moves-moves-requires g c = record { first = c.requires.first; last = c.requires.last }
 
-pub distances-distances-requires : goal.distances-distances-requires
-distances-distances-requires g c = record { first = c.requires.first; last = c.requires.last }
-
-pub loop-i-init : goal.loop-i-init
-loop-i-init g c = record {
+pub loop-moved-init : goal.loop-moved-init
+loop-moved-init g c = record {
   count = c.requires.count;
-  totals = λ k lt. rw (c.changes-changes.ensures.changes, c.set.ensures.set, c.distances-distances.ensures.distances) refl;
+  totals = λ k lt. rw (c.moves-moves.ensures.moves) refl;
   passed = c.requires.passed;
 }
 
 pub bounds-masks-index : goal.bounds-masks-index
 bounds-masks-index g c =
-    let known = object-known c.args.log.now c.set.ensures.legal (c.args.place - 1) c.loop-i.i c.changes-changes.result.now
-    c.index-changes-i.result (omega (arith, c.requires.first, c.requires.last)) (c.changes-changes.ensures.changes ∙ c.set.ensures.set)
-    c.loop-i-test.true c.index-changes-i.is in
+    let known = object-known c.args.log.now c.moves-moves.ensures.legal (c.args.place - 1) c.loop-moved.moved-index c.moves-moves.result.now
+    c.moved-item.result (omega (arith, c.requires.first, c.requires.last)) c.moves-moves.ensures.moves c.loop-moved-test.true
+    c.moved-item.is in
+    omega (arith, known, c.index.ensures, c.requires.masks, c.requires.objects)
+
+pub offset_bounds-masks-index : goal.offset_bounds-masks-index
+offset_bounds-masks-index g c =
+    let known = object-known c.args.log.now c.moves-moves.ensures.legal (c.args.place - 1) c.loop-moved.moved-index c.moves-moves.result.now
+    c.moved-item.result (omega (arith, c.requires.first, c.requires.last)) c.moves-moves.ensures.moves c.loop-moved-test.true
+    c.moved-item.is in
     omega (arith, known, c.index.ensures, c.requires.masks, c.requires.objects)
 
 pub add-passed-requires-clause-count : goal.add-passed-requires-clause-count
-add-passed-requires-clause-count g c = c.loop-i.invariant.count
+add-passed-requires-clause-count g c = c.loop-moved.invariant.count
 
 pub add-passed-requires-clause-bounds : goal.add-passed-requires-clause-bounds
 add-passed-requires-clause-bounds g c = c.requires.bounds
 
 pub add-passed-requires-clause-weight : goal.add-passed-requires-clause-weight
 add-passed-requires-clause-weight g c =
-    distance-few c.args.log.now c.set.ensures.legal (c.args.place - 1) c.loop-i.i c.changes-changes.result.now
-    c.distances-distances.result.now (omega arith) (c.changes-changes.ensures.changes ∙ c.set.ensures.set)
-    c.distances-distances.ensures.distances c.loop-i-test.true
+    omega (
+      arith,
+      c.from-distance.ensures,
+      distance-few c.args.log.now c.moves-moves.ensures.legal (c.args.place - 1) c.loop-moved.moved-index c.moves-moves.result.now
+          c.moved-item.result (omega arith) c.moves-moves.ensures.moves c.loop-moved-test.true c.moved-item.is,
+    )
 
 pub add-passed-requires-clause-few : goal.add-passed-requires-clause-few
 add-passed-requires-clause-few g c = λ k. elim (cases_lt k most_limits) [
   | inl lt ↦ omega (
     arith,
-    c.loop-i.invariant.totals k lt,
-    weight_where-few c.args.log.now c.set.ensures.legal (has_bit c.args.masks.now k) (c.args.place - 1) (omega arith),
+    c.loop-moved.invariant.totals k lt,
+    weight_where-few c.args.log.now c.moves-moves.ensures.legal (has_bit c.args.masks.now k) (c.args.place - 1) (omega arith),
     c.requires.few k,
     c.keeps.ensures.few,
   )
-  | inr past ↦ omega (arith, get_or_past c.loop-i.added.items k 0 (omega (arith, past, c.loop-i.invariant.count)))
+  | inr past ↦ omega (arith, get_or_past c.loop-moved.added.items k 0 (omega (arith, past, c.loop-moved.invariant.count)))
 ]
 
 pub add-passed-requires-clause-passed : goal.add-passed-requires-clause-passed
-add-passed-requires-clause-passed g c = c.loop-i.invariant.passed
+add-passed-requires-clause-passed g c = c.loop-moved.invariant.passed
 
-pub loop-i-preserved : goal.loop-i-preserved
-loop-i-preserved g c =
-    let m = c.changes-changes.result.now in
-    let ds = c.distances-distances.result.now in
-    let i = c.loop-i.i in
-    let before = c.loop-i.invariant in
-    let same = distances-count c.args.log.now (c.args.place - 1) m ds (c.changes-changes.ensures.changes ∙ c.set.ensures.set)
-    c.distances-distances.ensures.distances in
+pub loop-moved-preserved : goal.loop-moved-preserved
+loop-moved-preserved g c =
+    let ds = c.moves-moves.result.now in
+    let i = c.loop-moved.moved-index in
+    let before = c.loop-moved.invariant in
     record {
       count = c.add-passed.ensures.count;
       totals = λ k lt. omega (
         arith,
         before.totals k lt,
         c.add-passed.ensures.totals k lt,
-        ap (λ x. share (bit_at (slice_index c.args.masks.now x) k == 1) (slice_index ds i)) c.index.ensures,
-        weight_of-next (has_bit c.args.masks.now k) m ds i c.index-changes-i.result c.loop-i-test.true same c.index-changes-i.is,
+        ap (λ x. share (bit_at (slice_index c.args.masks.now x) k == 1) c.moved-item.result.distance) c.index.ensures,
+        ap (share (bit_at (slice_index c.args.masks.now c.index.result) k == 1)) c.from-distance.ensures,
+        weight_of-next (has_bit c.args.masks.now k) ds i c.moved-item.result c.loop-moved-test.true c.moved-item.is,
       );
       passed = c.add-passed.ensures.passed;
     }
@@ -79,21 +84,21 @@ pub returns-clause-few : goal.returns-clause-few
 returns-clause-few g c = λ k. elim (cases_lt k most_limits) [
   | inl lt ↦ omega (
     arith,
-    c.loop-i.invariant.totals k lt,
-    weight_where-few c.args.log.now c.set.ensures.legal (has_bit c.args.masks.now k) (c.args.place - 1) (omega arith),
+    c.loop-moved.invariant.totals k lt,
+    weight_where-few c.args.log.now c.moves-moves.ensures.legal (has_bit c.args.masks.now k) (c.args.place - 1) (omega arith),
     c.requires.few k,
     c.requires.first,
   )
-  | inr past ↦ omega (arith, get_or_past c.loop-i.added.items k 0 (omega (arith, past, c.loop-i.invariant.count)))
+  | inr past ↦ omega (arith, get_or_past c.loop-moved.added.items k 0 (omega (arith, past, c.loop-moved.invariant.count)))
 ]
 
 pub returns-clause-count : goal.returns-clause-count
-returns-clause-count g c = c.loop-i.invariant.count
+returns-clause-count g c = c.loop-moved.invariant.count
 
 pub returns-clause-totals : goal.returns-clause-totals
 returns-clause-totals g c =
-    let none = drop_all c.loop-i.i c.changes-changes.result.now c.loop-i-test.false in
-    λ k lt. omega (arith, rw none at (c.loop-i.invariant.totals k lt))
+    let none = drop_all c.loop-moved.moved-index c.moves-moves.result.now c.loop-moved-test.false in
+    λ k lt. omega (arith, rw none at (c.loop-moved.invariant.totals k lt))
 
 pub returns-clause-passed : goal.returns-clause-passed
-returns-clause-passed g c = c.loop-i.invariant.passed
+returns-clause-passed g c = c.loop-moved.invariant.passed

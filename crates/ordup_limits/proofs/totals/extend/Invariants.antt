@@ -5,12 +5,12 @@ use Rattle.ordup_limits.specs.Sizes.{most_limits}
 use Rattle.ordup_limits.specs.Totals.{has_bit, weight_of, weight_where}
 use Rattle.ordup_limits.proofs.totals.extend.Given as goal
 
--- with what the changes that are left weigh, the totals are those of the place
-abbrev pub invariant-loop-i : goal.invariant-loop-i
-invariant-loop-i g l = record {
+-- with what the moves that are left weigh, the totals are those of the place
+abbrev pub invariant-loop-moved : goal.invariant-loop-moved
+invariant-loop-moved g l = record {
   count : length l.added.items ≡ most_limits;
   totals : (k : ℕ) → k < most_limits
-      → slice_index l.added.items k + weight_of (has_bit l.masks k) (drop l.i l.changes) (drop l.i l.distances)
+      → slice_index l.added.items k + weight_of (has_bit l.masks k) (drop l.moved-index l.moves)
       ≡ slice_index l.fn.added.items k + weight_where (has_bit l.masks k) l.log (l.place - 1);
   passed : ArePassed l.passed l.added.items l.allowed;
 }

@@ -6,11 +6,11 @@ use Rattle.ordup_limits.specs.SiteLedgers.{most_scopes, scope_index}
 use Rattle.ordup_limits.specs.Totals.{counts_on, weight_of}
 use Rattle.ordup_limits.proofs.weights.raise.Given as goal
 
--- with what the changes that are left weigh, the totals are those of the place
-abbrev pub invariant-loop-i : goal.invariant-loop-i
-invariant-loop-i g l = record {
+-- with what the moves that are left weigh, the totals are those of the place
+abbrev pub invariant-loop-moved : goal.invariant-loop-moved
+invariant-loop-moved g l = record {
   totals : length l.totals.items ≡ most_scopes;
   left : (s : Scope) → IsScopeKnown (length l.log.start) l.groups s
-      → slice_index l.totals.items (scope_index s) + weight_of (counts_on l.groups s) (drop l.i l.changes) (drop l.i l.distances)
+      → slice_index l.totals.items (scope_index s) + weight_of (counts_on l.groups s) (drop l.moved-index l.moves)
       ≡ span l.log l.groups s 0 l.place;
 }

@@ -20,11 +20,11 @@ use Rattle.ordup_objects.specs.Serial.{History, serial, set_at, with_more, IsLeg
 use Rattle.ordup_objects.specs.Weights.{object_weight, object_span, distance_by, distances_of, distance_beside}
 use Rattle.ordup_objects.specs.Moves.{moved_by, moves_of}
 use Rattle.ordup_objects.proofs.SerialLemmas.{serial-longer}
-use Rattle.ordup_objects.proofs.SpanLemmas.{object_span-suc}
+use Rattle.ordup_objects.proofs.SpanLemmas.{object_span-suc, object_span-add}
 use Rattle.ordup_log.specs.Moving.{moves_below, distance_on, distance_of}
 use Rattle.ordup_log.specs.Spans.{weight, span}
 use Rattle.ordup_log.specs.declared.scope.Scope.TheVariants.{All as Everything}
-use Rattle.ordup_log.proofs.SpanLemmas.{span-suc}
+use Rattle.ordup_log.proofs.SpanLemmas.{span-suc, span-add}
 use Rattle.ordup_log.proofs.WeightLemmas.{distance_beside-at, sum-at}
 
 -- ---- what the moves of a set weigh
@@ -134,6 +134,15 @@ all-between h legal a b ms forward last e =
       all-below h legal a (omega arith),
       all-below h legal b last,
     )
+
+-- which is the span from the first to the second
+pub on-part : (h : History) → IsLegalHistory h → (x a b : ℕ) (ms : List Moved) → a ≤ b → b ≤ length h.sets
+    → moves_below h a ++ ms ≡ moves_below h b → sum_by (distance_on x) ms ≡ object_span h x a b
+on-part h legal x a b ms forward last e = omega (arith, on-between h legal x a b ms forward last e, object_span-add h x a b forward)
+
+pub all-part : (h : History) → IsLegalHistory h → (a b : ℕ) (ms : List Moved) → a ≤ b → b ≤ length h.sets
+    → moves_below h a ++ ms ≡ moves_below h b → sum_by distance_of ms ≡ span h [] Everything a b
+all-part h legal a b ms forward last e = omega (arith, all-between h legal a b ms forward last e, span-add h [] Everything a b forward)
 
 -- ---- where moves lie in the list
 

@@ -5,13 +5,15 @@ use Rattle.std.proofs.lemmas.List.{length-map}
 use Rattle.std.proofs.lemmas.List.Sums.{sum_by-le}
 use Rattle.ordup_objects.specs.States.{value_at, after}
 use Rattle.ordup_objects.specs.Serial.{History, serial, IsLegalHistory}
-use Rattle.ordup_objects.specs.Sizes.{greatest_distance, most_members, greatest_weight}
+use Rattle.ordup_objects.specs.Sizes.{greatest_distance, most_members, most_updates, greatest_weight}
 use Rattle.ordup_objects.specs.Sums.{sum_from}
 use Rattle.ordup_objects.specs.Weights.{distance, object_weight, object_span, distance_by, distances_of, distance_beside}
 use Rattle.ordup_objects.proofs.SumLemmas.{sum_from-same, sum_from-few}
 use Rattle.ordup_objects.proofs.SetLemmas.{distance_beside-few, distance_beside-distances_of, distances_of-few, distance-after}
 use Rattle.ordup_objects.proofs.SetLemmas.{distances-after}
 use Rattle.ordup_objects.proofs.SerialLemmas.{serial-suc, length-serial, IsState-serial}
+use Rattle.ordup_objects.proofs.SpanLemmas.{object_span-add}
+use Rattle.ordup_log.proofs.SpanLemmas.{span-add}
 use Rattle.ordup_log.specs.Groups.{GroupList, IsGroup, members_at}
 use Rattle.ordup_log.specs.Spans.{weight, span, IsScopeKnown}
 use Rattle.ordup_log.specs.declared.scope.Scope.{Scope}
@@ -106,3 +108,12 @@ all_span-few h legal p le =
       arith,
       sum_from-few (weight h [] Everything) greatest_weight 0 (p - 0) (λ j lt. all_weight-few h legal j (omega (arith, lt, le))),
     )
+
+-- and the spans from one place to another
+pub object_part-few : (h : History) → IsLegalHistory h → (x a b : ℕ) → a ≤ b → b ≤ length h.sets → length h.sets ≤ most_updates
+    → object_span h x a b ≤ most_updates * greatest_distance
+object_part-few h legal x a b forward last few = omega (arith, object_span-add h x a b forward, object_span-few h legal x b last)
+
+pub all_part-few : (h : History) → IsLegalHistory h → (a b : ℕ) → a ≤ b → b ≤ length h.sets → length h.sets ≤ most_updates
+    → span h [] Everything a b ≤ most_updates * greatest_weight
+all_part-few h legal a b forward last few = omega (arith, span-add h [] Everything a b forward, all_span-few h legal b last)

@@ -9,9 +9,10 @@
 //! - what each change made of its object, its move, in one list for all sets;
 //! - for each object what all updates weigh on it, and a row of these numbers for each 256 updates, as they were after them.
 //!
-//! So nothing is replayed. What the updates up to a place weigh, the running weight, is at hand at the end of the log. Elsewhere it is
-//! that of the last row, and the distances of the moves of at most 255 updates after it. A span on an object or on all objects is the
-//! difference of two running weights, and on a group it is the sum over its members. `append` takes the memory for all of it before it
+//! So nothing is replayed. What the updates up to a place weigh on an object, the running weight, is at hand at the end of the log.
+//! Elsewhere it is that of the last row, and the distances of the moves of at most 255 updates after it. A span of at most 255 updates
+//! goes over their moves, and a longer one is the difference of two running weights; on a group it is the sum over the members. Postings,
+//! the places that weigh something on an object, are made when they are asked for. `append` takes the memory for all of it before it
 //! changes anything.
 #![tactic(auto)]
 

@@ -289,8 +289,8 @@ impl<A: Allocator + Copy> Log<A> {
 
     /// The weight of the span from a place to another: the sum over the updates after the first, up to the second.
     ///
-    /// It is the difference of two running weights, each of which goes over the changes of at most 255 updates. On a group it is the
-    /// sum over the members.
+    /// Where it has at most 255 updates, it goes over their changes. Else it is the difference of two running weights, each of which
+    /// goes over the changes of at most 255 updates. On a group it is the sum over the members.
     pub fn span(&self, scope: Scope, groups: &Groups<A>, from: u64, to: u64) -> u64
         requires forward { from ≤ to }
         requires last { to ≤ length self.now.sets }
@@ -302,7 +302,7 @@ impl<A: Allocator + Copy> Log<A> {
         match scope {
             Scope::Object(object) => self.span_on(object, from, to),
             Scope::Group(group) => self.span_on_members(groups.members(group), from, to),
-            Scope::All => self.running_weight_on_all(to) - self.running_weight_on_all(from),
+            Scope::All => self.span_on_all(from, to),
             Scope::Count => to - from,
         }
     }
@@ -408,7 +408,25 @@ impl<A: Allocator + Copy> Log<A> {
         ensures few { result ≤ most_updates * greatest_distance }
     {
         self.keeps();
-        self.running_weight(object, to) - self.running_weight(object, from)
+        if to - from < UPDATES_A_ROW {
+            total_on(object, self.moves_between(from, to))
+        } else {
+            self.running_weight(object, to) - self.running_weight(object, from)
+        }
+    }
+
+    fn span_on_all(&self, from: u64, to: u64) -> u64
+        requires forward { from ≤ to }
+        requires last { to ≤ length self.now.sets }
+        ensures span { result ≡ span self.now [] Scope.All from to }
+        ensures few { result ≤ most_updates * greatest_weight }
+    {
+        self.keeps();
+        if to - from < UPDATES_A_ROW {
+            total_on_all(self.moves_between(from, to))
+        } else {
+            self.running_weight_on_all(to) - self.running_weight_on_all(from)
+        }
     }
 
     /// The sum of the weights of a span on several objects.

@@ -16,6 +16,7 @@
 //! changes anything.
 #![tactic(auto)]
 
+mod added_update;
 mod groups;
 mod ids;
 mod laws;

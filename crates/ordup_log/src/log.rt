@@ -9,13 +9,14 @@ ghost use Rattle.ordup_log.specs.Moving.{moves_below, distance_on, distance_of};
 ghost use Rattle.ordup_log.specs.Rows.{updates_a_row, row_due, marks_due};
 ghost use Rattle.ordup_log.specs.Postings.{posted};
 
+use crate::added_update::{note_update, reserve_update};
 use crate::groups::Groups;
-use crate::marks::{UPDATES_A_ROW, add_row, reserve_row};
-use crate::moved_weights::{part, total, total_on, total_on_all, travel};
+use crate::marks::UPDATES_A_ROW;
+use crate::moved_weights::{part, total, total_on, total_on_all};
 use crate::scope::Scope;
 use ordup_objects::sizes::MOST_UPDATES;
-use ordup_objects::{Change, MessageSet, Moved, ObjectId, ObjectTable, Refusal, Results, Values};
-use std::alloc::{AllocError, Allocator, Global};
+use ordup_objects::{MessageSet, Moved, ObjectId, ObjectTable, Refusal, Results, Values};
+use std::alloc::{Allocator, Global};
 use std::marker::Model;
 
 /// The updates in their global order: each is a message set, legal on the serial result of those before it.
@@ -443,58 +444,6 @@ impl<A: Allocator + Copy> Log<A> {
         }
         total
     }
-}
-
-/// Reserves memory for the update with this number, which makes these changes, in a log over so many objects.
-fn reserve_update<A: Allocator + Copy>(
-    sets: &mut Vec<MessageSet<A>, A>,
-    moves: &mut Vec<Moved, A>,
-    begins: &mut Vec<u32, A>,
-    marks: &mut Vec<u64, A>,
-    changes: &[Change],
-    number: u64,
-    objects: usize,
-) -> Result<(), AllocError>
-    ensures sets { sets.new.items ≡ sets.old.items }
-    ensures moves { moves.new.items ≡ moves.old.items }
-    ensures begins { begins.new.items ≡ begins.old.items }
-    ensures marks { marks.new.items ≡ marks.old.items }
-    ensures set_room { OnOk result (vec_len sets.new < vec_capacity sets.new) }
-    ensures move_room { OnOk result (vec_len moves.new + length changes.now ≤ vec_capacity moves.new) }
-    ensures begin_room { OnOk result (vec_len begins.new < vec_capacity begins.new) }
-    ensures mark_room { OnOk result (vec_len marks.new + marks_due number objects ≤ vec_capacity marks.new) }
-{
-    sets.reserve(1)?;
-    moves.reserve(changes.len())?;
-    begins.reserve(1)?;
-    reserve_row(marks, number, objects)
-}
-
-/// Notes the update with this number: where its moves begin, which are the last ones, what it weighs on each object, and a row of
-/// marks if one is due.
-fn note_update<A: Allocator + Copy>(
-    begins: &mut Vec<u32, A>,
-    travelled: &mut Vec<u64, A>,
-    marks: &mut Vec<u64, A>,
-    moves: &[Moved],
-    begin: usize,
-    number: u64,
-)
-    requires begin { begin ≤ length moves.now }
-    requires short { begin < 2 ^ 32 }
-    requires known { All (λ m. m.object < length travelled.old.items) (drop begin moves.now) }
-    requires few { (x : ℕ) → x < length travelled.old.items → mark_at travelled.old.items x + sum_by (distance_on x) (drop begin moves.now) < 2 ^ 64 }
-    requires begin_room { vec_len begins.old < vec_capacity begins.old }
-    requires mark_room { vec_len marks.old + marks_due number (length travelled.old.items) ≤ vec_capacity marks.old }
-    ensures begins { begins.new.items ≡ begins.old.items ++ begin ∷ [] }
-    ensures count { length travelled.new.items ≡ length travelled.old.items }
-    ensures travelled { (x : ℕ) → x < length travelled.old.items →
-        mark_at travelled.new.items x ≡ mark_at travelled.old.items x + sum_by (distance_on x) (drop begin moves.now) }
-    ensures marks { marks.new.items ≡ marks.old.items ++ row_due number travelled.new.items }
-{
-    begins.push_reserved(begin as u32);
-    travel(travelled, &moves[begin..]);
-    add_row(marks, travelled.as_slice(), number);
 }
 
 /// Adds a posting at a place, if the place weighs something.

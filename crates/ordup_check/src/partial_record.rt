@@ -2,10 +2,9 @@
 ghost use Rattle.std.specs.Prelude.{◌≡◌, ◌≢◌, ◌<◌, ◌≤◌, ◌&&◌, ◌++◌, ◌∷◌, [], false, not, IfOk, length, map};
 ghost use Rattle.std.specs.Bool.{then_some};
 ghost use Rattle.std.specs.Option.{is_none};
-ghost use Rattle.ordup_log.specs.Postings.{last_number};
 ghost use Rattle.ordup_limits.specs.Entries.{change_refusal, entry_of};
 ghost use Rattle.ordup_rows.specs.Columns.{natural_of};
-ghost use Rattle.ordup_rows.specs.Stages.{has_entry, has_objects, has_updates, is_before_changes, is_before_limits, is_before_members};
+ghost use Rattle.ordup_rows.specs.Stages.{last_number, has_entry, has_objects, has_updates, is_before_changes, is_before_limits, is_before_members};
 ghost use Rattle.ordup_rows.specs.Stages.{is_before_reports, is_before_rounds, is_before_windows, is_last_group, last_place};
 ghost use Rattle.ordup_rows.specs.Stages.{may_hold_from, may_report, may_round, with_any_change, with_change_row};
 ghost use Rattle.ordup_rows.specs.Stages.{with_first_change};

@@ -16,13 +16,6 @@ repeats-more same xs i d lt none =
     let e : drop i xs ≡ get_or xs i d ∷ drop (i + 1) xs = rw add-one (drop-cons xs i d lt) in
     ap (repeats same) e ∙ ap (λ b. b || repeats same (drop (i + 1) xs)) none
 
--- without repeats the rest of a list has none
-pub repeats-drop : {X : Type 0} (same : X → X → Bool) (xs : List X) (i : ℕ) → repeats same xs ≡ false
-    → repeats same (drop i xs) ≡ false
-repeats-drop same xs zero distinct = distinct
-repeats-drop same [] (suc i) distinct = distinct
-repeats-drop same (x ∷ xs) (suc i) distinct = repeats-drop same xs i (or_parts _ _ distinct).1
-
 -- an element more makes a repeat where one before is the same
 pub repeats-last : {X : Type 0} (same : X → X → Bool) (xs : List X) (x : X) → repeats same xs ≡ false
     → repeats same (xs ++ x ∷ []) ≡ list_any (λ y. same y x) xs

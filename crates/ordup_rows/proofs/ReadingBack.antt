@@ -1,5 +1,4 @@
 -- The rows of a record are read back as it.
-use Rattle.ordup_log.specs.Postings.{last_number}
 use Rattle.ordup_audit.proofs.Common.{◌*◌, ◌++◌, ◌+◌, ◌<◌, ◌==◌, ◌^◌, ◌∙◌, ◌∷◌, ◌≡◌, ◌≤◌, [], All, All-cons, All-nil, and_from}
 use Rattle.ordup_audit.proofs.Common.{ap, append-nil, append_assoc, are_of_one_object, AreEntries, AreEntriesKnown, AreGroups, AreKnown}
 use Rattle.ordup_audit.proofs.Common.{AreMembersKnown, AreReportChanges, AreRoundPlaces, arith, Bool, bytes_eq, Change, decimal, Entries, eq-eqb}
@@ -26,7 +25,7 @@ use Rattle.ordup_rows.specs.Columns.{change_by, writes}
 use Rattle.ordup_rows.specs.Laws.{RowsOfEachVersionAreRead, RowsTellOneRecord, WhatIsToldIsRead}
 use Rattle.ordup_rows.specs.Rows.{Row, change_row, change_rows, change_text, counted, first_row, limit_row, member_row, member_rows, name_at}
 use Rattle.ordup_rows.specs.Rows.{object_row, report_row, round_row, rows_in, window_row}
-use Rattle.ordup_rows.specs.Stages.{Stage, closed, is_last_group, last_name, record_at, run, step, reading, record_read}
+use Rattle.ordup_rows.specs.Stages.{last_number, Stage, closed, is_last_group, last_name, record_at, run, step, reading, record_read}
 use Rattle.ordup_rows.specs.Stages.{unread}
 use Rattle.ordup_rows.specs.Versions.{CanTell, CanTellPlace}
 use Rattle.ordup_rows.specs.declared.version.Version.{Version}

@@ -1,5 +1,4 @@
 -- What is kept of a record while its rows are read, and how its lists grow.
-use Rattle.ordup_log.specs.Postings.{last_number}
 use Rattle.ordup_audit.proofs.Common.{◌++◌, ◌+◌, ◌-◌, ◌<◌, ◌∙◌, ◌∷◌, ◌≡◌, ◌≤◌, ◌⊎◌, [], All, All-nil, All-push, ap, AreDistinct, AreGroups}
 use Rattle.ordup_audit.proofs.Common.{AreEntries, AreEntriesKnown, AreKnown, AreMembersKnown, AreNames, AreReportChanges, AreRoundPlaces}
 use Rattle.ordup_audit.proofs.Common.{Entries, get_or-map, HoldFrom, IsScopeKnown, length-map, refl, subst, false}
@@ -14,7 +13,7 @@ use Rattle.ordup_limits.specs.declared.limit_entry.LimitEntry.{LimitEntry}
 use Rattle.ordup_limits.proofs.EntryLemmas.{AreEntries-changed}
 use Rattle.ordup_limits.proofs.PutLemmas.{position-absent, put-new}
 use Rattle.ordup_objects.proofs.RepeatLemmas.{repeats-push}
-use Rattle.ordup_rows.specs.Stages.{last_place}
+use Rattle.ordup_rows.specs.Stages.{last_number, last_place}
 use Rattle.ordup_rows.specs.Versions.{CanTell, CanTellPlace}
 use Rattle.ordup_rows.specs.declared.version.Version.{Version}
 use Rattle.ordup_rows.proofs.Growth.{IsBeforeMembers, IsBeforeReports}

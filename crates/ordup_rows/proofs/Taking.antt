@@ -1,5 +1,4 @@
 -- What is taken of a row: the rows so far are one more, and what is kept of a record is kept.
-use Rattle.ordup_log.specs.Postings.{last_number}
 use Rattle.ordup_audit.proofs.Common.{◌++◌, ◌+◌, ◌<◌, ◌∙◌, ◌∷◌, ◌≡◌, ◌≤◌, ◌⊎◌, [], All-push, and_parts, ap, AreGroups}
 use Rattle.ordup_audit.proofs.Common.{AreKnown, AreReportChanges, AreRoundPlaces, arith, Bool, bytes_eq, cases_Bool, Change, codes}
 use Rattle.ordup_audit.proofs.Common.{decimal, eqb-true, false, group_refusal, GroupList, if◌then◌else◌, inl, inr, IsKnown}
@@ -15,7 +14,7 @@ use Rattle.ordup_audit.specs.declared.report_change.ReportChange.{ReportChange}
 use Rattle.ordup_rows.specs.Columns.{Columns, amount_by, change_by, natural_of, scope_of, writes}
 use Rattle.ordup_rows.specs.RowKinds.{kind_text}
 use Rattle.ordup_rows.specs.Rows.{Row, change_row, change_rows, change_text, first_row, member_row, member_rows, rows_so_far}
-use Rattle.ordup_rows.specs.Stages.{has_updates, is_before_reports}
+use Rattle.ordup_rows.specs.Stages.{last_number, has_updates, is_before_reports}
 use Rattle.ordup_rows.specs.Stages.{is_last_group, last_name, last_set}
 use Rattle.ordup_rows.specs.Stages.{membership_refusal, with_change, with_change_row, with_first_change}
 use Rattle.ordup_rows.specs.Stages.{with_limit, with_member_row, with_membership, with_next_change, with_object, with_report, with_round}

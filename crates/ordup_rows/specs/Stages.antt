@@ -13,7 +13,6 @@ use Rattle.ordup_objects.specs.Tables.{index_of, object_refusal}
 use Rattle.ordup_objects.specs.declared.change.Change.{Change}
 use Rattle.ordup_objects.specs.declared.refusal.Refusal.{Refusal}
 use Rattle.ordup_log.specs.Groups.{GroupList, group_refusal, last_members, member_refusal, with_member}
-use Rattle.ordup_log.specs.Postings.{last_number}
 use Rattle.ordup_limits.specs.Entries.{Entries, are_one_entry, change_refusal, entry_of}
 use Rattle.ordup_limits.specs.declared.limit_entry.LimitEntry.{LimitEntry}
 use Rattle.ordup_audit.specs.Records.{RecordState}
@@ -27,6 +26,10 @@ use Rattle.ordup_rows.specs.Versions.{version_of}
 use Rattle.ordup_rows.specs.declared.row_kind.RowKind.{RowKind}
 use Rattle.ordup_rows.specs.declared.row_kind.RowKind.TheVariants as kind
 use Rattle.ordup_rows.specs.declared.version.Version.{Version}
+
+-- the last number of a list, and 0 where there is none
+abbrev pub last_number : List ℕ → ℕ
+last_number xs = slice_index_or xs (length xs - 1) 0
 
 -- no window is there yet
 abbrev pub is_before_windows : RecordState → Bool

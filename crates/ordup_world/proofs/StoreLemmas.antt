@@ -1,5 +1,5 @@
 -- What an accepted event does to the primary and the sites.
-use Rattle.std.proofs.Common.{◌≡◌, ℕ, ◌+◌, ◌-◌, ◌<◌, ◌≤◌, true, List, [], ◌∷◌, length, get_or, arith, refl, sym, ap, ◌∙◌, inl, inr}
+use Rattle.std.proofs.Common.{◌≡◌, ℕ, ◌+◌, ◌-◌, ◌<◌, ◌≤◌, List, [], ◌∷◌, length, get_or, arith, refl, sym, ap, ◌∙◌, inl, inr}
 use Rattle.std.specs.Prelude.{replicate}
 use Rattle.std.proofs.Math.ListN.{set, length-set}
 use Rattle.std.proofs.lemmas.Bool.{cases_eq, cases_lt}
@@ -7,10 +7,10 @@ use Rattle.std.proofs.lemmas.List.{append-nil, get_or-set_other, get_or_default,
 use Rattle.std.proofs.lemmas.List.{length-replicate}
 use Rattle.std.proofs.lemmas.Grind.{get_or-set_at}
 use Rattle.ordup_objects.specs.declared.change.Change.{Change}
-use Rattle.ordup_objects.specs.States.{is_legal}
+use Rattle.ordup_objects.specs.declared.moved.Moved.{Moved}
 use Rattle.ordup_objects.specs.Tables.{initial_state}
-use Rattle.ordup_objects.specs.Sets.{AreKnown}
-use Rattle.ordup_objects.specs.Serial.{History, set_at, with_more, with_update}
+use Rattle.ordup_objects.specs.Serial.{History, serial, set_at, with_more, with_update}
+use Rattle.ordup_objects.specs.Moves.{moves_of}
 use Rattle.ordup_objects.proofs.SerialLemmas.{length-serial}
 use Rattle.ordup_log.specs.declared.scope.Scope.{Scope}
 use Rattle.ordup_limits.proofs.LimitLemmas.{within-later}
@@ -18,7 +18,7 @@ use Rattle.ordup_limits.specs.Entries.{latest}
 use Rattle.ordup_primary.specs.Declarations.{capacity_of}
 use Rattle.ordup_primary.specs.Primaries.{PrimaryState, SiteProgress, IsPrimary, Decides, first_progress, progress_at, limits_at, acked_after}
 use Rattle.ordup_primary.specs.Primaries.{relimited}
-use Rattle.ordup_site.specs.Sites.{SiteState, HasApplied}
+use Rattle.ordup_site.specs.Sites.{SiteState, HasApplied, AreMovesOf}
 use Rattle.ordup_site.proofs.SiteLemmas.{HasApplied-longer}
 use Rattle.ordup_world.specs.Steps.{Grows}
 use Rattle.ordup_world.specs.Worlds.{StoreState, WorldState, store_of, first_site, HoldsFeed, IsStore, KeepsLimits}
@@ -157,17 +157,23 @@ module _ (w : StoreState) (is : IsStore w) where
         ];
       }
 
-      -- the objects of its next update are there, and the update is legal on its values
-      pub next_known : AreKnown (length site.values) (set_at w.primary.log (site.applied + 1))
-      next_known =
+      -- the moves of its next update are those of a set that is legal on its values
+      pub next_moves : (moved : List Moved)
+          → moved ≡ moves_of (serial w.primary.log (site.applied + 1 - 1)) (set_at w.primary.log (site.applied + 1))
+          → AreMovesOf site.values (set_at w.primary.log (site.applied + 1)) moved
+      next_moves moved is_moves =
           let place : site.applied + 1 - 1 ≡ site.applied = omega arith in
-          rw (holds-at.holds.prefix.values, place, length-serial w.primary.log site.applied (omega (arith, holds-at.holds.sent)))
-          (is.primary.legal.known site.applied [] (omega (arith, holds-at.holds.sent)))
-
-      pub next_legal : is_legal (set_at w.primary.log (site.applied + 1)) site.values ≡ true
-      next_legal =
-          let place : site.applied + 1 - 1 ≡ site.applied = omega arith in
-          rw (holds-at.holds.prefix.values, place) (is.primary.legal.legal site.applied (omega (arith, holds-at.holds.sent)))
+          let below : site.applied < length w.primary.log.sets = omega (arith, holds-at.holds.sent) in
+          let values : site.values ≡ serial w.primary.log (site.applied + 1 - 1) =
+          holds-at.holds.prefix.values ∙ ap (serial w.primary.log) (sym place) in
+          record {
+            set = rw place (is.primary.legal.sets site.applied [] below);
+            known =
+                rw (holds-at.holds.prefix.values, place, length-serial w.primary.log site.applied (omega (arith, holds-at.holds.sent)))
+                (is.primary.legal.known site.applied [] below);
+            legal = rw (holds-at.holds.prefix.values, place) (is.primary.legal.legal site.applied below);
+            moves = rw values is_moves;
+          }
 
 -- ---- a store at the start
 

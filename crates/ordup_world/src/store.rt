@@ -99,7 +99,7 @@ impl<A: Allocator + Copy> Store<A> {
             return Answer::Refused(Refusal::NothingToApply);
         }
         let number = applied + 1;
-        self.sites[site.index()].apply(self.primary.log().set(number));
+        self.sites[site.index()].apply_moves(self.primary.log().moves(number));
         Answer::Applied { site, number }
     }
 

@@ -5,7 +5,7 @@ use Rattle.ordup_primary.specs.Primaries.{progress_at}
 use Rattle.ordup_site.specs.Sites.{SiteState}
 use Rattle.ordup_world.specs.Worlds.{StoreState}
 use Rattle.ordup_world.specs.StoreInside.{state_of}
-use Rattle.ordup_world.proofs.StoreLemmas.{holds-at, next_known, next_legal}
+use Rattle.ordup_world.proofs.StoreLemmas.{holds-at, next_moves}
 use Rattle.ordup_world.proofs.StepLemmas.{unknown-site, nothing_to_apply, applied_next}
 use Rattle.ordup_world.proofs.store.Store.apply.Goals as goal
 
@@ -17,8 +17,8 @@ returns-then-applied-sent g c =
     nothing_to_apply c.requires (grind (arith, common_steps)) {site = c.index-3.result.now} (grind (arith, common_steps))
     (grind (arith, common_steps))
 
-pub apply-requires : goal.apply-requires
-apply-requires g c =
+pub apply_moves-requires : goal.apply_moves-requires
+apply_moves-requires g c =
     let w : StoreState = state_of c.args.self.now in
     let site : SiteState = c.index_mut.result.now in
     let here : c.applied-applied.result ≡ site.applied = grind (arith, common_steps) in
@@ -27,10 +27,11 @@ apply-requires g c =
     let holds = holds-at w c.requires c.args.site site lt at in
     let less : site.applied < (progress_at w.primary c.args.site).sent =
     omega (arith, holds.holds.applied, here, c.sent-sent.ensures, c.if-applied-sent.false) in
-    let set : c.set.result.now ≡ set_at w.primary.log (site.applied + 1) = rw (c.log.ensures, here) at c.set.ensures.set in
     record {
-      known = rw set (next_known w c.requires c.args.site site lt at less);
-      legal = rw set (next_legal w c.requires c.args.site site lt at less);
+      moves = (
+        set_at w.primary.log (site.applied + 1),
+        next_moves w c.requires c.args.site site lt at less c.moves.result.now (rw (c.log.ensures, here) at c.moves.ensures.moves),
+      );
       room = omega (arith, less, holds.holds.sent, c.requires.primary.few);
     }
 
@@ -44,6 +45,6 @@ returns g c =
     let holds = holds-at w c.requires c.args.site site lt at in
     let less : site.applied < (progress_at w.primary c.args.site).sent =
     omega (arith, holds.holds.applied, here, c.sent-sent.ensures, c.if-applied-sent.false) in
-    let set : c.set.result.now ≡ set_at w.primary.log (site.applied + 1) = rw (c.log.ensures, here) at c.set.ensures.set in
+    let moves = next_moves w c.requires c.args.site site lt at less c.moves.result.now (rw (c.log.ensures, here) at c.moves.ensures.moves) in
     rw c.index-4.ensures (applied_next c.requires lt at less (grind (arith, common_steps))
-    (c.apply.ensures.next w.primary.log site.applied holds.holds.prefix (omega (arith, less, holds.holds.sent)) set))
+    (c.apply_moves.ensures.next w.primary.log site.applied holds.holds.prefix (omega (arith, less, holds.holds.sent)) moves))

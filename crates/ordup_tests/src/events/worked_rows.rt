@@ -166,10 +166,17 @@ fn go_to_and_fro(rt: &impl Abort, objects: &ObjectTable, log: &mut Log) -> Resul
 }
 
 /// How many postings an object has, and the last of them.
-fn postings_of(rt: &impl Abort, log: &Log, object: ObjectId) -> (usize, Option<(u64, u64)>) {
-    expect!(rt; object.index() < log.objects());
-    let postings = log.postings(object);
-    (postings.len(), postings.last().copied())
+fn postings_of(
+    rt: &(impl Abort + AllocGlobal),
+    log: &Log,
+    object: ObjectId,
+) -> (usize, Option<(u64, u64)>) {
+    let Ok(postings) = log.postings(rt.alloc(), object) else {
+        panic!(rt; "there is no memory for postings")
+    };
+    let told = (postings.len(), postings.last().copied());
+    drop(postings);
+    told
 }
 
 /// Weighs the spans of 10,000 updates of x, and counts its postings.

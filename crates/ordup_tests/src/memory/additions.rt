@@ -9,7 +9,7 @@ use std::process::Abort;
 
 /// A call that adds something to what it is called on.
 ///
-/// Growths that were met, in the order of the calls: 4, 5, 1, 5 and 1, each of a first addition.
+/// Growths that were met, in the order of the calls: 4, 5, 1, 3 and 1, each of a first addition.
 #[derive(Clone, Copy, Debug)]
 enum Addition {
     Object,

@@ -3,7 +3,7 @@ ghost use Rattle.std.specs.Prelude.{◌<◌, length};
 
 use ordup_limits::{GroupId, Groups, LimitTable, Scope};
 use ordup_log::Log;
-use ordup_objects::{Change, MessageSet, ObjectId, ObjectTable, Op, SiteId};
+use ordup_objects::{Change, MessageSet, Moved, ObjectId, ObjectTable, Op, SiteId};
 use ordup_primary::{Primary, Setup};
 use std::alloc::Allocator;
 
@@ -44,12 +44,13 @@ impl Digest {
         }
     }
 
-    /// Adds a list of places, each with its number.
-    fn add_steps(&mut self, steps: &[(u64, u64)]) {
-        self.add(steps.len() as u64);
-        for step in steps {
-            self.add(step.0);
-            self.add(step.1);
+    /// Adds a list of moves.
+    fn add_moves(&mut self, moves: &[Moved]) {
+        self.add(moves.len() as u64);
+        for moved in moves {
+            self.add(moved.object.index() as u64);
+            self.add_value(i64::from(moved.value));
+            self.add(u64::from(moved.distance));
         }
     }
 
@@ -187,7 +188,7 @@ fn add_update<A: Allocator + Copy>(
     let _updates = log.len();
     let number = index + 1;
     add_set(digest, log.set(number));
-    digest.add_numbers(log.distances(number));
+    digest.add_moves(log.moves(number));
     digest.add(log.weight(number, Scope::All, groups));
     digest.add(log.span(Scope::All, groups, 0, number));
     digest.add(log.span(Scope::Count, groups, 0, number));
@@ -204,7 +205,6 @@ pub(crate) fn add_log<A: Allocator + Copy>(digest: &mut Digest, log: &Log<A>, gr
         let object = ObjectId::new(index as u16);
         digest.add_value(log.end_value(object));
         digest.add(log.running_weight(object, log.len()));
-        digest.add_steps(log.postings(object));
     }
 }
 

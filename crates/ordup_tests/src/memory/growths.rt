@@ -6,12 +6,12 @@
 ///
 /// Growths that were met, each of them refused here: of a first `object` 4, which a table of names makes, and so of a first `site`
 /// 5, with the list of its limits, and of a first `group` 6, with its members and the list that the line makes of them; of a
-/// `limit` 1. Of a `start` 12, with a limit 13, and with two sites of a limit each 19. Of a first `propose` of one change 5: the
-/// list of the sets, those of the distances and of where they begin, the postings of the object and those of all. With two changes
-/// 7: one posting more, and the list of the changes, which is the one growth of a later one. Of a `relimit` that adds an entry 1,
-/// and of one that replaces an entry or is refused none. Of a first `settle` that forces a site 3:
-/// what it reported, its rounds and its windows; of one that forces none, before any report, none. Of a first `begin` 5, with its
-/// marks, and of a later one 1; of a `show` 1. A `certify` meets none.
+/// `limit` 1. Of a `start` 14, with a limit 15, and with two sites of a limit each 23. Of a first `propose` of one change 3: the
+/// list of the sets, that of the moves and that of where they begin. With two changes 4: the list of the changes too. A later one
+/// meets that again, and each list that is full; each 256th also a row of marks. Of a `relimit` that adds an entry 1, and of one
+/// that replaces an entry or is refused none. Of a first `settle` that forces a site 3: what it reported, its rounds and its
+/// windows; of one that forces none, before any report, none. Of a first `begin` 5, with its marks, and of a later one 1; of a
+/// `show` 1. A `certify` meets none.
 pub(crate) const TRANSCRIPTS: [&str; 5] = [
     // The first run, whole.
     "\

@@ -49,8 +49,8 @@ fn primary_refusal(rt: &impl Abort, heap: Heap<'_>, allowed: u64) -> Option<Refu
     }
 }
 
-// It met 10: 3 of the log, which are its two states and the list of its postings, 1 of the list of sites, 1 of that of their
-// limits, 1 of a's limit, 1 of the list of ledgers, and 3 of a's ledger, which are its two lists of totals and its masks.
+// It met 12: 3 of the log, which are its two states and the list of what its values travelled, 1 of the list of sites, 2 of a's
+// limits, and 6 of the ledgers, of which 2 are of a's.
 #[test]
 fn each_growth_of_a_new_primary_is_refused(rt: HostRuntime) {
     let scarce = Scarce::new(rt.alloc(), 0);
@@ -128,8 +128,8 @@ fn push_answers<'a>(out: &mut TextBuffer<Heap<'a>>, run: &Run<Heap<'a>>) -> Resu
     Ok(())
 }
 
-// It met 23: 13 of the start, 1 of the list of answers, and 9 within events: 5 of the first proposal, 3 of the first settlement,
-// and 1 of what is shown.
+// It met 23: 15 of the start, 1 of the list of answers, and 7 within events: 3 of the first proposal, 3 of the settlement that forces
+// a, and 1 of what is shown.
 #[test]
 fn each_growth_of_a_run_is_refused(rt: HostRuntime) {
     let scarce = Scarce::new(rt.alloc(), 0);

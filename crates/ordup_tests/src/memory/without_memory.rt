@@ -9,7 +9,7 @@ use crate::memory::scarce::{Heap, Scarce};
 use ordup_answers::ScriptEnd;
 use ordup_audit::Record;
 use ordup_limits::{GroupId, LagLedger, LimitTable, Scope};
-use ordup_objects::{Name, Refusal, SiteId, Values};
+use ordup_objects::{Moved, Name, Refusal, SiteId, Values};
 use ordup_primary::{Primary, Setup, Window};
 use ordup_query::{Query, QueryAnswer, ReadAnswer};
 use ordup_record::record_of;
@@ -74,7 +74,12 @@ fn expect_updates<'a>(rt: &impl Abort, primary: &Primary<Heap<'a>>) {
     expect_eq!(rt; log.span(Scope::Group(g()), groups, 1, 3), 8);
     expect_eq!(rt; log.span(Scope::All, groups, 0, 3), 14);
     expect_eq!(rt; log.span(Scope::Count, groups, 1, 3), 2);
-    expect_eq!(rt; log.postings(x()).last().copied(), Some((3, 7)));
+    let moved = Moved {
+        object: y(),
+        value: 17,
+        distance: 3,
+    };
+    expect_eq!(rt; log.moves(3).last().copied(), Some(moved));
 }
 
 /// The place of the first limit of a that the updates up to another pass.

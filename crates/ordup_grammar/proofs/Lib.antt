@@ -7,3 +7,4 @@ pub mod PositionLemmas
 pub mod SpelledLemmas
 pub mod SiteLineLemmas
 mod Examples
+mod KeptLemmas

@@ -13,9 +13,9 @@
 //!   slices would be a call. The compiler makes one jump by the length of the keywords.
 //!
 //! `bench/NOTES.md` has what each brings.
-ghost use Rattle.std.specs.Prelude.{◌≡◌, ◌+◌, ◌≤◌, ◌==◌, length, not, take, drop};
+ghost use Rattle.std.specs.Prelude.{◌≡◌, ◌+◌, ◌≤◌, ◌==◌, length, not, take, drop, true};
 ghost use Rattle.std.specs.List.{position_or_len, prefix_len};
-ghost use Rattle.std.specs.Int.{w32, from_le_bytes};
+ghost use Rattle.std.specs.Int.{w32, w64, from_le_bytes};
 ghost use Rattle.std.specs.Str.{bytes_eq};
 ghost use Rattle.ordup_grammar.specs.Requests.{is_printed};
 
@@ -127,6 +127,35 @@ pub(crate) fn is_spelled(word: &[u8], keyword: &[u8]) -> bool
     // The first four bytes and the last four are all bytes.
     let last = keyword.len() - 4;
     four_bytes(word, last) == four_bytes(keyword, last)
+}
+
+/// Whether a line is one that is kept, by the numbers that their bytes are, eight at once.
+///
+/// The length is compared first: the numbers alone would not tell where a line ends.
+#[inline(always)]
+pub fn is_kept_line(line: &[u8], kept: &[u8]) -> bool
+    requires { (8 ≤ length kept.now) × (length kept.now ≤ 24) }
+    ensures { result ≡ true → line.now ≡ kept.now }
+{
+    let len = kept.len();
+    if line.len() != len || eight_bytes(line, 0) != eight_bytes(kept, 0) {
+        return false;
+    }
+    // The first eight bytes and the last eight are all bytes, or all but some in their middle.
+    let last = len - 8;
+    if eight_bytes(line, last) != eight_bytes(kept, last) {
+        return false;
+    }
+    len <= 16 || eight_bytes(line, 8) == eight_bytes(kept, 8)
+}
+
+/// The eight bytes from an index on, as one number.
+#[inline(always)]
+fn eight_bytes(text: &[u8], index: usize) -> u64
+    requires { index + 8 ≤ length text.now }
+    ensures { result ≡ from_le_bytes w64 (take 8 (drop index text.now)) }
+{
+    u64::from_le_bytes(*text[index..].first_chunk::<8>().unwrap())
 }
 
 /// The four bytes from an index on, as one number.

@@ -24,6 +24,7 @@ pub mod sizes;
 mod word;
 mod words;
 
+pub use bytes::is_kept_line;
 pub use change_words::ChangeWord;
 pub use declaration::{Declaration, ScopeWord};
 pub use keyword::Keyword;

@@ -1,9 +1,9 @@
 -- How many digits a number has.
-use Rattle.std.proofs.Common.{◌≡◌, ◌∙◌, ap, sym, subst, ℕ, zero, suc, ◌+◌, ◌*◌, ◌/◌, ◌%◌, ◌^◌, ◌<◌, ◌≤◌}
+use Rattle.std.proofs.Common.{◌≡◌, ◌∙◌, ap, sym, subst, ℕ, zero, suc, ◌+◌, ◌*◌, ◌/◌, ◌-◌, ◌%◌, ◌^◌, ◌<◌, ◌≤◌}
 use Rattle.std.proofs.Common.{List, [], ◌∷◌, ◌++◌, length, take, drop, arith, lit<}
 use Rattle.std.proofs.Math.Nat.{pow-le-pow_right}
 use Rattle.std.proofs.Math.Seq.{take-append-add, take-append_seam}
-use Rattle.std.proofs.lemmas.List.{length-append, length-take, take-append-drop}
+use Rattle.std.proofs.lemmas.List.{length-append, length-take, length-take-le, take-append-drop, take-take}
 use Rattle.std.proofs.lemmas.Fmt.{decimal_by_steps, length-decimal-le}
 use Rattle.std.specs.Fmt.{decimal}
 
@@ -46,3 +46,14 @@ take-placed old new digits rest len within before written =
     (take-append-add front (drop len new) (length digits)) in
     let whole = ap (take (len + length digits)) (sym (take-append-drop len new)) in
     whole ∙ parts ∙ ap (λ ds. front ++ ds) behind ∙ ap (λ xs. xs ++ digits) before
+
+-- a text to which another was added, without the last bytes of that one
+pub take-shortened : (bytes old text : List ℕ) (len fewer size : ℕ) → take len bytes ≡ old ++ text → len ≤ length bytes
+    → length text ≡ size → fewer ≤ size
+    → take (len - (size - fewer)) bytes ≡ old ++ take fewer text
+take-shortened bytes old text len fewer size whole within is few =
+    let long : length old + size ≡ len =
+    omega (arith, length-append old text, length-take-le len bytes within, ap length whole, is) in
+    let less : len - (size - fewer) ≡ length old + fewer = omega (arith, long) in
+    ap (λ k. take k bytes) less ∙ sym (take-take (length old + fewer) len bytes (omega (arith, long)))
+    ∙ ap (take (length old + fewer)) whole ∙ take-append-add old text fewer

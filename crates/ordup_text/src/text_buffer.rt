@@ -2,7 +2,7 @@
 //!
 //! The buffer already has bytes behind its text, and a part that is added is copied over them. The compiler knows the length of
 //! most parts, and copies such a part by a move or two.
-ghost use Rattle.std.specs.Prelude.{◌≡◌, ◌+◌, ◌≤◌, ◌++◌, [], OnOk, length};
+ghost use Rattle.std.specs.Prelude.{◌≡◌, ◌+◌, ◌≤◌, ◌++◌, [], OnOk, length, take};
 ghost use Rattle.std.specs.Fmt.{decimal, signed_decimal};
 ghost use Rattle.ordup_text.specs.declared.text_buffer.TheConstants.{MOST_DIGITS};
 
@@ -110,6 +110,31 @@ impl<A: Allocator + Copy> TextBuffer<A> {
         self.len = end;
     }
 
+    /// Adds a text whose length the compiler knows. It must fit into the spare capacity.
+    // Its bytes are one value, which is stored as it is: of a slice the compiler would ask first whether it lies in the buffer.
+    #[inline(always)]
+    pub fn put_array<const N: usize>(&mut self, text: &[u8; N])
+        requires { N ≤ self.old.room }
+        ensures text { self.new.text ≡ self.old.text ++ text.now }
+        ensures room { self.new.room + N ≡ self.old.room }
+    {
+        let end = self.len + N;
+        store(&mut self.bytes[self.len..end], text);
+        self.len = end;
+    }
+
+    /// Adds the first `len` of an array. All of its bytes must fit into the spare capacity.
+    // All are stored, so that nothing depends on how many of them count.
+    #[inline(always)]
+    pub fn put_prefix<const N: usize>(&mut self, text: &[u8; N], len: usize)
+        requires { (len ≤ N) × (N ≤ self.old.room) }
+        ensures text { self.new.text ≡ self.old.text ++ take len text.now }
+        ensures room { self.new.room + len ≡ self.old.room }
+    {
+        self.put_array(text);
+        self.len -= N - len;
+    }
+
     /// Adds a name, or another text that is short as a rule. It must fit into the spare capacity.
     #[inline(always)]
     pub fn put_name(&mut self, name: &[u8])
@@ -177,6 +202,15 @@ impl<A: Allocator + Copy> TextBuffer<A> {
         self.put_value(value);
         Ok(())
     }
+}
+
+/// Stores an array where there are as many bytes.
+#[inline(always)]
+fn store<const N: usize>(to: &mut [u8], text: &[u8; N])
+    requires { length to.old ≡ N }
+    ensures { to.new ≡ text.now }
+{
+    *to.first_chunk_mut::<N>().unwrap() = *text;
 }
 
 /// How many digits a number has.

@@ -47,28 +47,25 @@ on_ok (Ok _) holds next = next holds
 on_ok (Err _) holds next = holds
 
 -- the cells of a use, where it is that of the limit with this index
-pub use_there : {T E : Type 0} (result : Result T E) (new old : List ℕ) (l : LedgerState) (i weight amount : ℕ) (d : Limit)
-    → OnOk result (new ≡ old ++ use_text (Some (made weight amount))) → i < length l.limits → amount ≡ (get_or l.limits i d).amount
+pub use_there : (new old : List ℕ) (l : LedgerState) (i weight amount : ℕ) (d : Limit)
+    → new ≡ old ++ use_text (Some (made weight amount)) → i < length l.limits → amount ≡ (get_or l.limits i d).amount
     → ((h : History) (groups : GroupList) (e : Limit) → StandsFor l h groups
     → weight ≡ span h groups (get_or l.limits i e).scope l.reported l.extended)
-    → OnOk result ((h : History) (groups : GroupList) → StandsFor l h groups
-    → new ≡ old ++ use_text (slice_get (uses_of l h groups) i))
-use_there result new old l i weight amount d holds lt same weighs = on_ok result holds (λ is h groups stands.
+    → (h : History) (groups : GroupList) → StandsFor l h groups → new ≡ old ++ use_text (slice_get (uses_of l h groups) i)
+use_there new old l i weight amount d is lt same weighs h groups stands =
     is ∙ ap (λ u. old ++ use_text u)
     (ap (λ w. Some (made w amount)) (weighs h groups d stands)
     ∙ ap (λ n. Some (made (span h groups (get_or l.limits i d).scope l.reported l.extended) n)) same
     ∙ sym (slice_get-map (use_of h groups l.reported l.extended) l.limits i
-    ∙ ap (option_map (use_of h groups l.reported l.extended)) (slice_get-get_or l.limits i d lt))))
+    ∙ ap (option_map (use_of h groups l.reported l.extended)) (slice_get-get_or l.limits i d lt)))
 
 -- the cells of no use, where there is no such limit
-pub use_none : {T E : Type 0} (result : Result T E) (new old : List ℕ) (l : LedgerState) (i : ℕ)
-    → OnOk result (new ≡ old ++ use_text None) → length l.limits ≤ i
-    → OnOk result ((h : History) (groups : GroupList) → StandsFor l h groups
-    → new ≡ old ++ use_text (slice_get (uses_of l h groups) i))
-use_none result new old l i holds past = on_ok result holds (λ is h groups stands.
+pub use_none : (new old : List ℕ) (l : LedgerState) (i : ℕ) → new ≡ old ++ use_text None → length l.limits ≤ i
+    → (h : History) (groups : GroupList) → StandsFor l h groups → new ≡ old ++ use_text (slice_get (uses_of l h groups) i)
+use_none new old l i is past h groups stands =
     is ∙ ap (λ u. old ++ use_text u)
     (sym (slice_get-map (use_of h groups l.reported l.extended) l.limits i
-    ∙ ap (option_map (use_of h groups l.reported l.extended)) (slice_get_past l.limits i past))))
+    ∙ ap (option_map (use_of h groups l.reported l.extended)) (slice_get_past l.limits i past)))
 
 -- the cells of one limit more
 pub uses_next : (old now next : List ℕ) (l : LedgerState) (n : ℕ)

@@ -1,6 +1,6 @@
 //! The cell of an amount, kept from row to row.
 
-ghost use Rattle.std.specs.Prelude.{◌≡◌, ◌≤◌, ◌++◌, IfOk, codes, length};
+ghost use Rattle.std.specs.Prelude.{◌≡◌, ◌≤◌, ◌+◌, ◌++◌, IfOk, codes, length};
 ghost use Rattle.std.specs.Fmt.{decimal};
 ghost use Rattle.ordup_lag.specs.declared.amount_cell.TheConstants.{CELL_ROOM};
 
@@ -8,8 +8,8 @@ use ordup_text::{MOST_DIGITS, TextBuffer, put_with_number};
 use std::alloc::{AllocError, Allocator};
 use std::marker::Model;
 
-/// The most bytes of a cell: a comma, and the most digits of a number.
-pub(crate) const CELL_ROOM: usize = MOST_DIGITS + 1;
+/// Room for a cell, in whole words: for a comma, and the most digits of a number.
+pub(crate) const CELL_ROOM: usize = MOST_DIGITS + 4;
 
 /// The cell of an amount, as it was last written. Its digits are made where the amount changes, and not in each row.
 #[derive(Drop)]
@@ -44,24 +44,26 @@ impl AmountCell {
         }
     }
 
-    /// Puts the cell of an amount. The most bytes of a cell must fit into the spare capacity.
+    /// Puts the cell of an amount. A cell must fit into the spare capacity.
     #[inline(always)]
     pub(crate) fn put<A: Allocator + Copy>(&mut self, out: &mut TextBuffer<A>, amount: u64)
         requires { CELL_ROOM ≤ out.old.room }
-        ensures { out.new.text ≡ out.old.text ++ (codes "," ++ decimal amount) }
+        ensures text { out.new.text ≡ out.old.text ++ (codes "," ++ decimal amount) }
+        ensures room { out.old.room ≤ out.new.room + CELL_ROOM }
     {
         if self.amount != amount {
             self.put_other(out, amount);
             return;
         }
-        out.put(&self.bytes[..self.len]);
+        out.put_prefix(&self.bytes, self.len);
     }
 
     /// Puts the cell of another amount, and keeps it.
     #[inline(never)]
     fn put_other<A: Allocator + Copy>(&mut self, out: &mut TextBuffer<A>, amount: u64)
         requires { CELL_ROOM ≤ out.old.room }
-        ensures { out.new.text ≡ out.old.text ++ (codes "," ++ decimal amount) }
+        ensures text { out.new.text ≡ out.old.text ++ (codes "," ++ decimal amount) }
+        ensures room { out.old.room ≤ out.new.room + CELL_ROOM }
     {
         let before = out.len();
         put_with_number(out, b",", amount);

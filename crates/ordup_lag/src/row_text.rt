@@ -1,11 +1,13 @@
 //! The text of the series: its header, and the line of a row.
 
-ghost use Rattle.std.specs.Prelude.{◌≡◌, ◌++◌, ◌≤◌, OnOk, Option, length, min, slice_get, Some};
+ghost use Rattle.std.specs.Prelude.{◌≡◌, ◌++◌, ◌+◌, ◌*◌, ◌≤◌, OnOk, Option, length, min, slice_get, Some};
 ghost use Rattle.ordup_objects.specs.Serial.{History};
 ghost use Rattle.ordup_log.specs.Groups.{GroupList};
 ghost use Rattle.ordup_log.specs.Spans.{IsScopeKnown};
 ghost use Rattle.ordup_limits.specs.Entries.{in_force, latest};
 ghost use Rattle.ordup_limits.specs.Ledgers.{StandsFor, StandsAt};
+ghost use Rattle.ordup_limits.specs.Sizes.{most_limits};
+ghost use Rattle.ordup_lag.specs.declared.amount_cell.TheConstants.{CELL_ROOM};
 ghost use Rattle.ordup_rows.specs.Rows.{scope_text};
 ghost use Rattle.ordup_audit.specs.Records.{history_of, report_at};
 ghost use Rattle.ordup_audit.specs.Validity.{IsValid};
@@ -94,36 +96,39 @@ pub(crate) fn push_head<A: Allocator + Copy>(
     out.push(b",round,window\n")
 }
 
-/// Adds how much of a limit is used: a weight, and the amount of the limit.
-fn push_use<A: Allocator + Copy>(
+/// Puts how much of a limit is used: a weight, and the amount of the limit. Two cells must fit into the spare capacity.
+fn put_use<A: Allocator + Copy>(
     out: &mut TextBuffer<A>,
     cell: &mut AmountCell,
     weight: u64,
     amount: u64,
-) -> Result<(), AllocError>
-    ensures { OnOk result (out.new.text ≡ out.old.text ++ use_text (Some (record { weight = weight; amount = amount }))) }
+)
+    requires { 2 * CELL_ROOM ≤ out.old.room }
+    ensures text { out.new.text ≡ out.old.text ++ use_text (Some (record { weight = weight; amount = amount })) }
+    ensures room { out.old.room ≤ out.new.room + 2 * CELL_ROOM }
 {
-    out.reserve(2 * CELL_ROOM)?;
     put_with_number(out, b",", weight);
     cell.put(out, amount);
-    Ok(())
 }
 
-/// Adds how much of the limit with this index the span of a ledger uses, or two empty cells where there is no such limit yet.
-fn push_any_use<A: Allocator + Copy>(
+/// Puts how much of the limit with this index the span of a ledger uses, or two empty cells where there is no such limit yet. Two
+/// cells must fit into the spare capacity.
+fn put_any_use<A: Allocator + Copy>(
     out: &mut TextBuffer<A>,
     cell: &mut AmountCell,
     ledger: &LagLedger<A>,
     index: usize,
-) -> Result<(), AllocError>
-    ensures { OnOk result ((h : History) (groups : GroupList) → StandsFor ledger.now h groups →
-        out.new.text ≡ out.old.text ++ use_text (slice_get (uses_of ledger.now h groups) index)) }
+)
+    requires { 2 * CELL_ROOM ≤ out.old.room }
+    ensures text { (h : History) (groups : GroupList) → StandsFor ledger.now h groups →
+        out.new.text ≡ out.old.text ++ use_text (slice_get (uses_of ledger.now h groups) index) }
+    ensures room { out.old.room ≤ out.new.room + 2 * CELL_ROOM }
 {
     let limits = ledger.limits();
     if index < limits.len() {
-        push_use(out, cell, ledger.weight(index), limits[index].amount)
+        put_use(out, cell, ledger.weight(index), limits[index].amount);
     } else {
-        out.push(b",,")
+        out.put(b",,");
     }
 }
 
@@ -134,13 +139,15 @@ fn push_uses<A: Allocator + Copy>(
     ledger: &LagLedger<A>,
     scopes: usize,
 ) -> Result<(), AllocError>
-    requires { scopes ≤ length cells.old.items }
+    requires cells { scopes ≤ length cells.old.items }
+    requires few { scopes ≤ most_limits }
     ensures count { OnOk result (length cells.new.items ≡ length cells.old.items) }
     ensures text { OnOk result ((h : History) (groups : GroupList) → StandsFor ledger.now h groups →
         out.new.text ≡ out.old.text ++ uses_text (uses_of ledger.now h groups) scopes) }
 {
+    out.reserve(2 * CELL_ROOM * scopes)?;
     for index in 0..scopes {
-        push_any_use(out, &mut cells[index], ledger, index)?;
+        put_any_use(out, &mut cells[index], ledger, index);
     }
     Ok(())
 }
@@ -185,6 +192,7 @@ pub(crate) fn push_row<A: Allocator + Copy>(
     place: u64,
 ) -> Result<(), AllocError>
     requires scopes { scopes ≤ length cells.old.items }
+    requires few { scopes ≤ most_limits }
     requires valid { IsValid audited.now }
     requires stands { StandsAt (history_of audited.now) audited.now.groups (in_force audited.now.limits place)
         (min (report_at audited.now.reports place) place) place ledger.now }

@@ -2,3 +2,4 @@ pub mod RefusalLemmas
 pub mod NearestNumberLemmas
 pub mod AnsweringLemmas
 mod TextLemmas
+mod KnownLemmas

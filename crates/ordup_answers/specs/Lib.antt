@@ -7,4 +7,5 @@ pub mod Declarations
 pub mod Events
 pub mod ScriptStates
 pub mod Replies
+pub mod KnownLines
 pub mod Answers

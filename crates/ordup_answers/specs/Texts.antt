@@ -9,6 +9,8 @@ use Rattle.ordup_primary.specs.declared.settled.Settled.{Settled}
 use Rattle.ordup_primary.specs.declared.settled.Settled.TheVariants.{Acked, Round, Waiting}
 use Rattle.ordup_query.specs.declared.answer.ReadAnswer.{ReadAnswer}
 use Rattle.ordup_query.specs.declared.answer.QueryAnswer.{QueryAnswer}
+use Rattle.ordup_grammar.specs.declared.site_line.SiteAction.{SiteAction}
+use Rattle.ordup_grammar.specs.declared.site_line.SiteAction.TheVariants as action
 use Rattle.ordup_text.specs.Lines.{named_text, done_text, numbered_text, values_text}
 use Rattle.ordup_world.specs.declared.event.Answer.{Answer}
 use Rattle.ordup_world.specs.declared.event.Answer.TheVariants.{Proposed, Sent, Applied, Reported, Settlement, Relimited, Begun}
@@ -61,6 +63,12 @@ abbrev pub ended_text : List ℕ → QueryAnswer → List ℕ
 ended_text query a =
     codes "ok end " ++ query ++ codes " place " ++ decimal a.place ++ codes " sum " ++ signed_decimal a.sum
     ++ codes " total " ++ decimal a.total ++ codes " reads " ++ decimal a.reads ++ 10 ∷ []
+
+-- the text of an answer to an action at a site of this name, with a place
+abbrev pub placed_text : SiteAction → List ℕ → ℕ → List ℕ
+placed_text action.Send name place = numbered_text (codes "ok sent ") name place
+placed_text action.Apply name place = numbered_text (codes "ok applied ") name place
+placed_text action.Report name place = numbered_text (codes "ok reported ") name place
 
 -- the text of an answer to an event that names this subject, a site or a query, and this object
 abbrev pub answer_text : {A : Type 0} → Declared → List ℕ → List ℕ → Answer A → List ℕ

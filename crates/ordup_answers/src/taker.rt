@@ -1,14 +1,15 @@
 //! What takes the answers to the lines of a script: a buffer takes their texts, and `Unanswered` takes none.
-ghost use Rattle.std.specs.Prelude.{◌≡◌, ◌+◌, ◌≤◌, ◌++◌, ℕ, List, [], OnOk, IfErr, length};
+ghost use Rattle.std.specs.Prelude.{◌≡◌, ◌+◌, ◌≤◌, ◌++◌, ℕ, List, [], OnOk, IfErr, length, take};
 ghost use Rattle.ordup_answers.specs.Replies.{declared_name, declared_text};
-ghost use Rattle.ordup_answers.specs.Texts.{answer_text, certified_text, refused_text, started_text};
+ghost use Rattle.ordup_answers.specs.Texts.{answer_text, certified_text, placed_text, refused_text, started_text};
 ghost use Rattle.ordup_answers.specs.declared.text.TheConstants.{ANSWER_ROOM};
 
 use crate::text::{
-    push_certified, push_refused, put_answer, put_declared, put_started, reserve_answer,
+    push_certified, push_refused, put_answer, put_declared, put_placed, put_started, reserve_answer,
 };
-use ordup_grammar::Declaration;
+use ordup_grammar::{Declaration, SiteAction};
 use ordup_objects::Refusal;
+use ordup_objects::sizes::MOST_NAME_BYTES;
 use ordup_primary::Window;
 use ordup_text::TextBuffer;
 use ordup_world::{Answer, Setup};
@@ -62,6 +63,11 @@ pub trait AnswerTaker<A: Allocator + Copy> {
         ensures text { OnOk result ((answer.now ≡ Answer.Refused Refusal.NoMemory → ⊥) × took self.old self.new (answer_text setup.now subject.now object.now answer.now)) }
         ensures kept { IfErr result (λ _. (answer.now ≡ Answer.Refused Refusal.NoMemory) × took self.old self.new []) };
 
+    /// Takes the answer to an action at a site: the name is the first `len` bytes of an array.
+    fn placed(&mut self, action: SiteAction, name: &[u8; MOST_NAME_BYTES], len: usize, place: u64)
+        requires { (len ≤ 16) × has_room self.old len }
+        ensures { took self.old self.new (placed_text action (take len name.now) place) };
+
     /// Takes how many rounds a site has at least, and its windows.
     fn certified(&mut self, site: &[u8], rounds: u64, windows: &[Window]) -> Result<(), AllocError>
         ensures text { OnOk result (took self.old self.new (certified_text site.now rounds windows.now)) }
@@ -105,6 +111,11 @@ impl<A: Allocator + Copy> AnswerTaker<A> for TextBuffer<A> {
         answer: &Answer<A>,
     ) -> Result<(), AllocError> {
         put_answer(self, setup, subject, object, answer)
+    }
+
+    #[inline(always)]
+    fn placed(&mut self, action: SiteAction, name: &[u8; MOST_NAME_BYTES], len: usize, place: u64) {
+        put_placed(self, action, name, len, place);
     }
 
     #[inline(always)]
@@ -156,6 +167,8 @@ impl<A: Allocator + Copy> AnswerTaker<A> for Unanswered {
             _ => Ok(()),
         }
     }
+
+    fn placed(&mut self, _: SiteAction, _: &[u8; MOST_NAME_BYTES], _: usize, _: u64) {}
 
     fn certified(&mut self, _: &[u8], _: u64, _: &[Window]) -> Result<(), AllocError> {
         Ok(())

@@ -2,16 +2,17 @@
 //!
 //! The room for an answer is made before the event that it answers, so that no answer is lost for want of memory. What puts takes
 //! that room as given.
-ghost use Rattle.std.specs.Prelude.{◌≡◌, ◌+◌, ◌*◌, ◌≤◌, ◌++◌, ◌∷◌, [], OnOk, IfErr, codes, length, slice_index_or};
+ghost use Rattle.std.specs.Prelude.{◌≡◌, ◌+◌, ◌*◌, ◌≤◌, ◌++◌, ◌∷◌, [], OnOk, IfErr, codes, length, slice_index_or, take};
 ghost use Rattle.std.specs.Fmt.{decimal, signed_decimal};
 ghost use Rattle.ordup_text.specs.Lines.{named_text, done_text, numbered_text};
 ghost use Rattle.ordup_text.specs.declared.text_buffer.TheConstants.{MOST_DIGITS};
 ghost use Rattle.ordup_answers.specs.declared.text.TheConstants.{ANSWER_ROOM, REFUSAL_ROOM, SITE_ROOM, WINDOW_ROOM};
 ghost use Rattle.ordup_objects.specs.Sizes.{most_sites};
 ghost use Rattle.ordup_answers.specs.Replies.{declared_text, declared_name};
-ghost use Rattle.ordup_answers.specs.Texts.{refused_text, started_text, shown_text, sites_text, listed_text, settled_text, read_text, ended_text, window_text, windows_text, certified_text, answer_text};
+ghost use Rattle.ordup_answers.specs.Texts.{refused_text, started_text, shown_text, sites_text, listed_text, settled_text, read_text, ended_text, placed_text, window_text, windows_text, certified_text, answer_text};
 
-use ordup_grammar::Declaration;
+use ordup_grammar::{Declaration, SiteAction};
+use ordup_objects::sizes::MOST_NAME_BYTES;
 use ordup_objects::{Name, ObjectTable, Refusal, SiteId};
 use ordup_primary::{SiteList, Window};
 use ordup_text::{
@@ -251,6 +252,44 @@ fn put_place<A: Allocator + Copy, const N: usize>(
     ensures { out.new.text ≡ out.old.text ++ numbered_text done.now name.now place }
 {
     put_numbered(out, done, name, place);
+}
+
+/// Puts the answer to an action at a site: the name is the first `len` bytes of an array.
+#[inline(always)]
+pub(crate) fn put_placed<A: Allocator + Copy>(
+    out: &mut TextBuffer<A>,
+    action: SiteAction,
+    name: &[u8; MOST_NAME_BYTES],
+    len: usize,
+    place: u64,
+)
+    requires { (len ≤ 16) × (len + ANSWER_ROOM ≤ out.old.room) }
+    ensures { out.new.text ≡ out.old.text ++ placed_text action (take len name.now) place }
+{
+    match action {
+        SiteAction::Send => put_name_and_place(out, b"ok sent ", name, len, place),
+        SiteAction::Apply => put_name_and_place(out, b"ok applied ", name, len, place),
+        SiteAction::Report => put_name_and_place(out, b"ok reported ", name, len, place),
+    }
+}
+
+/// Puts what was done, the first `len` bytes of a name, and a place.
+#[inline(always)]
+fn put_name_and_place<A: Allocator + Copy, const N: usize>(
+    out: &mut TextBuffer<A>,
+    done: &[u8; N],
+    name: &[u8; MOST_NAME_BYTES],
+    len: usize,
+    place: u64,
+)
+    requires { (len ≤ 16) × (N + 16 + MOST_DIGITS + 2 ≤ out.old.room) }
+    ensures { out.new.text ≡ out.old.text ++ numbered_text done.now (take len name.now) place }
+{
+    out.put_array(done);
+    out.put_prefix(name, len);
+    out.put_array(b" ");
+    out.put_number(place);
+    out.put_array(b"\n");
 }
 
 /// Puts the answer to a query that began.

@@ -4,6 +4,7 @@ use Rattle.std.proofs.KnownBytes.{Appends-trans}
 use Rattle.std.specs.Io.KnownBytes.{Appends}
 use Rattle.std.proofs.lemmas.List.{append-nil}
 use Rattle.ordup_answers.specs.Answers.{Leaves}
+use Rattle.ordup_answers.specs.KnownLines.{Knows}
 use Rattle.ordup_answers.specs.Replies.{request_reply, reply}
 use Rattle.ordup_answers.specs.ScriptStates.{ScriptState, Stands}
 use Rattle.ordup_grammar.specs.Requests.{Request, request_of}
@@ -24,20 +25,22 @@ module _ {W A : Type 0} (contents : W → Option (List ℕ)) where
   -- one line more is answered
   pub answers_line : (first before after : Answerer W A) (earlier : List Line) (request : Request) (line : Line)
       → HasAnswered contents first before earlier → request ≡ request_of line
-      → ((s : ScriptState A) → Stands before.store.now s
-      → Leaves (Stands after.store.now) (λ text. after.answers.now.text ≡ before.answers.now.text ++ text) (request_reply s request))
+      → ((s : ScriptState A) → Stands before.store.now s → Knows before.known.now s
+      → Leaves (λ (t : ScriptState A). Stands after.store.now t × Knows after.known.now t) (λ text. after.answers.now.text ≡ before.answers.now.text ++ text) (request_reply s request))
       → IsLater before after → after.output.now ≡ before.output.now
       → HasAnswered contents first after (earlier ++ line ∷ [])
   unfolding reply
   answers_line first before after earlier request line h is leaves later same =
       let w : Written A = written A earlier in
-      let (stands, grew) = subst
+      let (left, grew) = subst
       (λ (a : Request).
-      Leaves {A = A} (Stands after.store.now) (λ text. after.answers.now.text ≡ before.answers.now.text ++ text) (request_reply w.0 a)) is
-      (leaves w.0 h.store) in
+      Leaves {A = A} (λ (t : ScriptState A). Stands after.store.now t × Knows after.known.now t)
+      (λ text. after.answers.now.text ≡ before.answers.now.text ++ text) (request_reply w.0 a)) is
+      (leaves w.0 h.store h.known) in
       let next : written A (earlier ++ line ∷ []) ≡ answered w line = after_lines-append answered _ earlier (line ∷ []) in record {
         later = IsLater-trans first before after h.later later;
-        store = subst (λ (v : Written A). Stands after.store.now v.0) (sym next) stands;
+        store = subst (λ (v : Written A). Stands after.store.now v.0) (sym next) left.0;
+        known = subst (λ (v : Written A). Knows after.known.now v.0) (sym next) left.1;
         sent = h.sent;
         wrote = rw same h.wrote;
         text =
@@ -66,11 +69,12 @@ module _ {W A : Type 0} (contents : W → Option (List ℕ)) where
   -- all answers that were kept are sent
   pub sends_all : (first before after : Answerer W A) (earlier : List Line) → HasAnswered contents first before earlier
       → IsLater before after → Appends (contents before.output.now) (contents after.output.now) before.answers.now.text
-      → after.store.now ≡ before.store.now → after.answers.now.text ≡ []
+      → after.store.now ≡ before.store.now → after.known.now ≡ before.known.now → after.answers.now.text ≡ []
       → HasAnswered contents first after earlier
-  sends_all first before after earlier h later grew store none = record {
+  sends_all first before after earlier h later grew store known none = record {
     later = IsLater-trans first before after h.later later;
     store = rw store h.store;
+    known = rw known h.known;
     sent = h.sent ++ before.answers.now.text;
     wrote = Appends-trans _ _ _ h.sent before.answers.now.text h.wrote grew;
     text =

@@ -1,6 +1,7 @@
 -- How far an answerer of lines has come.
 use Rattle.std.specs.Prelude.{◌≡◌, ◌⊎◌, ℕ, List, ◌++◌, Option}
 use Rattle.std.specs.Io.KnownBytes.{Appends}
+use Rattle.ordup_answers.specs.KnownLines.{Knows}
 use Rattle.ordup_answers.specs.ScriptStates.{Stands}
 use Rattle.ordup_grammar.specs.Lines.{Line}
 use Rattle.ordup_script.specs.declared.stream.Answerer.{Answerer}
@@ -20,6 +21,7 @@ module _ {W A : Type 0} (contents : W → Option (List ℕ)) where
   pub record HasAnswered (first now : Answerer W A) (lines : List Line) : Type 0 where
     pub later : IsLater first now
     pub store : Stands now.store.now (written A lines).0
+    pub known : Knows now.known.now (written A lines).0
     pub sent : List ℕ
     pub wrote : Appends (contents first.output.now) (contents now.output.now) sent
     pub text : (written A lines).1 ≡ sent ++ now.answers.now.text

@@ -8,7 +8,7 @@ use crate::line_reader::{Extent, LineTaker, read_lines};
 use crate::sizes::MOST_SCRIPT_BYTES;
 use crate::stream::ScriptFault;
 use ordup_answers::{ScriptEnd, Unanswered, answer};
-use ordup_grammar::ScriptLine;
+use ordup_grammar::{LinePart, ScriptLine};
 use std::alloc::{AllocError, Allocator, Global};
 use std::io::Read;
 
@@ -35,6 +35,11 @@ impl<A: Allocator + Copy> LineTaker for Follower<A> {
     #[inline(always)]
     fn take(&mut self, line: &ScriptLine<'_>) -> Result<(), AllocError> {
         answer(self.alloc, &mut self.store, line, &mut Unanswered)
+    }
+
+    #[inline(always)]
+    fn take_part(&mut self, part: &LinePart<'_>) -> Result<(), AllocError> {
+        self.take(&ScriptLine::of(part))
     }
 
     fn hand_out(&mut self) -> Result<(), AllocError> {

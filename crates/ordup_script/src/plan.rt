@@ -9,7 +9,7 @@ ghost use Rattle.ordup_script.specs.Scripts.{most_counted};
 
 use crate::line_reader::LineTaker;
 use ordup_answers::{declare, set_in};
-use ordup_grammar::{Declaration, Keyword, ScriptLine, Word, Words};
+use ordup_grammar::{Declaration, Keyword, LinePart, ScriptLine, Word, Words};
 use ordup_objects::{MessageSet, Refusal};
 use ordup_world::Setup;
 use std::alloc::{Allocator, Global};
@@ -60,6 +60,10 @@ impl<A: Allocator + Copy> LineTaker for Planning<A> {
 
     fn take(&mut self, line: &ScriptLine<'_>) -> Result<(), PlanFault> {
         self.take_line(line)
+    }
+
+    fn take_part(&mut self, part: &LinePart<'_>) -> Result<(), PlanFault> {
+        self.take(&ScriptLine::of(part))
     }
 
     fn hand_out(&mut self) -> Result<(), PlanFault> {

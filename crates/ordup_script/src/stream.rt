@@ -1,5 +1,6 @@
 //! Runs a script: its lines come from a reader, and their answers go to a writer.
 ghost use Rattle.std.specs.Prelude.{◌≡◌, ◌+◌, []};
+ghost use Rattle.ordup_answers.specs.KnownLines.{Knows};
 ghost use Rattle.ordup_answers.specs.ScriptStates.{Stands, first_state};
 ghost use Rattle.ordup_script.specs.Answerers.{HasAnswered, HasStopped};
 ghost use Rattle.ordup_script.specs.Readings.{Takes};
@@ -8,8 +9,8 @@ ghost use Rattle.ordup_script.specs.Scripts.{most_counted};
 
 use crate::line_reader::{Extent, LineTaker, read_lines};
 use crate::sizes::{MOST_SCRIPT_BYTES, PIECE};
-use ordup_answers::{ScriptEnd, answer};
-use ordup_grammar::ScriptLine;
+use ordup_answers::{KnownLines, ScriptEnd, answer_line, answer_part};
+use ordup_grammar::{LinePart, ScriptLine};
 use ordup_text::{TextBuffer, send};
 use std::alloc::{Allocator, Global};
 use std::io::{Read, Write};
@@ -32,6 +33,7 @@ pub enum ScriptFault {
 #[derive(Drop)]
 struct Answerer<'a, W, A: Allocator + Copy = Global> {
     store: &'a mut ScriptEnd<A>,
+    known: &'a mut KnownLines,
     answers: &'a mut TextBuffer<A>,
     output: &'a mut W,
 }
@@ -51,7 +53,16 @@ impl<W: Write, A: Allocator + Copy> LineTaker for Answerer<'_, W, A> {
     #[inline(always)]
     fn take(&mut self, line: &ScriptLine<'_>) -> Result<(), ScriptFault> {
         let alloc = *self.answers.allocator();
-        match answer(alloc, self.store, line, self.answers) {
+        match answer_line(alloc, self.store, self.known, line, self.answers) {
+            Ok(()) => self.hand_out_many(),
+            Err(_) => Err(ScriptFault::NoMemory),
+        }
+    }
+
+    #[inline(always)]
+    fn take_part(&mut self, part: &LinePart<'_>) -> Result<(), ScriptFault> {
+        let alloc = *self.answers.allocator();
+        match answer_part(alloc, self.store, self.known, part, self.answers) {
             Ok(()) => self.hand_out_many(),
             Err(_) => Err(ScriptFault::NoMemory),
         }
@@ -85,12 +96,14 @@ impl<W: Write, A: Allocator + Copy> Answerer<'_, W, A> {
 /// Runs a script of at most `limit` bytes, of which no line was answered yet.
 fn run_in<A: Allocator + Copy, R: Read, W: Write>(
     store: &mut ScriptEnd<A>,
+    known: &mut KnownLines,
     answers: &mut TextBuffer<A>,
     input: &mut R,
     output: &mut W,
     limit: u64,
 ) -> Result<(), ScriptFault>
     requires store { Stands store.old first_state }
+    requires known { Knows {A = A} known.old first_state }
     requires answers { answers.old.text ≡ [] }
     ensures { RunsIn (record {
       had = R.remaining input.old;
@@ -101,6 +114,7 @@ fn run_in<A: Allocator + Copy, R: Read, W: Write>(
 {
     let mut answerer = Answerer {
         store,
+        known,
         answers,
         output,
     };
@@ -136,8 +150,9 @@ pub fn run_script_within<A: Allocator + Copy, R: Read, W: Write>(
     }) limit result }
 {
     let mut store = ScriptEnd::new(alloc);
+    let mut known = KnownLines::new();
     let mut answers = TextBuffer::new(alloc);
-    let ran = run_in(&mut store, &mut answers, input, output, limit);
+    let ran = run_in(&mut store, &mut known, &mut answers, input, output, limit);
     drop(answers);
     match ran {
         Ok(()) => Ok(store),

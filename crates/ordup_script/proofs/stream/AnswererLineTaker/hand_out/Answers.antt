@@ -14,5 +14,5 @@ pub returns-in-Ok-clause-lines : goal.returns-in-Ok-clause-lines
 returns-in-Ok-clause-lines g c = record {
   goes_on = λ first earlier h.
       rw append-nil (sends_all g.W.Write.contents first c.args.self.now _ earlier h (record { store = refl; output = refl }) (search rules)
-      refl c.clear.ensures);
+      refl refl c.clear.ensures);
 }

@@ -41,11 +41,6 @@ uses-min h groups a b (limit ∷ limits) =
     ap (λ w. made w limit.amount ∷ map (use_of h groups (min a b) b) limits) (span-min h groups limit.scope a b)
     ∙ ap (λ us. use_of h groups a b limit ∷ us) (uses-min h groups a b limits)
 
--- a fact that follows from one of success
-pub on_ok : {T E P Q : Type 0} (result : Result T E) → OnOk result P → (P → Q) → OnOk result Q
-on_ok (Ok _) holds next = next holds
-on_ok (Err _) holds next = holds
-
 -- the cells of a use, where it is that of the limit with this index
 pub use_there : (new old : List ℕ) (l : LedgerState) (i weight amount : ℕ) (d : Limit)
     → new ≡ old ++ use_text (Some (made weight amount)) → i < length l.limits → amount ≡ (get_or l.limits i d).amount

@@ -214,7 +214,13 @@ fn answer_report<A: Allocator + Copy, O: AnswerTaker<A>>(
     ensures reply { OnOk result ((d : Declared) (past : Past A) → StandsFor d world.old past → Leaves (IsWorldOf world.new) (O.took out.old out.new) (event_reply d past (name_of line.now, []) (Event.Report line.now.site))) }
     ensures kept { IfErr result (λ _. (world.new ≡ world.old) × O.took out.old out.new []) }
 {
-    answer_at(world, SiteAction::Report, Event::Report(line.site), line, out)
+    answer_at(
+        world,
+        SiteAction::Report,
+        Event::Report(line.site),
+        line,
+        out,
+    )
 }
 
 /// Steps the world by the event of a line that is kept, and answers it. Room for the answer is made first.

@@ -127,14 +127,14 @@ fn put_shown<A: Allocator + Copy>(
     }) objects.now values.now }
 {
     objects.keeps();
-    out.put(b"ok show ");
+    out.put_array(b"ok show ");
     out.put_name(site);
     put_with_number(out, b" sent ", numbers.sent);
     put_with_number(out, b" applied ", numbers.applied);
     put_with_number(out, b" reported ", numbers.reported);
     put_with_number(out, b" rounds ", numbers.rounds);
     put_values(out, objects, values);
-    out.put(b"\n");
+    out.put_array(b"\n");
 }
 
 /// Adds the answer to an event, as `put_answer` puts it.
@@ -318,17 +318,17 @@ fn put_read<A: Allocator + Copy>(
     requires { length query.now + length object.now + ANSWER_ROOM ≤ out.old.room }
     ensures { out.new.text ≡ out.old.text ++ read_text query.now object.now answer }
 {
-    out.put(b"ok read ");
+    out.put_array(b"ok read ");
     out.put_name(query);
-    out.put(b" ");
+    out.put_array(b" ");
     out.put_name(object);
-    out.put(b" value ");
+    out.put_array(b" value ");
     out.put_value(answer.value);
-    out.put(b" import ");
+    out.put_array(b" import ");
     out.put_number(answer.import);
-    out.put(b" total ");
+    out.put_array(b" total ");
     out.put_number(answer.total);
-    out.put(b"\n");
+    out.put_array(b"\n");
 }
 
 /// Puts the answer to the end of a query: what its reads came to.
@@ -336,13 +336,13 @@ fn put_ended<A: Allocator + Copy>(out: &mut TextBuffer<A>, query: &[u8], answer:
     requires { length query.now + ANSWER_ROOM ≤ out.old.room }
     ensures { out.new.text ≡ out.old.text ++ ended_text query.now answer }
 {
-    out.put(b"ok end ");
+    out.put_array(b"ok end ");
     out.put_name(query);
     put_with_number(out, b" place ", answer.place);
     put_with_value(out, b" sum ", answer.sum);
     put_with_number(out, b" total ", answer.total);
     put_with_number(out, b" reads ", answer.reads);
-    out.put(b"\n");
+    out.put_array(b"\n");
 }
 
 /// Puts the answer to a settlement.
@@ -413,12 +413,12 @@ pub fn push_certified<A: Allocator + Copy>(
         site.len()
             .saturating_add(windows.len().saturating_mul(WINDOW_ROOM)),
     )?;
-    out.put(b"ok certified ");
+    out.put_array(b"ok certified ");
     out.put_name(site);
-    out.put(b" ");
+    out.put_array(b" ");
     out.put_number(rounds);
     put_windows(out, windows);
-    out.put(b"\n");
+    out.put_array(b"\n");
     Ok(())
 }
 

@@ -6,17 +6,17 @@ use Rattle.ordup_answers.proofs.text.put_read.Goals as goal
 pub returns : goal.returns
 returns g c =
     rw (
-      c.put-6.ensures.text,
+      c.put_array-6.ensures.text,
       c.put_number-2.ensures.text,
-      c.put-5.ensures.text,
+      c.put_array-5.ensures.text,
       c.put_number.ensures.text,
-      c.put-4.ensures.text,
+      c.put_array-4.ensures.text,
       c.put_value.ensures.text,
-      c.put-3.ensures.text,
+      c.put_array-3.ensures.text,
       c.put_name-2.ensures.text,
-      c.put-2.ensures.text,
+      c.put_array-2.ensures.text,
       c.put_name.ensures.text,
-      c.put.ensures.text,
+      c.put_array.ensures.text,
       to_z-of_z w64 c.args.answer.value (search rules),
     )
     (read_parts c.args.out.now.text c.args.query.now c.args.object.now c.args.answer)

@@ -31,7 +31,7 @@ pub use laws::{
 };
 pub use message_set::MessageSet;
 pub use moved::Moved;
-pub use name::Name;
+pub use name::{Name, NameBytes};
 pub use name_table::NameTable;
 pub use object_table::ObjectTable;
 pub use refusal::Refusal;

@@ -82,7 +82,7 @@ impl Name {
 
     /// Whether these bytes spell the name.
     #[inline(always)]
-    pub(crate) fn is_spelled(&self, bytes: &[u8]) -> bool
+    pub fn is_spelled(&self, bytes: &[u8]) -> bool
         ensures { result ≡ pointwise nat_eq bytes.now self.now }
     {
         are_alike(bytes, self.as_bytes())
@@ -142,10 +142,10 @@ impl Hash for Name {
     }
 }
 
-/// The bytes by which a name is looked up. Where they spell no name, none is found.
+/// The bytes by which a name is looked up in a map of names. Where they spell no name, none is found.
 #[derive(Clone, Copy)]
-pub(crate) struct NameBytes<'a> {
-    pub(crate) bytes: &'a [u8],
+pub struct NameBytes<'a> {
+    pub bytes: &'a [u8],
 }
 
 impl PartialEq for NameBytes<'_> {

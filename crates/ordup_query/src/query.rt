@@ -76,6 +76,7 @@ impl<A: Allocator + Copy> Query<A> {
     ///
     /// It is refused `TooMany` after 256 accepted reads, and `OverImport` where the total would pass the limit. The query then
     /// stands as before.
+    #[inline(always)]
     pub fn read(&mut self, site: &Site<A>, object: ObjectId) -> Result<ReadAnswer, Refusal>
         requires marked { object < length self.old.marks }
         requires known { object < length site.now.values }

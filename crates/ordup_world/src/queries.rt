@@ -9,7 +9,7 @@ use crate::event::Answer;
 use crate::sizes::MOST_QUERIES;
 use crate::store::Store;
 use indexmap::IndexMap;
-use ordup_objects::{Hints, Name, ObjectId, Refusal, SiteId};
+use ordup_objects::{Hints, Name, NameBytes, ObjectId, Refusal, SiteId};
 use ordup_primary::Primary;
 use ordup_query::sizes::GREATEST_IMPORT_LIMIT;
 use ordup_query::{Query, ReadAnswer};
@@ -121,9 +121,9 @@ impl<A: Allocator + Copy> OpenQueries<A> {
 
     /// The query reads an object at its site.
     #[inline(always)]
-    pub(crate) fn read(&mut self, store: &Store<A>, name: Name, object: ObjectId) -> Answer<A>
+    pub(crate) fn read(&mut self, store: &Store<A>, name: &[u8], object: ObjectId) -> Answer<A>
         requires { IsSound (with_queries (state_of store.now) self.old) }
-        ensures { StepsWorld (with_queries (state_of store.now) self.old) (Event.Read name object) result (with_queries (state_of store.now) self.new) }
+        ensures { StepsWorld (with_queries (state_of store.now) self.old) (Event.Read name.now object) result (with_queries (state_of store.now) self.new) }
     {
         if object.index() >= store.primary.setup().objects().len() {
             return Answer::Refused(Refusal::UnknownObject);
@@ -167,19 +167,18 @@ impl<A: Allocator + Copy> OpenQueries<A> {
     fn contains(&self, name: Name) -> bool
         ensures { result ≡ is_some (find_query name self.now) }
     {
-        self.index_of(&name).is_some()
+        self.index_of(name.as_bytes()).is_some()
     }
 
     /// The index of the open query of this name, if there is one.
     // The guess is tried before the name is hashed.
-    #[inline(always)]
-    fn index_of(&self, name: &Name) -> Option<usize>
+    fn index_of(&self, name: &[u8]) -> Option<usize>
         ensures at { IfSome result (λ i. IsOpenAt self.now name.now i) }
         ensures none { IfNone result (find_query name.now self.now ≡ None) }
     {
-        let guess = self.hints.guess(name.as_bytes());
+        let guess = self.hints.guess(name);
         if let Some((key, _)) = self.entries.get_index(guess) {
-            if key == name {
+            if key.is_spelled(name) {
                 return Some(guess);
             }
         }
@@ -189,11 +188,11 @@ impl<A: Allocator + Copy> OpenQueries<A> {
     /// The index of the open query of this name, if there is one, by its hash.
     // Not inlined, so that what calls `index_of` stays small.
     #[inline(never)]
-    fn index_by_hash(&self, name: &Name) -> Option<usize>
+    fn index_by_hash(&self, name: &[u8]) -> Option<usize>
         ensures at { IfSome result (λ i. IsOpenAt self.now name.now i) }
         ensures none { IfNone result (find_query name.now self.now ≡ None) }
     {
-        self.entries.get_index_of(name)
+        self.entries.get_index_of(NameBytes { bytes: name })
     }
 
     /// A query begins, whose name is that of no open query.
@@ -213,18 +212,18 @@ impl<A: Allocator + Copy> OpenQueries<A> {
     #[inline(always)]
     fn read_at(
         &mut self,
-        name: Name,
+        name: &[u8],
         sites: &[Site<A>],
         object: ObjectId,
     ) -> Result<ReadAnswer, Refusal>
-        requires site { IfSome (find_query name self.old) (λ o. o.site < length sites.now) }
-        requires marked { IfSome (find_query name self.old) (λ o. object < length o.query.marks) }
+        requires site { IfSome (find_query name.now self.old) (λ o. o.site < length sites.now) }
+        requires marked { IfSome (find_query name.now self.old) (λ o. object < length o.query.marks) }
         requires known { (s : ℕ) (d : SiteState) → s < length sites.now → object < length (slice_index_or sites.now s d).values }
-        ensures ok { IfOk result (λ a. IsRead self.old self.new name sites.now object a) }
-        ensures refused { IfErr result (λ e. refusal_of (find_query name self.old) sites.now object ≡ Some e) }
+        ensures ok { IfOk result (λ a. IsRead self.old self.new name.now sites.now object a) }
+        ensures refused { IfErr result (λ e. refusal_of (find_query name.now self.old) sites.now object ≡ Some e) }
         ensures err { OnErr result (self.new ≡ self.old) }
     {
-        match self.index_of(&name) {
+        match self.index_of(name) {
             Some(index) => self
                 .entries
                 .get_index_mut(index)
@@ -241,7 +240,7 @@ impl<A: Allocator + Copy> OpenQueries<A> {
         ensures len { IsSome result → length self.new + 1 ≡ length self.old }
         ensures none { result ≡ None → self.new ≡ self.old }
     {
-        let index = self.index_of(&name)?;
+        let index = self.index_of(name.as_bytes())?;
         let (_, open) = self.entries.swap_remove_index(index).unwrap();
         // The last query stands at this index now.
         if let Some((moved, _)) = self.entries.get_index(index) {

@@ -5,12 +5,12 @@ ghost use Rattle.ordup_primary.specs.Declarations.{start_refusal};
 use crate::event::{Answer, Event};
 use crate::queries::OpenQueries;
 use crate::store::Store;
-use ordup_objects::Refusal;
+use ordup_objects::{ObjectId, Refusal};
 use ordup_primary::{Primary, Setup};
 use std::alloc::{Allocator, Global};
 use std::marker::Model;
 
-/// A running store: its primary, its sites and its open queries. It moves by `step` alone, and waits for nobody.
+/// A running store: its primary, its sites and its open queries. It moves by `step` and `read` alone, and waits for nobody.
 #[derive(Drop)]
 pub struct World<A: Allocator + Copy = Global> {
     store: Store<A>,
@@ -32,6 +32,7 @@ impl<A: Allocator + Copy> World<A> {
     ghost use Rattle.ordup_world.specs.Events.{Past, later, IsAnswer, OnRefused};
     ghost use Rattle.ordup_world.specs.Worlds.{StandsFor, IsSound, KeepsLimits};
     ghost use Rattle.ordup_world.specs.Steps.{StepsWorld};
+    ghost use Rattle.ordup_world.specs.declared.event.Event.{Event};
     ghost use Rattle.ordup_world.specs.Imports.{AreAccepted, KeepImports};
     ghost use Rattle.ordup_primary.specs.Declarations.{Declared};
     ghost use Rattle.ordup_primary.specs.Primaries.{HasFewestRounds};
@@ -75,6 +76,30 @@ impl<A: Allocator + Copy> World<A> {
         self.take(event)
     }
 
+    /// Takes a read by the open query of this name, and answers it as `step` does. Bytes that spell no name are that of no query.
+    // So a caller that has bytes need not make a name of them first.
+    #[inline(always)]
+    pub fn read(&mut self, query: &[u8], object: ObjectId) -> Answer<A>
+        ensures answer { (setup : Declared) (past : Past A) → StandsFor setup self.old past → IsAnswer setup past (Event.Read query.now object) result }
+        ensures state { (setup : Declared) (past : Past A) → StandsFor setup self.old past → StandsFor setup self.new (later past (Event.Read query.now object) result) }
+        ensures setup { self.new.primary.setup ≡ self.old.primary.setup }
+        ensures refused { OnRefused result (self.new ≡ self.old) }
+        ensures sound { IsSound self.new }
+        ensures limits { KeepsLimits self.new }
+        ensures fewest { HasFewestRounds self.new.primary }
+        ensures imports { (setup : Declared) (past : Past A) → StandsFor setup self.old past → AreAccepted setup past → KeepImports setup (later past (Event.Read query.now object) result) }
+    {
+        self.take_read(query, object)
+    }
+
+    /// Takes a read by the open query of this name, and answers it.
+    #[inline(always)]
+    fn take_read(&mut self, query: &[u8], object: ObjectId) -> Answer<A>
+        ensures { StepsWorld self.old (Event.Read query.now object) result self.new }
+    {
+        self.queries.read(&self.store, query, object)
+    }
+
     /// Takes one event and answers it.
     #[inline(always)]
     fn take(&mut self, event: Event<A>) -> Answer<A>
@@ -94,7 +119,9 @@ impl<A: Allocator + Copy> World<A> {
             Event::Begin { query, site, limit } => self
                 .queries
                 .begin(&self.store, query, site, limit),
-            Event::Read { query, object } => self.queries.read(&self.store, query, object),
+            Event::Read { query, object } => {
+                self.queries.read(&self.store, query.as_bytes(), object)
+            }
             Event::End(query) => self.queries.end(query),
             Event::Abandon(query) => self.queries.abandon(query),
             Event::Show(site) => self.store.show(site),

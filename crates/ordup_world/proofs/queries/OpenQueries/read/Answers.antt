@@ -12,15 +12,15 @@ returns-then-index-len g c = unknown-read c.requires (grind (arith, common_steps
 pub read_at-requires-clause-site : goal.read_at-requires-clause-site
 read_at-requires-clause-site g c =
     let w : WorldState = with_queries (state_of c.args.store.now) c.args.self.now in
-    rw c.as_slice.ensures.value (if-found (find_query c.args.name w.queries) (λ o. o.site < length w.sites)
-    (λ o found. (c.requires.queries c.args.name o found).site))
+    rw c.as_slice.ensures.value (if-found (find_query c.args.name.now w.queries) (λ o. o.site < length w.sites)
+    (λ o found. (c.requires.queries c.args.name.now o found).site))
 
 pub read_at-requires-clause-marked : goal.read_at-requires-clause-marked
 read_at-requires-clause-marked g c =
     let w : WorldState = with_queries (state_of c.args.store.now) c.args.self.now in
     let known : c.args.object < length w.primary.setup.objects = grind (arith, common_steps) in
-    if-found (find_query c.args.name w.queries) (λ o. c.args.object < length o.query.marks)
-    (λ o found. omega (arith, known, (c.requires.queries c.args.name o found).count))
+    if-found (find_query c.args.name.now w.queries) (λ o. c.args.object < length o.query.marks)
+    (λ o found. omega (arith, known, (c.requires.queries c.args.name.now o found).count))
 
 pub read_at-requires-clause-known : goal.read_at-requires-clause-known
 read_at-requires-clause-known g c =

@@ -1,8 +1,8 @@
 -- The events that the actions of a script stand for.
-use Rattle.std.specs.Prelude.{ℕ, List, [], length, Result, Ok, Err, nat_lt, if◌then◌else◌}
+use Rattle.std.specs.Prelude.{ℕ, List, [], Result, Ok, Err, if◌then◌else◌}
 use Rattle.ordup_objects.specs.Names.{is_name}
 use Rattle.ordup_objects.specs.declared.refusal.Refusal.{Refusal}
-use Rattle.ordup_objects.specs.declared.refusal.Refusal.TheVariants.{BadName, UnknownObject, UnknownQuery}
+use Rattle.ordup_objects.specs.declared.refusal.Refusal.TheVariants.{BadName, UnknownQuery}
 use Rattle.ordup_primary.specs.Declarations.{Declared}
 use Rattle.ordup_world.specs.declared.event.Event.{Event}
 use Rattle.ordup_world.specs.declared.event.Event.TheVariants as event
@@ -29,12 +29,6 @@ use Rattle.ordup_answers.specs.Refusals.{made_of}
 abbrev pub query_name : List ℕ → Result (List ℕ) Refusal
 query_name q = if is_name q then Ok q else Err UnknownQuery
 
--- the query and the object that a read names
-abbrev pub read_of : Declared → List ℕ → List ℕ → Result (List ℕ × ℕ) Refusal
-read_of d q x =
-    let object = index_among d.objects x in
-    if nat_lt object (length d.objects) then made_of (λ name. (name, object)) (query_name q) else Err UnknownObject
-
 module _ {A : Type 0} where
   -- the event that an action stands for, or why there is none
   abbrev pub event_of : Declared → Action → Result (Event A) Refusal
@@ -45,7 +39,7 @@ module _ {A : Type 0} where
   event_of d Settle = Ok event.Settle
   event_of d (Begin q s limit) =
       if is_name q then Ok (event.Begin q (index_among d.sites s) (amount_of limit)) else Err BadName
-  event_of d (Read q x) = made_of (λ named. event.Read named.0 named.1) (read_of d q x)
+  event_of d (Read q x) = Ok (event.Read q (index_among d.objects x))
   event_of d (End q) = made_of (λ name. event.End name) (query_name q)
   event_of d (Abandon q) = made_of (λ name. event.Abandon name) (query_name q)
   event_of d (Show s) = Ok (event.Show (index_among d.sites s))

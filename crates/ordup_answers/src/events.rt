@@ -9,12 +9,14 @@ ghost use Rattle.std.specs.Prelude.{◌≡◌, [], Some, OnOk, IfErr, option_map
 ghost use Rattle.ordup_primary.specs.Declarations.{Declared};
 ghost use Rattle.ordup_world.specs.Events.{Past};
 ghost use Rattle.ordup_world.specs.Worlds.{StandsFor};
+ghost use Rattle.ordup_world.specs.declared.event.Event.{Event};
+ghost use Rattle.ordup_grammar.specs.Actions.{Settle};
 ghost use Rattle.ordup_grammar.specs.Commands.{Act, command_by};
 ghost use Rattle.ordup_grammar.specs.SiteLines.{action_at};
 ghost use Rattle.ordup_grammar.specs.Words.{only_word};
 ghost use Rattle.ordup_grammar.specs.declared.keyword.Keyword.{Keyword};
 ghost use Rattle.ordup_answers.specs.Answers.{Leaves};
-ghost use Rattle.ordup_answers.specs.Events.{query_name, read_of};
+ghost use Rattle.ordup_answers.specs.Events.{query_name};
 ghost use Rattle.ordup_answers.specs.Refusals.{Gives};
 ghost use Rattle.ordup_answers.specs.Replies.{event_reply, words_reply};
 ghost use Rattle.ordup_answers.specs.ScriptStates.{ScriptState, IsWorldOf, Stands};
@@ -25,7 +27,7 @@ use crate::script_end::ScriptEnd;
 use crate::taker::AnswerTaker;
 use ordup_grammar::{ScopeWord, SiteAction, Word, Words};
 use ordup_objects::{Name, ObjectId, Refusal};
-use ordup_world::{Event, Setup, World};
+use ordup_world::{Event, World};
 use std::alloc::{AllocError, Allocator};
 
 /// Answers the action of words after a keyword: `send S`, `apply S` or `report S`.
@@ -98,6 +100,18 @@ pub(crate) fn answer_settle<A: Allocator + Copy, O: AnswerTaker<A>>(
     if !rest.is_empty() {
         return out.refused(Refusal::Syntax);
     }
+    settle(store, out)
+}
+
+/// Answers the line `settle`.
+#[inline(never)]
+pub(crate) fn settle<A: Allocator + Copy, O: AnswerTaker<A>>(
+    store: &mut ScriptEnd<A>,
+    out: &mut O,
+) -> Result<(), AllocError>
+    ensures reply { OnOk result ((s : ScriptState A) → Stands store.old s → Leaves (Stands store.new) (O.took out.old out.new) (words_reply s (Some (Act Settle)))) }
+    ensures kept { IfErr result (λ _. (store.new ≡ store.old) × O.took out.old out.new []) }
+{
     let ScriptEnd::Running(world) = store else {
         return out.refused(Refusal::NotStarted);
     };
@@ -169,16 +183,25 @@ pub(crate) fn answer_read<A: Allocator + Copy, O: AnswerTaker<A>>(
     let ScriptEnd::Running(world) = store else {
         return out.refused(Refusal::NotStarted);
     };
-    match read_of(world.primary().setup(), &query, &object) {
-        Ok((name, id)) => {
-            let event = Event::Read {
-                query: name,
-                object: id,
-            };
-            answer_event(world, event, query.as_bytes(), object.as_bytes(), out)
-        }
-        Err(refusal) => out.refused(refusal),
-    }
+    let id = find_object(world.primary().setup().objects(), &object);
+    read_out(world, query.as_bytes(), object.as_bytes(), id, out)
+}
+
+/// Reads an object by the query of this name, and answers that. Room for the answer is made first.
+#[inline(always)]
+fn read_out<A: Allocator + Copy, O: AnswerTaker<A>>(
+    world: &mut World<A>,
+    query: &[u8],
+    object: &[u8],
+    id: ObjectId,
+    out: &mut O,
+) -> Result<(), AllocError>
+    ensures reply { OnOk result ((d : Declared) (past : Past A) → StandsFor d world.old past → Leaves (IsWorldOf world.new) (O.took out.old out.new) (event_reply d past (query.now, object.now) (Event.Read query.now id))) }
+    ensures kept { IfErr result (λ _. (world.new ≡ world.old) × O.took out.old out.new []) }
+{
+    out.reserve(query.len() + object.len())?;
+    let answer = world.read(query, id);
+    out.stepped(world.primary().setup(), query, object, &answer)
 }
 
 /// Answers `end Q`.
@@ -268,23 +291,6 @@ fn answer_event<A: Allocator + Copy, O: AnswerTaker<A>>(
     }
     let answer = world.step(event);
     out.stepped(world.primary().setup(), subject, object, &answer)
-}
-
-/// The query and the object that a read names.
-#[inline(always)]
-fn read_of<A: Allocator + Copy>(
-    setup: &Setup<A>,
-    query: &Word<'_>,
-    object: &Word<'_>,
-) -> Result<(Name, ObjectId), Refusal>
-    ensures { Gives (read_of setup.now query.now object.now) result }
-{
-    let objects = setup.objects();
-    let object = find_object(objects, object);
-    if object.index() >= objects.len() {
-        return Err(Refusal::UnknownObject);
-    }
-    Ok((query_name(query)?, object))
 }
 
 /// The name of a query. Where the word is no name, no query is open by it.

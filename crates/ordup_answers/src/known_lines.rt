@@ -1,7 +1,8 @@
 //! Lines that came before.
 //!
-//! Most lines of a script are one of a few: `send S`, `apply S` and `report S` of each site. Such a line is found by its bytes,
-//! without a look at its words, and kept with the site and its name as they are needed for the event and the answer.
+//! Most lines of a script are one of a few: `settle`, and `send S`, `apply S` and `report S` of each site. The first is known as it
+//! stands. A line of a site is found by its bytes, without a look at its words, and kept with the site and its name as they are
+//! needed for the event and the answer.
 //!
 //! Each line has one slot, which its bytes pick. A slot keeps the first line that comes to it: of a script that has 16 sites there
 //! are 48 lines, so few go without a slot, and none is kept in turns. Only a line whose site is declared is kept, and only after the
@@ -22,6 +23,7 @@ ghost use Rattle.ordup_answers.specs.ScriptStates.{ScriptState, IsWorldOf, Stand
 ghost use Rattle.ordup_answers.specs.Texts.{answer_text, placed_text};
 
 use crate::answers::answer;
+use crate::events::{answer_at_site, settle};
 use crate::known_line::{FEWEST_KEPT_BYTES, KnownLine, MOST_KEPT_BYTES};
 use crate::names::find_site;
 use crate::script_end::ScriptEnd;
@@ -93,14 +95,11 @@ impl KnownLines {
         &mut self,
         store: &ScriptEnd<A>,
         part: &LinePart<'_>,
-        line: &ScriptLine<'_>,
+        asked: &SiteLine<'_>,
     )
-        requires { request_of (cut part.now) ≡ asked line.now }
+        requires { request_of (cut part.now) ≡ Command (Act (action_at asked.now.action asked.now.site)) }
         ensures { (s : ScriptState A) → Stands store.now s → Knows self.old s → Knows self.new s }
     {
-        let ScriptLine::AtSite(asked) = line else {
-            return;
-        };
         let ScriptEnd::Running(world) = store else {
             return;
         };
@@ -120,9 +119,20 @@ fn slot_of(line: &[u8]) -> u8 {
     (mixed >> 56) as u8
 }
 
+/// Whether a line begins as a read or a proposal does, which most lines are that are of no site. It is not looked at as one of a site
+/// then. No clause speaks of this: it spares a look.
+#[inline(always)]
+fn begins_otherwise(line: &[u8]) -> bool {
+    let Some(first) = line.first_chunk::<4>() else {
+        return false;
+    };
+    let first = u32::from_le_bytes(*first);
+    first == u32::from_le_bytes(*b"read") || first == u32::from_le_bytes(*b"prop")
+}
+
 /// Answers the line of these bytes, as `answer` does, and may keep what it asks for.
 ///
-/// A line that is kept is answered without a look at its words.
+/// `settle`, and a line that is kept, are answered without a look at their words.
 // Inlined into the loop over lines, as `answer` is.
 #[inline(always)]
 pub fn answer_part<A: Allocator + Copy, O: AnswerTaker<A>>(
@@ -135,12 +145,19 @@ pub fn answer_part<A: Allocator + Copy, O: AnswerTaker<A>>(
     ensures reply { OnOk result ((s : ScriptState A) → Stands store.old s → Knows known.old s → Leaves (λ after. Stands store.new after × Knows known.new after) (O.took out.old out.new) (request_reply s (request_of (cut part.now)))) }
     ensures kept { IfErr result (λ _. (store.new ≡ store.old) × O.took out.old out.new []) }
 {
+    if part.is_settle() {
+        return settle(store, out);
+    }
     if let Some(line) = known.find(part.as_bytes()) {
         return answer_known(store, line, out);
     }
-    let line = ScriptLine::of(part);
-    known.keep(store, part, &line);
-    answer_line(alloc, store, known, &line, out)
+    if !begins_otherwise(part.as_bytes()) {
+        if let Some(line) = SiteLine::of(part) {
+            known.keep(store, part, &line);
+            return answer_at_site(store, line.action, &line.site, out);
+        }
+    }
+    answer_line(alloc, store, known, &ScriptLine::by_words(part), out)
 }
 
 /// Answers a line by its words, as `answer` does. What is kept of lines is true after it.

@@ -358,21 +358,21 @@ fn put_settled<A: Allocator + Copy>(out: &mut TextBuffer<A>, setup: &Setup<A>, s
 }
 
 /// Puts an answer that ends with a number and sites.
-fn put_listed<A: Allocator + Copy>(
+fn put_listed<A: Allocator + Copy, const N: usize>(
     out: &mut TextBuffer<A>,
-    done: &[u8],
+    done: &[u8; N],
     number: u64,
     setup: &Setup<A>,
     sites: &SiteList,
 )
-    requires { length done.now + most_sites * SITE_ROOM + MOST_DIGITS + 1 ≤ out.old.room }
+    requires { N + most_sites * SITE_ROOM + MOST_DIGITS + 1 ≤ out.old.room }
     ensures { out.new.text ≡ out.old.text ++ listed_text done.now number setup.now.sites sites.now }
 {
     sites.keeps();
-    out.put(done);
+    out.put_array(done);
     out.put_number(number);
     put_sites(out, setup, sites.as_slice());
-    out.put(b"\n");
+    out.put_array(b"\n");
 }
 
 /// Puts ` S` for each of these sites.
@@ -392,9 +392,9 @@ fn put_site<A: Allocator + Copy>(out: &mut TextBuffer<A>, setup: &Setup<A>, site
     ensures text { out.new.text ≡ out.old.text ++ 32 ∷ [] ++ (slice_index_or setup.now.sites site ([], 0)).0 }
     ensures room { out.old.room ≤ out.new.room + SITE_ROOM }
 {
-    out.put(b" ");
+    out.put_array(b" ");
     if site.index() < setup.sites() {
-        out.put(setup.site_name(site).as_bytes());
+        out.put_name(setup.site_name(site).as_bytes());
     }
 }
 

@@ -4,9 +4,10 @@ use Rattle.std.specs.Prelude.{Some, codes}
 use Rattle.std.specs.List.{list_all}
 use Rattle.std.specs.Str.{bytes_eq}
 use Rattle.std.specs.Cmp.Lexicographic.{bytes_decides}
-use Rattle.ordup_grammar.specs.Actions.{Send, Apply, Report}
+use Rattle.ordup_grammar.specs.Actions.{Send, Apply, Report, Settle}
 use Rattle.ordup_grammar.specs.Commands.{Act, command_of}
 use Rattle.ordup_grammar.specs.Keywords.{keyword_of}
+use Rattle.ordup_grammar.specs.Lines.{cut}
 use Rattle.ordup_grammar.specs.Requests.{Command, is_comment, is_printed, request_by, request_of}
 use Rattle.ordup_grammar.specs.Words.{words_of}
 
@@ -39,3 +40,10 @@ module _ (line name : List ℕ) (word : words_of name ≡ name ∷ []) (printed 
   unfolding keyword_of
   asks_to_report is =
       line_asks line (codes "report") (name ∷ []) (rw is refl) printed (ap words_of is ∙ ap (λ words. codes "report" ∷ words) word)
+
+-- what the line `settle` asks for
+pub asks_to_settle : (line : List ℕ) → bytes_eq line (codes "settle") ≡ true → request_of (cut line) ≡ Command (Act Settle)
+unfolding keyword_of
+asks_to_settle line same =
+    ap (λ l. request_of (cut l)) ((bytes_decides line (codes "settle")).0 same)
+    ∙ line_asks (codes "settle") (codes "settle") [] refl refl refl

@@ -1,11 +1,14 @@
 //! Lines that come in pieces: where a line ends, and the part of a line that no piece has ended yet.
-ghost use Rattle.std.specs.Prelude.{◌≡◌, ℕ, List, [], ◌∷◌, ◌++◌, ◌<◌, MatchOption, true, false, length};
-ghost use Rattle.ordup_grammar.specs.Lines.{IsPart};
-ghost use Rattle.ordup_grammar.specs.Requests.{is_printed, request_of, asked};
+ghost use Rattle.std.specs.Prelude.{◌≡◌, ℕ, List, [], ◌∷◌, ◌++◌, ◌<◌, MatchOption, true, false, codes, length};
+ghost use Rattle.std.specs.Str.{bytes_eq};
+ghost use Rattle.ordup_grammar.specs.Actions.{Settle};
+ghost use Rattle.ordup_grammar.specs.Commands.{Act};
+ghost use Rattle.ordup_grammar.specs.Lines.{IsPart, cut};
+ghost use Rattle.ordup_grammar.specs.Requests.{Command, is_printed, request_of, asked};
 ghost use Rattle.ordup_grammar.specs.Words.{words_of};
 ghost use Rattle.std.specs.List.{list_all};
 
-use crate::bytes::printed_prefix;
+use crate::bytes::{is_spelled, printed_prefix};
 use crate::front::Front;
 use crate::script_line::ScriptLine;
 use crate::sizes::MOST_LINE_BYTES;
@@ -56,6 +59,15 @@ impl<'a> LinePart<'a> {
         ensures { result ≡ self.now }
     {
         self.bytes.copy()
+    }
+
+    /// Whether it is the line `settle`.
+    #[inline(always)]
+    pub fn is_settle(&self) -> bool
+        ensures line { result ≡ bytes_eq self.now (codes "settle") }
+        ensures asks { result ≡ true → request_of (cut self.now) ≡ Command (Act Settle) }
+    {
+        is_spelled(self.as_bytes(), b"settle")
     }
 
     /// Its words, where it is a line.

@@ -24,17 +24,25 @@ pub enum ScriptLine<'a> {
 
 impl<'a> ScriptLine<'a> {
     /// What the line with these bytes is. What it asks for is what the line asks for.
-    #[tactic(auto, unfolding(crate::specs::Requests::request_of))]
     #[inline(always)]
     pub fn of(part: &LinePart<'a>) -> ScriptLine<'a>
+        ensures { request_of (cut part.now) ≡ asked result }
+    {
+        match SiteLine::of(part) {
+            Some(line) => ScriptLine::AtSite(line),
+            None => ScriptLine::by_words(part),
+        }
+    }
+
+    /// The same, where a keyword and a site are words as others are.
+    #[tactic(auto, unfolding(crate::specs::Requests::request_of))]
+    #[inline(always)]
+    pub fn by_words(part: &LinePart<'a>) -> ScriptLine<'a>
         ensures { request_of (cut part.now) ≡ asked result }
     {
         let line = part.as_bytes();
         if line.len() > MOST_LINE_BYTES {
             return ScriptLine::NoCommand;
-        }
-        if let Some(line) = SiteLine::of(part) {
-            return ScriptLine::AtSite(line);
         }
         if is_comment(line) {
             return ScriptLine::Nothing;

@@ -1,12 +1,14 @@
 ghost use Rattle.std.specs.Prelude.{◌≡◌, ◌++◌, ◌∷◌, [], ◌≤◌, IfSome, Some, true, length};
 ghost use Rattle.std.specs.List.{list_all};
 ghost use Rattle.ordup_grammar.specs.Commands.{Act};
+ghost use Rattle.ordup_grammar.specs.Lines.{cut};
 ghost use Rattle.ordup_grammar.specs.Requests.{Command, is_printed, request_of};
 ghost use Rattle.ordup_grammar.specs.SiteLines.{action_at};
 ghost use Rattle.ordup_grammar.specs.Words.{words_of};
 
 use crate::bytes::is_spelled;
 use crate::line_buffer::LinePart;
+use crate::sizes::MOST_LINE_BYTES;
 use crate::word::Word;
 
 /// What a line of a keyword and a site asks for.
@@ -30,9 +32,20 @@ pub struct SiteLine<'a> {
 
 impl<'a> SiteLine<'a> {
     /// The line of these bytes, if it is such a line.
+    #[inline(always)]
+    pub fn of(part: &LinePart<'a>) -> Option<SiteLine<'a>>
+        ensures { IfSome result (λ line. request_of (cut part.now) ≡ Command (Act (action_at line.action line.site))) }
+    {
+        if part.as_bytes().len() > MOST_LINE_BYTES {
+            return None;
+        }
+        SiteLine::of_any_length(part)
+    }
+
+    /// The line of these bytes, however many they are, if it is such a line.
     // The keyword is known by two comparisons, and the site by one. So the words of such a line are not cut one by one.
     #[inline(always)]
-    pub(crate) fn of(part: &LinePart<'a>) -> Option<SiteLine<'a>>
+    fn of_any_length(part: &LinePart<'a>) -> Option<SiteLine<'a>>
         ensures { IfSome result (λ line. request_of (Some part.now) ≡ Command (Act (action_at line.action line.site))) }
     {
         let (action, site) = if let Some(site) = word_behind(part, b"send ") {

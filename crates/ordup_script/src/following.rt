@@ -7,7 +7,7 @@ ghost use Rattle.ordup_script.specs.Scripts.{most_counted};
 use crate::line_reader::{Extent, LineTaker, read_lines};
 use crate::sizes::MOST_SCRIPT_BYTES;
 use crate::stream::ScriptFault;
-use ordup_answers::{ScriptEnd, Unanswered, answer};
+use ordup_answers::{KnownLines, ScriptEnd, Unanswered, answer_line, answer_part};
 use ordup_grammar::{LinePart, ScriptLine};
 use std::alloc::{AllocError, Allocator, Global};
 use std::io::Read;
@@ -17,6 +17,7 @@ use std::io::Read;
 struct Follower<A: Allocator + Copy = Global> {
     alloc: A,
     store: ScriptEnd<A>,
+    known: KnownLines,
 }
 
 impl<A: Allocator + Copy> LineTaker for Follower<A> {
@@ -34,12 +35,24 @@ impl<A: Allocator + Copy> LineTaker for Follower<A> {
 
     #[inline(always)]
     fn take(&mut self, line: &ScriptLine<'_>) -> Result<(), AllocError> {
-        answer(self.alloc, &mut self.store, line, &mut Unanswered)
+        answer_line(
+            self.alloc,
+            &mut self.store,
+            &self.known,
+            line,
+            &mut Unanswered,
+        )
     }
 
     #[inline(always)]
     fn take_part(&mut self, part: &LinePart<'_>) -> Result<(), AllocError> {
-        self.take(&ScriptLine::of(part))
+        answer_part(
+            self.alloc,
+            &mut self.store,
+            &mut self.known,
+            part,
+            &mut Unanswered,
+        )
     }
 
     fn hand_out(&mut self) -> Result<(), AllocError> {
@@ -88,6 +101,7 @@ pub fn follow_script<A: Allocator + Copy, R: Read>(
     let mut follower = Follower {
         alloc,
         store: ScriptEnd::new(alloc),
+        known: KnownLines::new(),
     };
     match follow_lines(&mut follower, input, MOST_SCRIPT_BYTES) {
         Ok(()) => Ok(follower.store),

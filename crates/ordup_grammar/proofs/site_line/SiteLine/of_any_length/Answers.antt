@@ -1,10 +1,10 @@
 use Rattle.ordup_grammar.proofs.SiteLineLemmas.{asks_to_apply, asks_to_report, asks_to_send}
-use Rattle.ordup_grammar.proofs.site_line.SiteLine.of.Goals.{
+use Rattle.ordup_grammar.proofs.site_line.SiteLine.of_any_length.Goals.{
   in-Some,
   in_default+in-Some-word_behind,
   in_default+in_default-word_behind+in_ok-word_behind,
 }
-use Rattle.ordup_grammar.proofs.site_line.SiteLine.of.Goals as goal
+use Rattle.ordup_grammar.proofs.site_line.SiteLine.of_any_length.Goals as goal
 
 pub returns : goal.returns
 returns c = elim c.match-word_behind.branch [

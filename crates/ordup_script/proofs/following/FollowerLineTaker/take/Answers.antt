@@ -4,5 +4,6 @@ use Rattle.ordup_script.proofs.following.FollowerLineTaker.take.Goals as goal
 
 pub returns-clause-lines : goal.returns-clause-lines
 returns-clause-lines g c line is =
-    takes_line c.args.self.now (record { alloc = c.args.self.now.alloc; store = c.answer.new.store }) _ line c.answer.result (sym is)
-    c.answer.ensures.reply
+    let before = c.args.self.now in
+    takes_line before (record { alloc = before.alloc; store = c.answer_line.new.store; known = before.known }) _ line
+    c.answer_line.result (sym is) c.answer_line.ensures.reply

@@ -4,7 +4,7 @@ use crate::ids::SiteId;
 use std::alloc::{AllocError, AllocFailed};
 use thiserror::Error;
 
-/// Why a call was refused. A refused call leaves everything as it was.
+/// Why a call was refused. A refused call leaves everything as it was, but for the calls that FAULTS in `docs/` names.
 ///
 /// Answers show a refusal by its number and its name. As an error it is its name, and what it tells.
 #[derive(Clone, Copy, Debug, PartialEq, Eq, Error)]

@@ -275,8 +275,8 @@ impl<A: Allocator + Copy> Primary<A> {
         self.sites[site.index()].reports.at(place)
     }
 
-    /// How what a site had reported changed from one decision to the next: each decided place where it was another number than
-    /// at the place before, which is 0 before the first, with this number, in order.
+    /// Each decided place at which the site's report was another number than at the place before, with that number, in order. The
+    /// number before the first place is 0.
     pub fn report_changes(&self, site: SiteId) -> &[(u32, u32)]
         requires { site < length self.now.sites }
         ensures changes { result.now ≡ changes_of (progress_at self.now site).reports }

@@ -1,7 +1,12 @@
 -- What a line of a keyword and a site asks for.
-use Rattle.std.proofs.Common.{◌≡◌, ◌∙◌, refl, ap, sym, ℕ, true, false, List, [], ◌∷◌, ◌++◌, length, take, drop, take-append-drop}
-use Rattle.std.specs.Prelude.{Some, codes}
-use Rattle.std.specs.List.{list_all}
+use Rattle.std.proofs.Common.{◌≡◌, ◌∙◌, refl, ap, sym, ℕ, ◌+◌, ◌≤◌, true, false, List, [], ◌∷◌, ◌++◌, length, take, drop}
+use Rattle.std.proofs.Common.{take-append-drop, arith, Bool, Option, None, not, ◌<◌}
+use Rattle.std.proofs.Math.Seq.{take-append_seam, drop-append_seam}
+use Rattle.std.proofs.lemmas.Bool.Decides.{nat_tests}
+use Rattle.std.proofs.lemmas.List.{length-append}
+use Rattle.std.proofs.lemmas.List.Splits.{length-slice_split, slice_split_none}
+use Rattle.std.specs.Prelude.{Some, MatchOption, is_some, codes, ◌==◌}
+use Rattle.std.specs.List.{list_all, slice_split}
 use Rattle.std.specs.Str.{bytes_eq}
 use Rattle.std.specs.Cmp.Lexicographic.{bytes_decides}
 use Rattle.ordup_grammar.specs.Actions.{Send, Apply, Report, Settle}
@@ -9,6 +14,7 @@ use Rattle.ordup_grammar.specs.Commands.{Act, command_of}
 use Rattle.ordup_grammar.specs.Keywords.{keyword_of}
 use Rattle.ordup_grammar.specs.Lines.{cut}
 use Rattle.ordup_grammar.specs.Requests.{Command, is_comment, is_printed, request_by, request_of}
+use Rattle.ordup_grammar.specs.SiteLineBytes.{IsWordBehind}
 use Rattle.ordup_grammar.specs.Words.{words_of}
 
 -- what begins with these bytes, and what stands behind them
@@ -47,3 +53,42 @@ unfolding keyword_of
 asks_to_settle line same =
     ap (λ l. request_of (cut l)) ((bytes_decides line (codes "settle")).0 same)
     ∙ line_asks (codes "settle") (codes "settle") [] refl refl refl
+
+abbrev is_space : ℕ → Bool
+is_space byte = byte == 32
+
+abbrev parts : List ℕ → List (List ℕ)
+parts = slice_split is_space
+
+module _ (first line word : List ℕ) (is : IsWordBehind first line word) where
+  long : length line ≡ length first + length word
+  long = ap length is.spelled ∙ length-append first word
+
+  -- a line with a word behind these bytes is longer than they are
+  pub longer : length line ≤ length first → ⊥
+  longer short = absurd (omega (arith, long, is.some, short))
+
+  -- it begins with them
+  pub begins : bytes_eq (take (length first) line) first ≡ true
+  begins = rw (is.spelled, take-append_seam first word) ((bytes_decides first first).1 refl)
+
+  -- what stands behind them is the word
+  pub is_behind : drop (length first) line ≡ word
+  is_behind = rw is.spelled (drop-append_seam first word)
+
+  -- it is not cut at a space
+  pub uncut : (found : Option (List ℕ × List ℕ)) → MatchOption found (parts word ≡ word ∷ []) (λ it. parts word ≡ it.0 ∷ parts it.1)
+      → is_some found ≡ true → ⊥
+  uncut None cut some = cc
+  uncut (Some it) cut some =
+      let one : length (parts word) ≡ 1 = ap length (slice_split_none is_space word is.no_space) in
+      absurd (omega (arith, one, ap length cut, length-slice_split is_space it.1))
+
+-- a text that is cut nowhere, and is not empty, is one word
+pub one_word : (word : List ℕ) (found : Option (List ℕ × List ℕ))
+    → MatchOption found (parts word ≡ word ∷ []) (λ it. parts word ≡ it.0 ∷ parts it.1) → is_some found ≡ false → 0 < length word
+    → words_of word ≡ word ∷ []
+one_word word None uncut none some =
+    let any : not (length word == 0) ≡ true = grind (arith, nat_tests) in
+    rw (uncut, any) refl
+one_word word (Some it) cut none some = cc

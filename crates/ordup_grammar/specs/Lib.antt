@@ -11,5 +11,6 @@ pub mod Actions
 pub mod Commands
 pub mod SiteLines
 pub mod Requests
+pub mod SiteLineBytes
 pub mod LineBuffers
 pub mod LineParts

@@ -135,7 +135,8 @@ pub(crate) fn is_spelled(word: &[u8], keyword: &[u8]) -> bool
 #[inline(always)]
 pub fn is_kept_line(line: &[u8], kept: &[u8]) -> bool
     requires { (8 ≤ length kept.now) × (length kept.now ≤ 24) }
-    ensures { result ≡ true → line.now ≡ kept.now }
+    ensures same { result ≡ true → line.now ≡ kept.now }
+    ensures found { line.now ≡ kept.now → result ≡ true }
 {
     let len = kept.len();
     if line.len() != len || eight_bytes(line, 0) != eight_bytes(kept, 0) {

@@ -1,9 +1,12 @@
-ghost use Rattle.std.specs.Prelude.{◌≡◌, ◌++◌, ◌∷◌, [], ◌≤◌, IfSome, Some, true, length};
+ghost use Rattle.std.specs.Prelude.{◌≡◌, ℕ, List, ◌++◌, ◌∷◌, [], ◌≤◌, IfSome, IsSome, Some, true, length};
 ghost use Rattle.std.specs.List.{list_all};
 ghost use Rattle.ordup_grammar.specs.Commands.{Act};
 ghost use Rattle.ordup_grammar.specs.Lines.{cut};
 ghost use Rattle.ordup_grammar.specs.Requests.{Command, is_printed, request_of};
+ghost use Rattle.ordup_grammar.specs.Sizes.{most_line_bytes};
+ghost use Rattle.ordup_grammar.specs.SiteLineBytes.{IsSiteLine, IsWordBehind};
 ghost use Rattle.ordup_grammar.specs.SiteLines.{action_at};
+ghost use Rattle.ordup_grammar.specs.declared.site_line.SiteAction.{SiteAction};
 ghost use Rattle.ordup_grammar.specs.Words.{words_of};
 
 use crate::bytes::is_spelled;
@@ -34,7 +37,8 @@ impl<'a> SiteLine<'a> {
     /// The line of these bytes, if it is such a line.
     #[inline(always)]
     pub fn of(part: &LinePart<'a>) -> Option<SiteLine<'a>>
-        ensures { IfSome result (λ line. request_of (cut part.now) ≡ Command (Act (action_at line.action line.site))) }
+        ensures asks { IfSome result (λ line. request_of (cut part.now) ≡ Command (Act (action_at line.action line.site))) }
+        ensures found { (action : SiteAction) (site : List ℕ) → length part.now ≤ most_line_bytes → IsSiteLine part.now action site → IsSome result }
     {
         if part.as_bytes().len() > MOST_LINE_BYTES {
             return None;
@@ -46,7 +50,8 @@ impl<'a> SiteLine<'a> {
     // The keyword is known by two comparisons, and the site by one. So the words of such a line are not cut one by one.
     #[inline(always)]
     fn of_any_length(part: &LinePart<'a>) -> Option<SiteLine<'a>>
-        ensures { IfSome result (λ line. request_of (Some part.now) ≡ Command (Act (action_at line.action line.site))) }
+        ensures asks { IfSome result (λ line. request_of (Some part.now) ≡ Command (Act (action_at line.action line.site))) }
+        ensures found { (action : SiteAction) (site : List ℕ) → IsSiteLine part.now action site → IsSome result }
     {
         let (action, site) = if let Some(site) = word_behind(part, b"send ") {
             (SiteAction::Send, site)
@@ -66,6 +71,7 @@ fn word_behind<'a>(part: &LinePart<'a>, first: &[u8]) -> Option<Word<'a>>
     ensures line { IfSome result (λ word. part.now ≡ first.now ++ word) }
     ensures word { IfSome result (λ word. words_of word ≡ word ∷ []) }
     ensures printed { IfSome result (λ _. list_all is_printed part.now ≡ true) }
+    ensures found { (word : List ℕ) → IsWordBehind first.now part.now word → IsSome result }
 {
     let line = part.front();
     let len = first.len();

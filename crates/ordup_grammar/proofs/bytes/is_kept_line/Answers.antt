@@ -3,15 +3,15 @@ use Rattle.std.proofs.lemmas.Bool.{eqb-true}
 use Rattle.ordup_grammar.proofs.KeptLemmas.{same_short, same_long}
 use Rattle.ordup_grammar.proofs.bytes.is_kept_line.Goals as goal
 
-pub returns-then-len-le16 : goal.returns-then-len-le16
-returns-then-len-le16 c short =
+pub returns-then-len-le16-clause-same : goal.returns-then-len-le16-clause-same
+returns-then-len-le16-clause-same c short =
     same_short c.args.line.now c.args.kept.now c.if-line-len.false c.requires.0 c.requires.1 (λ i. (c.type_inv.line i).fits)
     (λ i. (c.type_inv.kept i).fits) (omega (arith, c.if-len-le16.true))
     (sym c.eight_bytes.ensures ∙ c.if-eight_bytes.false ∙ c.eight_bytes-else-line-len.ensures)
     (sym c.eight_bytes-2.ensures ∙ c.if-eight_bytes-2.false ∙ c.eight_bytes-3.ensures)
 
-pub returns-else-len-le16 : goal.returns-else-len-le16
-returns-else-len-le16 c same =
+pub returns-else-len-le16-clause-same : goal.returns-else-len-le16-clause-same
+returns-else-len-le16-clause-same c same =
     same_long c.args.line.now c.args.kept.now c.if-line-len.false c.requires.0 c.requires.1 (λ i. (c.type_inv.line i).fits)
     (λ i. (c.type_inv.kept i).fits) (omega (arith, c.if-len-le16.false))
     (sym c.eight_bytes.ensures ∙ c.if-eight_bytes.false ∙ c.eight_bytes-else-line-len.ensures)

@@ -58,8 +58,8 @@ impl EndedEpoch {
     ///
     /// - It begins after all updates of this one, with the same objects, each at its value after the whole log.
     /// - It has the same groups, the same sites with their capacities, and each site's last limits, in force from its start.
-    /// - It is refused `LogFull` where more than 10^18 updates would come before it, `NotYet` with the number of the last update while
-    ///   one is not acknowledged, and `NoMemory`, in this order.
+    /// - It is refused `LogFull` where more than 10^18 updates would come before it, `NotYet` with the number of the last update in this
+    ///   epoch while one is not acknowledged, and `NoMemory`, in this order.
     pub(crate) fn next(&self, alloc: Global) -> Result<Epoch, Refusal>
         ensures next { IfOk result (λ next. GoesOnFrom self.now next) }
         ensures allowed { IfOk result (λ _. next_refusal self.now ≡ None) }

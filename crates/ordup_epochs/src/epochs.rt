@@ -1,12 +1,15 @@
-ghost use Rattle.std.specs.Prelude.{◌≡◌, ◌≤◌, None, IfOk, IfErr};
+ghost use Rattle.std.specs.Prelude.{◌≡◌, ℕ, ◌+◌, ◌≤◌, None, min, true, false, IfOk, IfErr};
 ghost use Rattle.ordup_objects.specs.Refusals.{IsRefusal};
+ghost use Rattle.ordup_objects.specs.Sizes.{most_updates};
 ghost use Rattle.ordup_primary.specs.Declarations.{start_refusal};
+ghost use Rattle.ordup_epochs.specs.Stages.{is_open};
 
 use crate::ended::EndedEpoch;
 use crate::epoch::Epoch;
 use crate::stage::Stage;
 use crate::visit::Visit;
 use ordup_cluster::Gate;
+use ordup_objects::sizes::MOST_UPDATES;
 use ordup_objects::{Refusal, SiteId};
 use ordup_primary::Setup;
 use std::alloc::Global;
@@ -29,19 +32,39 @@ pub struct Epochs {
     stage: RwLock<Stage>,
     /// After how many updates an epoch ends.
     updates: u64,
-    /// After how many updates the epoch that is open ends: more, where a join was refused.
+    /// After how many updates it ends at the latest.
+    most: u64,
+    /// After how many updates the epoch that is open ends: more, where a join was refused, up to the most.
     due: AtomicU64,
     stopped: AtomicBool,
 }
 
 impl Epochs {
-    /// Opens the first epoch, in which nothing has happened. It waits for nobody. Each epoch ends after this many updates, which are 1
-    /// or more. An epoch takes 1,000,000 at most, so leave room for those of the visits that have begun by then.
+    /// Opens the first epoch, in which nothing has happened, as `with_most` with the most updates that a log has.
+    pub fn new(alloc: Global, setup: Setup, updates: u64) -> Result<Epochs, Refusal>
+        requires { 1 ≤ updates }
+        ensures allowed { IfOk result (λ _. start_refusal setup ≡ None) }
+        ensures refused { IfErr result (λ e. IsRefusal (start_refusal setup) e) }
+    {
+        Epochs::with_most(alloc, setup, updates, MOST_UPDATES as u64)
+    }
+
+    /// Opens the first epoch, in which nothing has happened. It waits for nobody.
+    ///
+    /// Each epoch ends after this many updates, which are 1 or more. Where its join is refused, it ends after as many more, and at the
+    /// latest after `most` updates, which are from 1 to 1,000,000: from then on visits wait until a join is made. The visits that have
+    /// begun by then may have more updates, for which a log of 1,000,000 has no room.
     ///
     /// - It is opened only where there is an object and a site.
     /// - It is refused `Empty` where the setup lacks an object or a site, and else `NoMemory` alone.
-    pub fn new(alloc: Global, setup: Setup, updates: u64) -> Result<Epochs, Refusal>
-        requires { 1 ≤ updates }
+    pub fn with_most(
+        alloc: Global,
+        setup: Setup,
+        updates: u64,
+        most: u64,
+    ) -> Result<Epochs, Refusal>
+        requires updates { 1 ≤ updates }
+        requires most { (1 ≤ most) × (most ≤ most_updates) }
         ensures allowed { IfOk result (λ _. start_refusal setup ≡ None) }
         ensures refused { IfErr result (λ e. IsRefusal (start_refusal setup) e) }
     {
@@ -50,7 +73,8 @@ impl Epochs {
             visits: RwLock::new(()),
             stage: RwLock::new(Stage::Open(epoch)),
             updates,
-            due: AtomicU64::new(updates),
+            most,
+            due: AtomicU64::new(due_after(0, updates, most)),
             stopped: AtomicBool::new(false),
         })
     }
@@ -132,8 +156,14 @@ impl Epochs {
             return Err(Refusal::Stopped);
         }
         self.end(rt, turns)?;
-        self.due.store(self.updates, Ordering::SeqCst);
+        self.set_due(0);
         self.stage.write(rt).go_on(alloc)
+    }
+
+    /// The epoch that is open ends after as many updates more as an epoch has, up to the most.
+    fn set_due(&self, numbered: u64) {
+        let due = due_after(numbered, self.updates, self.most);
+        self.due.store(due, Ordering::SeqCst);
     }
 
     /// Settles all updates of the epoch that is open, if one is, and stops it. Where that is refused, it ends later.
@@ -142,8 +172,7 @@ impl Epochs {
     {
         match &*self.stage.read(rt) {
             Stage::Open(epoch) => {
-                let due = epoch.numbered().saturating_add(self.updates);
-                self.due.store(due, Ordering::SeqCst);
+                self.set_due(epoch.numbered());
                 epoch.end(rt, turns)
             }
             _ => Ok(()),
@@ -173,7 +202,14 @@ impl Epochs {
     /// The epoch that is open has its updates, or none is open.
     fn is_due<R: Wait>(&self, rt: &R) -> bool {
         let stage = self.stage.read(rt);
-        self.is_full(&stage) || !matches!(&*stage, Stage::Open(_))
+        self.wants_join(&stage)
+    }
+
+    /// The epoch that is open has its updates, or none is open.
+    fn wants_join(&self, stage: &Stage) -> bool
+        ensures { is_open stage.now ≡ false → result ≡ true }
+    {
+        self.is_full(stage) || !matches!(stage, Stage::Open(_))
     }
 
     /// Goes on to the next epoch, and answers whether it did. It is refused where there are no more epochs.
@@ -208,6 +244,7 @@ impl Epochs {
             visits: _,
             stage,
             updates: _,
+            most: _,
             due: _,
             stopped: _,
         } = self;
@@ -215,8 +252,17 @@ impl Epochs {
     }
 }
 
+/// After how many updates an epoch ends that has this many, where it is to have so many more and at most so many in all.
+fn due_after(numbered: u64, updates: u64, most: u64) -> u64
+    ensures { result ≡ min (numbered + updates) most }
+{
+    numbered.saturating_add(updates).min(most)
+}
+
 /// There is no next epoch after this refusal, however often it is tried.
-fn is_the_end(refusal: &Refusal) -> bool {
+fn is_the_end(refusal: &Refusal) -> bool
+    ensures { result ≡ true → (s : ℕ) × (refusal.now ≡ Refusal.Mixed s) }
+{
     matches!(refusal, Refusal::Mixed { .. })
 }
 

@@ -1,5 +1,5 @@
 ghost use Rattle.std.specs.Prelude.{◌≡◌, IfOk, IfErr};
-ghost use Rattle.ordup_epochs.specs.Stages.{IsOpenAfter, IsEndOf, IsLeft};
+ghost use Rattle.ordup_epochs.specs.Stages.{IsOpenAfter, IsEndOf, IsLeft, IsLost};
 
 use crate::ended::EndedEpoch;
 use crate::epoch::Epoch;
@@ -22,7 +22,8 @@ impl Stage {
     /// Closes the epoch that is open, if one is, and opens the next one. It hands out the epoch that has ended.
     ///
     /// - The epoch that is open then goes on from the one that is handed out.
-    /// - Where it is refused, what has ended is kept for a later try, or there is nothing left to go on from.
+    /// - Where it is refused, what has ended is kept for a later try. There is nothing left to go on from only where a site did not
+    ///   agree with the log.
     pub(crate) fn go_on(&mut self, alloc: Global) -> Result<EndedEpoch, Refusal>
         ensures open { IfOk result (λ ended. IsOpenAfter ended self.new) }
         ensures ended { IfOk result (λ ended. IsEndOf self.old ended) }
@@ -35,7 +36,7 @@ impl Stage {
     /// Closes the epoch that is open, if one is, and takes out the last one that has ended.
     fn take_ended(&mut self) -> Result<EndedEpoch, Refusal>
         ensures ended { IfOk result (λ ended. IsEndOf self.old ended) }
-        ensures left { IfErr result (λ e. self.new ≡ Stage.Over e) }
+        ensures left { IfErr result (λ e. IsLost self.old e × (self.new ≡ Stage.Over e)) }
     {
         match mem::replace(self, Stage::Over(Refusal::Stopped)).into_ended() {
             Ok(ended) => Ok(ended),
@@ -49,7 +50,8 @@ impl Stage {
 
     /// Closes the epoch that is open, if one is: the last epoch that has ended.
     pub(crate) fn into_ended(self) -> Result<EndedEpoch, Refusal>
-        ensures { IfOk result (λ ended. IsEndOf self ended) }
+        ensures ended { IfOk result (λ ended. IsEndOf self ended) }
+        ensures lost { IfErr result (IsLost self) }
     {
         match self {
             Stage::Open(epoch) => epoch.close(),

@@ -2,3 +2,4 @@
 pub mod fixtures;
 mod one_thread;
 pub mod promises;
+mod two_sites;

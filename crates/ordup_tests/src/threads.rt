@@ -3,10 +3,12 @@
 //!
 //! Each wait is bounded, so a test that would hang fails.
 mod across_joins;
+mod amid_a_join;
 mod changing_limit;
 mod fixtures;
 mod held_site;
 mod holding_gate;
+mod keeping;
 mod lagging_site;
 mod many_callers;
 mod one_turn;

@@ -1,7 +1,8 @@
 //! Epochs of x at 0 and y at 10, in which each update adds 1 to x. So x is the number of updates.
 ghost use Rattle.std.specs.Prelude.{◌≤◌};
+ghost use Rattle.ordup_objects.specs.Sizes.{most_updates};
 
-use super::promises::{self, applier, new};
+use super::promises::{self, applier, new, with_most};
 use crate::fixtures::{Site, add, declared, x};
 use ordup_cluster::Gate;
 use ordup_epochs::{EndedEpoch, Epoch, Epochs, Session, Visit};
@@ -20,6 +21,20 @@ pub fn opened(
     requires { 1 ≤ updates }
 {
     new(alloc, declared(rt, alloc, sites), updates)
+}
+
+/// Opens the first epoch as `opened` does. An epoch has at most so many updates.
+pub fn opened_with_most(
+    rt: &impl Abort,
+    alloc: Global,
+    sites: &[Site],
+    updates: u64,
+    most: u64,
+) -> Result<Epochs, Refusal>
+    requires updates { 1 ≤ updates }
+    requires most { (1 ≤ most) × (most ≤ most_updates) }
+{
+    with_most(alloc, declared(rt, alloc, sites), updates, most)
 }
 
 /// Begins a visit.

@@ -25,6 +25,16 @@ pub fn new(alloc: Global, setup: Setup, updates: u64) -> Result<Epochs, Refusal>
     Epochs::new(alloc, setup, updates)
 }
 
+/// `Epochs::with_most`.
+pub fn with_most(alloc: Global, setup: Setup, updates: u64, most: u64) -> Result<Epochs, Refusal>
+    requires updates { 1 ≤ updates }
+    requires most { (1 ≤ most) × (most ≤ most_updates) }
+    ensures allowed { IfOk result (λ _. start_refusal setup ≡ None) }
+    ensures refused { IfErr result (λ e. IsRefusal (start_refusal setup) e) }
+{
+    Epochs::with_most(alloc, setup, updates, most)
+}
+
 /// `Epochs::applier`.
 pub fn applier<G: Gate, R: Wait>(
     rt: &R,

@@ -14,6 +14,7 @@ use std::sync::Wait;
 use std::sync::atomic::{AtomicU64, Ordering};
 use std::test::Fail;
 use std::thread;
+use std::time::Clock;
 
 /// How many updates each of the four callers proposes.
 const SETS: u64 = 500;
@@ -155,7 +156,7 @@ struct All<'a> {
 
 /// The two appliers, the thread that makes the joins, the reader, and the four callers.
 impl Parts for All<'_> {
-    fn part<R: Wait + Abort>(&self, rt: &R, number: u8) {
+    fn part<R: Wait + Clock + Abort>(&self, rt: &R, number: u8) {
         match number {
             0 => apply_at(rt, self.epochs, 0, self.shared),
             1 => apply_at(rt, self.epochs, 1, &OpenGate),

@@ -16,6 +16,7 @@ use std::sync::Wait;
 use std::sync::atomic::{AtomicBool, AtomicU64, Ordering};
 use std::test::Fail;
 use std::thread;
+use std::time::Clock;
 
 /// By how many updates the site a may lag, by turns. The low limit is as many as there are callers.
 const LOW: u64 = 4;
@@ -203,7 +204,7 @@ struct All<'a> {
 
 /// The two appliers, the thread that changes the limit, the reader, and the four callers.
 impl Parts for All<'_> {
-    fn part<R: Wait + Abort>(&self, rt: &R, number: u8) {
+    fn part<R: Wait + Clock + Abort>(&self, rt: &R, number: u8) {
         match number {
             0 | 1 => {
                 apply_at(rt, self.cluster, number, &OpenGate);

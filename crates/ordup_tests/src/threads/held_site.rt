@@ -11,6 +11,7 @@ use std::sync::Wait;
 use std::test::Fail;
 use std::thread;
 use std::thread::Threads;
+use std::time::Clock;
 
 /// Two sites without limits.
 const SITES: [Site; 2] = [("a", 4, None), ("b", 4, None)];
@@ -78,7 +79,7 @@ struct All<'a> {
 
 /// The two appliers and the caller.
 impl Parts for All<'_> {
-    fn part<R: Wait + Abort>(&self, rt: &R, number: u8) {
+    fn part<R: Wait + Clock + Abort>(&self, rt: &R, number: u8) {
         match number {
             0 => {
                 apply_at(rt, self.cluster, 0, self.gate);
@@ -93,7 +94,7 @@ impl Parts for All<'_> {
 }
 
 /// The two appliers and the caller, each in a thread of its own.
-fn run<R: Threads + Wait + Abort + Sync>(
+fn run<R: Threads + Wait + Clock + Abort + Sync>(
     rt: &R,
     alloc: Global,
     cluster: &Cluster,
@@ -139,7 +140,7 @@ struct Reading<'a> {
 }
 
 impl Parts for Reading<'_> {
-    fn part<R: Wait + Abort>(&self, rt: &R, number: u8) {
+    fn part<R: Wait + Clock + Abort>(&self, rt: &R, number: u8) {
         if number == 0 {
             apply_at(rt, self.cluster, 0, self.gate);
         } else {
@@ -149,7 +150,11 @@ impl Parts for Reading<'_> {
 }
 
 /// The applier of a and the reader, each in a thread of its own. Then b applies the update too.
-fn apply_and_read<R: Threads + Wait + Abort + Sync>(rt: &R, cluster: &Cluster, gate: &HoldingGate) {
+fn apply_and_read<R: Threads + Wait + Clock + Abort + Sync>(
+    rt: &R,
+    cluster: &Cluster,
+    gate: &HoldingGate,
+) {
     do_two(rt, &Reading { cluster, gate }, 0);
     expect_eq!(rt; apply_at(rt, cluster, 1, &OpenGate), 1);
 }

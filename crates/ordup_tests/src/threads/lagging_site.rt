@@ -12,6 +12,7 @@ use std::alloc::Global;
 use std::process::Abort;
 use std::sync::Wait;
 use std::test::Fail;
+use std::time::Clock;
 
 /// Adds 1 to x four times, with 100 turns each. The fourth update waits for a.
 fn propose_four<R: Wait + Abort>(
@@ -70,7 +71,7 @@ struct All<'a> {
 
 /// The applier and the caller.
 impl Parts for All<'_> {
-    fn part<R: Wait + Abort>(&self, rt: &R, number: u8) {
+    fn part<R: Wait + Clock + Abort>(&self, rt: &R, number: u8) {
         if number == 0 {
             apply_at(rt, self.cluster, 0, self.gate);
         } else {

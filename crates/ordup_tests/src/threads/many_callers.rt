@@ -13,6 +13,7 @@ use std::sync::Wait;
 use std::sync::atomic::{AtomicU64, Ordering};
 use std::test::Fail;
 use std::thread;
+use std::time::Clock;
 
 /// How many sets each of the four callers proposes.
 const SETS: u64 = 5_000;
@@ -116,7 +117,7 @@ struct All<'a> {
 
 /// The four appliers, the two readers and the four callers.
 impl Parts for All<'_> {
-    fn part<R: Wait + Abort>(&self, rt: &R, number: u8) {
+    fn part<R: Wait + Clock + Abort>(&self, rt: &R, number: u8) {
         match number {
             0..=3 => {
                 apply_at(rt, self.cluster, number, &OpenGate);

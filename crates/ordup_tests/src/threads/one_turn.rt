@@ -16,6 +16,7 @@ use std::process::Abort;
 use std::sync::Wait;
 use std::test::Fail;
 use std::thread;
+use std::time::Clock;
 
 /// How many updates are proposed while the site is held, and how many after that.
 const UPDATES: u64 = 1_500;
@@ -132,7 +133,7 @@ struct All<'a> {
 
 /// The applier of a and the caller.
 impl Parts for All<'_> {
-    fn part<R: Wait + Abort>(&self, rt: &R, number: u8) {
+    fn part<R: Wait + Clock + Abort>(&self, rt: &R, number: u8) {
         if number == 0 {
             apply_at(rt, self.cluster, 0, self.gate);
         } else {

@@ -13,6 +13,7 @@ use std::alloc::Global;
 use std::process::Abort;
 use std::sync::Wait;
 use std::test::Fail;
+use std::time::Clock;
 
 /// The update that waits for a.
 const WAITS: Refusal = Refusal::NotYet { number: 1 };
@@ -72,7 +73,7 @@ struct All<'a> {
 
 /// The applier of a and the caller.
 impl Parts for All<'_> {
-    fn part<R: Wait + Abort>(&self, rt: &R, number: u8) {
+    fn part<R: Wait + Clock + Abort>(&self, rt: &R, number: u8) {
         if number == 0 {
             apply_at(rt, self.epochs, 0, self.gate);
         } else {

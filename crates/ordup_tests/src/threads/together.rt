@@ -5,14 +5,19 @@ use std::process::Abort;
 use std::sync::Wait;
 use std::thread;
 use std::thread::Threads;
+use std::time::Clock;
 
 /// The parts of a test, which are numbered from 0. Beyond the last one nothing is done.
 pub trait Parts {
-    fn part<R: Wait + Abort>(&self, rt: &R, number: u8);
+    fn part<R: Wait + Clock + Abort>(&self, rt: &R, number: u8);
 }
 
 /// Does two parts from this number on, each in a thread of its own.
-pub fn do_two<P: Parts + Sync, R: Threads + Wait + Abort + Sync>(rt: &R, parts: &P, first: u8) {
+pub fn do_two<P: Parts + Sync, R: Threads + Wait + Clock + Abort + Sync>(
+    rt: &R,
+    parts: &P,
+    first: u8,
+) {
     thread::join(
         rt,
         move || parts.part(rt, first),
@@ -21,7 +26,11 @@ pub fn do_two<P: Parts + Sync, R: Threads + Wait + Abort + Sync>(rt: &R, parts: 
 }
 
 /// Does four parts from this number on.
-pub fn do_four<P: Parts + Sync, R: Threads + Wait + Abort + Sync>(rt: &R, parts: &P, first: u8) {
+pub fn do_four<P: Parts + Sync, R: Threads + Wait + Clock + Abort + Sync>(
+    rt: &R,
+    parts: &P,
+    first: u8,
+) {
     thread::join(
         rt,
         move || do_two(rt, parts, first),
@@ -30,7 +39,7 @@ pub fn do_four<P: Parts + Sync, R: Threads + Wait + Abort + Sync>(rt: &R, parts:
 }
 
 /// Does the parts from 0 to 7.
-pub fn do_eight<P: Parts + Sync, R: Threads + Wait + Abort + Sync>(rt: &R, parts: &P) {
+pub fn do_eight<P: Parts + Sync, R: Threads + Wait + Clock + Abort + Sync>(rt: &R, parts: &P) {
     thread::join(
         rt,
         move || do_four(rt, parts, 0),
@@ -39,7 +48,7 @@ pub fn do_eight<P: Parts + Sync, R: Threads + Wait + Abort + Sync>(rt: &R, parts
 }
 
 /// Does the parts from 0 to 9.
-pub fn do_ten<P: Parts + Sync, R: Threads + Wait + Abort + Sync>(rt: &R, parts: &P) {
+pub fn do_ten<P: Parts + Sync, R: Threads + Wait + Clock + Abort + Sync>(rt: &R, parts: &P) {
     thread::join(
         rt,
         move || do_eight(rt, parts),

@@ -12,6 +12,7 @@ use std::process::Abort;
 use std::sync::Wait;
 use std::sync::atomic::{AtomicU64, Ordering};
 use std::test::Fail;
+use std::time::Clock;
 
 /// Adds 1 to an object twenty times. The caller that ends last stops the cluster.
 fn call<R: Wait + Abort>(
@@ -47,7 +48,7 @@ struct All<'a> {
 
 /// The applier and the two callers.
 impl Parts for All<'_> {
-    fn part<R: Wait + Abort>(&self, rt: &R, number: u8) {
+    fn part<R: Wait + Clock + Abort>(&self, rt: &R, number: u8) {
         match number {
             0 => {
                 apply_at(rt, self.cluster, 0, &OpenGate);

@@ -15,6 +15,7 @@ use std::sync::Wait;
 use std::sync::atomic::{AtomicBool, Ordering};
 use std::test::Fail;
 use std::thread;
+use std::time::Clock;
 
 /// How often the threads yield, while the join is asked for.
 const PAUSE: u64 = 1_000;
@@ -92,7 +93,7 @@ fn release<R: Wait + Abort>(rt: &R, all: &All<'_>) {
 
 /// The applier of a, the caller, and the threads that join and that open the gate.
 impl Parts for All<'_> {
-    fn part<R: Wait + Abort>(&self, rt: &R, number: u8) {
+    fn part<R: Wait + Clock + Abort>(&self, rt: &R, number: u8) {
         match number {
             0 => apply_at(rt, self.epochs, 0, self.gate),
             1 => visit(rt, self),

@@ -18,26 +18,25 @@ const UPDATES_THAT_WAIT: u64 = 5;
 pub(crate) fn try_cluster_without_limits<R: Wait + Print>(
     rt: &R,
     alloc: Global,
-    one: &MessageSet,
-    two: &MessageSet,
+    sets: &[&MessageSet],
 ) -> Result<(), Stop> {
     let cluster = open(rt, alloc, Limits::None)?;
-    let tried = propose_two(rt, alloc, &cluster, one, two);
+    let tried = propose_each(rt, alloc, &cluster, sets);
     let closed = close(rt, cluster);
     tried?;
     closed?;
     Ok(())
 }
 
-fn propose_two<R: Wait + Print>(
+fn propose_each<R: Wait + Print>(
     rt: &R,
     alloc: Global,
     cluster: &Cluster,
-    one: &MessageSet,
-    two: &MessageSet,
+    sets: &[&MessageSet],
 ) -> Result<(), Stop> {
-    acknowledge(rt, alloc, cluster, two, 1)?;
-    acknowledge(rt, alloc, cluster, one, 2)?;
+    for (index, set) in sets.iter().enumerate() {
+        acknowledge(rt, alloc, cluster, set, index as u64 + 1)?;
+    }
     cluster.stop();
     apply(rt, cluster, 0)?;
     apply(rt, cluster, 1)?;

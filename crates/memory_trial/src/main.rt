@@ -43,7 +43,8 @@ fn try_calls<R: Wait + Print>(rt: &R, alloc: Global, objects: &ObjectTable) -> R
     drop(ends);
     let one = ask(rt, "set", || one_change(objects))?;
     let two = ask(rt, "set", || two_changes(objects))?;
-    try_cluster_without_limits(rt, alloc, &one, &two)?;
+    try_cluster_without_limits(rt, alloc, &[&one])?;
+    try_cluster_without_limits(rt, alloc, &[&two, &one])?;
     try_cluster_with_new_limits(rt, alloc, &one, &two)?;
     try_cluster_that_waits(rt, alloc, &two)?;
     try_joins(rt, alloc, &two)?;

@@ -1,5 +1,5 @@
 -- What a call that checks a record answers.
-use Rattle.std.specs.Prelude.{◌≡◌, ◌⊎◌, ℕ, ◌≤◌, List, ◌++◌, codes, length}
+use Rattle.std.specs.Prelude.{◌≡◌, ◌⊎◌, ℕ, ◌<◌, ◌≤◌, List, ◌++◌, codes, length}
 use Rattle.std.specs.Fmt.{decimal}
 use Rattle.csv.specs.Reading.{strip_bom}
 use Rattle.ordup_audit.specs.Reasons.{reason_name}
@@ -46,9 +46,9 @@ IsMalformed text line = (row : ℕ) × IsMalformedWithin most_record_bytes text 
 abbrev pub Finds : List ℕ → List ℕ → ℕ → Type 0
 Finds text line status = (IsJudged text line × (status ≡ DONE)) ⊎ (IsMalformed text line × (status ≡ MALFORMED))
 
--- of the line that was found for a text the length was told, and the line written where there is room for it; or nothing was read,
--- for want of memory or since the text is too long
+-- of the line that was found for a text the length was told, and the line written where there is room for it; or there is none, for
+-- want of memory, or since the text has more bytes than a record may
 abbrev pub ChecksCall : List ℕ → List ℕ → List ℕ → ℕ → ℕ → Type 0
 ChecksCall text old new written status =
     ((line : List ℕ) × (found : ℕ) × Finds text line found × (written ≡ length line) × Copies line found old new status)
-    ⊎ (Lacks NO_MEMORY old new written status ⊎ Lacks TOO_LONG old new written status)
+    ⊎ (Lacks NO_MEMORY old new written status ⊎ ((most_record_bytes < length text) × Lacks TOO_LONG old new written status))

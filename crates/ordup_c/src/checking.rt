@@ -1,5 +1,6 @@
 //! The check of a record, as a line in a buffer.
-ghost use Rattle.std.specs.Prelude.{◌≡◌, ◌⊎◌, ◌++◌, [], MatchResult, Ok, OnOk};
+ghost use Rattle.std.specs.Prelude.{◌≡◌, ◌⊎◌, ◌++◌, ◌<◌, [], length, MatchResult, Ok, OnOk};
+ghost use Rattle.ordup_rows.specs.Sizes.{most_record_bytes};
 ghost use Rattle.ordup_c.specs.Checks.{ChecksCall, Finds, malformed_line, verdict_line};
 ghost use Rattle.ordup_c.specs.declared.status.TheConstants.{NO_MEMORY, TOO_LONG};
 
@@ -7,6 +8,7 @@ use crate::record::copy_whole;
 use crate::status::{DONE, MALFORMED, NO_MEMORY, TOO_LONG};
 use ordup_audit::{Verdict, check};
 use ordup_check::{RecordReadFault, read_record};
+use ordup_rows::sizes::MOST_RECORD_BYTES;
 use ordup_text::{TextBuffer, push_with_number};
 use std::alloc::{AllocError, Global};
 
@@ -32,7 +34,7 @@ pub(crate) fn tell_verdict(alloc: Global, rows: &[u8], out: &mut [u8], written: 
 /// Checks a record, and adds its line to a text that is empty. The answer is the status that goes with the line, or why there is none.
 fn find_line(alloc: Global, rows: &[u8], line: &mut TextBuffer) -> Result<u32, u32>
     requires { line.old.text ≡ [] }
-    ensures { MatchResult result (λ found. Finds rows.now line.new.text found) (λ status. (status ≡ NO_MEMORY) ⊎ (status ≡ TOO_LONG)) }
+    ensures { MatchResult result (λ found. Finds rows.now line.new.text found) (λ status. (status ≡ NO_MEMORY) ⊎ ((most_record_bytes < length rows.now) × (status ≡ TOO_LONG))) }
 {
     let mut input = rows;
     match read_record(alloc, &mut input) {
@@ -43,7 +45,9 @@ fn find_line(alloc: Global, rows: &[u8], line: &mut TextBuffer) -> Result<u32, u
         }
         Err(RecordReadFault::Malformed { row }) => found(push_malformed(line, row), MALFORMED),
         Err(RecordReadFault::NoMemory) => Err(NO_MEMORY),
-        Err(RecordReadFault::Read) => Err(TOO_LONG),
+        Err(RecordReadFault::Read) if rows.len() as u64 > MOST_RECORD_BYTES => Err(TOO_LONG),
+        // No other read of a text in memory fails.
+        Err(RecordReadFault::Read) => Err(NO_MEMORY),
     }
 }
 

@@ -1,4 +1,4 @@
-use Rattle.std.proofs.Common.{◌≡◌, ◌++◌, [], ℕ, List, Ok, length, sym, subst, inl, inr, refl}
+use Rattle.std.proofs.Common.{◌≡◌, ◌++◌, ◌<◌, [], ℕ, List, Ok, length, sym, subst, inl, inr, refl}
 use Rattle.std.specs.Prelude.{◌⊎◌, MatchResult, OnOk, Result}
 use Rattle.std.proofs.lemmas.Result.{MatchResult-weaker}
 use Rattle.ordup_audit.specs.Records.{RecordState}
@@ -6,6 +6,7 @@ use Rattle.ordup_audit.specs.Validity.{IsValid}
 use Rattle.ordup_audit.specs.Verdicts.{IfFewest, IsVerdict}
 use Rattle.ordup_audit.specs.declared.verdict.Verdict.{Verdict}
 use Rattle.ordup_audit.specs.declared.verdict.Verdict.TheVariants.{Fewest, No}
+use Rattle.ordup_rows.specs.Sizes.{most_record_bytes}
 use Rattle.ordup_c.specs.Checks.{Finds, Judges, malformed_line, verdict_line}
 use Rattle.ordup_c.specs.declared.status.TheConstants.{NO_MEMORY, TOO_LONG}
 use Rattle.ordup_c.proofs.checking.find_line.Goals as goal
@@ -25,7 +26,7 @@ pushed_line r old new line is none ok = rw (ok, none) at is
 found_line : {E : Type 0} (r : Result ℕ ℕ) (pushed : Result (Unit {0}) E) (status : ℕ) (text line : List ℕ)
     → MatchResult r (λ found. (pushed ≡ Ok tt) × (found ≡ status)) (λ e. e ≡ NO_MEMORY)
     → (pushed ≡ Ok tt → Finds text line status)
-    → MatchResult r (λ found. Finds text line found) (λ e. (e ≡ NO_MEMORY) ⊎ (e ≡ TOO_LONG))
+    → MatchResult r (λ found. Finds text line found) (λ e. (e ≡ NO_MEMORY) ⊎ ((most_record_bytes < length text) × (e ≡ TOO_LONG)))
 found_line r pushed status text line is finds =
     MatchResult-weaker r is (λ found h. subst (Finds text line) (sym h.1) (finds h.0)) (λ e h. inl h)
 

@@ -1,0 +1,24 @@
+-- What a call tells of a text, worked out by hand: no definition can change its meaning unseen.
+use Rattle.std.proofs.Common.{◌≡◌, ℕ, [], ◌∷◌, refl, arith}
+use Rattle.std.specs.Prelude.{codes}
+use Rattle.ordup_c.specs.Calls.{status_of}
+use Rattle.ordup_c.specs.Sessions.{IsFront, kept}
+use Rattle.ordup_c.specs.declared.session.Session.{Session}
+use Rattle.ordup_c.specs.declared.status.TheConstants.{DONE, MORE, NO_MEMORY}
+
+-- bytes that were not taken are told before answers that are kept
+all_given : (v : Session) → kept v ≡ [] → status_of v 0 ≡ DONE
+all_given v none = rw none refl
+
+some_kept : (v : Session) → kept v ≡ 111 ∷ [] → status_of v 0 ≡ MORE
+some_kept v one = rw one refl
+
+some_left : (v : Session) → status_of v 3 ≡ NO_MEMORY
+some_left v = refl
+
+-- a text can be taken up to the end of a line, and not up to its last byte
+whole_line : IsFront 3 (codes "ab\ncd")
+whole_line = (omega arith, refl)
+
+half_line : ¬ IsFront 2 (codes "ab\ncd")
+half_line is = absurd (let parts = is.1 in cc)

@@ -49,7 +49,8 @@ impl KnownLine {
     /// Whether these bytes are the line.
     #[inline(always)]
     pub(crate) fn is(&self, line: &[u8]) -> bool
-        ensures { result ≡ true → line.now ≡ take self.now.len self.now.bytes }
+        ensures same { result ≡ true → line.now ≡ take self.now.len self.now.bytes }
+        ensures found { line.now ≡ take self.now.len self.now.bytes → result ≡ true }
     {
         is_kept_line(line, &self.bytes[..self.len])
     }

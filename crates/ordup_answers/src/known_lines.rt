@@ -144,6 +144,7 @@ pub fn answer_part<A: Allocator + Copy, O: AnswerTaker<A>>(
 ) -> Result<(), AllocError>
     ensures reply { OnOk result ((s : ScriptState A) → Stands store.old s → Knows known.old s → Leaves (λ after. Stands store.new after × Knows known.new after) (O.took out.old out.new) (request_reply s (request_of (cut part.now)))) }
     ensures kept { IfErr result (λ _. (store.new ≡ store.old) × O.took out.old out.new []) }
+    ensures known { IfErr result (λ _. (s : ScriptState A) → Stands store.old s → Knows known.old s → Knows known.new s) }
 {
     if part.is_settle() {
         return settle(store, out);

@@ -200,6 +200,7 @@ fn put(log: &mut Log, rest: &mut Vec<MessageSet>, set: MessageSet) -> Result<(),
             rest.push(set)?;
             Ok(())
         }
+        // Want of memory. The log is not full: a record has at most 1,000,000 updates.
         Err(_) => Err(AllocError),
     }
 }

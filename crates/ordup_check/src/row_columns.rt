@@ -134,7 +134,7 @@ fn amount_and_place(column: &[u8]) -> Option<(u64, u64)>
     Some((amount, place))
 }
 
-/// The place of the first `@` of a column, if there is one.
+/// The index of the first `@` of a column, if there is one.
 fn index_of_at(column: &[u8]) -> Option<usize>
     ensures { result ≡ position (λ byte. byte == 64) column.now }
 {

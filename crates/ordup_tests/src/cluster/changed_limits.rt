@@ -122,6 +122,7 @@ fn forbid_lag_at_b<R: Wait + Abort>(rt: &R, cluster: &Cluster, set: MessageSet) 
 }
 
 /// Lowers a limit below the lag, and down to it.
+// shows: Cluster::relimit place; changed limits
 #[test]
 fn a_limit_is_lowered_to_what_a_site_lags(rt: HostRuntime) -> Result<(), Fail> {
     let alloc = rt.alloc();
@@ -133,6 +134,7 @@ fn a_limit_is_lowered_to_what_a_site_lags(rt: HostRuntime) -> Result<(), Fail> {
 }
 
 /// Changes a limit of a stopped cluster.
+// shows: Cluster::relimit refused; changed limits
 #[test]
 fn a_limit_changes_after_the_stop_and_without_a_look(rt: HostRuntime) -> Result<(), Fail> {
     let alloc = rt.alloc();
@@ -144,6 +146,7 @@ fn a_limit_changes_after_the_stop_and_without_a_look(rt: HostRuntime) -> Result<
 }
 
 /// Changes the limit of one site of two.
+// shows: changed limits
 #[test]
 fn a_changed_limit_is_that_of_one_site(rt: HostRuntime) -> Result<(), Fail> {
     let alloc = rt.alloc();

@@ -71,6 +71,7 @@ fn propose_both<R: Wait + Abort>(rt: &R, cluster: &Cluster, set: MessageSet, oth
 }
 
 /// Notes the calls of a gate at two sites.
+// shows: gates
 #[test]
 fn a_gate_gets_the_site_and_what_it_applies_next(rt: HostRuntime) -> Result<(), Fail> {
     let alloc = rt.alloc();
@@ -87,6 +88,7 @@ fn a_gate_gets_the_site_and_what_it_applies_next(rt: HostRuntime) -> Result<(), 
 }
 
 /// Stops a cluster in the first turn of an applier.
+// shows: stops
 #[test]
 fn an_applier_ends_in_a_turn_that_began_after_the_stop(rt: HostRuntime) -> Result<(), Fail> {
     let cluster = opened(&rt, rt.alloc(), Scope::All, 0)?;
@@ -128,6 +130,7 @@ fn expect_told_after_the_gate<R: Wait + Abort>(rt: &R, cluster: &Cluster) {
 }
 
 /// Asks in the gate for the update that is about to be applied: the site tells of it only after its gate was called for it.
+// shows: gates
 #[test]
 fn an_update_is_applied_once_its_gate_was_called(rt: HostRuntime) -> Result<(), Fail> {
     let alloc = rt.alloc();

@@ -77,6 +77,7 @@ fn wait_for_the_report<R: Wait + Abort>(rt: &R, cluster: &Cluster, set: MessageS
 }
 
 /// Proposes, applies and reads an update.
+// shows: Cluster::propose seen some; Cluster::read applied seen; SiteQuery::read; the calls of a cluster; stops
 #[test]
 fn an_update_is_acknowledged_and_read(rt: HostRuntime) -> Result<(), Fail> {
     let alloc = rt.alloc();
@@ -89,6 +90,7 @@ fn an_update_is_acknowledged_and_read(rt: HostRuntime) -> Result<(), Fail> {
 }
 
 /// Waits for a site that applies nothing.
+// shows: Cluster::settle seen err; Cluster::settle refused; Cluster::close closed; turns
 #[test]
 fn a_round_waits_for_its_report(rt: HostRuntime) -> Result<(), Fail> {
     let alloc = rt.alloc();
@@ -100,6 +102,7 @@ fn a_round_waits_for_its_report(rt: HostRuntime) -> Result<(), Fail> {
 }
 
 /// Waits for a site that applies the update.
+// shows: Cluster::settle seen err; Cluster::settle refused; Cluster::close closed; turns
 #[test]
 fn a_round_ends_with_its_report(rt: HostRuntime) -> Result<(), Fail> {
     let alloc = rt.alloc();

@@ -26,6 +26,7 @@ fn wait_for_both<R: Wait + Abort>(rt: &R, cluster: &Cluster, set: MessageSet, ot
 }
 
 /// Waits for two updates, each with a round.
+// shows: looks; turns
 #[test]
 fn each_round_waits_for_its_own_report(rt: HostRuntime) -> Result<(), Fail> {
     let alloc = rt.alloc();

@@ -64,6 +64,7 @@ fn read_within_2<R: Wait + Abort>(rt: &R, cluster: &Cluster) {
 }
 
 /// Makes a cluster without a site.
+// shows: Cluster::new refused
 #[test]
 fn a_cluster_has_a_site(rt: HostRuntime) -> Result<(), Fail> {
     let alloc = rt.alloc();
@@ -72,6 +73,7 @@ fn a_cluster_has_a_site(rt: HostRuntime) -> Result<(), Fail> {
 }
 
 /// Reads an object or a site that is not there.
+// shows: Cluster::read refused
 #[test]
 fn an_unknown_object_comes_before_an_unknown_site(rt: HostRuntime) -> Result<(), Fail> {
     let cluster = opened(&rt, rt.alloc(), Scope::All, 0)?;
@@ -84,6 +86,7 @@ fn an_unknown_object_comes_before_an_unknown_site(rt: HostRuntime) -> Result<(),
 }
 
 /// Begins queries with the greatest import limit, and one more.
+// shows: Cluster::begin
 #[test]
 fn an_unknown_site_comes_before_an_import_limit(rt: HostRuntime) -> Result<(), Fail> {
     let greatest = 1_000_000_000_000_000_000;
@@ -97,6 +100,7 @@ fn an_unknown_site_comes_before_an_import_limit(rt: HostRuntime) -> Result<(), F
 }
 
 /// Proposes sets that are refused, and one that is not.
+// shows: Cluster::propose refused; Cluster::settle refused; number_unless_stopped
 #[test]
 fn what_is_refused_has_no_number(rt: HostRuntime) -> Result<(), Fail> {
     let alloc = rt.alloc();
@@ -115,6 +119,7 @@ fn what_is_refused_has_no_number(rt: HostRuntime) -> Result<(), Fail> {
 }
 
 /// Proposes sets to a stopped cluster.
+// shows: number_unless_stopped; stops
 #[test]
 fn a_stopped_cluster_says_so_of_each_proposal(rt: HostRuntime) -> Result<(), Fail> {
     let alloc = rt.alloc();
@@ -133,6 +138,7 @@ fn a_stopped_cluster_says_so_of_each_proposal(rt: HostRuntime) -> Result<(), Fai
 }
 
 /// Reads in a query that may import 2.
+// shows: SiteQuery::read; SiteQuery::end
 #[test]
 fn a_query_reads_within_its_limit(rt: HostRuntime) -> Result<(), Fail> {
     let alloc = rt.alloc();

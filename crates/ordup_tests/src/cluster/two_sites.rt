@@ -59,6 +59,7 @@ fn close(rt: &impl Abort, cluster: Cluster) {
 }
 
 /// Reads at two sites, one of which lags.
+// shows: Session::seen; Cluster::read seen err; the calls of a cluster
 #[test]
 fn a_session_never_goes_back(rt: HostRuntime) -> Result<(), Fail> {
     let alloc = rt.alloc();

@@ -41,6 +41,7 @@ fn apply_at_a_and_then_b<R: Wait + Abort>(rt: &R, cluster: &Cluster) {
 }
 
 /// Applies at two sites whose feeds differ.
+// shows: the feeds of a cluster
 #[test]
 fn each_site_has_a_feed_of_its_own_capacity(rt: HostRuntime) -> Result<(), Fail> {
     let alloc = rt.alloc();

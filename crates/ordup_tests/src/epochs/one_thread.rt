@@ -43,6 +43,7 @@ fn expect_four<R: Wait + Abort>(rt: &R, epochs: &Epochs) {
 }
 
 /// A limit that changes keeps its last amount in the next epoch, from the start.
+// shows: EndedEpoch::next next; the calls of an epoch; the declarations of an epoch
 #[test]
 fn a_changed_limit_is_kept_across_a_join(rt: HostRuntime) -> Result<(), Fail> {
     let sites = [("a", 8, Some((Scope::Count, 1)))];

@@ -75,6 +75,7 @@ fn are_shown(alloc: Global, outcome: &Run, wanted: &str) -> bool {
 }
 
 /// Runs an update that waits for a report.
+// shows: run answers; push_answer
 #[test]
 fn a_forced_update_is_acknowledged_once_it_is_reported(rt: HostRuntime) -> Result<(), Fail> {
     let outcome = run_forced_and_awaited(&rt, rt.alloc())?;
@@ -84,6 +85,7 @@ fn a_forced_update_is_acknowledged_once_it_is_reported(rt: HostRuntime) -> Resul
 }
 
 /// Runs a swap of x and y.
+// shows: run answers; push_answer
 #[test]
 fn a_swap_reads_the_values_before_the_set(rt: HostRuntime) -> Result<(), Fail> {
     let outcome = run_swapped(&rt, rt.alloc())?;
@@ -93,6 +95,7 @@ fn a_swap_reads_the_values_before_the_set(rt: HostRuntime) -> Result<(), Fail> {
 }
 
 /// Runs changes of a limit.
+// shows: run answers; push_answer
 #[test]
 fn a_list_of_events_changes_limits(rt: HostRuntime) -> Result<(), Fail> {
     let outcome = run_limited_anew(&rt, rt.alloc())?;

@@ -3,6 +3,7 @@ use ordup_objects::{Name, Refusal, SiteId};
 use std::test::Fail;
 
 /// Makes names at the edges of their bytes and lengths.
+// shows: Name::new name ok err
 #[test]
 fn which_bytes_are_a_name(rt: HostRuntime) {
     for name in ["a", "a_9", "z0_", "abcdefghijklmnop"] {
@@ -26,6 +27,7 @@ fn which_bytes_are_a_name(rt: HostRuntime) {
 }
 
 /// Those that no script shows: each prints its name, and then its field.
+// shows: Refusal::number
 #[test]
 fn numbers_names_and_texts_of_refusals(rt: HostRuntime) -> Result<(), Fail> {
     let site = SiteId::new(3);

@@ -87,6 +87,7 @@ fn end(rt: &impl Abort, log: &Log) -> [i64; 2] {
 }
 
 /// Weighs the update in which x takes the value of y, and y that of x.
+// shows: Log::weight weight; Log::end_value
 #[test]
 fn a_swap_weighs_the_way_of_each_value(rt: HostRuntime) {
     let (objects, mut log) = x_at_and_y(&rt, rt.alloc(), 0);
@@ -100,6 +101,7 @@ fn a_swap_weighs_the_way_of_each_value(rt: HostRuntime) {
 }
 
 /// Weighs the greatest change of one object, after one that is out of range.
+// shows: Log::weight weight; Log::end_value
 #[test]
 fn an_update_of_one_object_weighs_2000000000_at_most(rt: HostRuntime) {
     let (objects, mut log) = x_at_and_y(&rt, rt.alloc(), 1_000_000_000);
@@ -113,6 +115,7 @@ fn an_update_of_one_object_weighs_2000000000_at_most(rt: HostRuntime) {
 }
 
 /// Weighs the spans of three updates of x: up by 3, down by 3, and by 0.
+// shows: Log::span span
 #[test]
 fn spans_add_up_the_way_and_not_the_net_change(rt: HostRuntime) {
     let (objects, mut log) = x_at_and_y(&rt, rt.alloc(), 0);
@@ -147,6 +150,7 @@ fn append_out_of_range(
 }
 
 /// Appends an update of which one change is out of range.
+// shows: Log::append refused err
 #[test]
 fn a_refused_update_leaves_the_log(rt: HostRuntime) {
     let (objects, mut log) = x_at_and_y(&rt, rt.alloc(), 0);
@@ -180,6 +184,7 @@ fn postings_of(
 }
 
 /// Weighs the spans of 10,000 updates of x, and counts its postings.
+// shows: Log::postings postings; Log::span span
 #[test]
 fn each_update_that_moves_an_object_has_a_posting(rt: HostRuntime) {
     let (objects, mut log) = x_at_and_y(&rt, rt.alloc(), 0);
@@ -228,6 +233,7 @@ fn size_of_set(rt: &impl Abort, alloc: Global, count: u16) -> Result<usize, Refu
 }
 
 /// Makes sets of 64 and 65 changes, each of an object of its own.
+// shows: MessageSet::new allowed refused
 #[test]
 fn a_message_set_has_at_most_64_changes(rt: HostRuntime) {
     expect_eq!(&rt; size_of_set(&rt, rt.alloc(), 64), Ok(64));
@@ -283,6 +289,7 @@ fn propose_three(rt: &impl Abort, primary: &mut Primary) {
 }
 
 /// Extends a ledger by updates that go up and down, and reports them to it, at last past its end.
+// shows: LagLedger::extend stands; LagLedger::reported stands; LagLedger::over
 #[test]
 fn a_ledger_weighs_the_way_that_is_not_reported(rt: HostRuntime) -> Result<(), Fail> {
     let alloc = rt.alloc();
@@ -369,6 +376,7 @@ fn expect_full(rt: &impl Abort, alloc: Global, setup: &Setup) {
 }
 
 /// Fills a table of limits: with 64 scopes, and then with 1,088 entries.
+// shows: LimitTable::change allowed refused
 #[test]
 fn a_table_has_64_scopes_and_1088_entries(rt: HostRuntime) {
     let mut setup = Setup::new(rt.alloc());

@@ -16,6 +16,7 @@ fn pop(rt: &impl Wait, taker: &mut TakeEnd) -> Option<u64> {
 }
 
 /// Makes feeds at the edges of their capacity.
+// shows: Feed::new ends allowed refused
 #[test]
 fn a_feed_has_room_for_1_to_1024_parcels(rt: HostRuntime) -> Result<(), Fail> {
     let alloc = rt.alloc();
@@ -34,6 +35,8 @@ fn a_feed_has_room_for_1_to_1024_parcels(rt: HostRuntime) -> Result<(), Fail> {
 }
 
 /// Pushes a second parcel into a feed with a capacity of one.
+// shows: SendEnd::push pushed refused; TakeEnd::pop taken none; TakeEnd::tell told
+// shows: SendEnd::look answer looked; what a feed finds
 #[test]
 fn a_full_feed_hands_the_parcel_back(rt: HostRuntime) -> Result<(), Fail> {
     let alloc = rt.alloc();
@@ -60,6 +63,7 @@ fn a_full_feed_hands_the_parcel_back(rt: HostRuntime) -> Result<(), Fail> {
 }
 
 /// Asks a feed with a capacity of one whether it is full.
+// shows: SendEnd::is_full full same
 #[test]
 fn a_feed_with_a_parcel_in_its_only_slot_is_full(rt: HostRuntime) -> Result<(), Fail> {
     let alloc = rt.alloc();

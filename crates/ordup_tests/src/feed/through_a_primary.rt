@@ -72,6 +72,7 @@ fn expect_taken<R: Wait + Abort>(rt: &R, end: &mut TakeEnd, number: u64) {
 }
 
 /// Sends two updates of a primary through its feed.
+// shows: Primary::next_for number set refused; Primary::mark_sent marked; next_updates_may_follow
 #[test]
 fn the_updates_of_a_primary_go_through_a_feed(rt: HostRuntime) -> Result<(), Fail> {
     let mut primary = two_updates(&rt, rt.alloc())?;

@@ -96,6 +96,7 @@ fn send_through<R: Threads + Wait + Abort + Sync>(
 }
 
 /// Sends 1,000 parcels through a feed with a capacity of four.
+// shows: TakeEnd::pop order; taken_is_a_prefix_of_pushed; known_is_at_most_told; what a feed finds
 #[test]
 fn a_thousand_parcels_come_in_order(rt: HostRuntime) -> Result<(), Fail> {
     send_through(&rt, rt.alloc(), 4)?;
@@ -103,6 +104,7 @@ fn a_thousand_parcels_come_in_order(rt: HostRuntime) -> Result<(), Fail> {
 }
 
 /// Sends 1,000 parcels through a feed with a capacity of one.
+// shows: TakeEnd::pop order; taken_is_a_prefix_of_pushed; known_is_at_most_told; what a feed finds
 #[test]
 fn a_thousand_parcels_come_in_order_one_by_one(rt: HostRuntime) -> Result<(), Fail> {
     send_through(&rt, rt.alloc(), 1)?;

@@ -54,6 +54,7 @@ fn agrees(rt: &impl Abort, alloc: Global, primary: &Primary, replica: &Site) -> 
 }
 
 /// Compares a site with the log, before and after a wrong update.
+// shows: agree
 #[test]
 fn a_site_agrees_where_it_holds_what_it_applied(rt: HostRuntime) -> Result<(), Fail> {
     let alloc = rt.alloc();
@@ -70,6 +71,7 @@ fn a_site_agrees_where_it_holds_what_it_applied(rt: HostRuntime) -> Result<(), F
 }
 
 /// Compares a site that applied more than it was sent.
+// shows: agree
 #[test]
 fn a_site_agrees_only_up_to_what_it_was_sent(rt: HostRuntime) -> Result<(), Fail> {
     let alloc = rt.alloc();

@@ -51,6 +51,7 @@ fn fill_and_empty<R: Wait + Abort>(rt: &R, book: &mut Book, cell: &mut SiteCell)
 }
 
 /// Sends five updates through a feed with a capacity of two.
+// shows: turn turned; what a turn finds
 #[test]
 fn sends_stop_at_a_full_feed_and_go_on_once_there_is_room(rt: HostRuntime) -> Result<(), Fail> {
     let alloc = rt.alloc();
@@ -78,6 +79,7 @@ fn take_one_by_one<R: Wait + Abort>(rt: &R, book: &mut Book, cell: &mut SiteCell
 }
 
 /// Takes updates one by one from a full feed.
+// shows: turn turned; what a turn finds
 #[test]
 fn each_update_that_is_taken_makes_room_for_one(rt: HostRuntime) -> Result<(), Fail> {
     let alloc = rt.alloc();
@@ -105,6 +107,7 @@ fn overfill<R: Wait + Abort>(rt: &R, book: &mut Book, cell: &mut SiteCell) {
 }
 
 /// Sends more updates than the largest feed holds.
+// shows: turn turned; what a turn finds
 #[test]
 fn the_largest_feed_loses_nothing(rt: HostRuntime) -> Result<(), Fail> {
     let alloc = rt.alloc();
@@ -125,6 +128,7 @@ fn fill_the_first<R: Wait + Abort>(rt: &R, book: &mut Book) {
 }
 
 /// Sends to two sites, one of which has a full feed.
+// shows: turn turned; what a turn finds
 #[test]
 fn a_full_feed_keeps_nothing_from_the_other_sites(rt: HostRuntime) -> Result<(), Fail> {
     let alloc = rt.alloc();
@@ -156,6 +160,7 @@ fn wait_for_each<R: Wait + Abort>(rt: &R, book: &mut Book, cell: &mut SiteCell) 
 }
 
 /// Makes turns while each update waits for the site.
+// shows: turn acked; what a turn finds; looks
 #[test]
 fn a_turn_learns_what_was_taken_and_acknowledges_it(rt: HostRuntime) -> Result<(), Fail> {
     let alloc = rt.alloc();
@@ -199,6 +204,7 @@ fn expect_round(rt: &impl Abort, book: &Book, place: u64) {
 }
 
 /// Waits for four updates through a feed with a capacity of one.
+// shows: turn acked; what a turn finds
 #[test]
 fn a_round_ends_though_the_feed_has_room_for_one(rt: HostRuntime) -> Result<(), Fail> {
     let alloc = rt.alloc();

@@ -25,6 +25,7 @@ fn follow<R: Wait + Abort>(rt: &R, book: &mut Book, cell: &mut SiteCell) {
 }
 
 /// Follows one update from the book to the cell and back, and changes a limit.
+// shows: number; turn acked; take taken none; view; relimit place changed
 #[test]
 fn an_update_is_numbered_sent_taken_seen_and_acknowledged(rt: HostRuntime) -> Result<(), Fail> {
     let alloc = rt.alloc();

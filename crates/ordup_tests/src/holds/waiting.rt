@@ -66,6 +66,7 @@ impl Turns for Planned {
 }
 
 /// Waits by fewer turns than the update needs, and by more.
+// shows: until ok err
 #[test]
 fn waiting_ends_with_the_last_turn_or_the_acknowledgement(rt: HostRuntime) -> Result<(), Fail> {
     let mut store = Planned::new(3, 0);
@@ -78,6 +79,7 @@ fn waiting_ends_with_the_last_turn_or_the_acknowledgement(rt: HostRuntime) -> Re
 }
 
 /// Waits while a turn is refused a growth.
+// shows: until ok err
 #[test]
 fn waiting_ends_with_a_refused_growth(rt: HostRuntime) -> Result<(), Fail> {
     for turns in [2, 5] {

@@ -158,6 +158,7 @@ fn growths_of_addition(rt: &impl Abort, heap: Heap<'_>, addition: Addition) -> u
 }
 
 /// Refuses each growth of each addition in turn.
+// shows: want of memory
 #[test]
 fn each_growth_of_each_addition_is_refused(rt: HostRuntime) {
     let scarce = Scarce::new(rt.alloc(), 0);

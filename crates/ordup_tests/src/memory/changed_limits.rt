@@ -83,6 +83,7 @@ fn growths_of_change<'a>(rt: &impl Abort, heap: Heap<'a>, scope: &Scope) -> u64 
 }
 
 /// Refuses each growth of a change of the limit on a scope that has one, and of a change that begins one.
+// shows: Primary::relimit err; want of memory
 #[test]
 fn each_growth_of_a_changed_limit_is_refused(rt: HostRuntime) {
     let scarce = Scarce::new(rt.alloc(), 0);

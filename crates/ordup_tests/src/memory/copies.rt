@@ -316,6 +316,7 @@ fn make_each<'a>(rt: &(impl Abort + AllocGlobal), heap: Heap<'a>, primary: &Prim
 }
 
 /// Refuses each growth of each call over a primary in turn.
+// shows: want of memory
 #[test]
 fn each_growth_of_what_is_made_of_a_primary_is_refused(rt: HostRuntime) {
     let scarce = Scarce::new(rt.alloc(), u64::MAX);

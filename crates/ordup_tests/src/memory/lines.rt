@@ -220,6 +220,7 @@ fn growths_at(
 }
 
 /// Refuses each growth of each line in turn.
+// shows: answer kept; want of memory
 #[test]
 fn each_growth_of_each_line_is_refused(rt: HostRuntime) {
     let scarce = Scarce::new(rt.alloc(), 0);

@@ -134,6 +134,7 @@ fn growths_of(
 }
 
 /// Refuses each growth of two scripts in turn.
+// shows: run_script Runs.NoMemory; want of memory
 #[test]
 fn a_script_with_each_growth_refused(rt: HostRuntime) -> Result<(), Fail> {
     let (growths, most_written) = growths_of(&rt, SHOP, 7)?;
@@ -166,6 +167,7 @@ fn read_with(alloc: Global, allocations: u64) -> Result<usize, PlanFault> {
 }
 
 /// Refuses each growth of a plan in turn.
+// shows: want of memory
 #[test]
 fn a_plan_with_each_growth_refused(rt: HostRuntime) {
     for allocations in 0..200u64 {

@@ -51,6 +51,7 @@ fn primary_refusal(rt: &impl Abort, heap: Heap<'_>, allowed: u64) -> Option<Refu
 
 // It met 12: 3 of the log, which are its two states and the list of what its values travelled, 1 of the list of sites, 2 of a's
 // limits, and 6 of the ledgers, of which 2 are of a's.
+// shows: want of memory
 #[test]
 fn each_growth_of_a_new_primary_is_refused(rt: HostRuntime) {
     let scarce = Scarce::new(rt.alloc(), 0);
@@ -130,6 +131,7 @@ fn push_answers<'a>(out: &mut TextBuffer<Heap<'a>>, run: &Run<Heap<'a>>) -> Resu
 
 // It met 23: 15 of the start, 1 of the list of answers, and 7 within events: 3 of the first proposal, 3 of the settlement that forces
 // a, and 1 of what is shown.
+// shows: run answers; want of memory
 #[test]
 fn each_growth_of_a_run_is_refused(rt: HostRuntime) {
     let scarce = Scarce::new(rt.alloc(), 0);

@@ -103,6 +103,7 @@ fn expect_steps<'a>(rt: &impl Abort, heap: Heap<'a>, world: &mut World<Heap<'a>>
 }
 
 /// Steps a world by each of the events that take no memory.
+// shows: World::step answer; no memory
 #[test]
 fn a_world_is_stepped_without_memory(rt: HostRuntime) {
     let scarce = Scarce::new(rt.alloc(), u64::MAX);
@@ -146,6 +147,7 @@ fn expect_noted<'a>(rt: &impl Abort, primary: &Primary<Heap<'a>>) {
 }
 
 /// Notes what is sent and reported, and replaces the limit on x, which holds from place 1, by one from there.
+// shows: Primary::mark_sent marked; Primary::report noted; no memory
 #[test]
 fn a_primary_notes_what_is_sent_and_reported_without_memory(rt: HostRuntime) {
     let scarce = Scarce::new(rt.alloc(), 0);

@@ -106,6 +106,7 @@ fn is_refused<'a>(
     refused.is_some()
 }
 
+// shows: Primary::successor values limits allowed refused; want of memory
 #[test]
 fn a_store_goes_on_once_all_is_acknowledged(rt: HostRuntime) {
     let scarce = Scarce::new(rt.alloc(), 0);

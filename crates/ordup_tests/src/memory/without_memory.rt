@@ -111,6 +111,7 @@ fn expect_decided<'a>(rt: &impl Abort, primary: &Primary<Heap<'a>>) {
 }
 
 /// Calls each reader of a primary, and of what it holds.
+// shows: no memory
 #[test]
 fn the_readers_of_a_primary_take_no_memory(rt: HostRuntime) {
     let scarce = Scarce::new(rt.alloc(), u64::MAX);
@@ -208,6 +209,7 @@ fn over_as_it_is_limited<'a>(
 }
 
 /// Keeps ledgers of the updates of a primary.
+// shows: no memory
 #[test]
 fn ledgers_take_no_memory(rt: HostRuntime) {
     let scarce = Scarce::new(rt.alloc(), u64::MAX);
@@ -313,6 +315,7 @@ fn expect_compared<'a>(rt: &impl Abort, heap: Heap<'a>, primary: &Primary<Heap<'
 }
 
 /// Applies an update, reads at a site, and compares records.
+// shows: no memory
 #[test]
 fn values_sites_queries_and_records_take_no_memory(rt: HostRuntime) {
     let scarce = Scarce::new(rt.alloc(), u64::MAX);

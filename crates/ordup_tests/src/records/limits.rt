@@ -44,6 +44,7 @@ const LIMITED: [(&str, u64, &str); 8] = [
 ];
 
 /// Reads records under limits of bytes, whole and in pieces.
+// shows: read_record_within malformed; read_record_within limited
 #[test]
 fn a_record_of_more_bytes_than_the_limit_is_not_read(rt: HostRuntime) -> Result<(), Fail> {
     for at_once in [usize::MAX, 1, 120, 121] {

@@ -153,6 +153,7 @@ fn expect_same(rt: &impl Abort, alloc: Global, these: &str, those: &str, wanted:
 }
 
 /// Compares a record with itself, and with records that differ in a row.
+// shows: Record::same
 #[test]
 fn only_records_of_the_same_rows_are_the_same(rt: HostRuntime) -> Result<(), Fail> {
     for (text, wanted) in [

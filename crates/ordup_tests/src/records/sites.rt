@@ -24,6 +24,7 @@ fn refusal_of(alloc: Global, primary: &Primary, index: u8) -> Option<Refusal> {
 }
 
 /// Asks for records of unknown sites.
+// shows: record_of refused
 #[test]
 fn a_site_that_is_not_there_has_no_record(rt: HostRuntime) {
     let primary = started(&rt, rt.alloc());

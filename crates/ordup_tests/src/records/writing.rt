@@ -51,6 +51,7 @@ fn is_written(
 }
 
 /// Writes a record to a writer that fails after each count of bytes.
+// shows: write_record written front; streams
 #[test]
 fn a_writer_that_fails_has_got_a_front_of_the_record(rt: HostRuntime) {
     let Ok(shown) = record_in(rt.alloc(), RECORD) else {
@@ -123,6 +124,7 @@ fn is_written_as(alloc: Global, text: &str, written: &str) -> bool {
 }
 
 /// Writes records of both versions.
+// shows: write_record version_for; Version::of
 #[test]
 fn a_record_is_written_in_the_first_version_where_that_can_tell_it(rt: HostRuntime) {
     for (text, written) in [

@@ -14,6 +14,7 @@ fn fault<R: Read>(alloc: Global, input: &mut R, limit: u64) -> Option<PlanFault>
 }
 
 /// Reads plans from a reader that fails, and over a limit.
+// shows: read_plan_within ReadsPlan.Malformed ReadsPlan.Read ReadsPlan.TooLong; streams
 #[test]
 fn plans_that_cannot_be_read(rt: HostRuntime) {
     let failed = fault(rt.alloc(), &mut PieceReader::new(b"", 1, 0), 100);

@@ -79,6 +79,7 @@ fn run_into(
 }
 
 /// Writes to a writer that is full after each count of bytes.
+// shows: run_script Runs.Write; streams
 #[test]
 fn a_full_writer_has_got_a_front_of_the_answers(rt: HostRuntime) -> Result<(), Fail> {
     let script = script(rt.alloc())?;
@@ -111,6 +112,7 @@ fn a_full_writer_has_got_a_front_of_the_answers(rt: HostRuntime) -> Result<(), F
 }
 
 /// Runs a script whose output cannot be flushed.
+// shows: run_script Runs.Write; streams
 #[test]
 fn a_flush_that_fails_is_a_fault_after_all_answers(rt: HostRuntime) -> Result<(), Fail> {
     let (script, answers) = parts(rt.alloc(), FIRST_RUN)?;
@@ -147,6 +149,7 @@ fn run_failing(
 }
 
 /// Reads a script from a reader that fails.
+// shows: run_script Runs.Read; streams
 #[test]
 fn a_read_that_fails_is_not_tried_again(rt: HostRuntime) -> Result<(), Fail> {
     let (script, answers) = parts(rt.alloc(), FIRST_RUN)?;
@@ -171,6 +174,7 @@ fn run_limited(alloc: Global, script: &[u8], limit: u64) -> (Vec<u8>, Option<Scr
 }
 
 /// Runs scripts at their limit of bytes, and over it.
+// shows: run_script_within Runs.TooLong
 #[test]
 fn a_script_ends_at_its_limit_of_bytes(rt: HostRuntime) -> Result<(), Fail> {
     let script = script(rt.alloc())?;
@@ -196,6 +200,7 @@ fn a_script_ends_at_its_limit_of_bytes(rt: HostRuntime) -> Result<(), Fail> {
 }
 
 /// Reads a comment that has no end.
+// shows: run_script_within Runs.TooLong
 #[test]
 fn a_comment_without_an_end_is_too_long(rt: HostRuntime) {
     let mut output: Vec<u8> = Vec::new(rt.alloc());

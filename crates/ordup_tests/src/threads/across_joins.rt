@@ -180,6 +180,8 @@ fn expect_all(rt: &impl Abort, shared: &Shared, last: Result<(u64, u64), Refusal
 }
 
 /// Proposes and reads over some forty epochs.
+// shows: Epoch::propose seen some; Epoch::read applied joined seen; visits; the updates of an epoch; stops of epochs
+// shows: the declarations of an epoch; the calls of an epoch; threads
 #[test]
 fn callers_sessions_and_sites_go_on_across_joins(rt: HostRuntime) -> Result<(), Fail> {
     let epochs = opened(&rt, rt.alloc(), &SITES, UPDATES)?;

@@ -233,6 +233,7 @@ fn close(rt: &impl Abort, alloc: Global, cluster: Cluster) {
 }
 
 /// Compares each acknowledgement with the limit in force.
+// shows: limits in force
 #[test]
 fn a_changing_limit_is_kept(rt: HostRuntime) -> Result<(), Fail> {
     let cluster = opened(&rt, rt.alloc(), &SITES)?;

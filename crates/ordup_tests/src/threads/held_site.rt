@@ -172,6 +172,7 @@ fn close(rt: &impl Abort, cluster: Cluster) {
 }
 
 /// Holds a site before its lock, while another one applies.
+// shows: held sites
 #[test]
 fn a_site_that_is_held_before_it_applies_holds_up_nobody(rt: HostRuntime) -> Result<(), Fail> {
     let gate = HoldingGate::new(Held::BeforeApply, TRIES);
@@ -183,6 +184,7 @@ fn a_site_that_is_held_before_it_applies_holds_up_nobody(rt: HostRuntime) -> Res
 }
 
 /// Holds a site under its lock, while another one applies.
+// shows: held sites
 #[test]
 fn a_site_that_is_held_under_its_lock_holds_up_nobody(rt: HostRuntime) -> Result<(), Fail> {
     let gate = HoldingGate::new(Held::AtApply, TRIES);
@@ -194,6 +196,7 @@ fn a_site_that_is_held_under_its_lock_holds_up_nobody(rt: HostRuntime) -> Result
 }
 
 /// Reads at a site that is held under its lock.
+// shows: gates
 #[test]
 fn a_read_waits_for_a_site_that_is_held_under_its_lock(rt: HostRuntime) -> Result<(), Fail> {
     let gate = HoldingGate::new(Held::AtApply, 100_000);

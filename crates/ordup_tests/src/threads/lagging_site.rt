@@ -94,6 +94,7 @@ fn close(rt: &impl Abort, cluster: Cluster) {
 }
 
 /// Proposes four updates to a site that is held.
+// shows: looks
 #[test]
 fn the_fourth_proposal_waits_for_a_site_that_may_lag_by_three(rt: HostRuntime) -> Result<(), Fail> {
     let gate = HoldingGate::new(Held::BeforeApply, TRIES);

@@ -151,6 +151,7 @@ fn close(rt: &impl Abort, cluster: Cluster) {
 }
 
 /// Reads beside four callers and four sites.
+// shows: Cluster::read applied seen; the calls of a cluster; threads
 #[test]
 fn each_read_is_the_value_of_a_prefix(rt: HostRuntime) -> Result<(), Fail> {
     let cluster = opened(&rt, rt.alloc(), &sites())?;

@@ -154,6 +154,7 @@ fn close(rt: &impl Abort, cluster: Cluster) {
 }
 
 /// Calls with one turn while the site applies.
+// shows: turns
 #[test]
 fn a_call_with_one_turn_makes_no_turn_more(rt: HostRuntime) -> Result<(), Fail> {
     let gate = HoldingGate::new(Held::BeforeApply, TRIES);

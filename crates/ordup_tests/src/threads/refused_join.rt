@@ -83,6 +83,7 @@ impl Parts for All<'_> {
 }
 
 /// Joins while the gate holds a, and after it is open.
+// shows: Epoch::settle seen refused; refused joins; the last number
 #[test]
 fn an_update_that_waits_is_settled_in_the_next_epoch(rt: HostRuntime) -> Result<(), Fail> {
     let gate = HoldingGate::new(Held::BeforeApply, TRIES);

@@ -96,6 +96,7 @@ fn close(rt: &impl Abort, alloc: Global, cluster: Cluster) {
 }
 
 /// Proposes from two threads, with one site.
+// shows: the calls of a cluster
 #[test]
 fn two_callers_wait_for_one_site(rt: HostRuntime) -> Result<(), Fail> {
     let sites = [("a", 1, Some((Scope::Count, 3)))];

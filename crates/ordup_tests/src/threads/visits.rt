@@ -104,6 +104,7 @@ impl Parts for All<'_> {
 }
 
 /// Asks for a join while the caller waits for a.
+// shows: joins
 #[test]
 fn a_join_waits_until_a_visit_has_ended(rt: HostRuntime) -> Result<(), Fail> {
     let gate = HoldingGate::new(Held::BeforeApply, TRIES);

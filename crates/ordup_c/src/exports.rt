@@ -172,6 +172,7 @@ mod tests {
     use crate::store::Store;
     use std::rt::HostRuntime;
 
+    // shows: ordup_open; ordup_run runs; ordup_close; ordup_version
     #[test]
     fn a_store_is_opened_and_closed(rt: HostRuntime) {
         let alloc = rt.alloc();
@@ -193,6 +194,7 @@ mod tests {
         ordup_close(alloc, &mut store);
     }
 
+    // shows: ordup_run runs; ordup_run room rest
     #[test]
     fn answers_are_given_in_parts(rt: HostRuntime) {
         let alloc = rt.alloc();
@@ -212,6 +214,7 @@ mod tests {
         ordup_close(alloc, &mut store);
     }
 
+    // shows: ordup_next store lines
     #[test]
     fn a_store_goes_on(rt: HostRuntime) {
         let alloc = rt.alloc();
@@ -240,6 +243,7 @@ mod tests {
         ordup_close(alloc, &mut store);
     }
 
+    // shows: ordup_record store record; ordup_check
     #[test]
     fn a_record_is_told_and_checked(rt: HostRuntime) {
         let alloc = rt.alloc();

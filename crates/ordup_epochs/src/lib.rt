@@ -9,8 +9,8 @@
 //!    count over all epochs.
 //! 5. Once all callers are done, call `Epochs::stop`, join the other threads, and take the last epoch out: `Epochs::close`.
 //!
-//! The one contract above this layer: a session sees no less than it has seen, across epochs too. Within it, an epoch begins with just
-//! what is left of the one before, all of whose updates were acknowledged.
+//! Inside this layer an epoch begins with just what the one before ended with, all of whose updates were acknowledged. What callers
+//! can cite is that a session sees no less than it has seen, across epochs too: no public call promises a join, which lies under locks.
 #![tactic(auto)]
 
 mod ended;

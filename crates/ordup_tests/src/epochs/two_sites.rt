@@ -65,6 +65,7 @@ fn look<R: Wait + Abort>(rt: &R, epochs: &Epochs) {
 }
 
 /// The gate of b is told of b, by numbers of all epochs, and its applier counts what it applied.
+// shows: the calls of an epoch; visits
 #[test]
 fn each_call_is_of_its_site(rt: HostRuntime) -> Result<(), Fail> {
     let epochs = opened(&rt, rt.alloc(), &FREE, 8)?;
@@ -96,6 +97,7 @@ fn raise_the_other<R: Wait + Abort>(rt: &R, epochs: &Epochs) {
 }
 
 /// A change of a limit is of the site and the scope that it names.
+// shows: the calls of an epoch
 #[test]
 fn a_changed_limit_is_of_its_site_and_scope(rt: HostRuntime) -> Result<(), Fail> {
     let sites = [("a", 4, Some((Scope::Count, 1))), ("b", 4, None)];
@@ -106,6 +108,7 @@ fn a_changed_limit_is_of_its_site_and_scope(rt: HostRuntime) -> Result<(), Fail>
 }
 
 /// After `stop` a visit to an epoch that is full does not wait, and there is no join.
+// shows: stops of epochs
 #[test]
 fn nothing_waits_for_a_join_after_the_stop(rt: HostRuntime) -> Result<(), Fail> {
     let epochs = opened(&rt, rt.alloc(), &FREE, 1)?;

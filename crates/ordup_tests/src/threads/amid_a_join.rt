@@ -107,11 +107,13 @@ fn try_one<R: Threads + Wait + Clock + Abort + Sync>(
     Ok(())
 }
 
+// shows: joins
 #[test]
 fn a_visit_waits_for_the_end_of_a_join(rt: HostRuntime) -> Result<(), Fail> {
     try_one(&rt, rt.alloc(), false)
 }
 
+// shows: stops of epochs
 #[test]
 fn a_stop_waits_for_the_end_of_a_join(rt: HostRuntime) -> Result<(), Fail> {
     try_one(&rt, rt.alloc(), true)

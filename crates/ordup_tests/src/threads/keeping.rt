@@ -127,6 +127,7 @@ impl Parts for All<'_> {
     }
 }
 
+// shows: the updates of an epoch
 #[test]
 fn an_epoch_ends_with_its_last_update(rt: HostRuntime) -> Result<(), Fail> {
     let gate = HoldingGate::new(Held::BeforeApply, TRIES);
@@ -145,6 +146,7 @@ fn an_epoch_ends_with_its_last_update(rt: HostRuntime) -> Result<(), Fail> {
     Ok(())
 }
 
+// shows: the updates of an epoch; refused joins
 #[test]
 fn a_join_that_is_refused_is_not_counted(rt: HostRuntime) -> Result<(), Fail> {
     let gate = HoldingGate::new(Held::BeforeApply, TRIES);
@@ -162,6 +164,7 @@ fn a_join_that_is_refused_is_not_counted(rt: HostRuntime) -> Result<(), Fail> {
     Ok(())
 }
 
+// shows: the updates of an epoch; refused joins
 #[test]
 fn a_full_epoch_ends_once_its_site_goes_on(rt: HostRuntime) -> Result<(), Fail> {
     let gate = HoldingGate::new(Held::BeforeApply, TRIES);

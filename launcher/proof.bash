@@ -1,9 +1,9 @@
-# The proof in the background: begun, told of, stopped, removed. ./ordup and ./prove read it, each by the path of its own folder.
+# The proof in the background: begun, told of, stopped, removed. ./ordup and launcher/prove read it, each by the path of its own folder.
 #
 # There are two, that of the program and that of the library. A function is about the one that was aimed at. Both work in one folder,
 # so one of them waits for the end of the other, and goes on from what that proved.
 
-top=${BASH_SOURCE[0]%/*}
+top=${BASH_SOURCE[0]%/launcher/*}
 out=$top/out
 program=$out/ordup
 shopt -s extglob nullglob
@@ -87,7 +87,7 @@ begin() {
     mkdir -p -- "$told" && {
         ! flock --timeout 1 9 || is_proved || {
             echo '== begun' >"$log" || return
-            setsid bash -p -- "$top/prove" "$aim" </dev/null >>"$log" 2>&1 7>&- &
+            setsid bash -p -- "$top/launcher/prove" "$aim" </dev/null >>"$log" 2>&1 7>&- &
             echo $! >"$told/pid" || { kill $!; return 1; }
         }
     } 9>>"$told/lock"

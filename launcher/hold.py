@@ -1,4 +1,4 @@
-"""Holds what comes through a pipe until it is read: python3 hold BYTES
+"""Holds what comes through a pipe until it is read: python3 hold.py BYTES
 
 It holds up to so many bytes of standard input, and hands all of it on to standard output, in order and as it comes. Where the
 input ends within these bytes, one byte through descriptor 7 tells so. This ends with the input, or with its last reader. If the

@@ -1,6 +1,7 @@
 -- What a call tells of a text, worked out by hand: no definition can change its meaning unseen.
-use Rattle.std.proofs.Common.{◌≡◌, ℕ, [], ◌∷◌, refl, arith}
+use Rattle.std.proofs.Common.{◌≡◌, ℕ, [], ◌∷◌, ap, length, refl, arith}
 use Rattle.std.specs.Prelude.{codes}
+use Rattle.ordup_script.specs.Scripts.{lines_of}
 use Rattle.ordup_c.specs.Calls.{status_of}
 use Rattle.ordup_c.specs.Sessions.{IsFront, kept}
 use Rattle.ordup_c.specs.declared.session.Session.{Session}
@@ -18,7 +19,9 @@ some_left v = refl
 
 -- a text can be taken up to the end of a line, and not up to its last byte
 whole_line : IsFront 3 (codes "ab\ncd")
+unfolding lines_of
 whole_line = (omega arith, refl)
 
 half_line : ¬ IsFront 2 (codes "ab\ncd")
-half_line is = absurd (let parts = is.1 in cc)
+unfolding lines_of
+half_line is = let count : 2 ≡ 3 = ap length is.1 in absurd (omega (arith, count))

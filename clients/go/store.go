@@ -161,9 +161,9 @@ func (store *Store) Record(site string) (string, error) {
 	})
 }
 
-// Next gives the declarations of the store that goes on with what this one ends with, once all updates are acknowledged: as
-// `ordup next` prints them.
-func (store *Store) Next() (string, error) {
+// NextDeclarations gives the declarations of the store that goes on with what this one ends with, once all updates are
+// acknowledged: as `ordup next` prints them.
+func (store *Store) NextDeclarations() (string, error) {
 	return store.given(func(room []byte, written *C.size_t) C.uint32_t {
 		return C.ordup_next(store.at, pointer(room), C.size_t(len(room)), written)
 	})

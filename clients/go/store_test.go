@@ -213,17 +213,17 @@ func TestARecordIsToldAndChecked(t *testing.T) {
 
 func TestWhatGoesOnIsDeclared(t *testing.T) {
 	store := open(t)
-	if _, err := store.Next(); err != ErrNotStarted {
+	if _, err := store.NextDeclarations(); err != ErrNotStarted {
 		t.Error(err)
 	}
 	_, err := store.Commands("object x 0", "object y 10", "site a 4", "limit a object x 5", "start", "propose add:x:5 set:y:12")
 	is(t, nil, nil, err)
-	if _, err := store.Next(); err != ErrNotYet {
+	if _, err := store.NextDeclarations(); err != ErrNotYet {
 		t.Error(err)
 	}
 	_, err = store.Commands("settle", "relimit a object x 7")
 	is(t, nil, nil, err)
-	lines, err := store.Next()
+	lines, err := store.NextDeclarations()
 	is(t, "object x 5\nobject y 12\nsite a 4\nlimit a object x 7\nstart\n", lines, err)
 	answers, err := open(t).Run([]byte(lines))
 	is(t, "ok object x\nok object y\nok site a\nok limit a\nok start\n", string(answers), err)
@@ -276,7 +276,7 @@ func TestAClosedStore(t *testing.T) {
 	is(t, nil, nil, store.Close())
 	_, settled := store.Settle()
 	_, recorded := store.Record("south")
-	_, gone := store.Next()
+	_, gone := store.NextDeclarations()
 	is(t, []error{ErrClosed, ErrClosed, ErrClosed}, []error{settled, recorded, gone}, nil)
 }
 

@@ -167,11 +167,11 @@ fn a_record_is_told_and_checked() {
 #[test]
 fn what_goes_on_is_declared() {
     let mut store = Store::new().unwrap();
-    assert_eq!(store.next(), Err(Error::NotStarted));
+    assert_eq!(store.next_declarations(), Err(Error::NotStarted));
     run(&mut store, "object x 0\nobject y 10\nsite a 4\nlimit a object x 5\nstart\npropose add:x:5 set:y:12");
-    assert_eq!(store.next(), Err(Error::NotYet));
+    assert_eq!(store.next_declarations(), Err(Error::NotYet));
     run(&mut store, "settle\nrelimit a object x 7");
-    let lines = store.next().unwrap();
+    let lines = store.next_declarations().unwrap();
     assert_eq!(lines, "object x 5\nobject y 12\nsite a 4\nlimit a object x 7\nstart\n");
     let mut following = Store::new().unwrap();
     assert_eq!(run(&mut following, &lines), "ok object x\nok object y\nok site a\nok limit a\nok start\n");

@@ -73,7 +73,8 @@ uint32_t ordup_open(ordup_store *store);
  * how many bytes of `answers` were written. No others are changed.
  *
  * DONE: all lines were taken, and all answers were given. MORE: all lines were taken, and the next call gives more answers, before
- * those of its own lines. It may have no lines: ordup_run(&store, "", 0, &taken, answers, room, &written).
+ * those of its own lines. It may have no lines, and then memory is not refused: ordup_run(&store, "", 0, &taken, answers, room,
+ * &written).
  * NO_MEMORY: the lines in the first `*taken` bytes were taken, and their answers are given or kept, as always. The store is as
  * these lines leave it. The text from there on may be given again. CLOSED: `*taken` and `*written` are 0. */
 uint32_t ordup_run(ordup_store *store, const char *text, size_t bytes, size_t *taken, char *answers, size_t room,

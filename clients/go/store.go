@@ -89,7 +89,6 @@ func (store *Store) Run(text []byte) ([]byte, error) {
 	for {
 		status := C.ordup_run(store.at, pointer(rest), C.size_t(len(rest)), &store.taken,
 			pointer(store.room), C.size_t(len(store.room)), &store.written)
-		wasAsked := len(rest) > 0
 		answers, rest = append(answers, store.room[:store.written]...), rest[store.taken:]
 		switch {
 		case status == C.ORDUP_DONE:
@@ -98,7 +97,7 @@ func (store *Store) Run(text []byte) ([]byte, error) {
 			if len(store.room) < mostRoom {
 				store.room = make([]byte, 2*len(store.room))
 			}
-		case status == C.ORDUP_NO_MEMORY && wasAsked:
+		case status == C.ORDUP_NO_MEMORY:
 			outcome = fault(status, len(text)-len(rest))
 		default:
 			return answers, fault(status, 0)

@@ -149,6 +149,15 @@ func TestWhatIsNoCommandIsNotAsked(t *testing.T) {
 	one(t, 1)(store.Propose(Add("tea", 1)))
 }
 
+func TestANameMayHave16Letters(t *testing.T) {
+	is(t, nil, nil, open(t).Object("sixteen_letters_", 0))
+}
+
+func TestALineThatBeginsWithASpaceIsNoComment(t *testing.T) {
+	_, err := open(t).Command(" # no comment")
+	isRefused(t, 1, "Syntax", err)
+}
+
 func TestManyCommandsHaveTheirAnswersInOrder(t *testing.T) {
 	given, err := shop(t).Commands("settle", "propose add:tea:1", "bad", "settle")
 	wanted := []Answer{

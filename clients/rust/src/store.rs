@@ -71,12 +71,11 @@ impl Store {
                 answers.set_len(start + written);
                 status
             };
-            let was_asked = !rest.is_empty();
             rest = &rest[taken..];
             match status {
                 DONE => return outcome,
                 MORE => {}
-                NO_MEMORY if was_asked => outcome = Err(Error::NoMemory { taken: text.len() - rest.len() }),
+                NO_MEMORY => outcome = Err(Error::NoMemory { taken: text.len() - rest.len() }),
                 status => return outcome.and(Err(fault(status))),
             }
             // All lines that can be taken were. The rest of their answers comes.

@@ -105,6 +105,21 @@ fn what_is_no_command_is_not_asked() {
 }
 
 #[test]
+fn a_name_may_have_16_letters() {
+    assert_eq!(Store::new().unwrap().object("sixteen_letters_", 0), Ok(()));
+}
+
+#[test]
+fn each_name_of_a_limit_is_looked_at() {
+    let mut store = Store::new().unwrap();
+    let site = "south all 5\nsettle";
+    for scope in [Scope::Object("tea"), Scope::Group("drinks"), Scope::All, Scope::Count] {
+        assert_eq!(store.limit(site, scope, 1), Err(Error::BadLine(site.into())));
+        assert_eq!(store.relimit(site, scope, 1), Err(Error::BadLine(site.into())));
+    }
+}
+
+#[test]
 fn many_commands_have_their_answers_in_order() {
     let mut store = shop();
     let mut outcomes = Vec::new();
@@ -202,6 +217,17 @@ fn threads_share_a_store() {
     });
     places.sort_unstable();
     assert_eq!(places, (1..=8000).collect::<Vec<_>>());
+}
+
+#[test]
+fn a_thread_that_panics_leaves_the_store_whole() {
+    let store = SharedStore::from(shop());
+    let panic = || {
+        let _guard = store.lock();
+        panic!("as it is meant to");
+    };
+    assert!(std::thread::scope(|scope| scope.spawn(panic).join().is_err()));
+    assert_eq!(store.lock().propose(&[("tea", Change::Add(1))]), Ok(1));
 }
 
 #[test]

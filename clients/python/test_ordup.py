@@ -7,6 +7,7 @@ says so. The transcripts of the pages are run too, and so are the module's own e
 
 import doctest
 import faulthandler
+import signal
 import sys
 import threading
 import unittest
@@ -315,6 +316,7 @@ if __name__ == "__main__":
             globals()[f"{case.__name__}InProcess"] = type(f"{case.__name__}InProcess", (case,), {"program": None})
     else:
         del InProcess
+    signal.signal(signal.SIGINT, signal.default_int_handler)  # a shell starts what runs in its background with Ctrl-C ignored
     faulthandler.dump_traceback_later(300, exit=True)  # a test that waits for ever has failed
     result = unittest.main(exit=False).result
     for _, why in result.skipped:

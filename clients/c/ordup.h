@@ -92,7 +92,8 @@ uint32_t ordup_record(ordup_store *store, const char *site, size_t bytes, char *
  *
  * `*written` is how many bytes the line has, at most 64. DONE: it was written, and the record is valid (`yes`) or not (`no`).
  * MALFORMED: it was written, and the text is no record: the row is the first that breaks a rule. MORE: it has more than `room`
- * bytes, and none was written. Else `*written` is 0, and nothing was written: TOO_LONG (more than 8 GiB) or NO_MEMORY. */
+ * bytes, and none was written. Else `*written` is 0, and nothing was written: TOO_LONG (more than 8 GiB, and no row of the first
+ * 8 GiB breaks a rule) or NO_MEMORY. */
 uint32_t ordup_check(const char *record, size_t bytes, char *verdict, size_t room, size_t *written);
 
 /* Gives the declarations of the store that goes on with what this one ends with: the bytes that `ordup next` prints. The store is

@@ -60,14 +60,14 @@ func TestTheTourOfTheReadmeByMethods(t *testing.T) {
 	store := shop(t)
 	one(t, 1)(store.Propose(Add("tea", -5)))
 	settled, err := store.Settle()
-	is(t, Settled{"acked", 1, []string{}}, settled, err)
+	is(t, Settled{Acked, 1, []string{}}, settled, err)
 	one(t, 1)(store.Begin("look", "south", 5))
 	read, err := store.Read("look", "tea")
 	is(t, Read{"look", "tea", 40, 5, 5}, read, err)
 	ended, err := store.End("look")
 	is(t, Ended{"look", 1, 40, 5, 1}, ended, err)
 	one(t, 2)(store.Propose(Add("tea", 2)))
-	for _, state := range []string{"round", "waiting"} {
+	for _, state := range []State{Round, Waiting} {
 		settled, err = store.Settle()
 		is(t, Settled{state, 2, []string{"south"}}, settled, err)
 	}
@@ -77,7 +77,7 @@ func TestTheTourOfTheReadmeByMethods(t *testing.T) {
 	one(t, 2)(store.Apply("south"))
 	one(t, 2)(store.Report("south"))
 	settled, err = store.Settle()
-	is(t, Settled{"acked", 2, []string{}}, settled, err)
+	is(t, Settled{Acked, 2, []string{}}, settled, err)
 	shown, err := store.Show("south")
 	is(t, Shown{"south", 2, 2, 2, 1, map[string]int64{"tea": 37}}, shown, err)
 	certified, err := store.Certify("south")
@@ -161,7 +161,7 @@ func TestALineThatBeginsWithASpaceIsNoComment(t *testing.T) {
 func TestManyCommandsHaveTheirAnswersInOrder(t *testing.T) {
 	given, err := shop(t).Commands("settle", "propose add:tea:1", "bad", "settle")
 	wanted := []Answer{
-		&Refused{17, "NothingToSettle", "settle"}, Proposed{1}, &Refused{1, "Syntax", "bad"}, Settled{"acked", 1, []string{}},
+		&Refused{17, "NothingToSettle", "settle"}, Proposed{1}, &Refused{1, "Syntax", "bad"}, Settled{Acked, 1, []string{}},
 	}
 	is(t, wanted, given, err)
 	given, err = shop(t).Commands()
@@ -213,11 +213,11 @@ func TestARecordIsToldAndChecked(t *testing.T) {
 	is(t, "ordup,1,a,2\nobject,1,x,0\nobject,2,y,10\nlimit,1,object:x,5\nchange,1,1,add:x:5\nchange,2,1,add:x:1\nround,1,2,-\nwindow,1,0,2\n",
 		record, err)
 	verdict, err := Check([]byte(record))
-	is(t, Verdict{State: "yes", Rounds: 1}, verdict, err)
+	is(t, Verdict{Kind: Yes, Rounds: 1}, verdict, err)
 	verdict, err = Check([]byte(strings.Replace(record, "x,5", "x,6", 1)))
-	is(t, Verdict{State: "no", Row: 8, Reason: "WindowLight"}, verdict, err)
+	is(t, Verdict{Kind: No, Row: 8, Reason: "WindowLight"}, verdict, err)
 	verdict, err = Check(nil)
-	is(t, Verdict{State: "malformed", Row: 1}, verdict, err)
+	is(t, Verdict{Kind: Malformed, Row: 1}, verdict, err)
 }
 
 func TestWhatGoesOnIsDeclared(t *testing.T) {

@@ -73,7 +73,8 @@ uint32_t ordup_open(ordup_store *store);
  * how many bytes of `answers` were written. No others are changed.
  *
  * DONE: all lines were taken, and all answers were given. MORE: all lines were taken, and the next call gives more answers, before
- * those of its own lines. It may have no lines: ordup_run(&store, "", 0, &taken, answers, room, &written).
+ * those of its own lines. It may have no lines, and then memory is not refused: ordup_run(&store, "", 0, &taken, answers, room,
+ * &written).
  * NO_MEMORY: the lines in the first `*taken` bytes were taken, and their answers are given or kept, as always. The store is as
  * these lines leave it. The text from there on may be given again. CLOSED: `*taken` and `*written` are 0. */
 uint32_t ordup_run(ordup_store *store, const char *text, size_t bytes, size_t *taken, char *answers, size_t room,
@@ -91,7 +92,8 @@ uint32_t ordup_record(ordup_store *store, const char *site, size_t bytes, char *
  *
  * `*written` is how many bytes the line has, at most 64. DONE: it was written, and the record is valid (`yes`) or not (`no`).
  * MALFORMED: it was written, and the text is no record: the row is the first that breaks a rule. MORE: it has more than `room`
- * bytes, and none was written. Else `*written` is 0, and nothing was written: TOO_LONG (more than 8 GiB) or NO_MEMORY. */
+ * bytes, and none was written. Else `*written` is 0, and nothing was written: TOO_LONG (more than 8 GiB, and no row of the first
+ * 8 GiB breaks a rule) or NO_MEMORY. */
 uint32_t ordup_check(const char *record, size_t bytes, char *verdict, size_t room, size_t *written);
 
 /* Gives the declarations of the store that goes on with what this one ends with: the bytes that `ordup next` prints. The store is

@@ -7,7 +7,23 @@ import (
 )
 
 // An Answer is one of the types below, or a *Refused. The fields are named as in docs/FORMATS.md.
-type Answer interface{}
+type Answer interface{ isAnswer() }
+
+func (Declared) isAnswer()  {}
+func (Started) isAnswer()   {}
+func (Proposed) isAnswer()  {}
+func (Sent) isAnswer()      {}
+func (Applied) isAnswer()   {}
+func (Reported) isAnswer()  {}
+func (Settled) isAnswer()   {}
+func (Begun) isAnswer()     {}
+func (Read) isAnswer()      {}
+func (Ended) isAnswer()     {}
+func (Abandoned) isAnswer() {}
+func (Shown) isAnswer()     {}
+func (Certified) isAnswer() {}
+func (Relimited) isAnswer() {}
+func (*Refused) isAnswer()  {}
 
 // Declared answers a declaration: of an "object", a "group", a "site" or a "limit". The name of a limit is that of its site.
 type Declared struct{ Kind, Name string }
@@ -36,13 +52,23 @@ type Reported struct {
 	Applied uint64
 }
 
-// Settled says what became of the head, which is the first update that is not acknowledged: State is "acked", or it waits for the
-// reports of the sites. Then State is "round" at first, and "waiting" later.
+// Settled says what became of the head, which is the first update that is not acknowledged.
 type Settled struct {
-	State string
+	State State
 	Place uint64
 	Sites []string
 }
+
+// A State is one of a head: Acked, or it waits for the reports of the sites of a forced round. Then it is Round at first, and Waiting
+// later.
+type State string
+
+// The states of a head.
+const (
+	Acked   State = "acked"
+	Round   State = "round"
+	Waiting State = "waiting"
+)
 
 // Begun answers begin. The place is the query's reference.
 type Begun struct {
@@ -88,16 +114,26 @@ type Relimited struct {
 	Place uint64
 }
 
-// A Verdict is what a record shows. State is "yes", "no" or "malformed".
+// A Verdict is what a record shows.
 type Verdict struct {
-	State string
-	// Of "yes": no schedule that keeps the site's limits has fewer rounds.
+	Kind VerdictKind
+	// Of Yes: no schedule that keeps the site's limits has fewer rounds.
 	Rounds uint64
-	// Of "no" and "malformed": the row that is wrong.
+	// Of No and Malformed: the row that is wrong.
 	Row uint64
-	// Of "no": the reason against the record.
+	// Of No: the reason against the record.
 	Reason string
 }
+
+// A VerdictKind says that the rounds of a record are the fewest (Yes), that there is a reason against it (No), or that it is no record.
+type VerdictKind string
+
+// The kinds of verdicts.
+const (
+	Yes       VerdictKind = "yes"
+	No        VerdictKind = "no"
+	Malformed VerdictKind = "malformed"
+)
 
 // words reads the words of an answer, and keeps whether one was not what it should be.
 type words struct {
@@ -182,7 +218,7 @@ func parseWords(words *words, line string) Answer {
 	case "reported":
 		return Reported{words.next(), words.number()}
 	case "acked", "round", "waiting":
-		return Settled{kind, words.number(), words.all()}
+		return Settled{State(kind), words.number(), words.all()}
 	case "begun":
 		return Begun{words.next(), words.number()}
 	case "read":
@@ -226,13 +262,13 @@ func parseShown(words *words) Shown {
 
 func parseVerdict(text string) (Verdict, error) {
 	words := &words{rest: strings.Split(text, " ")}
-	verdict := Verdict{State: words.next()}
-	switch verdict.State {
-	case "yes":
+	verdict := Verdict{Kind: VerdictKind(words.next())}
+	switch verdict.Kind {
+	case Yes:
 		verdict.Rounds = words.number()
-	case "no":
+	case No:
 		verdict.Row, verdict.Reason = words.number(), words.next()
-	case "malformed":
+	case Malformed:
 		verdict.Row = words.number()
 	default:
 		words.bad = true

@@ -89,7 +89,6 @@ func (store *Store) Run(text []byte) ([]byte, error) {
 	for {
 		status := C.ordup_run(store.at, pointer(rest), C.size_t(len(rest)), &store.taken,
 			pointer(store.room), C.size_t(len(store.room)), &store.written)
-		wasAsked := len(rest) > 0
 		answers, rest = append(answers, store.room[:store.written]...), rest[store.taken:]
 		switch {
 		case status == C.ORDUP_DONE:
@@ -98,7 +97,7 @@ func (store *Store) Run(text []byte) ([]byte, error) {
 			if len(store.room) < mostRoom {
 				store.room = make([]byte, 2*len(store.room))
 			}
-		case status == C.ORDUP_NO_MEMORY && wasAsked:
+		case status == C.ORDUP_NO_MEMORY:
 			outcome = fault(status, len(text)-len(rest))
 		default:
 			return answers, fault(status, 0)
@@ -161,9 +160,9 @@ func (store *Store) Record(site string) (string, error) {
 	})
 }
 
-// Next gives the declarations of the store that goes on with what this one ends with, once all updates are acknowledged: as
-// `ordup next` prints them.
-func (store *Store) Next() (string, error) {
+// NextDeclarations gives the declarations of the store that goes on with what this one ends with, once all updates are
+// acknowledged: as `ordup next` prints them.
+func (store *Store) NextDeclarations() (string, error) {
 	return store.given(func(room []byte, written *C.size_t) C.uint32_t {
 		return C.ordup_next(store.at, pointer(room), C.size_t(len(room)), written)
 	})

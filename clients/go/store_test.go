@@ -60,14 +60,14 @@ func TestTheTourOfTheReadmeByMethods(t *testing.T) {
 	store := shop(t)
 	one(t, 1)(store.Propose(Add("tea", -5)))
 	settled, err := store.Settle()
-	is(t, Settled{"acked", 1, []string{}}, settled, err)
+	is(t, Settled{Acked, 1, []string{}}, settled, err)
 	one(t, 1)(store.Begin("look", "south", 5))
 	read, err := store.Read("look", "tea")
 	is(t, Read{"look", "tea", 40, 5, 5}, read, err)
 	ended, err := store.End("look")
 	is(t, Ended{"look", 1, 40, 5, 1}, ended, err)
 	one(t, 2)(store.Propose(Add("tea", 2)))
-	for _, state := range []string{"round", "waiting"} {
+	for _, state := range []State{Round, Waiting} {
 		settled, err = store.Settle()
 		is(t, Settled{state, 2, []string{"south"}}, settled, err)
 	}
@@ -77,7 +77,7 @@ func TestTheTourOfTheReadmeByMethods(t *testing.T) {
 	one(t, 2)(store.Apply("south"))
 	one(t, 2)(store.Report("south"))
 	settled, err = store.Settle()
-	is(t, Settled{"acked", 2, []string{}}, settled, err)
+	is(t, Settled{Acked, 2, []string{}}, settled, err)
 	shown, err := store.Show("south")
 	is(t, Shown{"south", 2, 2, 2, 1, map[string]int64{"tea": 37}}, shown, err)
 	certified, err := store.Certify("south")
@@ -149,10 +149,19 @@ func TestWhatIsNoCommandIsNotAsked(t *testing.T) {
 	one(t, 1)(store.Propose(Add("tea", 1)))
 }
 
+func TestANameMayHave16Letters(t *testing.T) {
+	is(t, nil, nil, open(t).Object("sixteen_letters_", 0))
+}
+
+func TestALineThatBeginsWithASpaceIsNoComment(t *testing.T) {
+	_, err := open(t).Command(" # no comment")
+	isRefused(t, 1, "Syntax", err)
+}
+
 func TestManyCommandsHaveTheirAnswersInOrder(t *testing.T) {
 	given, err := shop(t).Commands("settle", "propose add:tea:1", "bad", "settle")
 	wanted := []Answer{
-		&Refused{17, "NothingToSettle", "settle"}, Proposed{1}, &Refused{1, "Syntax", "bad"}, Settled{"acked", 1, []string{}},
+		&Refused{17, "NothingToSettle", "settle"}, Proposed{1}, &Refused{1, "Syntax", "bad"}, Settled{Acked, 1, []string{}},
 	}
 	is(t, wanted, given, err)
 	given, err = shop(t).Commands()
@@ -204,26 +213,26 @@ func TestARecordIsToldAndChecked(t *testing.T) {
 	is(t, "ordup,1,a,2\nobject,1,x,0\nobject,2,y,10\nlimit,1,object:x,5\nchange,1,1,add:x:5\nchange,2,1,add:x:1\nround,1,2,-\nwindow,1,0,2\n",
 		record, err)
 	verdict, err := Check([]byte(record))
-	is(t, Verdict{State: "yes", Rounds: 1}, verdict, err)
+	is(t, Verdict{Kind: Yes, Rounds: 1}, verdict, err)
 	verdict, err = Check([]byte(strings.Replace(record, "x,5", "x,6", 1)))
-	is(t, Verdict{State: "no", Row: 8, Reason: "WindowLight"}, verdict, err)
+	is(t, Verdict{Kind: No, Row: 8, Reason: "WindowLight"}, verdict, err)
 	verdict, err = Check(nil)
-	is(t, Verdict{State: "malformed", Row: 1}, verdict, err)
+	is(t, Verdict{Kind: Malformed, Row: 1}, verdict, err)
 }
 
 func TestWhatGoesOnIsDeclared(t *testing.T) {
 	store := open(t)
-	if _, err := store.Next(); err != ErrNotStarted {
+	if _, err := store.NextDeclarations(); err != ErrNotStarted {
 		t.Error(err)
 	}
 	_, err := store.Commands("object x 0", "object y 10", "site a 4", "limit a object x 5", "start", "propose add:x:5 set:y:12")
 	is(t, nil, nil, err)
-	if _, err := store.Next(); err != ErrNotYet {
+	if _, err := store.NextDeclarations(); err != ErrNotYet {
 		t.Error(err)
 	}
 	_, err = store.Commands("settle", "relimit a object x 7")
 	is(t, nil, nil, err)
-	lines, err := store.Next()
+	lines, err := store.NextDeclarations()
 	is(t, "object x 5\nobject y 12\nsite a 4\nlimit a object x 7\nstart\n", lines, err)
 	answers, err := open(t).Run([]byte(lines))
 	is(t, "ok object x\nok object y\nok site a\nok limit a\nok start\n", string(answers), err)
@@ -276,7 +285,7 @@ func TestAClosedStore(t *testing.T) {
 	is(t, nil, nil, store.Close())
 	_, settled := store.Settle()
 	_, recorded := store.Record("south")
-	_, gone := store.Next()
+	_, gone := store.NextDeclarations()
 	is(t, []error{ErrClosed, ErrClosed, ErrClosed}, []error{settled, recorded, gone}, nil)
 }
 

@@ -1,6 +1,9 @@
 """What the tests share."""
 
+import os
 import re
+import subprocess
+import sys
 import tempfile
 import unittest
 from pathlib import Path
@@ -93,6 +96,23 @@ class TestCase(unittest.TestCase):
         path.write_text("#!/bin/sh\n" + text, encoding="utf-8")
         path.chmod(0o755)
         return path
+
+    def forked(self, work):
+        """Does something in a forked child, and returns its exit status: that of what it returns."""
+        child = os.fork()
+        if not child:
+            status = 99
+            try:
+                status = work()
+            finally:
+                os._exit(status)
+        return os.WEXITSTATUS(os.waitpid(child, 0)[1])
+
+    def started(self, script):
+        """A Python of its own, which runs a script. `sys.argv[1:]` has the program, where there is one."""
+        words = [sys.executable, "-c", script] + ([self.program] if self.program else [])
+        around = {**os.environ, "PYTHONPATH": str(Path(__file__).parent), "PYTHONDONTWRITEBYTECODE": "1"}
+        return subprocess.Popen(words, stdout=subprocess.PIPE, start_new_session=True, env=around)
 
     def refused(self, number, name, call, *words):
         with self.assertRaises(Refused) as caught:

@@ -2,16 +2,14 @@
 
 import contextlib
 import gc
+import json
 import os
 import signal
-import subprocess
-import sys
 import threading
 import time
-from pathlib import Path
 
 from cases import TestCase
-from ordup import ProgramEnded, Proposed, Store, TimedOut, find, line
+from ordup import ProgramEnded, Proposed, Started, Store, TimedOut, find, line
 
 # What a store answers for ever, and how long a test waits for what should come at once.
 MANY = [line("propose", ("add", "y", 0))] * 20_000
@@ -116,6 +114,69 @@ class Ends(EndCase):
         self.assertEqual(store.commands(MANY, timeout=100.0)[-1], Proposed(20_001))
         self.assertEqual(store.close(), 0)
 
+    def test_no_time_limit(self):
+        for seconds in (10**6, 1e300, 10**400, float("inf")):
+            with self.subTest(seconds=str(seconds)[:20]):
+                store = self.store(time_limit=seconds, timeout=seconds)
+                self.assertEqual(store.run(b"object x 0\nsite a 1"), b"ok object x\nok site a\n")
+                self.assertEqual(store.commands(["start"], timeout=seconds), [Started()])
+                store.timeout = 1.0
+                self.assertEqual(store.run(b"settle", timeout=seconds), b"refused 17 NothingToSettle\n")
+                self.assertEqual(store.close(), 0)
+
+    def test_a_time_limit_that_is_over(self):
+        for seconds in (0, -1.5, -(10**400), float("-inf")):
+            self.assertRaises(TimedOut, self.shop().commands, MANY, timeout=seconds)
+
+    def test_what_is_no_time_limit(self):
+        store = self.shop()
+        for seconds in ("x", "1", b"1", [], 1j, float("nan")):
+            with self.subTest(seconds=seconds):
+                wrong = ValueError if seconds != seconds else TypeError
+                self.assertRaises(wrong, self.store, timeout=seconds)
+                self.assertRaises(wrong, store.command, "propose add:x:1", timeout=seconds)
+                self.assertRaises(wrong, store.run, b"propose add:x:1", timeout=seconds)
+                store.timeout = seconds
+                self.assertRaises(wrong, store.settle)
+                store.timeout = None
+        self.refused(17, "NothingToSettle", store.settle)
+
+    def test_a_time_limit_of_long_answers(self):
+        # They would be a gigabyte, and take seconds. Meanwhile another thread and a signal have their turn.
+        script = """
+import json, ordup, resource, signal, sys, threading, time
+store = ordup.Store(sys.argv[1] if sys.argv[1:] else None)
+store.run(b"object x 0\\nsite a 1\\nlimit a count 0\\nstart\\n")
+store.run(b"propose add:x:1\\nsettle\\nsend a\\napply a\\nreport a\\nsettle\\n" * 40_000)
+resource.setrlimit(resource.RLIMIT_AS, (3 << 29, 3 << 29))
+start = last = time.monotonic()
+turns, rung = [], []
+def take_turns():
+    global last
+    while not rung or not ended:
+        time.sleep(0.001)
+        turns.append(time.monotonic() - last)
+        last += turns[-1]
+ended = False
+thread = threading.Thread(target=take_turns)
+thread.start()
+signal.signal(signal.SIGALRM, lambda *words: rung.append(time.monotonic() - start))
+signal.setitimer(signal.ITIMER_REAL, 0.2)
+try:
+    how = str(len(store.run(b"settle\\n" * 3_000 + b"certify a\\n" * 2_000, timeout=0.5)))
+except Exception as error:
+    how = type(error).__name__
+took, longest, ended = time.monotonic() - start, max(turns), True
+thread.join()
+print(json.dumps([how, took, longest, rung[0]]))
+"""
+        with self.started(script) as process:
+            how, took, longest, rung = json.loads(process.stdout.read())
+        self.assertEqual(how, "TimedOut")
+        self.assertLess(took, SOON)
+        self.assertLess(longest, 1.0)
+        self.assertLess(rung, 1.2)
+
     def test_a_forgotten_store_ends(self):
         store = Store(self.program)
         store.object("x", 0)
@@ -196,9 +257,7 @@ try:
 except KeyboardInterrupt:
     print(store.site("a", 1), store.close())
 """
-        words = [sys.executable, "-c", script] + ([self.program] if self.program else [])
-        around = {**os.environ, "PYTHONPATH": str(Path(__file__).parent), "PYTHONDONTWRITEBYTECODE": "1"}
-        with subprocess.Popen(words, stdout=subprocess.PIPE, start_new_session=True, env=around) as process:
+        with self.started(script) as process:
             self.assertEqual(process.stdout.readline(), b"ready\n")
             os.killpg(process.pid, signal.SIGINT)
             self.assertEqual(process.stdout.read(), b"Declared(kind='site', name='a') 0\n")
@@ -226,17 +285,6 @@ except KeyboardInterrupt:
 
 
 class Forks(EndCase):
-    def forked(self, work):
-        """Does something in a forked child, and returns its exit status: that of what it returns."""
-        child = os.fork()
-        if not child:
-            status = 99
-            try:
-                status = work()
-            finally:
-                os._exit(status)
-        return os.WEXITSTATUS(os.waitpid(child, 0)[1])
-
     def test_a_child_that_closes(self):
         store = self.shop()
         with self.soon():

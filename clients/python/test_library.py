@@ -1,12 +1,15 @@
 """Tests of a store in the process alone."""
 
+import gc
+import io
 import os
 import tempfile
 import threading
+import time
 from unittest import mock
 
 from cases import VALID, TestCase
-from ordup import Malformed, No, NoMemory, Proposed, Store, Yes, check, find, line
+from ordup import Error, Malformed, No, NoMemory, Proposed, Store, Yes, check, find, line
 
 
 class InProcess(TestCase):
@@ -69,8 +72,8 @@ class InProcess(TestCase):
             return 4 if text else status
 
         with mock.patch.object(find(), "run", refuse), self.assertRaises(NoMemory) as caught:
-            store.commands(["show a"] * 4000)
-        self.assertEqual((caught.exception.status, len(caught.exception.answered), len(caught.exception.unanswered)), (4, 2001, 1999))
+            store.commands(["show a"] * 400)
+        self.assertEqual((caught.exception.status, len(caught.exception.answered), len(caught.exception.unanswered)), (4, 201, 199))
         self.assertEqual(caught.exception.answered[-1], store.show("a"))
         self.assertEqual(store.run(b"settle"), b"refused 17 NothingToSettle\n")
 
@@ -91,8 +94,113 @@ class InProcess(TestCase):
             threading.stack_size(before)
         self.assertEqual(len(outcomes), 3)
 
+    def test_a_line_of_certify_ends_its_piece(self):
+        store, library, runs = self.shop(), find(), []
+
+        def recorded(name):
+            run = getattr(library, name)
+
+            def record(handle, text, *others):
+                runs.append((name, text))
+                return run(handle, text, *others)
+
+            return mock.patch.object(library, name, record)
+
+        text = b"settle\n" * 2_000 + b"certify a\n" * 3 + b"show a\n"
+        with recorded("run"), recorded("run_long"):
+            self.assertEqual(store.run(text).count(b"\n"), 2_004)
+        runs = [run for run in runs if run[1]]
+        self.assertEqual(b"".join(piece for _, piece in runs), text)
+        for name, piece in runs:
+            self.assertEqual((name, piece.count(b"certify")), ("run_long", 1) if piece.endswith(b"certify a\n") else ("run", 0))
+            self.assertLess(len(piece), 5_000)
+
+    def test_threads_run_during_a_long_call(self):
+        store, turns, ended = self.shop(), [time.monotonic()], threading.Event()
+
+        def take_turns():
+            while not ended.wait(0.001):
+                turns.append(time.monotonic())
+
+        thread = threading.Thread(target=take_turns)
+        thread.start()
+        start = time.monotonic()
+        store._way._run(find().run_long, b"\n" * 20_000_000, io.BytesIO())
+        took = time.monotonic() - start
+        ended.set()
+        thread.join()
+        longest = max(after - before for before, after in zip(turns, turns[1:] + [start + took]))
+        self.assertLess(longest, took / 2)
+
+    def test_a_store_that_is_closed_is_closed_in_the_library(self):
+        store = self.shop()
+        opened, handle = find().open, store._way._handle
+        store.close()
+        self.assertEqual(opened(handle), 0)  # it was closed, so it can be opened
+        find().close(handle)
+
+    def test_a_forked_child_calls_nothing_of_the_library(self):
+        library = find()
+        with mock.patch.object(library, "close", mock.Mock(wraps=library.close)) as close:
+            stores = [self.shop(), Store()]
+
+            def leave():
+                stores[0].close()
+                stores.clear()
+                gc.collect()
+                return close.call_count
+
+            self._cleanups.clear()
+            self.assertEqual(self.forked(leave), 0)
+            stores.clear()
+            gc.collect()
+            self.assertEqual(close.call_count, 2)
+
+    def test_the_end_of_python_calls_nothing_of_the_library(self):
+        # A thread that is no longer waited for could be in a call.
+        script = """
+import ordup
+library = ordup.find()
+close, library.close = library.close, lambda handle: print("closed", flush=True)
+stores = [ordup.Store(), ordup.Store()]
+stores.pop()
+"""
+        with self.started(script) as process:
+            self.assertEqual(process.stdout.read(), b"closed\n")
+
+    def test_a_record_is_told_under_the_lock(self):
+        store, held, whole = self.shop(), [], find().record
+
+        def look():
+            is_free = store._way._lock.acquire(blocking=False)
+            held.append(not is_free)
+            if is_free:
+                store._way._lock.release()
+
+        def record(*words):
+            thread = threading.Thread(target=look)
+            thread.start()
+            thread.join()
+            return whole(*words)
+
+        with mock.patch.object(find(), "record", record):
+            store.record("a")
+        self.assertEqual(held, [True])
+
+    def test_a_record_of_what_is_no_name(self):
+        store = self.shop()
+        for name in ("", "b", "a b", "\ud800", "a" * 100_000):
+            self.refused(8, "UnknownSite", store.record, name)
+        for name in (None, 5, b"a"):
+            self.assertRaises(TypeError, store.record, name)
+        self.assertTrue(store.record("a"))
+
+    def test_a_record_that_is_too_long(self):
+        with mock.patch.object(find(), "check", lambda *words: 8):
+            self.assertRaisesRegex(Error, "read fault", check, b"")
+
     def test_where_it_is_looked_for(self):
         with tempfile.NamedTemporaryFile(suffix=".so") as no_library:
-            for path in ("/no/such/library.so", no_library.name):
+            for path in ("/no/such/library.so", no_library.name, "libc.so.6"):
                 with mock.patch.dict(os.environ, {"ORDUP_LIBRARY": path}):
                     self.assertRaises(OSError, Store)

@@ -7,6 +7,7 @@ says so. The transcripts of the pages are run too, and so are the module's own e
 
 import doctest
 import faulthandler
+import signal
 import sys
 import threading
 import unittest
@@ -15,10 +16,10 @@ from pathlib import Path
 sys.dont_write_bytecode = True
 
 import ordup
-from cases import TOP, TestCase, text_of, transcripts
+from cases import TOP, VALID, TestCase, text_of, transcripts
 from ordup import (
     Abandoned, Acked, Applied, BadLine, Begun, Certified, Declared, Ended, Proposed, Read, Refused, Relimited, Reported, Round, Sent,
-    Shown, Started, Waiting, line,
+    Shown, Started, Waiting, Yes, check, line,
 )
 from test_ends import Ends, Forks, Interrupts, Mute
 from test_library import InProcess
@@ -68,6 +69,15 @@ class Commands(TestCase):
         self.assertEqual(store.relimit("north", ("group", "all_tea"), 7), Relimited("north", 3))
         self.assertEqual(store.relimit("north", "all", 7), Relimited("north", 3))
         self.assertEqual(store.relimit("north", "count", 2), Relimited("north", 3))
+
+    def test_each_number_of_a_site_is_its_own(self):
+        store = self.shop()
+        store.commands(["propose add:x:6"] + ["propose add:x:1"] * 2 + ["settle"] + ["send a"] * 2 + ["apply a", "report a"] * 2 + ["send a"])
+        shown = store.show("a")
+        self.assertEqual((shown.sent, shown.applied, shown.reported, shown.rounds), (3, 2, 2, 1))
+        store.apply("a")
+        shown = store.show("a")
+        self.assertEqual((shown.sent, shown.applied, shown.reported, shown.rounds), (3, 3, 2, 1))
 
     def test_each_change(self):
         store = self.store()
@@ -270,6 +280,23 @@ class ManyLines(TestCase):
         answers = store.run(b"# one\npropose add:x:1\n\n" * 50_000)
         self.assertEqual(answers, b"".join(b"ok proposed %d\n" % place for place in range(1, 50_001)))
 
+    def test_what_is_like_bytes(self):
+        store = self.store()
+        self.assertEqual(store.run(bytearray(b"object x 0\nsite a 1\nstart")), b"ok object x\nok site a\nok start\n")
+        self.assertEqual(store.run(memoryview(b"s-e-t-t-l-e-")[::2]), b"refused 17 NothingToSettle\n")
+        self.assertEqual(store.run(bytearray()), b"")
+        self.assertEqual(check(bytearray(VALID), self.program), Yes(1))
+        self.assertEqual(check(memoryview(VALID), self.program), Yes(1))
+
+    def test_what_is_not_like_bytes(self):
+        store = self.shop()
+        for text in ("settle", None, 5, [115], object()):
+            self.assertRaises(TypeError, store.run, text)
+            self.assertRaises(TypeError, check, text, self.program)
+        for text in ([b"settle"], [None], [5], 5, None):
+            self.assertRaises(TypeError, store.commands, text)
+        self.refused(17, "NothingToSettle", store.settle)
+
     def test_bytes_without_answers(self):
         store = self.store()
         comments = b"# " + b"x" * 98 + b"\n"
@@ -315,6 +342,7 @@ if __name__ == "__main__":
             globals()[f"{case.__name__}InProcess"] = type(f"{case.__name__}InProcess", (case,), {"program": None})
     else:
         del InProcess
+    signal.signal(signal.SIGINT, signal.default_int_handler)  # a shell starts what runs in its background with Ctrl-C ignored
     faulthandler.dump_traceback_later(300, exit=True)  # a test that waits for ever has failed
     result = unittest.main(exit=False).result
     for _, why in result.skipped:

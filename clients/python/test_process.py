@@ -72,6 +72,17 @@ class Process(TestCase):
         store = self.store(self.stand_in("read line\necho ok sent a 1\n"))
         self.assertRaises(BadAnswer, store.start)
 
+    def test_the_message_of_a_long_answer(self):
+        long = "x" * 4000
+        for text in (f"{long}\\n", f"ok start\\n{long}", f"ok start\\n{long}\\n", f"ok object {long}\\n"):
+            store = self.store(self.stand_in(f"read line\nprintf '{text}'\nsleep 60\n"))
+            with self.assertRaises(BadAnswer) as caught:
+                store.start()
+            self.assertLess(len(str(caught.exception)), 300)
+        with self.assertRaises(BadAnswer) as caught:
+            check(VALID, self.stand_in(f"echo {long}\n"))
+        self.assertLess(len(str(caught.exception)), 300)
+
     def test_a_program_that_is_not_there(self):
         self.assertRaises(FileNotFoundError, Store, "/no/such/program")
         self.assertRaises(PermissionError, Store, TOP / "README.md")
@@ -85,6 +96,9 @@ class Process(TestCase):
                 with Store() as store:
                     self.assertEqual(store.process.args[0], str(Path(folder, "ordup")))
                     self.assertEqual(store.object("x", 0), Declared("object", "x"))
+            with mock.patch.dict(os.environ, {"PATH": folder}):
+                self.assertRaises(OSError, Store, "")
+                self.assertRaises(OSError, check, VALID, "")
 
     def test_the_launcher_where_the_path_has_no_program(self):
         with mock.patch.dict(os.environ, {"PATH": ""}), mock.patch("ordup.find", return_value=None):

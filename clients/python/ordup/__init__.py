@@ -55,6 +55,7 @@ from . import _answers
 from ._library import InProcess, check_record, find
 from ._pipe import Pipe, Program, path_of
 from ._answers import *
+from ._way import Answered, Text, bytes_of, seconds_of
 from ._answers import answered_lines, check_lines, count_answers, outcomes_of, scope_words, verdict_of
 
 __version__ = "0.2.0"
@@ -68,15 +69,15 @@ for _it in [vars(_answers)[name] for name in _answers.__all__]:
 A = TypeVar("A", bound=Answer)
 
 
-def check(record: bytes, program: Optional[Program] = None) -> Verdict:
+def check(record: Text, program: Optional[Program] = None) -> Verdict:
     """The verdict on a record, as the job `check` gives it. It needs no store, and trusts nothing but the record.
 
     It is found in this process where no program is given and the library is there, else by the program.
     """
-    library = None if program else find()
+    text, library = bytes_of(record), find() if program is None else None
     if library:
-        return verdict_of(check_record(library, record))
-    ran = subprocess.run([path_of(program), "check"], input=record, stdout=subprocess.PIPE, stderr=subprocess.PIPE)
+        return verdict_of(check_record(library, text))
+    ran = subprocess.run([path_of(program), "check"], input=text, stdout=subprocess.PIPE, stderr=subprocess.PIPE)
     said = (ran.stdout or ran.stderr).decode("utf-8", "replace").strip()
     if said == "no memory":
         raise MemoryError
@@ -89,6 +90,7 @@ class Store:
     """A store in this process, or in a process of its own behind a pipe. The answers are the same.
 
     `process` is the process of its own, or None. `timeout` is how many seconds a call may take, or None, and may be changed.
+    A million seconds and more are no limit.
     """
 
     def __init__(
@@ -102,7 +104,8 @@ class Store:
 
         `time_limit` is how many seconds the program may take to end once its input was closed. In the process it has no meaning.
         """
-        library = None if program else find()
+        seconds_of(timeout)
+        library = find() if program is None else None
         self._way: Union[InProcess, Pipe] = InProcess(library) if library else Pipe(program, time_limit)
         self.timeout = timeout
 
@@ -141,13 +144,14 @@ class Store:
         asked = list(lines)
         check_lines(asked)
         text = "".join([line + "\n" for line in asked]).encode("ascii")
-        answers, why = self._way.ask(text, len(asked), self.timeout if timeout is None else timeout)
+        answers, why = self._ask_all(text, len(asked), timeout)
         return self._outcomes(answers, asked, why)
 
-    def run(self, text: bytes, timeout: Optional[float] = None) -> bytes:
+    def run(self, text: Text, timeout: Optional[float] = None) -> bytes:
         """Runs the lines of a text as `ordup run` does, and returns the bytes of its answers."""
-        whole = text if text.endswith(b"\n") or not text else text + b"\n"
-        answers, why = self._way.ask(whole, count_answers(whole), self.timeout if timeout is None else timeout)
+        given = bytes_of(text)
+        whole = given if given.endswith(b"\n") or not given else given + b"\n"
+        answers, why = self._ask_all(whole, count_answers(whole), timeout)
         if why:
             self._outcomes(answers, answered_lines(whole), why)
         return answers
@@ -168,21 +172,23 @@ class Store:
             raise OnlyInProcess(f"a store behind a pipe cannot do this, but `{job}` can, given the script")
         return self._way
 
+    def _ask_all(self, text: bytes, count: int, timeout: Optional[float]) -> Answered:
+        return self._way.ask(text, count, seconds_of(self.timeout if timeout is None else timeout))
+
     def _outcomes(self, answers: bytes, lines: Sequence[str], why: Optional[Type[Unanswered]]) -> List[Outcome]:
         """What answers to lines say. Where they are not all, that is raised."""
+        if why:
+            raise why(4 if why is NoMemory else self._way.close(), answers, lines)
         try:
-            outcomes = outcomes_of(answers, lines)
+            return outcomes_of(answers, lines)
         except BadAnswer:
             self._way.close(at_once=True)
             raise
-        if why:
-            raise why(4 if why is NoMemory else self._way.close(), outcomes, lines[len(outcomes) :])
-        return outcomes
 
     def _ask(self, kind: Type[A], *words: Word) -> A:
         answer = self.command(line(*words))
         if not isinstance(answer, kind):
-            raise BadAnswer(f"{answer!r} is no answer to {words[0]!r}")
+            raise BadAnswer(f"{repr(answer)[:80]} is no answer to {words[0]!r}")
         return answer
 
     def object(self, name: str, value: int) -> Declared:

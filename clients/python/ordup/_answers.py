@@ -2,6 +2,7 @@
 
 from __future__ import annotations
 
+import functools
 import re
 from dataclasses import dataclass, field
 from typing import Callable, Dict, List, Literal, Mapping, Sequence, Tuple, Union
@@ -62,15 +63,20 @@ class Unanswered(Error):
     the program, or minus the number of the signal that ended it. FORMATS says what it means; standard error says more.
     """
 
-    def __init__(self, status: int, answered: Sequence[Outcome], unanswered: Sequence[str]) -> None:
-        super().__init__(status, answered, unanswered)
+    def __init__(self, status: int, answers: bytes, lines: Sequence[str]) -> None:
+        super().__init__(status, answers, lines)
         self.status = status
-        self.answered = answered
-        self.unanswered = unanswered
+        self._answers, self._lines, self._count = answers, lines, answers.count(b"\n")
+        self.unanswered = lines[self._count :]
+
+    @functools.cached_property
+    def answered(self) -> List[Outcome]:
+        # Not read before: an answer may be long, and the time limit is over.
+        return outcomes_of(self._answers, self._lines)
 
     def __str__(self) -> str:
-        where = f", from {self.unanswered[0]!r} on" if self.unanswered else ""
-        return f"status {self.status}: {len(self.answered)} lines were answered, and {len(self.unanswered)} were not{where}"
+        where = f", from {quoted(self.unanswered[0])} on" if self.unanswered else ""
+        return f"status {self.status}: {self._count} lines were answered, and {len(self.unanswered)} were not{where}"
 
 
 class ProgramEnded(Unanswered):
@@ -269,6 +275,11 @@ _ANSWERS: Dict[str, Callable[[List[str]], Answer]] = {
 }
 
 
+def quoted(text: str) -> str:
+    """A text for a message, which has the first 80 letters of it."""
+    return repr(text[:80])
+
+
 def outcome_of(text: str, line: str) -> Outcome:
     """What an answer says, which came for a line."""
     words = text.split(" ")
@@ -279,14 +290,14 @@ def outcome_of(text: str, line: str) -> Outcome:
             return _ANSWERS[words[1]](words[2:])
     except (IndexError, KeyError, ValueError):
         pass
-    raise BadAnswer(f"{text!r} is no answer to {line!r}")
+    raise BadAnswer(f"{quoted(text)} is no answer to {quoted(line)}")
 
 
 def outcomes_of(answers: bytes, lines: Sequence[str]) -> List[Outcome]:
     """What the answers to lines say: of all lines, or of the first ones. What comes after the last LF is no answer."""
     texts = answers.decode("ascii", "replace").split("\n")[:-1]
     if len(texts) > len(lines):
-        raise BadAnswer(f"{texts[len(lines)]!r} is an answer to no line")
+        raise BadAnswer(f"{quoted(texts[len(lines)])} is an answer to no line")
     return [outcome_of(text, line) for text, line in zip(texts, lines)]
 
 
@@ -294,7 +305,7 @@ def verdict_of(text: str) -> Verdict:
     """What the line says that `ordup check` prints."""
     found = re.fullmatch(r"(yes|no|malformed) ([0-9]+)(?: ([A-Za-z]+))?", text)
     if not found or (found[1] == "no") != bool(found[3]):
-        raise BadAnswer(f"{text!r} is no verdict")
+        raise BadAnswer(f"{quoted(text)} is no verdict")
     number = int(found[2])
     return Yes(number) if found[1] == "yes" else Malformed(number) if found[1] == "malformed" else No(number, found[3])
 
@@ -303,7 +314,7 @@ def check_lines(lines: Sequence[str]) -> None:
     """Raises `BadLine` where one of the lines would have no answer, or is more than a line."""
     for line in lines:
         if len(line) > _MOST_BYTES or not _LINE.fullmatch(line):
-            raise BadLine(f"{line[:80]!r} is no command: that has 1 to {_MOST_BYTES} bytes of printed ASCII, and a word")
+            raise BadLine(f"{quoted(line)} is no command: that has 1 to {_MOST_BYTES} bytes of printed ASCII, and a word")
 
 
 def count_answers(text: bytes) -> int:
@@ -330,10 +341,10 @@ def _word(word: Word) -> str:
         return ":".join(map(_word, word))
     if isinstance(word, str):
         if not _NAME.fullmatch(word):
-            raise BadLine(f"{word!r} is no name: that has 1 to 16 of a to z, 0 to 9 and _, and begins with a letter")
+            raise BadLine(f"{quoted(word)} is no name: that has 1 to 16 of a to z, 0 to 9 and _, and begins with a letter")
         return word
     if abs(word) >= 10**19:
-        raise BadLine(f"{word} has more than 19 digits")
+        raise BadLine("a number has more than 19 digits")
     return f"{word:d}"
 
 

@@ -4,11 +4,12 @@ from __future__ import annotations
 
 import ctypes
 import functools
+import io
 import os
 import time
 import weakref
 from pathlib import Path
-from typing import Any, List, Optional, Tuple, Type
+from typing import Any, Optional, Tuple, Type
 
 from ._answers import Error, NoMemory, ProgramEnded, Refused, TimedOut, Unanswered
 from ._pipe import CHECKOUT
@@ -16,7 +17,8 @@ from ._way import Answered, Way
 
 _VERSION = 1  # of the functions, as in ordup.h
 _DONE, _MORE, _CLOSED, _OPEN, _NO_MEMORY, _NOT_STARTED, _UNKNOWN_SITE, _MALFORMED, _TOO_LONG, _NOT_YET = range(10)
-_ROOM = 65536  # for answers, and about as many bytes of lines are run by one call
+_ROOM = 65536  # for answers
+_PIECE = 4096  # about so many bytes of lines are run by one call, at most
 
 
 class _Handle(ctypes.Structure):
@@ -27,17 +29,21 @@ class Library:
     """The functions of ordup.h."""
 
     def __init__(self, path: str) -> None:
-        # A call of `ordup_run` takes less time than it takes to let other threads run meanwhile, as the long calls do.
-        self.quick, self.long = ctypes.PyDLL(path), ctypes.CDLL(path)
-        if self.quick.ordup_version() != _VERSION:
-            raise OSError(f"{path} has the version {self.quick.ordup_version()} of the library's functions, not {_VERSION}")
+        # Other threads run during a call of `long`. One of `quick` takes less time than it takes to let them.
+        quick, long = ctypes.PyDLL(path), ctypes.CDLL(path)
+        try:
+            version = quick.ordup_version()
+        except AttributeError as why:
+            raise OSError(f"{path} is no library of ordup: {why}") from why
+        if version != _VERSION:
+            raise OSError(f"{path} has the version {version} of the library's functions, not {_VERSION}")
         handle, text, size = ctypes.POINTER(_Handle), ctypes.c_char_p, ctypes.c_size_t
         answer: Any = (ctypes.c_void_p, size, ctypes.POINTER(size))
-        self.open, self.close, self.run = self.quick.ordup_open, self.long.ordup_close, self.quick.ordup_run
-        self.record, self.next, self.check = self.long.ordup_record, self.long.ordup_next, self.long.ordup_check
+        self.open, self.close, self.run, self.run_long = quick.ordup_open, long.ordup_close, quick.ordup_run, long.ordup_run
+        self.record, self.next, self.check = long.ordup_record, long.ordup_next, long.ordup_check
         self.open.argtypes = self.close.argtypes = [handle]
         self.close.restype = None
-        self.run.argtypes = [handle, text, size, ctypes.POINTER(size), *answer]
+        self.run.argtypes = self.run_long.argtypes = [handle, text, size, ctypes.POINTER(size), *answer]
         self.record.argtypes = [handle, text, size, *answer]
         self.next.argtypes = [handle, *answer]
         self.check.argtypes = [text, size, *answer]
@@ -91,9 +97,10 @@ class InProcess(Way):
         if library.open(self._handle) != _DONE:
             raise MemoryError
         self._forgotten = weakref.finalize(self, library.close, self._handle)
-        self._given = ctypes.create_string_buffer(_ROOM)
-        self._taken, self._written = ctypes.c_size_t(), ctypes.c_size_t()
-        self._after_text = ctypes.byref(self._taken), ctypes.addressof(self._given), _ROOM, ctypes.byref(self._written)
+        self._forgotten.atexit = False  # at the end of Python another thread may be in a call
+        room = ctypes.create_string_buffer(_ROOM)
+        self._given, self._taken, self._written = memoryview(room), ctypes.c_size_t(), ctypes.c_size_t()
+        self._after_text = ctypes.byref(self._taken), ctypes.addressof(room), _ROOM, ctypes.byref(self._written)
         super().__init__()
 
     def leave(self) -> None:
@@ -101,24 +108,30 @@ class InProcess(Way):
         self._forgotten.detach()
 
     def _exchange(self, text: bytes, count: int, seconds: Optional[float]) -> Answered:
-        """Runs the lines, some at a time, and looks between these at the time and at whether the store was closed."""
+        """Runs the lines, some at a time, and looks between these at the time and at whether the store was closed.
+
+        A line of `certify`, whose answer alone may be long, ends its piece.
+        """
         limit = None if seconds is None else time.monotonic() + seconds
-        pieces: List[bytes] = []
+        answers = io.BytesIO()
         start, why = 0, None
         while start < len(text) and why is None:
-            end = text.find(b"\n", start + _ROOM) + 1 or len(text)
-            why = self._run(text[start:end], pieces)
+            end = text.find(b"\n", start + _PIECE) + 1 or len(text)
+            at = text.find(b"certify", start, end)
+            if at >= 0:
+                end = text.find(b"\n", at) + 1
+            why = self._run(self._library.run if at < 0 else self._library.run_long, text[start:end], answers)
             start = end
             if why is None and start < len(text):
                 why = ProgramEnded if self._closed else TimedOut if limit is not None and time.monotonic() > limit else None
-        return b"".join(pieces), why
+        return answers.getvalue(), why
 
-    def _run(self, text: bytes, pieces: List[bytes]) -> Optional[Type[Unanswered]]:
+    def _run(self, run: Any, text: bytes, answers: io.BytesIO) -> Optional[Type[Unanswered]]:
         """Runs lines and takes their answers, all of them: the next call of the library would give those that it kept."""
-        status = first = self._library.run(self._handle, text, len(text), *self._after_text)
+        status = first = run(self._handle, text, len(text), *self._after_text)
         while True:
-            pieces.append(ctypes.string_at(self._given, self._written.value))
-            if status in (_DONE, _CLOSED) or not pieces[-1]:
+            written = answers.write(self._given[: self._written.value])
+            if status in (_DONE, _CLOSED) or not written:
                 return {_CLOSED: ProgramEnded, _NO_MEMORY: NoMemory}.get(first)
             status = self._library.run(self._handle, b"", 0, *self._after_text)
 
@@ -131,7 +144,7 @@ class InProcess(Way):
         return 0
 
     def record(self, site: str) -> bytes:
-        name = site.encode()
+        name = str.encode(site, errors="surrogatepass")
         return self._printed(f"record {site}", self._library.record, name, len(name))
 
     def next_declarations(self) -> bytes:
@@ -150,7 +163,7 @@ class InProcess(Way):
         if status == _NOT_YET:
             raise Refused(22, "NotYet", line)
         if status == _NO_MEMORY:
-            raise NoMemory(4, [], [line])
+            raise NoMemory(4, b"", [line])
         if status == _CLOSED:
-            raise ProgramEnded(0, [], [line])
+            raise ProgramEnded(0, b"", [line])
         raise Error(f"{line}: the library's status is {status}")

@@ -13,8 +13,8 @@ import weakref
 from pathlib import Path
 from typing import List, Optional, Union
 
-from ._answers import BadAnswer, ProgramEnded, TimedOut
-from ._way import Answered, Way
+from ._answers import BadAnswer, ProgramEnded, TimedOut, quoted
+from ._way import Answered, Way, seconds_of
 
 Program = Union[str, "os.PathLike[str]"]
 # The repository, where this is a checkout of it.
@@ -24,13 +24,14 @@ CHECKOUT = _FOLDER.parent.parent if _FOLDER.parts[-2:] == ("clients", "python") 
 
 def path_of(program: Optional[Program]) -> Program:
     """The program that is meant: without a word the `ordup` on PATH, or else the launcher of the checkout."""
-    return program or shutil.which("ordup") or (CHECKOUT / "ordup" if CHECKOUT else "ordup")
+    return program if program is not None else shutil.which("ordup") or (CHECKOUT / "ordup" if CHECKOUT else "ordup")
 
 
 class Pipe(Way):
     process: subprocess.Popen[bytes]
 
     def __init__(self, program: Optional[Program], end_limit: float) -> None:
+        self._end_limit = seconds_of(end_limit)
         # In a session of its own, so that Ctrl-C in a terminal reaches the caller alone.
         self.process = subprocess.Popen(
             [path_of(program), "run"], bufsize=0, stdin=subprocess.PIPE, stdout=subprocess.PIPE, start_new_session=True
@@ -38,16 +39,14 @@ class Pipe(Way):
         assert self.process.stdin and self.process.stdout
         self._input, self._output = self.process.stdin, self.process.stdout
         os.set_blocking(self._input.fileno(), False)
-        self._end_limit = end_limit
         self._forgotten = weakref.finalize(self, _kill, self.process)
         super().__init__()
 
     def leave(self) -> None:
         super().leave()
-        self._forgotten.detach()
         self._input.close()
         self._output.close()
-        self.process.returncode = 0  # of a process that is not this one's child
+        self.process.returncode = 0  # of a process that is not this one's child, so that it is not killed here
 
     def _exchange(self, text: bytes, count: int, seconds: Optional[float]) -> Answered:
         """Writes lines and reads their answers, both at once, so that no pipe stays full."""
@@ -76,8 +75,8 @@ class Pipe(Way):
                 missing -= piece.count(b"\n")
         answers = b"".join(pieces)
         if missing < 0 or answers[-1:] not in (b"", b"\n"):
-            more = answers.split(b"\n")[count].decode("ascii", "replace")
-            raise BadAnswer(f"{more!r} is an answer to no line")
+            more = answers.split(b"\n", count + 1)[count].decode("ascii", "replace")
+            raise BadAnswer(f"{quoted(more)} is an answer to no line")
         return answers, None
 
     def _wait(self, to_write: bool, limit: Optional[float]) -> List[int]:
@@ -86,7 +85,7 @@ class Pipe(Way):
         pipes.register(self._output, select.POLLIN)
         if to_write:
             pipes.register(self._input, select.POLLOUT)
-        return [pipe for pipe, _ in pipes.poll(None if limit is None else max(0, limit - time.monotonic()) * 1000)]
+        return [pipe for pipe, _ in pipes.poll(_milliseconds_until(limit))]
 
     def _stop(self) -> None:
         _kill(self.process)
@@ -95,16 +94,20 @@ class Pipe(Way):
         """Closes the input, waits for the program, and kills it after the time limit, or where another `_end` waits already."""
         if not (self._calling or self._input.closed):
             self._input.close()
-            limit = time.monotonic() + self._end_limit
+            limit = None if self._end_limit is None else time.monotonic() + self._end_limit
             hung_up = select.poll()
             hung_up.register(self._output, 0)
-            hung_up.poll(self._end_limit * 1000)
-            while not _has_ended(self.process) and time.monotonic() < limit:
+            hung_up.poll(_milliseconds_until(limit))
+            while not _has_ended(self.process) and (limit is None or time.monotonic() < limit):
                 time.sleep(0.001)  # it closed its output, and will end
             status = _kill(self.process)
             self._output.close()
             return status
         return _kill(self.process)
+
+
+def _milliseconds_until(limit: Optional[float]) -> Optional[float]:
+    return None if limit is None else max(0, limit - time.monotonic()) * 1000
 
 
 def _has_ended(process: subprocess.Popen[bytes]) -> bool:

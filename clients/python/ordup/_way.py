@@ -6,12 +6,29 @@ import os
 import threading
 import weakref
 from subprocess import Popen
-from typing import Optional, Tuple, Type
+from typing import Optional, Tuple, Type, Union
 
 from ._answers import ProgramEnded, TimedOut, Unanswered
 
 # Answers, and what to raise where these are not all.
 Answered = Tuple[bytes, Optional[Type[Unanswered]]]
+Text = Union[bytes, bytearray, memoryview]
+
+_MOST_SECONDS = 1_000_000
+
+
+def bytes_of(text: Text) -> bytes:
+    """A text as bytes, or a `TypeError`."""
+    return text if type(text) is bytes else bytes(memoryview(text))
+
+
+def seconds_of(limit: Optional[float]) -> Optional[float]:
+    """A time limit, which is none from a million seconds on; or a `TypeError`, or a `ValueError` of what is no number."""
+    if limit is None or limit >= _MOST_SECONDS:
+        return None
+    if limit != limit:
+        raise ValueError("a time limit that is not a number")
+    return float(max(limit, 0))
 
 
 class Way:
@@ -46,9 +63,8 @@ class Way:
                 self._calling = False
                 self._end()
                 raise
-            if why is ProgramEnded or why is TimedOut:
-                self._closed = True
             if why is TimedOut:
+                self._closed = True
                 self._stop()
             self._calling = False
             if self._closed:

@@ -1,4 +1,4 @@
-//! The functions of `ordup.h`. Nothing compares these lines with it: `VERSION` is asked for before a store is opened.
+//! The functions of `ordup.h`. `VERSION` is asked for before a store is opened. The checks compare the numbers; nothing compares the functions.
 
 use std::ffi::c_void;
 

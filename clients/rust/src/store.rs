@@ -71,12 +71,11 @@ impl Store {
                 answers.set_len(start + written);
                 status
             };
-            let was_asked = !rest.is_empty();
             rest = &rest[taken..];
             match status {
                 DONE => return outcome,
                 MORE => {}
-                NO_MEMORY if was_asked => outcome = Err(Error::NoMemory { taken: text.len() - rest.len() }),
+                NO_MEMORY => outcome = Err(Error::NoMemory { taken: text.len() - rest.len() }),
                 status => return outcome.and(Err(fault(status))),
             }
             // All lines that can be taken were. The rest of their answers comes.
@@ -135,7 +134,7 @@ impl Store {
 
     /// The declarations of the store that goes on with what this one ends with, once all updates are acknowledged: as `ordup next`
     /// prints them.
-    pub fn next(&mut self) -> Result<String, Error> {
+    pub fn next_declarations(&mut self) -> Result<String, Error> {
         // SAFETY: as in `run`.
         given(65_536, |room, size, written| unsafe { ordup_next(&mut self.0, room, size, written) })
     }

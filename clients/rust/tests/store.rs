@@ -105,6 +105,21 @@ fn what_is_no_command_is_not_asked() {
 }
 
 #[test]
+fn a_name_may_have_16_letters() {
+    assert_eq!(Store::new().unwrap().object("sixteen_letters_", 0), Ok(()));
+}
+
+#[test]
+fn each_name_of_a_limit_is_looked_at() {
+    let mut store = Store::new().unwrap();
+    let site = "south all 5\nsettle";
+    for scope in [Scope::Object("tea"), Scope::Group("drinks"), Scope::All, Scope::Count] {
+        assert_eq!(store.limit(site, scope, 1), Err(Error::BadLine(site.into())));
+        assert_eq!(store.relimit(site, scope, 1), Err(Error::BadLine(site.into())));
+    }
+}
+
+#[test]
 fn many_commands_have_their_answers_in_order() {
     let mut store = shop();
     let mut outcomes = Vec::new();
@@ -167,11 +182,11 @@ fn a_record_is_told_and_checked() {
 #[test]
 fn what_goes_on_is_declared() {
     let mut store = Store::new().unwrap();
-    assert_eq!(store.next(), Err(Error::NotStarted));
+    assert_eq!(store.next_declarations(), Err(Error::NotStarted));
     run(&mut store, "object x 0\nobject y 10\nsite a 4\nlimit a object x 5\nstart\npropose add:x:5 set:y:12");
-    assert_eq!(store.next(), Err(Error::NotYet));
+    assert_eq!(store.next_declarations(), Err(Error::NotYet));
     run(&mut store, "settle\nrelimit a object x 7");
-    let lines = store.next().unwrap();
+    let lines = store.next_declarations().unwrap();
     assert_eq!(lines, "object x 5\nobject y 12\nsite a 4\nlimit a object x 7\nstart\n");
     let mut following = Store::new().unwrap();
     assert_eq!(run(&mut following, &lines), "ok object x\nok object y\nok site a\nok limit a\nok start\n");
@@ -202,6 +217,17 @@ fn threads_share_a_store() {
     });
     places.sort_unstable();
     assert_eq!(places, (1..=8000).collect::<Vec<_>>());
+}
+
+#[test]
+fn a_thread_that_panics_leaves_the_store_whole() {
+    let store = SharedStore::from(shop());
+    let panic = || {
+        let _guard = store.lock();
+        panic!("as it is meant to");
+    };
+    assert!(std::thread::scope(|scope| scope.spawn(panic).join().is_err()));
+    assert_eq!(store.lock().propose(&[("tea", Change::Add(1))]), Ok(1));
 }
 
 #[test]

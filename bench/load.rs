@@ -50,8 +50,8 @@ fn first<W: Write>(script: &mut Script<W>) -> io::Result<()> {
     let mut random = Random(1);
     let site = |name, capacity| Site { name, capacity, sent: 0, applied: 0 };
     let mut sites = [site("north", 64), site("south", 128), site("east", 256), site("west_depot", 1024)];
-    for (place, name) in OBJECTS.iter().enumerate() {
-        script.line(format_args!("object {name} {}", place * 100))?;
+    for (index, name) in OBJECTS.iter().enumerate() {
+        script.line(format_args!("object {name} {}", index * 100))?;
     }
     for site in &sites {
         script.line(format_args!("site {} {}", site.name, site.capacity))?;
@@ -721,9 +721,9 @@ fn checked_wide<W: Write>(script: &mut Script<W>) -> io::Result<()> {
     for object in 0..256 {
         script.line(format_args!("object,{},bin_{object},0", object + 1))?;
     }
-    for place in 0..2048 {
-        let (group, member) = (place / 64, place % 64);
-        script.line(format_args!("member,{},shelf_{group},bin_{}", place + 1, (group * 8 + member) % 256))?;
+    for index in 0..2048 {
+        let (group, member) = (index / 64, index % 64);
+        script.line(format_args!("member,{},shelf_{group},bin_{}", index + 1, (group * 8 + member) % 256))?;
     }
     script.line(format_args!("limit,1,all,{MOST}"))?;
     script.line(format_args!("limit,2,count,0"))?;
@@ -759,10 +759,10 @@ fn checked_back<W: Write>(script: &mut Script<W>) -> io::Result<()> {
     for object in 0..256 {
         script.line(format_args!("object,{},bin_{object},0", object + 1))?;
     }
-    for place in 0..2048 {
-        let (group, member) = (place / 64, place % 64);
+    for index in 0..2048 {
+        let (group, member) = (index / 64, index % 64);
         let object = if group == 31 { 192 + member } else { (group * 6 + member) % 192 };
-        script.line(format_args!("member,{},shelf_{group},bin_{object}", place + 1))?;
+        script.line(format_args!("member,{},shelf_{group},bin_{object}", index + 1))?;
     }
     for object in 0..32 {
         script.line(format_args!("limit,{},object:bin_{object},18", object + 1))?;

@@ -378,8 +378,8 @@ impl Load {
     fn print(&self) {
         println!("proposed {}", self.world.log.len());
         println!("acknowledged {}", self.world.acknowledged);
-        for (place, site) in self.world.sites.iter().enumerate() {
-            print!("site {place} sent {} applied {} ", site.sent, site.applied);
+        for (index, site) in self.world.sites.iter().enumerate() {
+            print!("site {index} sent {} applied {} ", site.sent, site.applied);
             print!("reported {} rounds {} values", site.reported, site.rounds.len());
             for value in &site.values {
                 print!(" {value}");

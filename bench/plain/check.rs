@@ -61,8 +61,8 @@ impl LagInForce {
 fn first_illegal(record: &mut Record) -> Option<usize> {
     let mut held: Vec<_> = record.values.iter().map(|&value| Held { value, travelled: 0 }).collect();
     let mut results = Vec::new();
-    for place in 0..record.decided {
-        let (from, to) = (record.log.ends[place] as usize, record.log.ends[place + 1] as usize);
+    for index in 0..record.decided {
+        let (from, to) = (record.log.ends[index] as usize, record.log.ends[index + 1] as usize);
         let changes = &mut record.log.changes[from..to];
         results.clear();
         results.extend(changes.iter().map(|change| change.result(&held)));

@@ -28,8 +28,8 @@ impl Store {
         let site = &self.sites[site];
         let has_places = site.limits.iter().any(|limit| limit.place > 1);
         put!(out, b"ordup,", 1 + usize::from(has_places), b",", site.name, b",", self.decided, b"\n");
-        for (place, (&name, &value)) in self.objects.words().iter().zip(&self.first_values).enumerate() {
-            put!(out, b"object,", place + 1, b",", name, b",", value, b"\n");
+        for (index, (&name, &value)) in self.objects.words().iter().zip(&self.first_values).enumerate() {
+            put!(out, b"object,", index + 1, b",", name, b",", value, b"\n");
         }
         let mut counter = 0_usize;
         for (&group, members) in self.groups.words().iter().zip(&self.members) {
@@ -39,8 +39,8 @@ impl Store {
             }
             out.write_from(most, output)?;
         }
-        for (place, limit) in site.limits.iter().enumerate() {
-            put!(out, b"limit,", place + 1, b",");
+        for (index, limit) in site.limits.iter().enumerate() {
+            put!(out, b"limit,", index + 1, b",");
             match limit.scope {
                 Scope::Object(object) => put!(out, b"object:", self.objects.words()[object]),
                 Scope::Group(group) => put!(out, b"group:", self.groups.words()[group]),
@@ -53,9 +53,9 @@ impl Store {
             }
             put!(out, b"\n");
         }
-        for place in 0..self.decided {
-            for (position, change) in self.log.after(place).iter().enumerate() {
-                put!(out, b"change,", place + 1, b",", position + 1, b",");
+        for index in 0..self.decided {
+            for (position, change) in self.log.after(index).iter().enumerate() {
+                put!(out, b"change,", index + 1, b",", position + 1, b",");
                 self.put_change(change, out);
             }
             out.write_from(most, output)?;
@@ -64,12 +64,12 @@ impl Store {
             put!(out, b"report,", place as usize, b",", report as usize, b",-\n");
             out.write_from(most, output)?;
         }
-        for (place, round) in site.rounds.iter().enumerate() {
-            put!(out, b"round,", place + 1, b",", round.to, b",-\n");
+        for (index, round) in site.rounds.iter().enumerate() {
+            put!(out, b"round,", index + 1, b",", round.to, b",-\n");
             out.write_from(most, output)?;
         }
-        for (place, round) in site.rounds.iter().enumerate() {
-            put!(out, b"window,", place + 1, b",", round.from, b",", round.to, b"\n");
+        for (index, round) in site.rounds.iter().enumerate() {
+            put!(out, b"window,", index + 1, b",", round.from, b",", round.to, b"\n");
             out.write_from(most, output)?;
         }
         Ok(())

@@ -96,15 +96,15 @@ impl Cluster {
     /// One turn: each site reports what it told; then the settlements that acknowledge the head; then each site is sent what
     /// its feed has room for, but nothing behind a head that waits for it.
     fn turn(&self, book: &mut Store) -> usize {
-        for (place, feed) in self.feeds.iter().enumerate() {
-            book.learn(place, feed.told.0.load(Ordering::Acquire));
+        for (index, feed) in self.feeds.iter().enumerate() {
+            book.learn(index, feed.told.0.load(Ordering::Acquire));
         }
         while let Ok(Settled::Acked) = book.settle_head() {}
         let head = book.acknowledged + 1;
         let waited_for = if book.decided == head { book.waited_for(head) } else { 0 };
-        for (place, feed) in self.feeds.iter().enumerate() {
-            let last = if waited_for >> place & 1 == 1 { head } else { book.log.len() };
-            let site = &mut book.sites[place];
+        for (index, feed) in self.feeds.iter().enumerate() {
+            let last = if waited_for >> index & 1 == 1 { head } else { book.log.len() };
+            let site = &mut book.sites[index];
             // A copy for a full queue would be made in vain.
             while site.sent < last && !feed.queue.is_full() && feed.queue.push(Parcel::of(book.log.after(site.sent))).is_ok() {
                 site.sent += 1;
@@ -193,8 +193,8 @@ pub fn run(plan: Plan, callers: usize) -> (Store, Vec<Cell>, Counts) {
     let mut counts = Counts::default();
     thread::scope(|scope| {
         let (cluster, sets) = (&cluster, &plan.sets);
-        for place in 0..cluster.cells.len() {
-            scope.spawn(move || cluster.applier(place));
+        for index in 0..cluster.cells.len() {
+            scope.spawn(move || cluster.applier(index));
         }
         let calls: Vec<_> = (0..callers).map(|caller| scope.spawn(move || cluster.call(sets, caller, callers))).collect();
         let ended: Vec<_> = calls.into_iter().map(|call| call.join()).collect();

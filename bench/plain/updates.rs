@@ -259,13 +259,13 @@ impl Store {
     pub fn decide(&mut self, head: usize) {
         let changes = self.log.after(head - 1);
         self.forced = 0;
-        for (place, site) in self.sites.iter_mut().enumerate() {
+        for (index, site) in self.sites.iter_mut().enumerate() {
             if site.reports.last().map_or(0, |&(_, report)| report) < site.reported as u32 {
                 site.reports.push((head as u32, site.reported as u32));
             }
             if site.reported < head && site.lag.extend(changes) {
                 site.rounds.push(Window { from: site.reported, to: head });
-                self.forced |= 1 << place;
+                self.forced |= 1 << index;
             }
         }
         self.decided = head;

@@ -143,9 +143,9 @@ func (store *Store) Commands(lines ...string) ([]Answer, error) {
 		return nil, fmt.Errorf("ordup: there are %d answers to %d lines", len(texts)-1, taken)
 	}
 	outcomes := make([]Answer, taken)
-	for place := range outcomes {
+	for index := range outcomes {
 		var bad error
-		if outcomes[place], bad = parse(texts[place], lines[place]); bad != nil {
+		if outcomes[index], bad = parse(texts[index], lines[index]); bad != nil {
 			return nil, bad
 		}
 	}

@@ -271,9 +271,9 @@ func TestGoroutinesShareAStore(t *testing.T) {
 		}
 	}
 	sort.Ints(all)
-	for place := range all {
-		if all[place] != place+1 {
-			t.Fatalf("place %d is %d", place+1, all[place])
+	for index := range all {
+		if all[index] != index+1 {
+			t.Fatalf("place %d is %d", index+1, all[index])
 		}
 	}
 	is(t, 8000, len(all), nil)

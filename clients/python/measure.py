@@ -30,9 +30,9 @@ def by_bare_pipe(program):
             os.write(to, text.encode() + b"\n")
             os.read(back, 65536)
         times = []
-        for place in range(ONE_BY_ONE):
+        for index in range(ONE_BY_ONE):
             start = time.perf_counter()
-            os.write(to, lines[place % len(lines)])
+            os.write(to, lines[index % len(lines)])
             os.read(back, 65536)
             times.append(time.perf_counter() - start)
         process.stdin.close()
@@ -46,8 +46,8 @@ def by_methods(program):
         calls = [lambda: store.propose({"x": ("add", 1)}), store.settle]
         calls += [lambda: store.send("a"), lambda: store.apply("a"), lambda: store.report("a")]
         times = []
-        for place in range(ONE_BY_ONE):
-            call = calls[place % len(calls)]
+        for index in range(ONE_BY_ONE):
+            call = calls[index % len(calls)]
             start = time.perf_counter()
             call()
             times.append(time.perf_counter() - start)

@@ -28,14 +28,16 @@ pub fn forced_rounds_are_fewest()
     ensures { ForcedRoundsAreFewest }
 {}
 
-/// A law: the certificates of two epochs, the second moved by the length of the first, are a certificate of both.
+/// A law: the certificates of two epochs, the second moved by the length of the first, are a certificate of both, where the test of the
+/// whole is that of each epoch (`JoinsTests`).
 ///
 /// The site has reported all of the first epoch where the next one begins.
 pub fn certificates_join()
     ensures { CertificatesJoin }
 {}
 
-/// A law: where the rounds of two epochs are the fewest, so are those of both, one after the other.
+/// A law: where the rounds of two epochs are the fewest, so are those of both, one after the other, where the test of the whole is that
+/// of each epoch (`JoinsTests`), and the site has reported all of the first.
 ///
 /// So they stay the fewest, however many epochs a store goes on for.
 pub fn fewest_rounds_join()

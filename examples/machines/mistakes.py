@@ -3,7 +3,7 @@
 MISTAKES = {
     # The primary reports what is in the log, whether a site told it or not.
     "reports_what_no_site_told": [
-        ("primary.py", "            if site in self.leaving and not is_served(site, serving):\n", "            if True:\n"),
+        ("primary.py", "            if self.is_gone(site):\n", "            if True:\n"),
     ],
     # The client is told once the update has a number.
     "answers_before_it_settles": [
@@ -47,6 +47,8 @@ MISTAKES = {
     "goes_over_before_all_have_told": [
         ("primary.py", "{self.acknowledged, *self.applied.values()} == {self.updates}", "self.acknowledged == self.updates"),
     ],
+    # The next epoch begins while a process of a site that is taken out may still serve readers.
+    "goes_over_before_a_site_is_gone": [("primary.py", "self.leaving == self.gone and ", "")],
     # A join waits for a site of a fleet that is away, since the fleet is served.
     "waits_for_a_fleet_that_is_away": [
         ("primary.py", "missing <= NEAR and streams.now() - self.heard.get(site, 0) < streams.TTL", "missing <= NEAR"),

@@ -80,8 +80,9 @@ class Primary:
         self.updates, self.acknowledged, self.waiting = 0, 0, deque()
         # The sites that the head waits for, and since when.
         self.round, self.waits_since = (), None
-        # For each site how many updates it has applied, its rounds, and when it told last. Then the sites that are taken out.
-        self.applied, self.rounds, self.heard, self.leaving = {}, {}, {}, set()
+        # For each site how many updates it has applied, its rounds, and when it told last. Then the sites that are taken out, and
+        # those of them that no process serves any more.
+        self.applied, self.rounds, self.heard, self.leaving, self.gone = {}, {}, {}, set(), set()
         # The last declarations of the operator that were looked at, and when the last entry was written.
         self.looked_at, self.wrote = "", 0
 
@@ -148,11 +149,10 @@ class Primary:
 
         Returns for how many seconds there is nothing to do, where nothing comes.
         """
-        serving, wanted = self.view.under("site/"), self.view.under("next").get("")
-        late, deletes = {}, []
+        wanted, late, deletes = self.view.under("next").get(""), {}, []
         if wanted and wanted != self.looked_at and not self.may_follow(wanted):
             deletes, wanted = ["next"], None
-        places = self.places(serving)
+        places = self.places()
         lines = self.reports(places)
         told = len(lines)
         ends = self.ends(wanted, lines)
@@ -163,7 +163,8 @@ class Primary:
             return LATER
         self.run(lines)
         lines += self.settle()
-        if ends and not lines and not self.due and {self.acknowledged, *self.applied.values()} == {self.updates}:
+        has_all = self.leaving == self.gone and {self.acknowledged, *self.applied.values()} == {self.updates}
+        if ends and not lines and not self.due and has_all:
             self.go_over(wanted)
             return 0
         told = dict(islice(self.due.items(), ANSWERS))
@@ -180,19 +181,28 @@ class Primary:
             del self.due[client]
         return 0
 
-    def places(self, serving):
+    def places(self):
         """How many updates of this epoch each site told."""
         told = self.view.under("place/")
         places = {site: self.place_of(site, told.get(site, "0 0")) for site in self.applied}
         for site, place in places.items():
-            # A site that is taken out has no reader once no process serves it.
-            if site in self.leaving and not is_served(site, serving):
+            if self.is_gone(site):
                 places[site] = self.updates
             elif place > self.updates:
                 if self.engine.entries(self.entries + 1)[0]:
                     raise streams.Taken("another primary writes the script")
                 raise Wrong(f"the key place/{site} has {place} updates of epoch {self.epoch}, and the script has {self.updates}")
         return places
+
+    def is_gone(self, site):
+        """Whether the site is taken out, and no process serves it any more.
+
+        The view may be late, so it says when to ask the engine. A process that takes the lease after that serves nobody: it
+        first reads the script up to its end, and there that the site is taken out.
+        """
+        if site in self.leaving - self.gone and not self.view.under(f"site/{site}/") and not self.engine.read(f"site/{site}/")[0]:
+            self.gone.add(site)
+        return site in self.gone
 
     def reports(self, places):
         """The lines for what sites told."""
@@ -252,7 +262,7 @@ class Primary:
         return True
 
     def go_over(self, wanted):
-        """Writes the declarations of the next epoch. All is acknowledged, and each site has told the last place."""
+        """Writes the declarations of the next epoch. All is acknowledged, each site has told the last place, and who leaves is gone."""
         declarations = epochs.following(self.words.program, self.lines, wanted)
         lines, first = [f"# epoch {self.epoch + 1}", *declarations], self.entries + 1
         self.run(lines)
@@ -330,10 +340,6 @@ class Primary:
         client, number = asker
         if number > self.due.get(client, (0, ""))[0]:
             self.due[client] = number, text
-
-
-def is_served(site, serving):
-    return any(key.startswith(f"{site}/") for key in serving)
 
 
 def read_words():

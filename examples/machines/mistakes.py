@@ -21,8 +21,8 @@ MISTAKES = {
     "goes_on_after_another": [
         (
             "primary.py",
-            "self.engine.commit(self.entries + 1, lines, puts, deletes)",
-            "self.engine.commit(self.engine.ends()[1] + 1, lines, puts, deletes)",
+            "self.engine.commit(self.entries + 1, lines, puts, deletes, stays)",
+            "self.engine.commit(self.engine.ends()[1] + 1, lines, puts, deletes, stays)",
         ),
     ],
     # The requests go before the entry that takes them is written.
@@ -49,6 +49,11 @@ MISTAKES = {
     ],
     # The next epoch begins while a process of a site that is taken out may still serve readers.
     "goes_over_before_a_site_is_gone": [("primary.py", "self.leaving == self.gone and ", "")],
+    # What the operator asked for once is done again, until the view is told that it is done.
+    "begins_one_epoch_after_another": [
+        ("primary.py", "        self.view.drop(wish)\n", ""),
+        ("streams.py", "        holds += [self.txn.value(key) == value for key, value in stays.items()]\n", ""),
+    ],
     # A join waits for a site of a fleet that is away, since the fleet is served.
     "waits_for_a_fleet_that_is_away": [
         ("primary.py", "missing <= NEAR and streams.now() - self.heard.get(site, 0) < streams.TTL", "missing <= NEAR"),

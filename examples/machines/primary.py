@@ -254,6 +254,8 @@ class Primary:
 
     def may_follow(self, wanted):
         try:
+            if "\ufffd" in wanted:
+                raise ValueError("they are not in UTF-8")
             epochs.check(self.words.program, wanted.split("\n"))
         except ValueError as error:
             print(f"primary: the declarations that are wanted next: {error}", file=sys.stderr, flush=True)
@@ -266,7 +268,9 @@ class Primary:
         declarations = epochs.following(self.words.program, self.lines, wanted)
         lines, first = [f"# epoch {self.epoch + 1}", *declarations], self.entries + 1
         self.run(lines)
-        self.write(lines, {"epoch": f"{self.epoch} {first}"}, [] if wanted is None else ["next"])
+        wish = {} if wanted is None else {"next": wanted}
+        self.write(lines, {"epoch": f"{self.epoch} {first}"}, list(wish), wish)
+        self.view.drop(wish)
         epochs.archive(self.words.engine, self.words.archive, first)
 
     def settle(self):
@@ -282,11 +286,11 @@ class Primary:
         """Whether the head waits for no site that is at these places."""
         return self.acknowledged < self.updates and all(places[site] > self.acknowledged for site in self.round)
 
-    def write(self, lines, puts, deletes):
-        """Writes the next entry. What was asked and not answered is asked again: it is done once."""
+    def write(self, lines, puts, deletes, stays={}):
+        """Writes the next entry, if the keys of `stays` have these values. What was asked and not answered is asked again: it is done once."""
         while True:
             try:
-                self.engine.commit(self.entries + 1, lines, puts, deletes)
+                self.engine.commit(self.entries + 1, lines, puts, deletes, stays)
                 break
             except streams.Away as away:
                 away.say("primary")

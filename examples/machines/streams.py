@@ -146,20 +146,24 @@ class Engine:
         return self.etcd.transaction([self.txn.value(holds[0]) == holds[1]], [self.txn.put(key, value)], [])[0]
 
     @asks
-    def commit(self, number, lines, puts, deletes):
+    def commit(self, number, lines, puts, deletes, stays):
         """One transaction: creates the entry, if it has lines; puts keys, and takes keys away, or all that begin so where one
-        ends with a slash. Once it returns, all is kept."""
+        ends with a slash. The keys of `stays` have their values until then. Once it returns, all is kept."""
         entry, value = key_of(number), "\n".join(lines)
         holds = [self.txn.create(entry) == 0] + ([self.txn.create(key_of(number - 1)) > 0] if number > 1 else [])
+        holds += [self.txn.value(key) == value for key, value in stays.items()]
         changes = [self.txn.put(entry, value)] if lines else []
         changes += [self.txn.put(*put) for put in puts.items()]
         changes += [self.txn.delete(key, end_of(key) if key.endswith("/") else None) for key in deletes]
-        written, came = self.etcd.transaction(holds, changes, [self.txn.get(entry), self.txn.get("epoch")])
+        looks = [self.txn.get(key) for key in (entry, "epoch", key_of(number - 1))]
+        written, came = self.etcd.transaction(holds, changes, looks)
         if written:
             return
-        there, epoch = came
+        there, epoch, before = came
         if epoch and int(epoch[0][0].split()[1]) > number:
             raise Taken("another primary went over to a later epoch")
+        if not there and before:
+            raise Taken("what is wanted next has changed")
         if not there:
             raise Gap(f"the script lacks the entry {number - 1}")
         # Of a write whose answer was lost the entry is there already.

@@ -76,10 +76,12 @@ def keep_trying(engine, folder, first):
 
 def archive_now(engine, folder, first):
     folder.mkdir(parents=True, exist_ok=True)
-    number, parts = engine.ends()[0] or first, {}
+    # All is read at one revision, so another primary that archives the same takes nothing away meanwhile.
+    number, revision, parts = engine.first() or first, 0, {}
     try:
         while number < first:
-            for number, lines in engine.entries(number)[0]:
+            entries, revision = engine.entries(number, revision)
+            for number, lines in entries:
                 if number < first:
                     if lines[0].startswith("# epoch "):
                         epoch = lines[0].split()[2]

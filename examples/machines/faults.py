@@ -151,7 +151,7 @@ class Faults:
     def steps_of_join(self, epoch):
         """0 before the next epoch has begun, 1 after that, and 2 once what was before is archived."""
         last, first = self.trial.ask(lambda engine: engine.epoch())
-        return 0 if last == epoch else 1 + (self.trial.ask(lambda engine: engine.ends()[0]) >= first)
+        return 0 if last == epoch else 1 + (self.trial.ask(lambda engine: engine.first()) >= first)
 
     def cut_site_at_a_join(self):
         """A site that may lag, and that the head does not wait for. The epoch may not end before it is back."""

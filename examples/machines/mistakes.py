@@ -22,7 +22,7 @@ MISTAKES = {
         (
             "primary.py",
             "self.engine.commit(self.entries + 1, lines, puts, deletes, stays)",
-            "self.engine.commit(self.engine.ends()[1] + 1, lines, puts, deletes, stays)",
+            "self.engine.commit(self.engine.last() + 1, lines, puts, deletes, stays)",
         ),
     ],
     # The requests go before the entry that takes them is written.

@@ -61,7 +61,7 @@ class Site:
 
     def begin_to_serve(self, engine):
         """The process before told no place after this, and what it told is in the script by now."""
-        self.first = engine.ends()[1]
+        self.first = engine.last()
         self.tell(engine)
 
     def line(self):
@@ -75,7 +75,7 @@ class Site:
         """Takes what is new in the script, shows it, and tells the place."""
         if self.epoch == 0:
             self.entries = self.engine.epoch()[1] - 1
-        elif self.engine.ends()[1] < self.entries:
+        elif self.engine.last() < self.entries:
             raise streams.Gap(f"the script ends before the entry {self.entries}, which it had")
         for entries in self.engine.follow(self.entries + 1):
             for number, lines in entries:

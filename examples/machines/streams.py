@@ -27,8 +27,8 @@ from etcd3 import etcdrpc
 
 # Each member is started by `member`, which lets a transaction have so many operations. A request may have 1.5 MB.
 OPERATIONS = 1024
-# So many entries are read at once.
-PAGE = 100
+# So many entries, or other keys, are read at once. After a failure they are fewer, so that a thin link has them in time.
+ENTRIES, KEYS, LEAST = 100, 10_000, 1 / 256
 # A member that gives no answer for so many seconds is left for another one.
 SECONDS = 3
 # The engine drops a lease that was not renewed for TTL seconds. Its holder relies on it for SERVES seconds from when it asked.
@@ -90,6 +90,8 @@ class Engine:
 
     def __init__(self, members, seconds=SECONDS):
         self.members, self.seconds, self.failures = members.split(","), seconds, 0
+        # The part of ENTRIES or KEYS that is read at once.
+        self.part = 1 / 16
         random.shuffle(self.members)
         self.connect()
 
@@ -103,6 +105,7 @@ class Engine:
         member = self.members.pop(0)
         self.members.append(member)
         self.failures += 1
+        self.part = max(self.part / 2, LEAST)
         self.etcd.close()
         self.connect()
         if "space exceeded" in why:
@@ -116,10 +119,34 @@ class Engine:
         self.etcd.close()
 
     @asks
-    def read(self, prefix, **more):
-        """The keys that begin so, in their order, and the revision at which they were read."""
-        found = self.etcd.get_range_response(prefix, end_of(prefix), sort_order="ascend", **more)
-        return {kv.key.decode(): text_of(kv.value) for kv in found.kvs}, found.header.revision
+    def range(self, key, end, **more):
+        """Keys of a range. It stands on the library's stub, since the library sends no limit."""
+        request = etcdrpc.RangeRequest(key=bytes_of(key), range_end=bytes_of(end), **more)
+        return self.etcd.kvstub.Range(request, self.seconds)
+
+    def page(self, key, end, most, revision=0):
+        """The first keys of a range, at most so many. They are more than before where these came soon."""
+        asked = now()
+        found = self.range(key, end, limit=max(1, int(most * self.part)), revision=revision)
+        if found.more and now() < asked + self.seconds / 4:
+            self.part = min(1, 2 * self.part)
+        return found
+
+    def pages(self, key, end):
+        """The keys of a range and their values, some at a time, and the revision at which all of them are read."""
+        revision, more = 0, True
+        while more:
+            found = self.page(key, end, KEYS, revision)
+            revision, more = revision or found.header.revision, found.more
+            yield {name_of(kv.key): text_of(kv.value) for kv in found.kvs}, revision
+            key = found.kvs[-1].key + b"\0" if more else None
+
+    def read(self, key, end=None):
+        """The keys up to the end, or all that begin so, in their order, and the revision at which they were read."""
+        keys, revision = {}, 0
+        for found, revision in self.pages(key, end or end_of(key)):
+            keys.update(found)
+        return keys, revision
 
     @asks
     def value(self, key):
@@ -176,20 +203,36 @@ class Engine:
         value, _ = self.etcd.get("epoch")
         return tuple(map(int, value.split())) if value else (0, 1)
 
-    @asks
-    def entries(self, number):
-        """At most PAGE entries from this number on, and the revision at which they were read."""
-        found = self.etcd.get_range_response(key_of(number), end_of("script/"), sort_order="ascend", limit=PAGE)
-        return [(number_of(kv.key.decode()), text_of(kv.value).split("\n")) for kv in found.kvs], found.header.revision
+    def entries(self, number, revision=0):
+        """Some entries from this number on, or none where there are no more, and the revision at which they are read.
 
-    @asks
-    def ends(self):
-        """The numbers of the first and the last entry, or 0."""
-        numbers = []
-        for order in ("ascend", "descend"):
-            found = self.etcd.get_range_response("script/", end_of("script/"), sort_order=order, limit=1)
-            numbers.append(number_of(found.kvs[0].key.decode()) if found.kvs else 0)
-        return numbers
+        That is the given one, if there is one.
+        """
+        key, more, entries = key_of(number), True, []
+        while more and not entries:
+            found = self.page(key, SCRIPT_ENDS, ENTRIES, revision)
+            revision = revision or found.header.revision
+            more, entries = found.more, entries_of((name_of(kv.key), text_of(kv.value)) for kv in found.kvs)
+            key = found.kvs[-1].key + b"\0" if more else None
+        return entries, revision
+
+    def first(self):
+        """The number of the first entry, or 0."""
+        key = SCRIPT
+        while found := self.range(key, SCRIPT_ENDS, limit=1, keys_only=True).kvs:
+            if number := number_of(name_of(found[0].key)):
+                return number
+            key = found[0].key + b"\0"
+        return 0
+
+    def last(self):
+        """The number of the last entry, or 0."""
+        end, order = SCRIPT_ENDS, etcdrpc.RangeRequest.DESCEND
+        while found := self.range(SCRIPT, end, limit=1, keys_only=True, sort_order=order).kvs:
+            if number := number_of(name_of(found[0].key)):
+                return number
+            end = found[0].key
+        return 0
 
     def follow(self, number):
         """Yields the entries from this number on as they come, some at a time. Which number comes is for the reader to look at."""
@@ -198,8 +241,8 @@ class Engine:
             yield entries
             number = entries[-1][0] + 1
             entries, revision = self.entries(number)
-        for events in self.watch([(key_of(number), end_of("script/"))], revision + 1):
-            if entries := [(number_of(key), value.split("\n")) for key, value in events if value is not None]:
+        for events in self.watch([(key_of(number), SCRIPT_ENDS)], revision + 1):
+            if entries := entries_of((key, value) for key, value in events if value is not None):
                 yield entries
 
     def watch(self, ranges, revision):
@@ -402,6 +445,10 @@ class Lease(threading.Thread):
                 pass
 
 
+# Entries have numbers of digits, and the keys that begin with one end here.
+SCRIPT, SCRIPT_ENDS = "script/0", "script/:"
+
+
 def key_of(number):
     return f"script/{number:012d}"
 
@@ -409,7 +456,12 @@ def key_of(number):
 def number_of(key):
     """The number of an entry, or 0 of a key that is none."""
     digits = key[len("script/") :]
-    return int(digits) if digits.isdigit() and len(digits) == 12 else 0
+    return int(digits) if re.fullmatch("[0-9]{12}", digits) else 0
+
+
+def entries_of(keys):
+    """The numbers of entries and their lines. What is no entry was put by nobody of the deployment, and is not looked at."""
+    return [(number_of(key), value.split("\n")) for key, value in keys if number_of(key)]
 
 
 def gap_of(engine, entries, number):
@@ -435,3 +487,13 @@ def end_of(prefix):
 
 def text_of(value):
     return value.decode("utf-8", "replace")
+
+
+def name_of(key):
+    """The text that stands for a key of any bytes."""
+    return key.decode("utf-8", "surrogateescape")
+
+
+def bytes_of(key):
+    """The bytes of a key, of which `name_of` may have made a text."""
+    return key if isinstance(key, bytes) else key.encode("utf-8", "surrogateescape")

@@ -133,16 +133,23 @@ class Primary:
                 # The primary before was faster, or a write of it was late. So run that too.
                 self.forget()
         # What was answered in epochs before is known from the answers alone.
-        for key, answer in self.engine.read("answer/")[0].items():
-            _, client, *late = key.split("/")
-            if late:
-                self.late.add(client)
-                continue
-            number = int(answer.split(" ", 1)[0])
-            self.taken[client] = max(number, self.taken.get(client, 0))
-            if client in self.due and self.due[client][0] <= number:
-                del self.due[client]
+        for answers, _ in self.engine.pages("answer/", streams.end_of("answer/")):
+            for key, answer in answers.items():
+                self.hear_answer(key, answer)
         epochs.archive(self.words.engine, self.words.archive, self.first)
+
+    def hear_answer(self, key, answer):
+        """Takes note of an answer that is in the engine."""
+        _, client, *late = key.split("/")
+        number = answer.split(" ", 1)[0]
+        if late:
+            self.late.add(client)
+        elif not (streams.is_client(client) and streams.is_number(number)):
+            say(f"the key {key!r} has no answer of a client, and is not looked at")
+        else:
+            self.taken[client] = max(int(number), self.taken.get(client, 0))
+            if client in self.due and self.due[client][0] <= int(number):
+                del self.due[client]
 
     def turn(self):
         """Takes what is asked and told, runs it, and writes it with what comes of it.
@@ -173,7 +180,7 @@ class Primary:
         puts = {f"answer/{client}": f"{number} {answer}" for client, (number, answer) in told.items()}
         puts |= {f"answer/{client}/{number}": f"after {last}" for (client, number), last in late.items() if client not in told}
         past = list(islice(self.late & set(told), REQUESTS))
-        self.write(lines, puts, deletes + [f"answer/{client}/" for client in past])
+        self.write(lines, puts, deletes + [(f"answer/{client}/", f"answer/{client}0") for client in past])
         self.late = self.late - set(past) | {client for client, _ in late if client not in told}
         self.view.drop(deletes)
         self.answers += len(told)
@@ -227,7 +234,7 @@ class Primary:
         for key, changes in islice(self.view.under("request/").items(), REQUESTS):
             client, _, number = key.rpartition("/")
             if not (streams.is_client(client) and streams.is_number(number)):
-                print(f"primary: request/{key} is of no client and number, and was taken away", file=sys.stderr, flush=True)
+                say(f"the key {'request/' + key!r} is of no client and number, and is taken away")
             elif int(number) > self.taken.get(client, 0):
                 # Changes with other bytes, such as the end of a line, are replaced by what is refused.
                 changes = changes if re.fullmatch("[ -~]{0,4000}", changes) else "?"
@@ -258,7 +265,7 @@ class Primary:
                 raise ValueError("they are not in UTF-8")
             epochs.check(self.words.program, wanted.split("\n"))
         except ValueError as error:
-            print(f"primary: the declarations that are wanted next: {error}", file=sys.stderr, flush=True)
+            say(f"the declarations that are wanted next: {error}")
             return False
         self.looked_at = wanted
         return True
@@ -346,6 +353,10 @@ class Primary:
             self.due[client] = number, text
 
 
+def say(what):
+    print(f"primary: {what}", file=sys.stderr, flush=True)
+
+
 def read_words():
     parser = argparse.ArgumentParser(description="The primary of a deployment.")
     parser.add_argument("--engine", required=True, metavar="HOST,..")
@@ -379,13 +390,13 @@ def main():
             away.say("primary")
             time.sleep(0.2)
         except streams.Taken as taken:
-            print(f"primary: {taken}", file=sys.stderr, flush=True)
+            say(taken)
             primary.forget()
         except streams.Gap as gap:
-            print(f"primary: {gap}", file=sys.stderr, flush=True)
+            say(gap)
             return 3
         except Wrong as wrong:
-            print(f"primary: {wrong}", file=sys.stderr, flush=True)
+            say(wrong)
             return 5
 
 

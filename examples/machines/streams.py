@@ -174,14 +174,14 @@ class Engine:
 
     @asks
     def commit(self, number, lines, puts, deletes, stays):
-        """One transaction: creates the entry, if it has lines; puts keys, and takes keys away, or all that begin so where one
-        ends with a slash. The keys of `stays` have their values until then. Once it returns, all is kept."""
+        """One transaction: creates the entry, if it has lines; puts keys, and takes away keys, or those of a range where there are
+        two. The keys of `stays` have their values until then. Once it returns, all is kept."""
         entry, value = key_of(number), "\n".join(lines)
         holds = [self.txn.create(entry) == 0] + ([self.txn.create(key_of(number - 1)) > 0] if number > 1 else [])
         holds += [self.txn.value(key) == value for key, value in stays.items()]
         changes = [self.txn.put(entry, value)] if lines else []
         changes += [self.txn.put(*put) for put in puts.items()]
-        changes += [self.txn.delete(key, end_of(key) if key.endswith("/") else None) for key in deletes]
+        changes += [self.txn.delete(*map(bytes_of, [key] if isinstance(key, str) else key)) for key in deletes]
         looks = [self.txn.get(key) for key in (entry, "epoch", key_of(number - 1))]
         written, came = self.etcd.transaction(holds, changes, looks)
         if written:
@@ -252,7 +252,7 @@ class Engine:
         """
         asked, stream = queue.SimpleQueue(), None
         for key, end in ranges:
-            create = etcdrpc.WatchCreateRequest(key=key.encode(), range_end=end.encode(), start_revision=revision)
+            create = etcdrpc.WatchCreateRequest(key=bytes_of(key), range_end=bytes_of(end), start_revision=revision)
             asked.put(etcdrpc.WatchRequest(create_request=create))
         try:
             # A member that has no leader ends the stream.
@@ -260,7 +260,7 @@ class Engine:
             for answer in stream:
                 if answer.canceled:
                     raise ValueError(f"a watch from {revision} was ended at {answer.compact_revision}")
-                yield [(e.kv.key.decode(), text_of(e.kv.value) if e.type == e.PUT else None) for e in answer.events]
+                yield [(name_of(e.kv.key), text_of(e.kv.value) if e.type == e.PUT else None) for e in answer.events]
         except (grpc.RpcError, ValueError) as error:
             raise self.failure(error) from error
         finally:

@@ -84,7 +84,7 @@ class Faults:
     def busy_writer(self):
         """The host of the primary that writes, as requests wait for it."""
         writer, ends = self.writer(), time.monotonic() + 5
-        while not self.trial.ask(lambda engine: engine.read("request/")[0]) and time.monotonic() < ends:
+        while not self.trial.ask(lambda engine: engine.read(*self.trial.streams.range_of("request/"))[0]) and time.monotonic() < ends:
             pass
         return writer
 

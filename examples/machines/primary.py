@@ -10,7 +10,8 @@ Several primaries may run. One writes. The others run the script as it comes, an
 file DECLARATIONS begins an empty script: objects, groups, sites, limits, and `start`. After `--every` updates, or when
 `next.py` asks, the primary begins the next epoch. The script of the last one goes to a file in FOLDER.
 
-Ends with a message and status 3 where the script lacks an entry, and 5 where a site told a place that it cannot have.
+Ends with a message and status 3 where the script lacks an entry, 5 where a site told a place that it cannot have, and 1 where it
+cannot go on otherwise.
 """
 
 import argparse
@@ -29,7 +30,7 @@ import numbers_page
 import streams
 
 sys.path.insert(0, str(Path(__file__).resolve().parents[2] / "clients" / "python"))
-from ordup import Acked, Applied, Declared, Proposed, Settled, Store
+from ordup import Acked, Applied, Declared, Error, Proposed, Settled, Store
 
 # A turn takes at most so many requests, and so many updates that sites told. So it fits into a transaction of 1.5 MB.
 REQUESTS, TOLD = 200, 5000
@@ -54,7 +55,8 @@ class Primary:
     def __init__(self, words):
         self.words, self.engine = words, streams.Engine(words.engine)
         # What clients ask, what sites tell, which of their processes serve readers, and what the operator wants.
-        self.view = streams.View(words.engine, ["request/", "place/", "site/", "next"], "primary")
+        looks = [streams.range_of(keys) for keys in ("request/", "place/", "site/", "next")]
+        self.view = streams.View(words.engine, looks, "primary")
         self.lease = streams.Lease(words.engine, "primary", OWN, lambda _: self.engine.interrupt())
         self.store = self.lines = None
         # Of this process: how many requests it took, and how many answers it told.
@@ -133,7 +135,7 @@ class Primary:
                 # The primary before was faster, or a write of it was late. So run that too.
                 self.forget()
         # What was answered in epochs before is known from the answers alone.
-        for answers, _ in self.engine.pages("answer/", streams.end_of("answer/")):
+        for answers, _ in self.engine.pages(*streams.range_of("answer/")):
             for key, answer in answers.items():
                 self.hear_answer(key, answer)
         epochs.archive(self.words.engine, self.words.archive, self.first)
@@ -207,8 +209,9 @@ class Primary:
         The view may be late, so it says when to ask the engine. A process that takes the lease after that serves nobody: it
         first reads the script up to its end, and there that the site is taken out.
         """
-        if site in self.leaving - self.gone and not self.view.under(f"site/{site}/") and not self.engine.read(f"site/{site}/")[0]:
-            self.gone.add(site)
+        if site in self.leaving - self.gone and not self.view.under(f"site/{site}/"):
+            if not self.engine.read(*streams.range_of(f"site/{site}/"))[0]:
+                self.gone.add(site)
         return site in self.gone
 
     def reports(self, places):
@@ -224,10 +227,10 @@ class Primary:
 
     def place_of(self, site, text):
         """How many updates of this epoch the site told."""
-        if not re.fullmatch("[0-9]{1,9} [0-9]{1,7}", text):
+        told = streams.place_of(text)
+        if told is None:
             raise Wrong(f"the key place/{site} has `{text}`, which is not an epoch and a place")
-        epoch, place = map(int, text.split())
-        return place if epoch == self.epoch else 0
+        return told[1] if told[0] == self.epoch else 0
 
     def take(self, lines, late, deletes):
         """Adds the lines of new requests, those that came after a later one, and the keys of all that were looked at."""
@@ -237,7 +240,7 @@ class Primary:
                 say(f"the key {'request/' + key!r} is of no client and number, and is taken away")
             elif int(number) > self.taken.get(client, 0):
                 # Changes with other bytes, such as the end of a line, are replaced by what is refused.
-                changes = changes if re.fullmatch("[ -~]{0,4000}", changes) else "?"
+                changes = changes if streams.is_changes(changes) else "?"
                 lines += [f"# request {client} {number}", f"propose {changes}"]
                 self.taken[client] = int(number)
                 self.requests += 1
@@ -357,12 +360,18 @@ def say(what):
     print(f"primary: {what}", file=sys.stderr, flush=True)
 
 
+def every(text):
+    if not re.fullmatch("[1-9][0-9]{0,6}", text) or int(text) > 1_000_000:
+        raise argparse.ArgumentTypeError(f"{text!r} is no number from 1 to 1,000,000")
+    return int(text)
+
+
 def read_words():
     parser = argparse.ArgumentParser(description="The primary of a deployment.")
     parser.add_argument("--engine", required=True, metavar="HOST,..")
     parser.add_argument("--program", required=True)
     parser.add_argument("--archive", required=True, type=Path, metavar="FOLDER", help="where the scripts of past epochs go")
-    parser.add_argument("--every", type=int, default=100_000, metavar="N", help="how many updates an epoch has")
+    parser.add_argument("--every", type=every, default=100_000, metavar="N", help="how many updates an epoch has")
     parser.add_argument("--page", type=int, default=7002, metavar="PORT", help="where the page with the numbers is")
     parser.add_argument("declarations", type=Path)
     return parser.parse_args()
@@ -370,14 +379,25 @@ def read_words():
 
 def main():
     words = read_words()
-    declarations = words.declarations.read_text(encoding="utf-8").splitlines()
+    streams.heed_signals()
     try:
+        declarations = words.declarations.read_text(encoding="utf-8").splitlines()
         epochs.check(words.program, declarations)
-    except ValueError as error:
+    except (OSError, ValueError) as error:
         sys.exit(f"{words.declarations}: {error}")
     primary = Primary(words)
-    numbers_page.serve(words.page, lambda: numbers_page.of_primary(primary))
-    primary.lease.start()
+    try:
+        numbers_page.serve(words.page, lambda: numbers_page.of_primary(primary))
+        primary.lease.start()
+        return write(primary, declarations)
+    except (OSError, Error, streams.Small) as error:
+        say(error)
+        return 1
+    finally:
+        primary.lease.end()
+
+
+def write(primary, declarations):
     while True:
         try:
             primary.stand_by()

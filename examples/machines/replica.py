@@ -11,7 +11,8 @@ A site keeps nothing on its disk. When it is started again, it applies the scrip
 site serves readers at a time, and tells places: the one that holds the site's lease. It serves once it has reached the
 end that the script had when it got the lease. No reader may see less than the process before told.
 
-Ends with a message and status 3 where the script lacks an entry, and 4 where the site is not among those of the script.
+Ends with a message and status 3 where the script lacks an entry, 4 where the site is not among those of the script, and 1 where it
+cannot go on otherwise.
 """
 
 import argparse
@@ -29,7 +30,7 @@ import numbers_page
 import streams
 
 sys.path.insert(0, str(Path(__file__).resolve().parents[2] / "clients" / "python"))
-from ordup import Store
+from ordup import Error, Store
 
 OWN = f"{socket.gethostname()} {os.getpid()} {time.time_ns()}"
 
@@ -162,19 +163,26 @@ def main():
     parser.add_argument("--page", type=int, default=7001, metavar="PORT", help="where the page with the numbers is")
     parser.add_argument("site", type=name)
     site = Site(parser.parse_args())
-    serve(site, site.words.port)
-    numbers_page.serve(site.words.page, lambda: numbers_page.of_site(site))
+    streams.heed_signals()
+    try:
+        serve(site, site.words.port)
+        numbers_page.serve(site.words.page, lambda: numbers_page.of_site(site))
+        keep_following(site)
+    except (OSError, Error, streams.Gap, Left) as why:
+        print(f"site {site.name}: {why}", file=sys.stderr, flush=True)
+        return {streams.Gap: 3, Left: 4}.get(type(why), 1)
+    finally:
+        site.shown = Shown()
+        site.lease.end()
+
+
+def keep_following(site):
     while True:
         try:
             site.follow()
         except streams.Away as away:
             away.say(f"site {site.name}")
             time.sleep(0.2)
-        except (streams.Gap, Left) as why:
-            print(f"site {site.name}: {why}", file=sys.stderr, flush=True)
-            site.shown = Shown()
-            site.lease.release()
-            return 3 if isinstance(why, streams.Gap) else 4
 
 
 if __name__ == "__main__":

@@ -13,13 +13,17 @@ No other file knows the engine. The keys:
 - `next`: the declarations that the operator wants for the next epoch.
 """
 
+import contextlib
 import functools
+import os
 import queue
 import random
 import re
+import signal
 import sys
 import threading
 import time
+import traceback
 
 import etcd3
 import grpc
@@ -59,8 +63,12 @@ class Full(Away):
     """The engine has no room for a write. What it has stays."""
 
 
+class Small(Exception):
+    """A member takes no transaction as large as `member` lets it take."""
+
+
 class Taken(Exception):
-    """The script has another entry of this number."""
+    """The script has another entry of this number, or what the entry stands on has changed."""
 
 
 class Gap(Exception):
@@ -77,12 +85,34 @@ def asks(call):
 
     @functools.wraps(call)
     def asked(self, *words, **more):
-        try:
+        with self.asking():
             return call(self, *words, **more)
-        except (etcd3.Etcd3Exception, grpc.RpcError, ValueError) as error:
-            raise self.failure(error) from error
 
     return asked
+
+
+def guarded(run):
+    """What a thread runs that its process cannot do without. Where it ends by a mistake, so does the process."""
+
+    @functools.wraps(run)
+    def guards(*words):
+        try:
+            run(*words)
+        except Exception:
+            traceback.print_exc()
+            guarded.failed = True
+            os.kill(os.getpid(), signal.SIGTERM)
+
+    return guards
+
+
+guarded.failed = False
+
+
+def heed_signals():
+    """A signal to end, of whoever runs this or of a guarded thread, is an exit of the main thread. So it gives up its lease."""
+    for number in (signal.SIGTERM, signal.SIGINT):
+        signal.signal(number, lambda *_: sys.exit(1 if guarded.failed else 0))
 
 
 class Engine:
@@ -96,8 +126,23 @@ class Engine:
         self.connect()
 
     def connect(self):
-        self.etcd = etcd3.client(self.members[0], timeout=self.seconds, grpc_options=list(OPTIONS.items()))
+        etcd = etcd3.client(self.members[0], timeout=self.seconds, grpc_options=list(OPTIONS.items()))
+        etcd.interrupted = False
+        self.etcd = etcd
         self.txn = self.etcd.transactions
+
+    @contextlib.contextmanager
+    def asking(self):
+        """Raises `Away` where the member fails what is asked meanwhile, or the call was interrupted."""
+        try:
+            yield
+        except (etcd3.Etcd3Exception, grpc.RpcError) as error:
+            raise self.failure(error) from error
+        except ValueError as error:
+            # The library says so of a connection that is closed.
+            if not self.etcd.interrupted:
+                raise
+            raise self.failure(error) from error
 
     def failure(self, error):
         cause = error if isinstance(error, grpc.RpcError) else error.__context__
@@ -111,12 +156,14 @@ class Engine:
         if "space exceeded" in why:
             return Full("the engine is full, and takes no write")
         if "too many operations" in why or "too large" in why:
-            sys.exit(f"the member {member} is not started as `member` does: {why}")
+            return Small(f"the member {member} is not started as `member` does: {why}")
         return Away(f"the engine's member {member}: {why}")
 
     def interrupt(self):
-        """Ends the call or the watch that a thread waits in. That raises `Away`."""
-        self.etcd.close()
+        """Ends the call or the watch that another thread waits in. That raises `Away`."""
+        etcd = self.etcd
+        etcd.interrupted = True
+        etcd.close()
 
     @asks
     def range(self, key, end, **more):
@@ -141,10 +188,10 @@ class Engine:
             yield {name_of(kv.key): text_of(kv.value) for kv in found.kvs}, revision
             key = found.kvs[-1].key + b"\0" if more else None
 
-    def read(self, key, end=None):
-        """The keys up to the end, or all that begin so, in their order, and the revision at which they were read."""
+    def read(self, key, end):
+        """The keys of a range, in their order, with their values, and the revision at which they were read."""
         keys, revision = {}, 0
-        for found, revision in self.pages(key, end or end_of(key)):
+        for found, revision in self.pages(key, end):
             keys.update(found)
         return keys, revision
 
@@ -255,14 +302,13 @@ class Engine:
             create = etcdrpc.WatchCreateRequest(key=bytes_of(key), range_end=bytes_of(end), start_revision=revision)
             asked.put(etcdrpc.WatchRequest(create_request=create))
         try:
-            # A member that has no leader ends the stream.
-            stream = etcdrpc.WatchStub(self.etcd.channel).Watch(iter(asked.get, None), metadata=[("hasleader", "true")])
-            for answer in stream:
-                if answer.canceled:
-                    raise ValueError(f"a watch from {revision} was ended at {answer.compact_revision}")
-                yield [(name_of(e.kv.key), text_of(e.kv.value) if e.type == e.PUT else None) for e in answer.events]
-        except (grpc.RpcError, ValueError) as error:
-            raise self.failure(error) from error
+            with self.asking():
+                # A member that has no leader ends the stream.
+                stream = etcdrpc.WatchStub(self.etcd.channel).Watch(iter(asked.get, None), metadata=[("hasleader", "true")])
+                for answer in stream:
+                    if answer.canceled:
+                        raise Away(f"a watch from {revision} was ended at {answer.compact_revision}")
+                    yield [(name_of(e.kv.key), text_of(e.kv.value) if e.type == e.PUT else None) for e in answer.events]
         finally:
             asked.put(None)
             if stream:
@@ -272,7 +318,7 @@ class Engine:
     def remove_before(self, number):
         """Takes away the entries before this number, and what the engine keeps of the past."""
         self.etcd.transaction([], [self.txn.delete(key_of(0), key_of(number))], [])
-        self.compact(self.etcd.get_range_response("epoch", end_of("epoch")).header.revision)
+        self.compact(self.holder("epoch")[1])
 
     # What an operator does with the engine, as `etcdctl` does it.
 
@@ -325,9 +371,15 @@ class Engine:
         return lease if held else lease.revoke()
 
     @asks
-    def renew(self, lease):
-        """Whether the lease is still there."""
-        return next(self.etcd.refresh_lease(lease.id)).TTL > 0
+    def holder(self, key):
+        """The lease of the key, or None where the key is not there, and the revision at which that was read."""
+        found = self.range(key, key + "\0")
+        return found.kvs[0].lease if found.kvs else None, found.header.revision
+
+    @asks
+    def renew(self, lease, key, value):
+        """Whether the lease is still there, and its key."""
+        return next(self.etcd.refresh_lease(lease.id)).TTL > 0 and self.value(key) == value
 
     @asks
     def give_up(self, lease):
@@ -335,23 +387,24 @@ class Engine:
 
 
 class View(threading.Thread):
-    """What the keys of some prefixes are now, kept by watches in a thread. `changed` is told of each change."""
+    """What the keys of some ranges are now, kept by watches in a thread. `changed` is told of each change."""
 
-    def __init__(self, members, prefixes, who):
+    def __init__(self, members, ranges, who):
         super().__init__(daemon=True)
-        self.engine, self.prefixes, self.who = Engine(members), prefixes, who
+        self.engine, self.ranges, self.who = Engine(members), ranges, who
         self.keys, self.changed, self.version = {}, threading.Condition(), 0
         self.start()
 
+    @guarded
     def run(self):
         while True:
             try:
-                found = [self.engine.read(prefix) for prefix in self.prefixes]
+                found = [self.engine.read(*keys) for keys in self.ranges]
                 with self.changed:
                     self.keys = {key: value for keys, _ in found for key, value in keys.items()}
                     self.tell()
                 # What came between the first reading and the last one comes again.
-                for events in self.engine.watch([(prefix, end_of(prefix)) for prefix in self.prefixes], found[0][1] + 1):
+                for events in self.engine.watch(self.ranges, found[0][1] + 1):
                     self.take(events)
             except Away as away:
                 away.say(self.who)
@@ -393,8 +446,8 @@ class Lease(threading.Thread):
 
     def __init__(self, members, key, value, when_held=lambda engine: None):
         super().__init__(daemon=True)
-        self.engine, self.key, self.value, self.when_held = Engine(members, 1), key, value, when_held
-        self.until, self.lease = 0, None
+        self.members, self.engine, self.key, self.value, self.when_held = members, Engine(members, 1), key, value, when_held
+        self.until, self.lease, self.ended = 0, None, False
 
     def is_held(self):
         return self.lease is not None
@@ -402,28 +455,31 @@ class Lease(threading.Thread):
     def lives(self):
         return now() < self.until
 
+    @guarded
     def run(self):
-        while True:
+        while not self.ended:
             try:
                 lease, asked = self.lease, now()
                 if lease is None:
                     self.acquire()
-                elif self.engine.renew(lease):
+                elif self.engine.renew(lease, self.key, self.value):
                     self.until = asked + SERVES
                     time.sleep(SERVES / 4)
                 else:
-                    self.lease = None
+                    self.give_up()
             except Away as away:
                 # The lease may be there still. If it is, nobody else had the key meanwhile.
                 away.say(self.key)
                 time.sleep(0.2)
 
     def acquire(self):
-        found, revision = self.engine.read(self.key)
-        if self.key in found:
-            for events in self.engine.watch([(self.key, end_of(self.key))], revision + 1):
-                if (self.key, None) in events:
-                    break
+        holder, revision = self.engine.holder(self.key)
+        if holder == 0:
+            raise Away(f"the key {self.key} has no lease, so it was put by hand: take it away")
+        if holder is not None:
+            for events in self.engine.watch([(self.key, self.key + "\0")], revision + 1):
+                if events:
+                    return
         asked = now()
         lease = self.engine.hold(self.key, self.value)
         if lease:
@@ -431,18 +487,24 @@ class Lease(threading.Thread):
             try:
                 self.when_held(self.engine)
             except Away:
-                self.release()
+                self.give_up()
                 raise
             self.until = asked + SERVES
 
-    def release(self):
+    def give_up(self):
         """Lets another process hold the key at once."""
         lease, self.lease, self.until = self.lease, None, 0
         if lease:
-            try:
-                self.engine.give_up(lease)
-            except Away:
-                pass
+            # The main thread may ask too, so this is a connection of its own.
+            engine = Engine(self.members, 1)
+            for _ in engine.members:
+                with contextlib.suppress(Away):
+                    return engine.give_up(lease)
+
+    def end(self):
+        """Gives up the key for good."""
+        self.ended = True
+        self.give_up()
 
 
 # Entries have numbers of digits, and the keys that begin with one end here.
@@ -480,9 +542,19 @@ def is_number(text):
     return re.fullmatch("[1-9][0-9]{0,17}", text) is not None
 
 
-def end_of(prefix):
-    """The end of the range of keys that begin so."""
-    return prefix[:-1] + chr(ord(prefix[-1]) + 1)
+def is_changes(text):
+    """Whether a request may have this text."""
+    return re.fullmatch("[ -~]{0,4000}", text) is not None
+
+
+def range_of(prefix):
+    """The range of the keys that begin so."""
+    return prefix, prefix[:-1] + chr(ord(prefix[-1]) + 1)
+
+
+def place_of(text):
+    """The epoch and the place that a site told, or None where the text is not that."""
+    return tuple(map(int, text.split())) if re.fullmatch("[0-9]{1,9} [0-9]{1,7}", text) else None
 
 
 def text_of(value):

@@ -321,6 +321,8 @@ class Primary:
         asker = None
         for line in lines:
             if epochs.is_command(line):
+                if line.startswith("propose "):
+                    asker = (*asker, streams.digest_of(line[len("propose ") :]))
                 self.note(line.split()[0], next(outcomes), asker)
             elif line.startswith("# request "):
                 asker = line.split()[2], int(line.split()[3])
@@ -351,9 +353,9 @@ class Primary:
             self.applied[outcome.name] = self.rounds[outcome.name] = 0
 
     def answer(self, asker, text):
-        client, number = asker
+        client, number, digest = asker
         if number > self.due.get(client, (0, ""))[0]:
-            self.due[client] = number, text
+            self.due[client] = number, f"{text}\n{digest}"
 
 
 def say(what):

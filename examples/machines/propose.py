@@ -2,7 +2,7 @@
 """Proposes an update and waits for its answer: propose.py --engine HOST,.. CLIENT NUMBER CHANGE..
 
 A client numbers its requests 1, 2, 3 and so on, and has one open at a time. It may ask again under the same number, also after
-it was started again: the update is proposed once. CLIENT has 1 to 16 of a to z, 0 to 9 and _, and NUMBER 1 to 18 digits.
+it was started again: the update is proposed once. It is refused where its changes are others than before. CLIENT has 1 to 16 of a to z, 0 to 9 and _, and NUMBER 1 to 18 digits.
 
 Ends with status 5 where the engine is full. Whether the request was taken is then told to whoever asks again.
 """
@@ -47,8 +47,11 @@ class Clients:
                 if late := told.get(f"{name}/{number}"):
                     raise ValueError(f"{name} asked under a later number before: {number} comes {late}")
                 last, _, answer = told.get(name, "0 ").partition(" ")
+                answer, _, digest = answer.partition("\n")
                 if not re.fullmatch("[0-9]{1,18}", last):
                     raise ValueError(f"the key answer/{name} has no answer")
+                if int(last) == number and digest not in ("", streams.digest_of(changes[name])):
+                    raise ValueError(f"{name} asked for other changes under {number} before, and had the answer `{answer}`")
                 if int(last) > number:
                     raise ValueError(f"{name} had an answer to the later request {last}")
                 if int(last) == number:

@@ -6,7 +6,7 @@ No other file knows the engine. The keys:
   1, 2, 3 and so on, and an entry is created where there is none. So of two primaries that write one number, one is refused.
 - `epoch`: the last epoch, and the number of its first entry.
 - `request/CLIENT/NUMBER`: the changes that a client wants proposed. The primary takes the key away as it writes the entry.
-- `answer/CLIENT`: the number of the client's last request, and what came of it.
+- `answer/CLIENT`: the number of the client's last request, what came of it, and in a second line a digest of its changes.
 - `answer/CLIENT/NUMBER`: `after LAST`, where the client had asked under the later number LAST before. It goes with the next answer.
 - `place/SITE`: an epoch, and how many of its updates the site has applied.
 - `primary` and `site/FLEET/SITE`: the process that writes, and the one that serves the readers of a site. See `Lease`.
@@ -15,6 +15,7 @@ No other file knows the engine. The keys:
 
 import contextlib
 import functools
+import hashlib
 import os
 import queue
 import random
@@ -545,6 +546,11 @@ def is_number(text):
 def is_changes(text):
     """Whether a request may have this text."""
     return re.fullmatch("[ -~]{0,4000}", text) is not None
+
+
+def digest_of(changes):
+    """Stands beside an answer for the changes that were answered."""
+    return hashlib.sha256(changes.encode("utf-8", "replace")).hexdigest()[:16]
 
 
 def range_of(prefix):

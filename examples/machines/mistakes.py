@@ -13,6 +13,8 @@ MISTAKES = {
             '            self.waiting.append(asker)\n            self.answer(asker, f"ok acked {outcome.place} epoch {self.epoch}")\n',
         ),
     ],
+    # Each page that is read of the engine has all that is left.
+    "reads_all_at_once": [("streams.py", "limit=max(1, int(most * self.part))", "limit=0")],
     # A request that comes again is proposed again.
     "takes_requests_again": [
         ("primary.py", "            elif int(number) > self.taken.get(client, 0):\n", "            else:\n"),

@@ -391,7 +391,7 @@ def main():
     try:
         numbers_page.serve(words.page, lambda: numbers_page.of_primary(primary))
         primary.lease.start()
-        return write(primary, declarations)
+        return keep_writing(primary, declarations)
     except (OSError, Error, streams.Small) as error:
         say(error)
         return 1
@@ -399,7 +399,7 @@ def main():
         primary.lease.end()
 
 
-def write(primary, declarations):
+def keep_writing(primary, declarations):
     while True:
         try:
             primary.stand_by()

@@ -145,7 +145,7 @@ def serve(site, port):
         # So many readers may come at once.
         request_queue_size = 1024
 
-    threading.Thread(target=Server(("", port), Reader).serve_forever, daemon=True).start()
+    numbers_page.listen(Server, port, Reader)
 
 
 def name(text):

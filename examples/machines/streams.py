@@ -64,6 +64,13 @@ class Full(Away):
     """The engine has no room for a write. What it has stays."""
 
 
+class Compacted(Away):
+    """The past with which a watch began is compacted. It begins anew, which is nothing to tell."""
+
+    def say(self, who):
+        pass
+
+
 class Small(Exception):
     """A member takes no transaction as large as `member` lets it take."""
 
@@ -308,7 +315,7 @@ class Engine:
                 stream = etcdrpc.WatchStub(self.etcd.channel).Watch(iter(asked.get, None), metadata=[("hasleader", "true")])
                 for answer in stream:
                     if answer.canceled:
-                        raise Away(f"a watch from {revision} was ended at {answer.compact_revision}")
+                        raise Compacted(f"a watch from {revision} was ended at {answer.compact_revision}")
                     yield [(name_of(e.kv.key), text_of(e.kv.value) if e.type == e.PUT else None) for e in answer.events]
         finally:
             asked.put(None)

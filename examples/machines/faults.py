@@ -13,7 +13,8 @@ PATIENCE = 60
 LONG = 7
 # Keys that nobody of the deployment puts.
 KEYS = [f"{begin}{end}".encode("latin-1") for begin in ("request/", "place/", "site/", "answer/", "script/", "next")
-        for end in ("\xff\xfe/1", "ann/9\xff", "\xff", "0", "abc", "~\n/", "000000000002x")] + [b"request/client1/", b"request/"]
+        for end in ("\xff\xfe/1", "ann/9\xff", "\xff", "0", "abc", "~\n/", "000000000002x")]
+KEYS += [b"request/client1/", b"request/", b"site/south/\xff"]
 
 
 class Faults:

@@ -209,9 +209,13 @@ class Primary:
         The view may be late, so it says when to ask the engine. A process that takes the lease after that serves nobody: it
         first reads the script up to its end, and there that the site is taken out.
         """
-        if site in self.leaving - self.gone and not self.view.under(f"site/{site}/"):
-            if not self.engine.read(*streams.range_of(f"site/{site}/"))[0]:
+        if site in self.leaving - self.gone:
+            leases = f"site/{site}/"
+            held = held_of(self.view.under(leases)) or held_of(self.engine.read(*streams.range_of(leases))[0])
+            if not held:
                 self.gone.add(site)
+            elif streams.now() > self.wrote + streams.TTL:
+                streams.Away(f"{site} is taken out once no process has the lease {leases}{held[0]}").say("primary")
         return site in self.gone
 
     def reports(self, places):
@@ -274,7 +278,7 @@ class Primary:
         return True
 
     def go_over(self, wanted):
-        """Writes the declarations of the next epoch. All is acknowledged, each site has told the last place, and who leaves is gone."""
+        """Writes the declarations of the next epoch. All is acknowledged, and each site has told the last place or is gone."""
         declarations = epochs.following(self.words.program, self.lines, wanted)
         lines, first = [f"# epoch {self.epoch + 1}", *declarations], self.entries + 1
         self.run(lines)
@@ -297,7 +301,10 @@ class Primary:
         return self.acknowledged < self.updates and all(places[site] > self.acknowledged for site in self.round)
 
     def write(self, lines, puts, deletes, stays={}):
-        """Writes the next entry, if the keys of `stays` have these values. What was asked and not answered is asked again: it is done once."""
+        """Writes the next entry, if the keys of `stays` have these values.
+
+        What was asked and not answered is asked again: it is done once.
+        """
         while True:
             try:
                 self.engine.commit(self.entries + 1, lines, puts, deletes, stays)
@@ -356,6 +363,11 @@ class Primary:
         client, number, digest = asker
         if number > self.due.get(client, (0, ""))[0]:
             self.due[client] = number, f"{text}\n{digest}"
+
+
+def held_of(keys):
+    """The sites whose leases these keys are. Nobody of the deployment puts others."""
+    return [site for site in (key.rpartition("/")[2] for key in keys) if streams.is_name(site)]
 
 
 def say(what):

@@ -2,7 +2,8 @@
 """Proposes an update and waits for its answer: propose.py --engine HOST,.. CLIENT NUMBER CHANGE..
 
 A client numbers its requests 1, 2, 3 and so on, and has one open at a time. It may ask again under the same number, also after
-it was started again: the update is proposed once. It is refused where its changes are others than before. CLIENT has 1 to 16 of a to z, 0 to 9 and _, and NUMBER 1 to 18 digits.
+it was started again: the update is proposed once. With other changes than before it is refused. CLIENT has 1 to 16 of a to z, 0 to
+9 and _, and NUMBER 1 to 18 digits.
 
 Ends with status 5 where the engine is full. Whether the request was taken is then told to whoever asks again.
 """

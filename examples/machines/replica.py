@@ -17,7 +17,6 @@ cannot go on otherwise.
 
 import argparse
 import os
-import re
 import socket
 import socketserver
 import sys
@@ -149,7 +148,7 @@ def serve(site, port):
 
 
 def name(text):
-    if not re.fullmatch("[a-z][a-z0-9_]{0,15}", text):
+    if not streams.is_name(text):
         raise argparse.ArgumentTypeError(f"{text!r} is no name: that has 1 to 16 of a to z, 0 to 9 and _, and begins with a letter")
     return text
 

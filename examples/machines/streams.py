@@ -550,6 +550,11 @@ def is_number(text):
     return re.fullmatch("[1-9][0-9]{0,17}", text) is not None
 
 
+def is_name(text):
+    """Whether a site may have this name."""
+    return re.fullmatch("[a-z][a-z0-9_]{0,15}", text) is not None
+
+
 def is_changes(text):
     """Whether a request may have this text."""
     return re.fullmatch("[ -~]{0,4000}", text) is not None

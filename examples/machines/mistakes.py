@@ -3,7 +3,7 @@
 MISTAKES = {
     # The primary reports what is in the log, whether a site told it or not.
     "reports_what_no_site_told": [
-        ("primary.py", "            if self.is_gone(site):\n", "            if True:\n"),
+        ("primary.py", "            if self.is_gone(site):\n", "            if self.is_gone(site) or True:\n"),
     ],
     # The client is told once the update has a number.
     "answers_before_it_settles": [

@@ -10,7 +10,7 @@ from pathlib import Path
 import streams
 
 sys.path.insert(0, str(Path(__file__).resolve().parents[2] / "clients" / "python"))
-from ordup import BadLine, Refused, Started, Store
+from ordup import Error, Refused, Started, Store
 
 
 def is_command(line):
@@ -27,7 +27,7 @@ def check(program, lines):
     try:
         with Store(program) as store:
             outcomes = store.commands(line for line in lines if is_command(line))
-    except BadLine as error:
+    except Error as error:
         raise ValueError(str(error)) from error
     for refused in (outcome for outcome in outcomes if isinstance(outcome, Refused)):
         raise ValueError(str(refused))
@@ -45,7 +45,7 @@ def following(program, script, wanted):
     made = subprocess.run([program, "next"], stdin=script, stdout=subprocess.PIPE, stderr=subprocess.PIPE, text=True)
     script.seek(0, os.SEEK_END)
     if made.returncode:
-        sys.exit(f"ordup next: {made.stderr.strip()}")
+        raise Error(f"ordup next: {made.stderr.strip() or made.returncode}")
     lines = made.stdout.splitlines()
     if not wanted:
         return lines
@@ -62,6 +62,7 @@ def archive(members, folder, first):
 ONE = threading.Lock()
 
 
+@streams.guarded
 def keep_trying(engine, folder, first):
     with ONE:
         while True:
@@ -76,10 +77,12 @@ def keep_trying(engine, folder, first):
 
 def archive_now(engine, folder, first):
     folder.mkdir(parents=True, exist_ok=True)
-    number, parts = engine.ends()[0] or first, {}
+    # All is read at one revision, so another primary that archives the same takes nothing away meanwhile.
+    number, revision, parts = engine.first() or first, 0, {}
     try:
         while number < first:
-            for number, lines in engine.entries(number)[0]:
+            entries, revision = engine.entries(number, revision)
+            for number, lines in entries:
                 if number < first:
                     if lines[0].startswith("# epoch "):
                         epoch = lines[0].split()[2]

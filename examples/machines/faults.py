@@ -11,6 +11,10 @@ from deployment import FLEET, MEMBERS, PRIMARIES, SITES
 PATIENCE = 60
 # Longer than the lease of a process.
 LONG = 7
+# Keys that nobody of the deployment puts.
+KEYS = [f"{begin}{end}".encode("latin-1") for begin in ("request/", "place/", "site/", "answer/", "script/", "next")
+        for end in ("\xff\xfe/1", "ann/9\xff", "\xff", "0", "abc", "~\n/", "000000000002x")]
+KEYS += [b"request/client1/", b"request/", b"site/south/\xff"]
 
 
 class Faults:
@@ -22,7 +26,7 @@ class Faults:
 
     def run(self, goes_on):
         """Each fault once, in an order by chance, and then any of them while the trial goes on."""
-        kinds = ("kill_", "stop_", "cut_", "start_", "lose_", "fill_", "slow_", "ask_")
+        kinds = ("kill_", "stop_", "cut_", "start_", "lose_", "fill_", "slow_", "ask_", "end_", "put_", "thin_")
         names = [name for name in dir(self) if name.startswith(kinds)]
         first = self.chance.sample(names, len(names))
         while first or goes_on():
@@ -84,7 +88,7 @@ class Faults:
     def busy_writer(self):
         """The host of the primary that writes, as requests wait for it."""
         writer, ends = self.writer(), time.monotonic() + 5
-        while not self.trial.ask(lambda engine: engine.read("request/")[0]) and time.monotonic() < ends:
+        while not self.trial.ask(lambda engine: engine.read(*self.trial.streams.range_of("request/"))[0]) and time.monotonic() < ends:
             pass
         return writer
 
@@ -124,7 +128,62 @@ class Faults:
             process.kill()
             process.wait()
 
+    def cut_site_that_is_taken_out(self):
+        """It has all, so nobody misses it. Its readers are served while its lease lives, and what comes then is beyond its limits."""
+        self.trial.bring_back()
+        with self.trial.alone():
+            self.deployment.hosts("cut", "south")
+            self.trial.change_sites()
+            for _ in range(4):
+                self.trial.propose_alone("add:till:1000 add:tea:200")
+        self.deployment.hosts("mend", "south")
+        self.trial.bring_back()
+
+    def thin_link_of_site(self):
+        """It takes longer than a call of the engine may to carry the script. A site that is started is served all the same."""
+        self.trial.bring_back()
+        site = self.site()
+        for _ in range(30):
+            self.trial.propose_alone(" ".join(["add:tea:1"] * 390))
+        self.deployment.kill(site)
+        self.deployment.hosts("thin", str(self.trial.size_of_script() * 8 // 1000 // 5), site)
+        self.deployment.start(site)
+        self.check(self.trial.waits_for_reader(site), f"{site} is not served behind a thin link")
+        self.deployment.hosts("mend", site)
+
     # Primaries.
+
+    def end_primary(self):
+        """As whoever runs it asks it to. It gives up its lease, so another one need not wait for that."""
+        writer = self.writer()
+        process = self.deployment.processes[writer]
+        process.terminate()
+        self.check(process.wait() == 0, f"{writer} ended with {process.returncode} when it was asked to")
+        # The engine may be slow. After this it has done what it was asked before.
+        self.trial.ask(lambda engine: engine.put("junk/asked", ""))
+        held = self.trial.ask(lambda engine: engine.value("primary"))
+        self.check(not held or held.split()[3] != str(process.pid), f"{writer} has ended, and has its lease")
+        self.deployment.start(writer)
+
+    def ask_for_an_epoch_from_afar(self):
+        """A member is far, so a primary may hear late of what it wrote itself. The observer counts what began."""
+        with self.trial.alone():
+            for _ in range(4):
+                member = self.chance.choice(MEMBERS)
+                self.deployment.hosts("slow", "20", "0", member)
+                self.check(self.trial.soon(self.trial.want), "the next epoch could not be asked for")
+                self.check(self.trial.soon(lambda engine: engine.value("next") is None), "the next epoch did not begin")
+                self.pause(0.2, 0.4)
+                self.deployment.hosts("mend", member)
+
+    def put_keys_of_any_bytes(self):
+        """What is no key of the deployment stops nobody, also who takes over. It stays, but under `request/`."""
+        for key in KEYS:
+            self.trial.ask(lambda engine: engine.put(key, bytes([self.chance.randrange(256)] * 3)))
+        self.restart(self.writer(), 0.1, 0.5)
+        self.trial.propose_alone("add:tea:1")
+        taken = self.trial.soon(lambda engine: not any(engine.value(key) for key in KEYS if key.startswith(b"request/")))
+        self.check(taken, "requests of any bytes are still there")
 
     def kill_primary(self):
         self.restart(self.busy_writer(), 0.1, 0.5)
@@ -139,7 +198,7 @@ class Faults:
         """As the epoch is to end, once the next one has begun, or once what was before is archived: each in its turn."""
         writer, step = self.writer(), self.times["kill_primary_at_a_join"] % 3
         epoch = self.trial.ask(lambda engine: engine.epoch()[0])
-        self.trial.ask(lambda engine: engine.create("next", self.trial.wanted()))
+        self.trial.ask(self.trial.want)
         ends = time.monotonic() + (PATIENCE if step else self.chance.uniform(0, 0.3))
         while self.steps_of_join(epoch) < max(step, 1) and time.monotonic() < ends:
             pass
@@ -151,7 +210,7 @@ class Faults:
     def steps_of_join(self, epoch):
         """0 before the next epoch has begun, 1 after that, and 2 once what was before is archived."""
         last, first = self.trial.ask(lambda engine: engine.epoch())
-        return 0 if last == epoch else 1 + (self.trial.ask(lambda engine: engine.ends()[0]) >= first)
+        return 0 if last == epoch else 1 + (self.trial.ask(lambda engine: engine.first()) >= first)
 
     def cut_site_at_a_join(self):
         """A site that may lag, and that the head does not wait for. The epoch may not end before it is back."""
@@ -160,7 +219,7 @@ class Faults:
             self.deployment.hosts("cut", site)
             for _ in range(3):
                 self.trial.propose_alone("add:tea:1")
-            self.trial.ask(lambda engine: engine.create("next", self.trial.wanted()))
+            self.trial.ask(self.trial.want)
         # Its lease lives, so it is read.
         self.pause(1, 2)
         self.deployment.hosts("mend", site)
@@ -170,7 +229,7 @@ class Faults:
         with self.trial.alone():
             self.deployment.kill("east")
             self.trial.propose_alone("add:tea:1")
-            self.trial.ask(lambda engine: engine.create("next", self.trial.wanted()))
+            self.trial.ask(self.trial.want)
             # Until the primary has seen that.
             time.sleep(1)
             self.trial.propose_alone("add:tea:1")

@@ -3,6 +3,8 @@
 
 A primary has at most 16 sites. So a site that it knows may stand for many. Its place is the least place that they told. So
 each of them has applied what the fleet tells, and the limits of the fleet hold at each of them.
+
+Ends with a message and status 5 where a site told what is no place.
 """
 
 import argparse
@@ -18,11 +20,16 @@ def main():
     parser.add_argument("fleet")
     parser.add_argument("site", nargs="+")
     words = parser.parse_args()
-    engine, view = streams.Engine(words.engine), streams.View(words.engine, ["place/"], f"fleet {words.fleet}")
+    streams.heed_signals()
+    engine, view = streams.Engine(words.engine), streams.View(words.engine, [streams.range_of("place/")], f"fleet {words.fleet}")
     told = (0, 0)
     while True:
         version, places = view.version, view.under("place/")
-        least = min(tuple(map(int, places.get(site, "0 0").split())) for site in words.site)
+        places = {site: streams.place_of(places.get(site, "0 0")) for site in words.site}
+        for site in (site for site, place in places.items() if place is None):
+            print(f"fleet {words.fleet}: the key place/{site} has what is not an epoch and a place", file=sys.stderr, flush=True)
+            return 5
+        least = min(places.values())
         try:
             if least > told:
                 engine.put(f"place/{words.fleet}", f"{least[0]} {least[1]}")

@@ -1,5 +1,7 @@
 #!/usr/bin/python3
-"""A link with a delay and loss, between two taps that it makes: link.py TAP TAP MS PERCENT
+"""A link with a delay and loss, between two taps that it makes: link.py TAP TAP MS PERCENT [KBITS]
+
+With KBITS each way carries so many kbit a second, and drops what would wait for more than half a second.
 
 It stands in for `tc netem` where the kernel does not have that.
 """
@@ -25,13 +27,16 @@ def tap(name):
 def main():
     one, other = tap(sys.argv[1]), tap(sys.argv[2])
     delay, loss = float(sys.argv[3]) / 1000, float(sys.argv[4]) / 100
+    # What a frame of one byte takes, and until when the frames that came from each side take.
+    byte, until = 8 / 1000 / float(sys.argv[5]) if len(sys.argv) > 5 else 0, {one: 0, other: 0}
     to, late, order = {one: other, other: one}, [], 0
     while True:
         wait = max(0, late[0][0] - time.monotonic()) if late else None
         for file in select.select([one, other], [], [], wait)[0]:
-            frame, order = os.read(file, 65536), order + 1
-            if random.random() >= loss:
-                heapq.heappush(late, (time.monotonic() + delay, order, to[file], frame))
+            frame, order, now = os.read(file, 65536), order + 1, time.monotonic()
+            if random.random() >= loss and until[file] <= now + 0.5:
+                until[file] = max(now, until[file]) + byte * len(frame)
+                heapq.heappush(late, (until[file] + delay, order, to[file], frame))
         while late and late[0][0] <= time.monotonic():
             _, _, file, frame = heapq.heappop(late)
             try:

@@ -3,7 +3,7 @@
 MISTAKES = {
     # The primary reports what is in the log, whether a site told it or not.
     "reports_what_no_site_told": [
-        ("primary.py", "            if site in self.leaving and not is_served(site, serving):\n", "            if True:\n"),
+        ("primary.py", "            if self.is_gone(site):\n", "            if self.is_gone(site) or True:\n"),
     ],
     # The client is told once the update has a number.
     "answers_before_it_settles": [
@@ -13,6 +13,8 @@ MISTAKES = {
             '            self.waiting.append(asker)\n            self.answer(asker, f"ok acked {outcome.place} epoch {self.epoch}")\n',
         ),
     ],
+    # Each page that is read of the engine has all that is left.
+    "reads_all_at_once": [("streams.py", "limit=max(1, int(most * self.part))", "limit=0")],
     # A request that comes again is proposed again.
     "takes_requests_again": [
         ("primary.py", "            elif int(number) > self.taken.get(client, 0):\n", "            else:\n"),
@@ -21,8 +23,8 @@ MISTAKES = {
     "goes_on_after_another": [
         (
             "primary.py",
-            "self.engine.commit(self.entries + 1, lines, puts, deletes)",
-            "self.engine.commit(self.engine.ends()[1] + 1, lines, puts, deletes)",
+            "self.engine.commit(self.entries + 1, lines, puts, deletes, stays)",
+            "self.engine.commit(self.engine.last() + 1, lines, puts, deletes, stays)",
         ),
     ],
     # The requests go before the entry that takes them is written.
@@ -46,6 +48,13 @@ MISTAKES = {
     # The next epoch begins once all is acknowledged.
     "goes_over_before_all_have_told": [
         ("primary.py", "{self.acknowledged, *self.applied.values()} == {self.updates}", "self.acknowledged == self.updates"),
+    ],
+    # The next epoch begins while a process of a site that is taken out may still serve readers.
+    "goes_over_before_a_site_is_gone": [("primary.py", "self.leaving == self.gone and ", "")],
+    # What the operator asked for once is done again, until the view is told that it is done.
+    "begins_one_epoch_after_another": [
+        ("primary.py", "        self.view.drop(wish)\n", ""),
+        ("streams.py", "        holds += [self.txn.value(key) == value for key, value in stays.items()]\n", ""),
     ],
     # A join waits for a site of a fleet that is away, since the fleet is served.
     "waits_for_a_fleet_that_is_away": [

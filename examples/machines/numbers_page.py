@@ -105,5 +105,13 @@ def serve(port, numbers):
         def log_message(self, *_):
             pass
 
-    server = http.server.ThreadingHTTPServer(("", port), Asked)
+    listen(http.server.ThreadingHTTPServer, port, Asked)
+
+
+def listen(kind, port, handler):
+    """Starts a server."""
+    try:
+        server = kind(("", port), handler)
+    except OSError as error:
+        raise OSError(f"port {port}: {error.strerror}") from error
     threading.Thread(target=server.serve_forever, daemon=True).start()

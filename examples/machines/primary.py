@@ -10,7 +10,8 @@ Several primaries may run. One writes. The others run the script as it comes, an
 file DECLARATIONS begins an empty script: objects, groups, sites, limits, and `start`. After `--every` updates, or when
 `next.py` asks, the primary begins the next epoch. The script of the last one goes to a file in FOLDER.
 
-Ends with a message and status 3 where the script lacks an entry, and 5 where a site told a place that it cannot have.
+Ends with a message and status 3 where the script lacks an entry, 5 where a site told a place that it cannot have, and 1 where it
+cannot go on otherwise.
 """
 
 import argparse
@@ -29,7 +30,7 @@ import numbers_page
 import streams
 
 sys.path.insert(0, str(Path(__file__).resolve().parents[2] / "clients" / "python"))
-from ordup import Acked, Applied, Declared, Proposed, Settled, Store
+from ordup import Acked, Applied, Declared, Error, Proposed, Settled, Store
 
 # A turn takes at most so many requests, and so many updates that sites told. So it fits into a transaction of 1.5 MB.
 REQUESTS, TOLD = 200, 5000
@@ -54,7 +55,8 @@ class Primary:
     def __init__(self, words):
         self.words, self.engine = words, streams.Engine(words.engine)
         # What clients ask, what sites tell, which of their processes serve readers, and what the operator wants.
-        self.view = streams.View(words.engine, ["request/", "place/", "site/", "next"], "primary")
+        looks = [streams.range_of(keys) for keys in ("request/", "place/", "site/", "next")]
+        self.view = streams.View(words.engine, looks, "primary")
         self.lease = streams.Lease(words.engine, "primary", OWN, lambda _: self.engine.interrupt())
         self.store = self.lines = None
         # Of this process: how many requests it took, and how many answers it told.
@@ -80,8 +82,9 @@ class Primary:
         self.updates, self.acknowledged, self.waiting = 0, 0, deque()
         # The sites that the head waits for, and since when.
         self.round, self.waits_since = (), None
-        # For each site how many updates it has applied, its rounds, and when it told last. Then the sites that are taken out.
-        self.applied, self.rounds, self.heard, self.leaving = {}, {}, {}, set()
+        # For each site how many updates it has applied, its rounds, and when it told last. Then the sites that are taken out, and
+        # those of them that no process serves any more.
+        self.applied, self.rounds, self.heard, self.leaving, self.gone = {}, {}, {}, set(), set()
         # The last declarations of the operator that were looked at, and when the last entry was written.
         self.looked_at, self.wrote = "", 0
 
@@ -132,27 +135,33 @@ class Primary:
                 # The primary before was faster, or a write of it was late. So run that too.
                 self.forget()
         # What was answered in epochs before is known from the answers alone.
-        for key, answer in self.engine.read("answer/")[0].items():
-            _, client, *late = key.split("/")
-            if late:
-                self.late.add(client)
-                continue
-            number = int(answer.split(" ", 1)[0])
-            self.taken[client] = max(number, self.taken.get(client, 0))
-            if client in self.due and self.due[client][0] <= number:
-                del self.due[client]
+        for answers, _ in self.engine.pages(*streams.range_of("answer/")):
+            for key, answer in answers.items():
+                self.hear_answer(key, answer)
         epochs.archive(self.words.engine, self.words.archive, self.first)
+
+    def hear_answer(self, key, answer):
+        """Takes note of an answer that is in the engine."""
+        _, client, *late = key.split("/")
+        number = answer.split(" ", 1)[0]
+        if late:
+            self.late.add(client)
+        elif not (streams.is_client(client) and streams.is_number(number)):
+            say(f"the key {key!r} has no answer of a client, and is not looked at")
+        else:
+            self.taken[client] = max(int(number), self.taken.get(client, 0))
+            if client in self.due and self.due[client][0] <= int(number):
+                del self.due[client]
 
     def turn(self):
         """Takes what is asked and told, runs it, and writes it with what comes of it.
 
         Returns for how many seconds there is nothing to do, where nothing comes.
         """
-        serving, wanted = self.view.under("site/"), self.view.under("next").get("")
-        late, deletes = {}, []
+        wanted, late, deletes = self.view.under("next").get(""), {}, []
         if wanted and wanted != self.looked_at and not self.may_follow(wanted):
             deletes, wanted = ["next"], None
-        places = self.places(serving)
+        places = self.places()
         lines = self.reports(places)
         told = len(lines)
         ends = self.ends(wanted, lines)
@@ -163,7 +172,8 @@ class Primary:
             return LATER
         self.run(lines)
         lines += self.settle()
-        if ends and not lines and not self.due and {self.acknowledged, *self.applied.values()} == {self.updates}:
+        has_all = self.leaving == self.gone and {self.acknowledged, *self.applied.values()} == {self.updates}
+        if ends and not lines and not self.due and has_all:
             self.go_over(wanted)
             return 0
         told = dict(islice(self.due.items(), ANSWERS))
@@ -172,7 +182,7 @@ class Primary:
         puts = {f"answer/{client}": f"{number} {answer}" for client, (number, answer) in told.items()}
         puts |= {f"answer/{client}/{number}": f"after {last}" for (client, number), last in late.items() if client not in told}
         past = list(islice(self.late & set(told), REQUESTS))
-        self.write(lines, puts, deletes + [f"answer/{client}/" for client in past])
+        self.write(lines, puts, deletes + [(f"answer/{client}/", f"answer/{client}0") for client in past])
         self.late = self.late - set(past) | {client for client, _ in late if client not in told}
         self.view.drop(deletes)
         self.answers += len(told)
@@ -180,19 +190,33 @@ class Primary:
             del self.due[client]
         return 0
 
-    def places(self, serving):
+    def places(self):
         """How many updates of this epoch each site told."""
         told = self.view.under("place/")
         places = {site: self.place_of(site, told.get(site, "0 0")) for site in self.applied}
         for site, place in places.items():
-            # A site that is taken out has no reader once no process serves it.
-            if site in self.leaving and not is_served(site, serving):
+            if self.is_gone(site):
                 places[site] = self.updates
             elif place > self.updates:
                 if self.engine.entries(self.entries + 1)[0]:
                     raise streams.Taken("another primary writes the script")
                 raise Wrong(f"the key place/{site} has {place} updates of epoch {self.epoch}, and the script has {self.updates}")
         return places
+
+    def is_gone(self, site):
+        """Whether the site is taken out, and no process serves it any more.
+
+        The view may be late, so it says when to ask the engine. A process that takes the lease after that serves nobody: it
+        first reads the script up to its end, and there that the site is taken out.
+        """
+        if site in self.leaving - self.gone:
+            leases = f"site/{site}/"
+            held = held_of(self.view.under(leases)) or held_of(self.engine.read(*streams.range_of(leases))[0])
+            if not held:
+                self.gone.add(site)
+            elif streams.now() > self.wrote + streams.TTL:
+                streams.Away(f"{site} is taken out once no process has the lease {leases}{held[0]}").say("primary")
+        return site in self.gone
 
     def reports(self, places):
         """The lines for what sites told."""
@@ -207,20 +231,20 @@ class Primary:
 
     def place_of(self, site, text):
         """How many updates of this epoch the site told."""
-        if not re.fullmatch("[0-9]{1,9} [0-9]{1,7}", text):
+        told = streams.place_of(text)
+        if told is None:
             raise Wrong(f"the key place/{site} has `{text}`, which is not an epoch and a place")
-        epoch, place = map(int, text.split())
-        return place if epoch == self.epoch else 0
+        return told[1] if told[0] == self.epoch else 0
 
     def take(self, lines, late, deletes):
         """Adds the lines of new requests, those that came after a later one, and the keys of all that were looked at."""
         for key, changes in islice(self.view.under("request/").items(), REQUESTS):
             client, _, number = key.rpartition("/")
             if not (streams.is_client(client) and streams.is_number(number)):
-                print(f"primary: request/{key} is of no client and number, and was taken away", file=sys.stderr, flush=True)
+                say(f"the key {'request/' + key!r} is of no client and number, and is taken away")
             elif int(number) > self.taken.get(client, 0):
                 # Changes with other bytes, such as the end of a line, are replaced by what is refused.
-                changes = changes if re.fullmatch("[ -~]{0,4000}", changes) else "?"
+                changes = changes if streams.is_changes(changes) else "?"
                 lines += [f"# request {client} {number}", f"propose {changes}"]
                 self.taken[client] = int(number)
                 self.requests += 1
@@ -244,19 +268,23 @@ class Primary:
 
     def may_follow(self, wanted):
         try:
+            if "\ufffd" in wanted:
+                raise ValueError("they are not in UTF-8")
             epochs.check(self.words.program, wanted.split("\n"))
         except ValueError as error:
-            print(f"primary: the declarations that are wanted next: {error}", file=sys.stderr, flush=True)
+            say(f"the declarations that are wanted next: {error}")
             return False
         self.looked_at = wanted
         return True
 
     def go_over(self, wanted):
-        """Writes the declarations of the next epoch. All is acknowledged, and each site has told the last place."""
+        """Writes the declarations of the next epoch. All is acknowledged, and each site has told the last place or is gone."""
         declarations = epochs.following(self.words.program, self.lines, wanted)
         lines, first = [f"# epoch {self.epoch + 1}", *declarations], self.entries + 1
         self.run(lines)
-        self.write(lines, {"epoch": f"{self.epoch} {first}"}, [] if wanted is None else ["next"])
+        wish = {} if wanted is None else {"next": wanted}
+        self.write(lines, {"epoch": f"{self.epoch} {first}"}, list(wish), wish)
+        self.view.drop(wish)
         epochs.archive(self.words.engine, self.words.archive, first)
 
     def settle(self):
@@ -272,11 +300,14 @@ class Primary:
         """Whether the head waits for no site that is at these places."""
         return self.acknowledged < self.updates and all(places[site] > self.acknowledged for site in self.round)
 
-    def write(self, lines, puts, deletes):
-        """Writes the next entry. What was asked and not answered is asked again: it is done once."""
+    def write(self, lines, puts, deletes, stays={}):
+        """Writes the next entry, if the keys of `stays` have these values.
+
+        What was asked and not answered is asked again: it is done once.
+        """
         while True:
             try:
-                self.engine.commit(self.entries + 1, lines, puts, deletes)
+                self.engine.commit(self.entries + 1, lines, puts, deletes, stays)
                 break
             except streams.Away as away:
                 away.say("primary")
@@ -297,6 +328,8 @@ class Primary:
         asker = None
         for line in lines:
             if epochs.is_command(line):
+                if line.startswith("propose "):
+                    asker = (*asker, streams.digest_of(line[len("propose ") :]))
                 self.note(line.split()[0], next(outcomes), asker)
             elif line.startswith("# request "):
                 asker = line.split()[2], int(line.split()[3])
@@ -327,13 +360,24 @@ class Primary:
             self.applied[outcome.name] = self.rounds[outcome.name] = 0
 
     def answer(self, asker, text):
-        client, number = asker
+        client, number, digest = asker
         if number > self.due.get(client, (0, ""))[0]:
-            self.due[client] = number, text
+            self.due[client] = number, f"{text}\n{digest}"
 
 
-def is_served(site, serving):
-    return any(key.startswith(f"{site}/") for key in serving)
+def held_of(keys):
+    """The sites whose leases these keys are. Nobody of the deployment puts others."""
+    return [site for site in (key.rpartition("/")[2] for key in keys) if streams.is_name(site)]
+
+
+def say(what):
+    print(f"primary: {what}", file=sys.stderr, flush=True)
+
+
+def every(text):
+    if not re.fullmatch("[1-9][0-9]{0,6}", text) or int(text) > 1_000_000:
+        raise argparse.ArgumentTypeError(f"{text!r} is no number from 1 to 1,000,000")
+    return int(text)
 
 
 def read_words():
@@ -341,7 +385,7 @@ def read_words():
     parser.add_argument("--engine", required=True, metavar="HOST,..")
     parser.add_argument("--program", required=True)
     parser.add_argument("--archive", required=True, type=Path, metavar="FOLDER", help="where the scripts of past epochs go")
-    parser.add_argument("--every", type=int, default=100_000, metavar="N", help="how many updates an epoch has")
+    parser.add_argument("--every", type=every, default=100_000, metavar="N", help="how many updates an epoch has")
     parser.add_argument("--page", type=int, default=7002, metavar="PORT", help="where the page with the numbers is")
     parser.add_argument("declarations", type=Path)
     return parser.parse_args()
@@ -349,14 +393,25 @@ def read_words():
 
 def main():
     words = read_words()
-    declarations = words.declarations.read_text(encoding="utf-8").splitlines()
+    streams.heed_signals()
     try:
+        declarations = words.declarations.read_text(encoding="utf-8").splitlines()
         epochs.check(words.program, declarations)
-    except ValueError as error:
+    except (OSError, ValueError) as error:
         sys.exit(f"{words.declarations}: {error}")
     primary = Primary(words)
-    numbers_page.serve(words.page, lambda: numbers_page.of_primary(primary))
-    primary.lease.start()
+    try:
+        numbers_page.serve(words.page, lambda: numbers_page.of_primary(primary))
+        primary.lease.start()
+        return keep_writing(primary, declarations)
+    except (OSError, Error, streams.Small) as error:
+        say(error)
+        return 1
+    finally:
+        primary.lease.end()
+
+
+def keep_writing(primary, declarations):
     while True:
         try:
             primary.stand_by()
@@ -369,13 +424,13 @@ def main():
             away.say("primary")
             time.sleep(0.2)
         except streams.Taken as taken:
-            print(f"primary: {taken}", file=sys.stderr, flush=True)
+            say(taken)
             primary.forget()
         except streams.Gap as gap:
-            print(f"primary: {gap}", file=sys.stderr, flush=True)
+            say(gap)
             return 3
         except Wrong as wrong:
-            print(f"primary: {wrong}", file=sys.stderr, flush=True)
+            say(wrong)
             return 5
 
 

@@ -2,13 +2,15 @@
 """Proposes an update and waits for its answer: propose.py --engine HOST,.. CLIENT NUMBER CHANGE..
 
 A client numbers its requests 1, 2, 3 and so on, and has one open at a time. It may ask again under the same number, also after
-it was started again: the update is proposed once. CLIENT has 1 to 16 of a to z, 0 to 9 and _, and NUMBER 1 to 18 digits.
+it was started again: the update is proposed once. With other changes than before it is refused. CLIENT has 1 to 16 of a to z, 0 to
+9 and _, and NUMBER 1 to 18 digits.
 
 Ends with status 5 where the engine is full. Whether the request was taken is then told to whoever asks again.
 """
 
 import argparse
 import os
+import re
 import sys
 import time
 
@@ -22,8 +24,12 @@ class Clients:
         for name in names:
             if not streams.is_client(name):
                 raise ValueError(f"{name!r} is no client: that has 1 to 16 of a to z, 0 to 9 and _")
+        if not 1 <= len(names) <= 200:
+            raise ValueError(f"{len(names)} clients are not from 1 to 200")
         begins = os.path.commonprefix(names)
-        self.names, self.engine, self.view = names, streams.Engine(members), streams.View(members, [f"answer/{begins}"], begins)
+        # One client has no other name's answers: `/` is before all that a name may have, and `0` comes next.
+        answers = (f"answer/{begins}", f"answer/{begins}0") if len(names) == 1 else streams.range_of(f"answer/{begins}")
+        self.names, self.engine, self.view = names, streams.Engine(members), streams.View(members, [answers], begins)
 
     def propose(self, number, changes):
         """Asks under one number for what each client wants, and waits for the answer of each.
@@ -32,6 +38,9 @@ class Clients:
         """
         if not streams.is_number(str(number)):
             raise ValueError(f"{number} is no number of a request: that is from 1 to 999,999,999,999,999,999")
+        for name, text in changes.items():
+            if not streams.is_changes(text):
+                raise ValueError(f"the changes of {name} are not at most 4,000 characters from space to `~`")
         asked = False
         while True:
             version, told, answers = self.view.version, self.view.under("answer/"), {}
@@ -39,6 +48,11 @@ class Clients:
                 if late := told.get(f"{name}/{number}"):
                     raise ValueError(f"{name} asked under a later number before: {number} comes {late}")
                 last, _, answer = told.get(name, "0 ").partition(" ")
+                answer, _, digest = answer.partition("\n")
+                if not re.fullmatch("[0-9]{1,18}", last):
+                    raise ValueError(f"the key answer/{name} has no answer")
+                if int(last) == number and digest not in ("", streams.digest_of(changes[name])):
+                    raise ValueError(f"{name} asked for other changes under {number} before, and had the answer `{answer}`")
                 if int(last) > number:
                     raise ValueError(f"{name} had an answer to the later request {last}")
                 if int(last) == number:
@@ -77,6 +91,8 @@ def main():
     except streams.Full as full:
         print(f"propose: {full}", file=sys.stderr)
         return 5
+    except streams.Small as small:
+        sys.exit(f"propose: {small}")
 
 
 if __name__ == "__main__":

@@ -11,12 +11,12 @@ A site keeps nothing on its disk. When it is started again, it applies the scrip
 site serves readers at a time, and tells places: the one that holds the site's lease. It serves once it has reached the
 end that the script had when it got the lease. No reader may see less than the process before told.
 
-Ends with a message and status 3 where the script lacks an entry, and 4 where the site is not among those of the script.
+Ends with a message and status 3 where the script lacks an entry, 4 where the site is not among those of the script, and 1 where it
+cannot go on otherwise.
 """
 
 import argparse
 import os
-import re
 import socket
 import socketserver
 import sys
@@ -29,7 +29,7 @@ import numbers_page
 import streams
 
 sys.path.insert(0, str(Path(__file__).resolve().parents[2] / "clients" / "python"))
-from ordup import Store
+from ordup import Error, Store
 
 OWN = f"{socket.gethostname()} {os.getpid()} {time.time_ns()}"
 
@@ -61,7 +61,7 @@ class Site:
 
     def begin_to_serve(self, engine):
         """The process before told no place after this, and what it told is in the script by now."""
-        self.first = engine.ends()[1]
+        self.first = engine.last()
         self.tell(engine)
 
     def line(self):
@@ -75,7 +75,7 @@ class Site:
         """Takes what is new in the script, shows it, and tells the place."""
         if self.epoch == 0:
             self.entries = self.engine.epoch()[1] - 1
-        elif self.engine.ends()[1] < self.entries:
+        elif self.engine.last() < self.entries:
             raise streams.Gap(f"the script ends before the entry {self.entries}, which it had")
         for entries in self.engine.follow(self.entries + 1):
             for number, lines in entries:
@@ -144,11 +144,11 @@ def serve(site, port):
         # So many readers may come at once.
         request_queue_size = 1024
 
-    threading.Thread(target=Server(("", port), Reader).serve_forever, daemon=True).start()
+    numbers_page.listen(Server, port, Reader)
 
 
 def name(text):
-    if not re.fullmatch("[a-z][a-z0-9_]{0,15}", text):
+    if not streams.is_name(text):
         raise argparse.ArgumentTypeError(f"{text!r} is no name: that has 1 to 16 of a to z, 0 to 9 and _, and begins with a letter")
     return text
 
@@ -162,19 +162,26 @@ def main():
     parser.add_argument("--page", type=int, default=7001, metavar="PORT", help="where the page with the numbers is")
     parser.add_argument("site", type=name)
     site = Site(parser.parse_args())
-    serve(site, site.words.port)
-    numbers_page.serve(site.words.page, lambda: numbers_page.of_site(site))
+    streams.heed_signals()
+    try:
+        serve(site, site.words.port)
+        numbers_page.serve(site.words.page, lambda: numbers_page.of_site(site))
+        keep_following(site)
+    except (OSError, Error, streams.Gap, Left) as why:
+        print(f"site {site.name}: {why}", file=sys.stderr, flush=True)
+        return {streams.Gap: 3, Left: 4}.get(type(why), 1)
+    finally:
+        site.shown = Shown()
+        site.lease.end()
+
+
+def keep_following(site):
     while True:
         try:
             site.follow()
         except streams.Away as away:
             away.say(f"site {site.name}")
             time.sleep(0.2)
-        except (streams.Gap, Left) as why:
-            print(f"site {site.name}: {why}", file=sys.stderr, flush=True)
-            site.shown = Shown()
-            site.lease.release()
-            return 3 if isinstance(why, streams.Gap) else 4
 
 
 if __name__ == "__main__":

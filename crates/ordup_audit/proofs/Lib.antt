@@ -1,7 +1,6 @@
 pub mod Common
 pub mod RecordLemmas
 pub mod ReportLemmas
-pub mod SameLemmas
 pub mod AscendingLemmas
 pub mod CursorLemmas
 pub mod LegalityLemmas

@@ -210,13 +210,13 @@ impl<A: Allocator + Copy> Record<A> {
         if self.site() != other.site() {
             return false;
         }
-        if !same::are_same_objects(self.objects(), other.objects()) {
+        if !self.objects().is_same(other.objects()) {
             return false;
         }
-        if !same::are_same_groups(self.groups(), other.groups()) {
+        if !self.groups().is_same(other.groups()) {
             return false;
         }
-        if !same::are_same_limits(self.limits(), other.limits()) {
+        if !self.limits().is_same(other.limits()) {
             return false;
         }
         if !self.has_same_sets(other) {

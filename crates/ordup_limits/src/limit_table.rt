@@ -222,6 +222,13 @@ impl<A: Allocator + Copy> LimitTable<A> {
         self.entries.as_slice()
     }
 
+    /// Whether two tables are the same: the same entries, limits and places alike, in the same order.
+    pub fn is_same(&self, other: &LimitTable<A>) -> bool
+        ensures { IsTrue result ↔ (self.now ≡ other.now) }
+    {
+        self.entries() == other.entries()
+    }
+
     /// The index in the order of declaration of the first limit that the span from a place of the log to another passes, if it
     /// passes one. The limits are those in force at the second place.
     ///

@@ -10,6 +10,7 @@ use Rattle.ordup_objects.specs.declared.moved.Moved.{Moved}
 use Rattle.ordup_objects.specs.States.{is_legal}
 use Rattle.ordup_objects.specs.Serial.{History, serial}
 use Rattle.ordup_objects.specs.Weights.{object_weight}
+use Rattle.ordup_objects.specs.Joins.{GoesOnIn, joined}
 use Rattle.ordup_log.specs.Groups.{GroupList, group_refusal, member_refusal, last_members, with_member}
 use Rattle.ordup_log.specs.Spans.{weight, span}
 use Rattle.ordup_log.specs.Appending.{append_refusal}
@@ -49,6 +50,23 @@ spans : (span swap_and_add two_groups (Object 0) 0 2 ≡ 13)
     × (span swap_and_add two_groups Count 2 2 ≡ 0)
     × (span swap_and_add two_groups Count 2 0 ≡ 0)
 spans = (refl, refl, refl, refl, refl, refl, refl)
+
+-- from the values of its end, x at 7, y at 0 and z at 4: 2 is taken from x and 6 added to y, and then 1 is added to z
+abbrev take_and_add : History
+take_and_add = record {
+  start = pos 7 ∷ pos 0 ∷ pos 4 ∷ [];
+  sets = (change 0 (Add (neg_ℤ (pos 2))) ∷ change 1 (Add (pos 6)) ∷ []) ∷ (change 2 (Add (pos 1)) ∷ []) ∷ [];
+}
+
+-- within the next one 8 and 1; across the join 7 and 9, of which 3 and 8 on x and y, and 4 and 1 on z
+joins : GoesOnIn swap_and_add take_and_add
+    × (span (joined swap_and_add take_and_add) two_groups Everything 2 3 ≡ 8)
+    × (span (joined swap_and_add take_and_add) two_groups Everything 2 4 ≡ 9)
+    × (span (joined swap_and_add take_and_add) two_groups Everything 1 4 ≡ 16)
+    × (span (joined swap_and_add take_and_add) two_groups (Group 1) 1 4 ≡ 11)
+    × (span (joined swap_and_add take_and_add) two_groups (Object 2) 1 4 ≡ 5)
+    × (span (joined swap_and_add take_and_add) two_groups Count 1 4 ≡ 3)
+joins = (refl, refl, refl, refl, refl, refl, refl)
 
 -- a number that is 0 at the places 0 and 1, 5 at 2 and 3, and 9 at 4 and 5: it changes at 2 and at 4
 abbrev steady : ℕ → ℕ

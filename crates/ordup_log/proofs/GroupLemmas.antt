@@ -2,7 +2,9 @@
 use Rattle.std.proofs.Common.{◌≡◌, ℕ, zero, suc, ◌+◌, ◌-◌, ◌<◌, ◌≤◌}
 use Rattle.std.proofs.Common.{false, List, [], ◌∷◌, ◌++◌, length, map, get_or}
 use Rattle.std.proofs.Common.{arith, refl, sym, ap, ◌∙◌, nat_eq, Vec}
-use Rattle.std.specs.Prelude.{true, Some, None, nat_lt, option_map, slice_get, take, All}
+use Rattle.std.specs.Prelude.{◌&&◌, Bool, true, Some, None, nat_lt, option_map, slice_get, take, All}
+use Rattle.std.specs.Bool.{Decides}
+use Rattle.std.specs.Cmp.Derive.Mapped.{pointwise-map}
 use Rattle.std.specs.List.{list_any, position}
 use Rattle.std.specs.Cmp.Lexicographic.{pointwise}
 use Rattle.ordup_objects.specs.Sizes.{most_groups, most_members}
@@ -14,7 +16,9 @@ use Rattle.std.proofs.lemmas.Cmp.{nat_eq_equiv}
 use Rattle.std.proofs.lemmas.List.{length_push, length-map, get_or-map, map-append}
 use Rattle.std.proofs.lemmas.List.Elements.{All-map, All-set, All-push}
 use Rattle.std.proofs.lemmas.List.Sums.{AllPass-from_list_all}
+use Rattle.std.proofs.lemmas.Slice.Eq.{slice_eq-Decides}
 use Rattle.ordup_objects.specs.Tables.{names_of, index_of, with_entry, AreNames, AreDistinct}
+use Rattle.ordup_objects.proofs.SameLemmas.{same-tables}
 use Rattle.ordup_objects.proofs.TableLemmas.{take-next}
 use Rattle.ordup_objects.proofs.RepeatLemmas.{repeats-push, list_any-alike}
 use Rattle.ordup_log.specs.Groups.{GroupList, IsGroup, AreMembersKnown, are_members_known, group_refusal, members_at, last_members, with_member}
@@ -254,3 +258,11 @@ IsGroup-push members member is room none =
       distinct = repeats-push nat_eq members member is.distinct
           (list_any-alike (λ x. nat_eq x member) (nat_eq member) (λ x. nat_eq_equiv.symm x member) members ∙ none);
     }
+
+-- what the comparison of groups, as they are kept, says of what callers see of them
+pub same-groups : {Z : Type 0} (eq : ℕ → ℕ → Bool) → ((v w : ℕ) → Decides (eq v w) (v ≡ w)) → (groups others : List (List ℕ × Vec ℕ Z)) (r : Bool)
+    → r ≡ pointwise (λ p q. pointwise nat_eq p.0 q.0 && pointwise eq p.1.items q.1.items) groups others
+    → Decides r (groups_of groups ≡ groups_of others)
+same-groups {Z} eq decides groups others r is =
+    same-tables (pointwise eq) (λ v w. slice_eq-Decides decides v w _ refl) (groups_of groups) (groups_of others) r (is
+    ∙ sym (pointwise-map (λ (g : List ℕ × Vec ℕ Z). (g.0, g.1.items)) (λ p q. pointwise nat_eq p.0 q.0 && pointwise eq p.1 q.1) groups others))

@@ -1,4 +1,4 @@
-ghost use Rattle.std.specs.Prelude.{◌≡◌, ◌≤◌, ℕ, ◌<◌, None, Some, IfSome, IfOk, IfErr, List, [], ◌∷◌, ◌++◌, length, map, slice_get, option_map, All, nat_eq, nat_lt};
+ghost use Rattle.std.specs.Prelude.{◌≡◌, ◌≤◌, ◌↔◌, ℕ, ◌<◌, None, Some, IfSome, IfOk, IfErr, IsTrue, List, [], ◌∷◌, ◌++◌, length, map, slice_get, option_map, All, nat_eq, nat_lt};
 ghost use Rattle.std.specs.List.{list_all, list_any};
 ghost use Rattle.ordup_objects.specs.Sizes.{most_groups};
 ghost use Rattle.ordup_objects.specs.Tables.{index_of, AreNames, AreDistinct};
@@ -188,6 +188,13 @@ impl<A: Allocator + Copy> Groups<A> {
         ensures group { IsGroup result.now }
     {
         self.groups.at(group.index()).1.as_slice()
+    }
+
+    /// Whether both have the same groups: the same names in the same order, each with the same members in the same order.
+    pub fn is_same(&self, other: &Groups<A>) -> bool
+        ensures { IsTrue result ↔ (self.now ≡ other.now) }
+    {
+        self.groups.is_same(&other.groups)
     }
 }
 

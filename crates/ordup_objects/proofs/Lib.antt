@@ -6,6 +6,7 @@ pub mod SetLemmas
 pub mod MoveLemmas
 pub mod RefusalLemmas
 pub mod TableLemmas
+pub mod SameLemmas
 pub mod SerialLemmas
 pub mod SpanLemmas
 pub mod JoinLemmas

@@ -1,4 +1,5 @@
-ghost use Rattle.std.specs.Prelude.{◌≡◌, ℕ, ◌<◌, None, Some, IfSome, IfOk, OnErr, List, [], ◌∷◌, ◌++◌, length, true, take, slice_get, option_map};
+ghost use Rattle.std.specs.Prelude.{◌≡◌, ◌&&◌, ℕ, ◌<◌, None, Some, IfSome, IfOk, OnErr, List, [], ◌∷◌, ◌++◌, length, true, take, slice_get, option_map, nat_eq};
+ghost use Rattle.std.specs.Cmp.Lexicographic.{pointwise};
 ghost use Rattle.ordup_objects.specs.Names.{is_name};
 ghost use Rattle.ordup_objects.specs.Tables.{names_of, index_of, with_entry, AreNames, AreDistinct};
 
@@ -119,5 +120,14 @@ impl<V, A: Allocator + Copy> NameTable<V, A> {
         self.entries.insert(name, entry)?;
         self.hints.note(name.as_bytes(), index);
         Ok(())
+    }
+}
+
+impl<V: PartialEq, A: Allocator + Copy> NameTable<V, A> {
+    /// Whether two tables have the same names in the same order, with equal entries.
+    pub fn is_same(&self, other: &NameTable<V, A>) -> bool
+        ensures { result ≡ pointwise (λ p q. pointwise nat_eq p.0 q.0 && V.eq p.1 q.1) self.now other.now }
+    {
+        self.entries.as_slice() == other.entries.as_slice()
     }
 }

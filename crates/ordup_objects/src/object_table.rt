@@ -1,4 +1,4 @@
-ghost use Rattle.std.specs.Prelude.{◌≡◌, ℕ, ◌<◌, ◌≤◌, None, Some, IfSome, IfOk, IfErr, List, [], ◌∷◌, ◌++◌, length, slice_get, option_map};
+ghost use Rattle.std.specs.Prelude.{◌≡◌, ◌↔◌, ℕ, ◌<◌, ◌≤◌, None, Some, IfSome, IfOk, IfErr, IsTrue, List, [], ◌∷◌, ◌++◌, length, slice_get, option_map};
 ghost use Rattle.ordup_objects.specs.Sizes.{most_objects};
 ghost use Rattle.ordup_objects.specs.Tables.{index_of, names_of, object_refusal, initial_state, AreNames, AreDistinct};
 ghost use Rattle.ordup_objects.specs.Refusals.{IsRefusal};
@@ -180,6 +180,13 @@ impl<A: Allocator + Copy> ObjectTable<A> {
         ensures { result ≡ value_at (initial_state self.now) object }
     {
         *self.objects.at(object.index()).1
+    }
+
+    /// Whether two tables have the same objects: the same names in the same order, with the same initial values.
+    pub fn is_same(&self, other: &ObjectTable<A>) -> bool
+        ensures { IsTrue result ↔ (self.now ≡ other.now) }
+    {
+        self.objects.is_same(&other.objects)
     }
 }
 

@@ -1,9 +1,10 @@
 -- Declarations that grow.
-use Rattle.std.proofs.Common.{◌≡◌, ℕ, ◌<◌, ◌≤◌, ◌==◌, ℤ, true, false, not, List, [], ◌∷◌, ◌++◌, length, arith, refl, ap, sym, subst, ◌∙◌}
+use Rattle.std.proofs.Common.{◌≡◌, ℕ, ◌<◌, ◌≤◌, ◌==◌, ℤ, Bool, true, false, not, List, [], ◌∷◌, ◌++◌, length, arith, refl, ap, sym, subst, ◌∙◌}
+use Rattle.std.specs.Bool.{Decides}
 use Rattle.std.specs.Prelude.{Some, None, nat_lt, is_some, ◌||◌, Result, Ok, Err, IfOk, OnOk, IfErr, All}
 use Rattle.ordup_objects.specs.declared.refusal.Refusal.{Refusal}
 use Rattle.std.proofs.Math.ListN.{set, length-set, get_or}
-use Rattle.std.proofs.lemmas.Bool.{not-true, not-false, eq-eqb, ne_eqb}
+use Rattle.std.proofs.lemmas.Bool.{false≢true, not-true, not-false, eq-eqb, ne_eqb}
 use Rattle.std.proofs.lemmas.Bool.Decides.{nat_tests}
 use Rattle.std.proofs.lemmas.List.{length_push, length-map}
 use Rattle.std.proofs.lemmas.List.Elements.{All-map, All-push, All-nil, All-set, All-weaker}
@@ -173,3 +174,17 @@ going_on-ready d (Err e) ready names sites = tt
 going_on-ready d (Ok e) ready names sites =
     let same : is_ready e ≡ is_ready d = rw (length-names e.objects d.objects names, sites) refl in
     rw (same, ready) refl
+
+-- ---- declarations that are the same
+
+-- they are where their parts are; the last test says so of the limits
+pub same-declared : (d e : Declared) → d.objects ≡ e.objects → d.groups ≡ e.groups → d.sites ≡ e.sites → (r : Bool)
+    → Decides r (d.limits ≡ e.limits) → Decides r (d ≡ e)
+same-declared d e objects groups sites r limits = (
+  λ is i. record { objects = objects i; groups = groups i; sites = sites i; limits = limits.0 is i },
+  λ same. limits.1 (ap (λ (f : Declared). f.limits) same),
+)
+
+-- they are not where the sites are others
+pub other-sites : (d e : Declared) (r : Bool) → Decides r (d.sites ≡ e.sites) → r ≡ false → Decides false (d ≡ e)
+other-sites d e r sites none = (λ is. absurd (false≢true is), λ same. sym none ∙ sites.1 (ap (λ (f : Declared). f.sites) same))

@@ -19,6 +19,7 @@
 
 mod decisions;
 mod laws;
+mod limit_tables;
 mod parcel;
 mod primary;
 mod progress;

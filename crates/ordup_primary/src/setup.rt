@@ -1,4 +1,4 @@
-ghost use Rattle.std.specs.Prelude.{◌≡◌, ◌≤◌, ℕ, ◌<◌, None, Some, IfSome, IfOk, IfErr, [], length, slice_get, option_map, All, OnOk, not, nat_lt, ◌||◌, ◌==◌};
+ghost use Rattle.std.specs.Prelude.{◌≡◌, ◌≤◌, ◌↔◌, ℕ, ◌<◌, None, Some, IfSome, IfOk, IfErr, IsTrue, [], length, slice_get, option_map, All, OnOk, not, nat_lt, ◌||◌, ◌==◌};
 ghost use Rattle.ordup_objects.specs.Sizes.{most_sites, greatest_capacity};
 ghost use Rattle.ordup_objects.specs.Tables.{AreDistinct, AreNames, index_of, initial_state, names_of, object_refusal};
 ghost use Rattle.ordup_objects.specs.Refusals.{IsRefusal};
@@ -8,6 +8,7 @@ ghost use Rattle.ordup_primary.specs.Declarations.{Declared, AreDeclared, with_o
 ghost use Rattle.ordup_primary.specs.Successors.{limits_from_start};
 ghost use Rattle.ordup_log.specs.Groups.{AreGroupsKnown};
 
+use crate::limit_tables::{are_same_limits, copy_latest, copy_limits};
 use ordup_limits::{GroupId, Groups, LimitTable, Scope, check_scope};
 use ordup_objects::sizes::{GREATEST_CAPACITY, MOST_SITES};
 use ordup_objects::{Name, NameTable, ObjectId, ObjectTable, Refusal, SiteId, Values};
@@ -294,6 +295,22 @@ impl<A: Allocator + Copy> Setup<A> {
         &self.limits[site.index()]
     }
 
+    /// Whether both declare the same: the objects, the groups, and the sites with their capacities and limits.
+    pub fn is_same(&self, other: &Setup<A>) -> bool
+        ensures { IsTrue result ↔ (self.now ≡ other.now) }
+    {
+        if !self.objects.is_same(&other.objects) {
+            return false;
+        }
+        if !self.groups.is_same(&other.groups) {
+            return false;
+        }
+        if !self.capacities.is_same(&other.capacities) {
+            return false;
+        }
+        are_same_limits(self.limits.as_slice(), other.limits.as_slice())
+    }
+
     /// Drops it, by one call, and gives its memory back.
     pub fn discard(self) {
         drop(self);
@@ -335,72 +352,6 @@ fn add_capacities<A: Allocator + Copy>(
     for index in 0..capacities.len() {
         let (name, capacity) = capacities.at(index);
         copied.push(*name, *capacity)?;
-    }
-    Ok(())
-}
-
-/// A copy of these tables of limits.
-fn copy_limits<A: Allocator + Copy>(
-    alloc: A,
-    tables: &[LimitTable<A>],
-) -> Result<Vec<LimitTable<A>, A>, Refusal>
-    ensures { IfOk result (λ limits. limits.items ≡ tables.now) }
-{
-    let mut limits = Vec::new(alloc);
-    match add_limits(alloc, tables, &mut limits) {
-        Ok(()) => Ok(limits),
-        Err(refusal) => {
-            drop(limits);
-            Err(refusal)
-        }
-    }
-}
-
-/// Adds a copy of each of these tables of limits to a list without limits.
-fn add_limits<A: Allocator + Copy>(
-    alloc: A,
-    tables: &[LimitTable<A>],
-    limits: &mut Vec<LimitTable<A>, A>,
-) -> Result<(), Refusal>
-    requires { limits.old.items ≡ [] }
-    ensures { OnOk result (limits.new.items ≡ tables.now) }
-{
-    for table in tables {
-        limits.push(table.copy(alloc)?)?;
-    }
-    Ok(())
-}
-
-/// The last limits of each of these tables, in force from the start.
-fn copy_latest<A: Allocator + Copy>(
-    alloc: A,
-    tables: &[LimitTable<A>],
-) -> Result<Vec<LimitTable<A>, A>, Refusal>
-    ensures limits { IfOk result (λ limits. limits.items ≡ limits_from_start tables.now) }
-    ensures refused { IfErr result (λ e. e ≡ Refusal.NoMemory) }
-{
-    let mut limits = Vec::new(alloc);
-    match add_latest(alloc, tables, &mut limits) {
-        Ok(()) => Ok(limits),
-        Err(refusal) => {
-            drop(limits);
-            Err(refusal)
-        }
-    }
-}
-
-/// Adds the last limits of each of these tables, in force from the start, to a list without limits.
-fn add_latest<A: Allocator + Copy>(
-    alloc: A,
-    tables: &[LimitTable<A>],
-    limits: &mut Vec<LimitTable<A>, A>,
-) -> Result<(), Refusal>
-    requires { limits.old.items ≡ [] }
-    ensures limits { OnOk result (limits.new.items ≡ limits_from_start tables.now) }
-    ensures refused { IfErr result (λ e. e ≡ Refusal.NoMemory) }
-{
-    for table in tables {
-        limits.push(table.copy_latest(alloc)?)?;
     }
     Ok(())
 }

@@ -1,5 +1,5 @@
 use Rattle.std.proofs.Common.{◌≡◌, ◌∙◌, ◌++◌, ◌∷◌, [], ap, arith, get_or, List, ℕ}
-use Rattle.ordup_audit.proofs.SameLemmas.{first-at}
+use Rattle.ordup_objects.proofs.SameLemmas.{first-at}
 use Rattle.ordup_declarations.specs.Declarations.{group_words}
 use Rattle.ordup_declarations.specs.Lines.{lines_text}
 use Rattle.ordup_declarations.proofs.FormLemmas.{formed_next}

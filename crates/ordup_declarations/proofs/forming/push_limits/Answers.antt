@@ -2,7 +2,7 @@ use Rattle.std.proofs.Common.{◌∙◌, ◌++◌, [], ap, arith, get_or, List, 
 use Rattle.ordup_objects.specs.Tables.{Objects}
 use Rattle.ordup_log.specs.Groups.{GroupList}
 use Rattle.ordup_limits.specs.Entries.{Entries, latest}
-use Rattle.ordup_audit.proofs.SameLemmas.{first-at}
+use Rattle.ordup_objects.proofs.SameLemmas.{first-at}
 use Rattle.ordup_declarations.specs.Declarations.{limit_words}
 use Rattle.ordup_declarations.specs.Lines.{lines_text}
 use Rattle.ordup_declarations.proofs.FormLemmas.{limit_lines_next}

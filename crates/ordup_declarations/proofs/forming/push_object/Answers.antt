@@ -3,7 +3,7 @@ use Rattle.std.specs.Fmt.{signed_decimal}
 use Rattle.std.specs.Prelude.{codes}
 use Rattle.std.proofs.lemmas.Int.{to_z-of_z}
 use Rattle.std.proofs.lemmas.List.{get_or-map}
-use Rattle.ordup_audit.proofs.SameLemmas.{first-at}
+use Rattle.ordup_objects.proofs.SameLemmas.{first-at}
 use Rattle.ordup_declarations.proofs.FormLemmas.{line_formed, name_formed, word_formed}
 use Rattle.ordup_declarations.proofs.forming.push_object.Goals as goal
 

@@ -1,6 +1,6 @@
 use Rattle.std.proofs.Common.{◌∙◌, ◌++◌, [], ap, arith, List, ℕ}
 use Rattle.std.specs.Prelude.{codes}
-use Rattle.ordup_audit.proofs.SameLemmas.{first-at}
+use Rattle.ordup_objects.proofs.SameLemmas.{first-at}
 use Rattle.ordup_declarations.specs.Declarations.{site_words}
 use Rattle.ordup_declarations.proofs.FormLemmas.{formed_next, numbered_line}
 use Rattle.ordup_declarations.proofs.forming.push_sites.Goals as goal

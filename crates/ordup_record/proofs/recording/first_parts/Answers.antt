@@ -1,6 +1,6 @@
 use Rattle.ordup_audit.proofs.Common.{◌<◌, ◌≡◌, [], length}
 use Rattle.ordup_objects.specs.Serial.{prefix_of}
-use Rattle.ordup_audit.proofs.SameLemmas.{first-at}
+use Rattle.ordup_objects.proofs.SameLemmas.{first-at}
 use Rattle.ordup_record.proofs.recording.first_parts.Goals as goal
 
 pub returns-clause-site : goal.returns-clause-site

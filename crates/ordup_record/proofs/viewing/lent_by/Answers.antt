@@ -1,7 +1,7 @@
 use Rattle.ordup_audit.proofs.Common.{◌++◌, ◌<◌, ◌∙◌, ◌≡◌, [], ap, append-nil, history_of, IsLegalHistory, IsRecord, length, map}
 use Rattle.ordup_audit.proofs.Common.{take}
 use Rattle.ordup_audit.specs.RecordViews.{change_of_step}
-use Rattle.ordup_audit.proofs.SameLemmas.{first-at}
+use Rattle.ordup_objects.proofs.SameLemmas.{first-at}
 use Rattle.ordup_primary.specs.Declarations.{Declared}
 use Rattle.ordup_primary.specs.Primaries.{progress_at, reported_at}
 use Rattle.ordup_record.specs.RecordsOf.{record_of, report_changes}

@@ -1,5 +1,5 @@
 use Rattle.std.proofs.Common.{◌≡◌, arith, get_or, [], List, ℕ}
-use Rattle.ordup_audit.proofs.SameLemmas.{first-at}
+use Rattle.ordup_objects.proofs.SameLemmas.{first-at}
 use Rattle.ordup_rows.proofs.FormLemmas.{member_rows-more, more_written}
 use Rattle.ordup_rows.proofs.forming.push_groups.Goals as goal
 

@@ -1,5 +1,5 @@
 use Rattle.ordup_audit.proofs.Common.{◌∙◌, get_or-map, List, pos, rules, to_z-of_z, w64, ℕ, ℤ}
-use Rattle.ordup_audit.proofs.SameLemmas.{first-at}
+use Rattle.ordup_objects.proofs.SameLemmas.{first-at}
 use Rattle.ordup_rows.proofs.forming.push_object.Goals as goal
 
 pub returns-clause-text : goal.returns-clause-text

@@ -1,5 +1,5 @@
 use Rattle.ordup_audit.proofs.Common.{◌+◌, ◌-◌, ◌∙◌, [], arith, get_or_default, refl, same_lists, sym}
-use Rattle.ordup_audit.proofs.SameLemmas.{not_same-at, same-more}
+use Rattle.ordup_objects.proofs.SameLemmas.{not_same-at, same-more}
 use Rattle.ordup_audit.proofs.record.Record.has_same_sets.Goals as goal
 
 pub set-requires : goal.set-requires

@@ -1,6 +1,7 @@
-use Rattle.ordup_audit.proofs.Common.{rules, slice_eq-Decides}
+use Rattle.std.proofs.Common.{rules}
+use Rattle.std.proofs.lemmas.Slice.Eq.{slice_eq-Decides}
 use Rattle.ordup_limits.specs.declared.limit_entry.LimitEntry.{LimitEntry}
-use Rattle.ordup_audit.proofs.same.are_same_limits.Goals as goal
+use Rattle.ordup_limits.proofs.limit_table.LimitTable.is_same.Goals as goal
 
 pub returns : goal.returns
 returns g c =

@@ -1,5 +1,5 @@
 use Rattle.std.proofs.Common.{◌≡◌, take}
-use Rattle.ordup_primary.proofs.setup.add_limits.Given as goal
+use Rattle.ordup_primary.proofs.limit_tables.add_limits.Given as goal
 
 -- the tables so far
 abbrev pub invariant-loop-table : goal.invariant-loop-table

@@ -26,11 +26,11 @@ first-mixed n p sites y there before at differs = record {
   mixed = λ x here agrees. let same : x ≡ y = cc in differs (subst (λ (z : SiteState). Agrees p n z) same agrees);
 }
 
-pub is-closed : (p : PrimaryState) (sites : List SiteState) → IsPrimary p → length sites ≡ length p.sites
+pub is-closed : (before : ℕ) (p : PrimaryState) (sites : List SiteState) → IsPrimary p → length sites ≡ length p.sites
     → ((s : ℕ) (x : SiteState) → slice_get sites s ≡ Some x → Agrees p s x)
     → ((s applied : ℕ) → s < length p.sites → (progress_at p s).reported ≤ applied → is_lag_within p s applied ≡ true)
-    → IsClosed (record { primary = p; sites = sites })
-is-closed p sites sound count agrees within = record {
+    → IsClosed (record { before = before; primary = p; sites = sites })
+is-closed before p sites sound count agrees within = record {
   sound = sound;
   count = count;
   agrees = agrees;

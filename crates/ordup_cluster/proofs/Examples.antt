@@ -10,12 +10,20 @@ use Rattle.ordup_objects.specs.Refusals.{IsRefusal}
 use Rattle.ordup_objects.specs.Serial.{History}
 use Rattle.ordup_log.specs.declared.scope.Scope.TheVariants.{Object, Group, Count}
 use Rattle.ordup_cluster.specs.Clusters.{ClusterState}
-use Rattle.ordup_cluster.specs.Refusals.{ReadRequest, IsReadRefusal, IsLimitPlace, IsLimitChangeRefusal, proposal_refusal, undeclared_refusal}
+use Rattle.ordup_cluster.specs.Refusals.{IsNumber, ReadRequest, IsReadRefusal, IsLimitPlace, IsLimitChangeRefusal, proposal_refusal, undeclared_refusal}
 
 -- ---- a read of the one object at the one site, by a session that has seen 1 update
 
 abbrev one_of_each : ClusterState
-one_of_each = record { objects = (codes "x", pos 0) ∷ []; groups = (codes "g", 0 ∷ []) ∷ []; sites = 1 }
+one_of_each = record {
+  before = 0;
+  start = record {
+    objects = (codes "x", pos 0) ∷ [];
+    groups = (codes "g", 0 ∷ []) ∷ [];
+    sites = (codes "a", 4) ∷ [];
+    limits = [] ∷ [];
+  };
+}
 
 abbrev of_both : ReadRequest
 of_both = record { object = 0; site = 0; seen = 1 }
@@ -72,8 +80,12 @@ undeclared : (undeclared_refusal one_of_each 1 (Object 1) ≡ Some UnknownObject
 undeclared = (refl, refl, refl, refl, refl, refl)
 
 -- a limit holds from place 1 at the earliest
-changed-from_0 : IsLimitPlace 0 Count 0 0 → ⊥
-changed-from_0 from = absurd (let is : 0 ≡ from.0.acked + 1 = from.2 in omega arith)
+changed-from_0 : IsLimitPlace 0 0 Count 0 0 → ⊥
+changed-from_0 from = absurd (let is : 0 ≡ 0 + from.0.acked + 1 = from.2 in omega arith)
+
+-- and after 100 updates from place 101
+changed-from_100 : IsLimitPlace 100 0 Count 0 100 → ⊥
+changed-from_100 from = absurd (let is : 100 ≡ 100 + from.0.acked + 1 = from.2 in omega arith)
 
 -- no change is refused because the store was stopped: these are its refusals, and whether each of them comes first
 is-not-stopped : (unknown few pending over : Bool)
@@ -90,3 +102,17 @@ changed-after_stop refused = elim refused [
   | inl h ↦ absurd (let is : None ≡ Some Stopped = h in cc)
   | inr h ↦ is-not-stopped _ _ _ _ h.1.2
 ]
+
+-- ---- the numbers of a store before which 100 updates came: 101 to 1,000,100
+
+first_number : IsNumber 100 101
+first_number = (omega arith, omega arith)
+
+last_number : IsNumber 100 1000100
+last_number = (omega arith, omega arith)
+
+number_before : ¬ IsNumber 100 100
+number_before is = absurd (omega (arith, is.0))
+
+number_after : ¬ IsNumber 100 1000101
+number_after is = absurd (omega (arith, is.1))

@@ -1,13 +1,14 @@
--- Ends of waiting and sends that the definitions refuse, and changes of a limit worked out by hand.
-use Rattle.std.proofs.Common.{◌≡◌, ◌≤◌, [], ◌∷◌, Some, None, pos, refl, arith, inl, inr}
+-- Ends of waiting and sends that the definitions refuse; changes of a limit, and a store that goes on, worked out by hand.
+use Rattle.std.proofs.Common.{◌≡◌, ◌≤◌, ℤ, List, [], ◌∷◌, Some, None, pos, refl, arith, inl, inr}
 use Rattle.std.specs.Prelude.{codes, false}
 use Rattle.ordup_objects.specs.declared.change.Op.TheVariants.{Add}
-use Rattle.ordup_objects.specs.declared.refusal.Refusal.TheVariants.{UnknownObject, UnknownGroup, UnknownSite, OutOfRange, LagOver, NotYet}
+use Rattle.ordup_objects.specs.declared.refusal.Refusal.TheVariants.{UnknownObject, UnknownGroup, UnknownSite, OutOfRange, LagOver, LogFull, NotYet}
 use Rattle.ordup_log.specs.declared.scope.Scope.TheVariants.{Object, Group, Count}
 use Rattle.ordup_limits.specs.Entries.{entry_of}
 use Rattle.ordup_primary.specs.LimitChanges.{limit_change_refusal}
 use Rattle.ordup_primary.specs.Primaries.{PrimaryState, first_progress, site_view}
 use Rattle.ordup_cluster.specs.Books.{BookState}
+use Rattle.ordup_cluster.specs.Clusters.{ClusterState, ClosedState, GoesOnFrom, count_at_end, next_refusal, opening_refusal}
 use Rattle.ordup_cluster.specs.Relimiting.{with_changed_limit}
 use Rattle.ordup_cluster.specs.Turning.{KeptSite, SentOut}
 use Rattle.ordup_cluster.specs.Waiting.{EndsUnmet}
@@ -63,3 +64,41 @@ change_refusals = (refl, refl, refl, refl, refl, refl)
 changes_b : (b : BookState) → b.primary ≡ lagging → (with_changed_limit b 1 (Object 0) 3).primary.limits
     ≡ (entry_of (Object 0) 5 1 ∷ []) ∷ (entry_of (Object 0) 5 1 ∷ entry_of (Object 0) 3 2 ∷ []) ∷ []
 changes_b b is = rw is refl
+
+-- ---- the store that goes on from it, where 100 updates came before, and a has the limit 3 from place 2 on
+
+abbrev ended : ClosedState
+ended = record {
+  before = 100;
+  primary = record lagging {
+    limits = (entry_of (Object 0) 5 1 ∷ entry_of (Object 0) 3 2 ∷ []) ∷ (entry_of (Object 0) 5 1 ∷ []) ∷ [];
+  };
+  sites = [];
+}
+
+-- It begins after 101 updates, with x at 3, and has each site's last limit from its start.
+abbrev next : ClusterState
+next = record {
+  before = 101;
+  start = record {
+    objects = (codes "x", pos 3) ∷ [];
+    groups = [];
+    sites = (codes "a", 4) ∷ (codes "b", 4) ∷ [];
+    limits = (entry_of (Object 0) 3 1 ∷ []) ∷ (entry_of (Object 0) 5 1 ∷ []) ∷ [];
+  };
+}
+
+goes_on : (count_at_end ended ≡ 101) × (next_refusal ended ≡ None) × GoesOnFrom ended next
+goes_on = (refl, refl, record { before = refl; objects = refl; values = refl; groups = refl; sites = refl; limits = refl })
+
+-- at the initial values it does not begin
+not_anew : GoesOnFrom ended (record next { start = lagging.setup }) → ⊥
+not_anew is = absurd (let same : pos 0 ∷ [] ≡ pos 3 ∷ [] = is.values in cc)
+
+-- nor while an update waits, nor after more than 10^18 updates
+refuses : (next_refusal (record ended { primary = record lagging { acked = 0; decided = 0 } }) ≡ Some (NotYet 1))
+    × (next_refusal (record ended { before = 999999999999999999 }) ≡ None)
+    × (next_refusal (record ended { before = 1000000000000000000 }) ≡ Some LogFull)
+    × (opening_refusal 1000000000000000000 lagging.setup ≡ None)
+    × (opening_refusal 1000000000000000001 lagging.setup ≡ Some LogFull)
+refuses = (refl, refl, refl, refl, refl)

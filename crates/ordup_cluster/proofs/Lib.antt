@@ -4,5 +4,6 @@ pub mod SettlementLemmas
 mod OpeningLemmas
 mod HoldExamples
 pub mod ClosedLemmas
-pub mod RelimitLemmas
+pub mod QueryLemmas
+pub mod OpeningRefusal
 mod Examples

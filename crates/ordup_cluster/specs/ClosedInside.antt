@@ -1,7 +1,9 @@
 -- What the fields of a closed cluster keep.
-use Rattle.ordup_cluster.specs.Clusters.{IsClosed}
+use Rattle.std.specs.Prelude.{◌≤◌}
+use Rattle.ordup_cluster.specs.Clusters.{most_before, IsClosed}
 use Rattle.ordup_cluster.specs.declared.closed.Closed.TheInside.{Inside}
 
--- the sites are those of the primary, and agree with it
-abbrev pub KeepsClosed : Inside → Type 0
-KeepsClosed c = IsClosed (record { primary = c.primary; sites = c.sites.items })
+-- no more updates came before than may, and the sites are those of the primary, and agree with it
+pub record KeepsClosed (c : Inside) : Type 0 where
+  pub before : c.before ≤ most_before
+  pub closed : IsClosed (record { before = c.before; primary = c.primary; sites = c.sites.items })

@@ -1,19 +1,28 @@
--- What contracts see of a cluster, and of what is left of it.
-use Rattle.std.specs.Prelude.{◌≡◌, ℕ, ◌<◌, Some, List, length, slice_get, true}
-use Rattle.ordup_objects.specs.Tables.{Objects}
-use Rattle.ordup_log.specs.Groups.{GroupList}
+-- What contracts see of a cluster, of what is left of it, and how the next one begins.
+use Rattle.std.specs.Prelude.{◌≡◌, ℕ, ◌+◌, ◌*◌, ◌<◌, Option, Some, None, List, length, slice_get, true, if◌then◌else◌, nat_lt}
+use Rattle.std.specs.Option.{option_or}
+use Rattle.ordup_objects.specs.Serial.{serial}
+use Rattle.ordup_objects.specs.Tables.{initial_state, names_of}
+use Rattle.ordup_objects.specs.declared.refusal.Refusal.{Refusal}
+use Rattle.ordup_objects.specs.declared.refusal.Refusal.TheVariants.{LogFull}
+use Rattle.ordup_primary.specs.Declarations.{Declared, start_refusal}
+use Rattle.ordup_primary.specs.Successors.{limits_from_start, successor_refusal}
 use Rattle.ordup_primary.specs.Primaries.{PrimaryState, IsPrimary, is_lag_within}
 use Rattle.ordup_site.specs.Sites.{SiteState}
 use Rattle.ordup_cluster.specs.Agreement.{Agrees}
 
--- The objects and groups that were declared, and how many sites there are. What lies under a lock no contract sees.
-pub record ClusterState : Type 0 where
-  pub objects : Objects
-  pub groups : GroupList
-  pub sites : ℕ
+-- how many updates may come before a store
+abbrev pub most_before : ℕ
+most_before = 1000000000 * 1000000000
 
--- the primary and the sites of a closed cluster
+-- How many updates came before the store, and the declarations that it was opened with. What lies under a lock no contract sees.
+pub record ClusterState : Type 0 where
+  pub before : ℕ
+  pub start : Declared
+
+-- how many updates came before a closed cluster, its primary and its sites
 pub record ClosedState : Type 0 where
+  pub before : ℕ
   pub primary : PrimaryState
   pub sites : List SiteState
 
@@ -34,3 +43,29 @@ pub record IsClosed (c : ClosedState) : Type 0 where
   pub count : length c.sites ≡ length c.primary.sites
   pub agrees : (s : ℕ) (x : SiteState) → slice_get c.sites s ≡ Some x → Agrees c.primary s x
   pub within : (s : ℕ) (x : SiteState) → slice_get c.sites s ≡ Some x → is_lag_within c.primary s x.applied ≡ true
+
+-- why no store is opened after this many updates, if none is
+abbrev pub count_refusal : ℕ → Option Refusal
+count_refusal before = if nat_lt most_before before then Some LogFull else None
+
+-- and why none is with these declarations
+abbrev pub opening_refusal : ℕ → Declared → Option Refusal
+opening_refusal before d = option_or (count_refusal before) (start_refusal d)
+
+-- how many updates there were up to the end of a closed cluster
+abbrev pub count_at_end : ClosedState → ℕ
+count_at_end closed = closed.before + length closed.primary.log.sets
+
+-- A store goes on from a closed one: after all its updates, with the same objects, each at its value after the whole log, the same
+-- groups and sites, and each site's last limits, in force from the start.
+pub record GoesOnFrom (closed : ClosedState) (next : ClusterState) : Type 0 where
+  pub before : next.before ≡ count_at_end closed
+  pub objects : names_of next.start.objects ≡ names_of closed.primary.setup.objects
+  pub values : initial_state next.start.objects ≡ serial closed.primary.log (length closed.primary.log.sets)
+  pub groups : next.start.groups ≡ closed.primary.setup.groups
+  pub sites : next.start.sites ≡ closed.primary.setup.sites
+  pub limits : next.start.limits ≡ limits_from_start closed.primary.limits
+
+-- why no store goes on from a closed one, if none does: there are no more numbers, or an update waits
+abbrev pub next_refusal : ClosedState → Option Refusal
+next_refusal closed = option_or (count_refusal (count_at_end closed)) (successor_refusal closed.primary)

@@ -17,9 +17,9 @@ use Rattle.ordup_primary.specs.Primaries.{PrimaryState, IsPrimary, site_view}
 use Rattle.ordup_cluster.specs.Clusters.{ClusterState}
 use Rattle.ordup_query.specs.Queries.{QueryState, begin_refusal, read_refusal}
 
--- the number of an update in a log
-abbrev pub IsNumber : ℕ → Type 0
-IsNumber number = (0 < number) × (number ≤ most_updates)
+-- the number of an update of a store, before which this many came
+abbrev pub IsNumber : ℕ → ℕ → Type 0
+IsNumber before number = (before < number) × (number ≤ before + most_updates)
 
 -- why a set is not numbered as the next update of a log, if it is not, where the store was stopped or was not
 abbrev pub proposal_refusal : Bool → History → List Change → Option Refusal
@@ -31,18 +31,21 @@ abbrev pub IsNumberingRefusal : Refusal → Type 0
 IsNumberingRefusal e = (e ≡ Stopped) ⊎ (e ≡ UnknownObject) ⊎ (e ≡ LogFull) ⊎ (e ≡ OutOfRange) ⊎ (e ≡ NoMemory)
 
 -- of a proposal: of the hold in which it is numbered, and after that only that it is not acknowledged yet
-abbrev pub IsProposalRefusal : Refusal → Type 0
-IsProposalRefusal e = IsNumberingRefusal e ⊎ ((number : ℕ) × (e ≡ NotYet number) × IsNumber number)
+abbrev pub IsProposalRefusal : ℕ → Refusal → Type 0
+IsProposalRefusal before e = IsNumberingRefusal e ⊎ ((number : ℕ) × (e ≡ NotYet number) × IsNumber before number)
 
--- of a settlement: where the number is that of no update, only that it is out of range
-abbrev pub IsSettlementRefusal : ℕ → Refusal → Type 0
-IsSettlementRefusal number e = (e ≡ OutOfRange) ⊎ ((e ≡ NoMemory) × IsNumber number) ⊎ ((e ≡ NotYet number) × IsNumber number)
+-- Of a settlement in a store before which this many updates came: where the number is that of no update, only that it is out of
+-- range. An update that came before is acknowledged, and so never refused.
+abbrev pub IsSettlementRefusal : ℕ → ℕ → Refusal → Type 0
+IsSettlementRefusal before number e =
+    ((e ≡ OutOfRange) × ((number ≡ 0) ⊎ (before < number)))
+    ⊎ ((e ≡ NoMemory) × IsNumber before number) ⊎ ((e ≡ NotYet number) × IsNumber before number)
 
--- the place from which a changed limit of a site holds: that of the head of a primary which allows the change. It is the primary
--- under the lock, which no contract sees.
-abbrev pub IsLimitPlace : ℕ → Scope → ℕ → ℕ → Type 0
-IsLimitPlace site scope amount place =
-    (p : PrimaryState) × IsPrimary p × (place ≡ p.acked + 1) × (limit_change_refusal (site_view p site) scope amount ≡ None)
+-- The place from which a changed limit of a site holds, in a store before which this many updates came: that of the head of a
+-- primary which allows the change. It is the primary under the lock, which no contract sees.
+abbrev pub IsLimitPlace : ℕ → ℕ → Scope → ℕ → ℕ → Type 0
+IsLimitPlace before site scope amount place =
+    (p : PrimaryState) × IsPrimary p × (place ≡ before + p.acked + 1) × (limit_change_refusal (site_view p site) scope amount ≡ None)
 
 -- of the hold in which a limit is changed: what that primary refuses, or else that there is no memory
 abbrev pub IsBookRefusal : ℕ → Scope → ℕ → Refusal → Type 0
@@ -52,7 +55,8 @@ IsBookRefusal site scope amount e = (p : PrimaryState) × IsPrimary p × IsRefus
 -- first
 abbrev pub undeclared_refusal : ClusterState → ℕ → Scope → Option Refusal
 undeclared_refusal c site scope =
-    option_or (scope_refusal (length c.objects) c.groups scope) (if nat_lt site c.sites then None else Some UnknownSite)
+    option_or (scope_refusal (length c.start.objects) c.start.groups scope)
+    (if nat_lt site (length c.start.sites) then None else Some UnknownSite)
 
 -- Of a change of a limit: what was declared decides alone where it lacks the scope or the site. Where it has both, it is what the
 -- book says under its lock.
@@ -68,13 +72,14 @@ pub record ReadRequest : Type 0 where
 
 -- the cluster has the object and the site of a read
 abbrev pub HasBoth : ClusterState → ReadRequest → Type 0
-HasBoth c r = (r.object < length c.objects) × (r.site < c.sites)
+HasBoth c r = (r.object < length c.start.objects) × (r.site < length c.start.sites)
 
 -- Of a read. An unknown object comes before an unknown site, and only a site that applied fewer updates than the session has seen
 -- is behind it. The last case is what the cell says under its lock, which no contract sees.
 abbrev pub IsReadRefusal : ClusterState → ReadRequest → Refusal → Type 0
 IsReadRefusal c r e =
-    ((e ≡ UnknownObject) × (length c.objects ≤ r.object)) ⊎ ((e ≡ UnknownSite) × (r.object < length c.objects) × (c.sites ≤ r.site))
+    ((e ≡ UnknownObject) × (length c.start.objects ≤ r.object))
+    ⊎ ((e ≡ UnknownSite) × (r.object < length c.start.objects) × (length c.start.sites ≤ r.site))
     ⊎ ((applied : ℕ) × (e ≡ Behind applied) × (applied < r.seen) × HasBoth c r) ⊎ ((e ≡ UnknownObject) × HasBoth c r)
 
 -- why a query with this limit is refused at a site, where there is this number of sites, if it is

@@ -90,3 +90,8 @@ TurnedInPart b c =
     (a : BookState) × AtEachSite Reported b a
     × (((c.ends ≡ a.ends) × (n : ℕ) × Acknowledges n a.primary c.primary)
     ⊎ ((m : PrimaryState) × SettlesOut a.primary m × AtEachSite (Sent (send_bound m)) (record { primary = m; ends = a.ends }) c))
+
+-- nothing is left for a turn: all updates are acknowledged, and sent to each site
+pub record IsAtRest (p : PrimaryState) : Type 0 where
+  pub acked : length p.log.sets ≤ p.acked
+  pub sent : (s : ℕ) → s < length p.sites → length p.log.sets ≤ (progress_at p s).sent

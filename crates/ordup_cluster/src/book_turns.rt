@@ -1,41 +1,58 @@
 ghost use Rattle.std.specs.Prelude.{◌≡◌, ◌+◌, ◌^◌, ◌<◌, true, false, IfOk, OnOk, IfErr, OnErr};
 
-use crate::holds::{Book, Turns, turn};
+use crate::cluster::Cluster;
+use crate::holds::Turns;
 use ordup_objects::Refusal;
-use std::sync::{Mutex, Wait};
+use std::sync::Wait;
 
-/// The turns of a book. Each of them is one hold of its lock.
+/// The turns of a store's book that a caller makes while it waits for an update. Each of them is one hold of the lock, and between two
+/// of them the caller sleeps for a millisecond at most: until a site told something, where the update is the head, and else until the
+/// one before it is acknowledged.
 #[derive(Drop)]
 pub(crate) struct BookTurns<'a> {
-    book: &'a Mutex<Book>,
+    store: &'a Cluster,
+    /// The number of the update.
+    number: u64,
+    /// What was heard of the sites before the last turn.
+    heard: u64,
     acked: u64,
     made: u64,
     refused: bool,
 }
 
 impl<'a> BookTurns<'a> {
-    /// No turn yet, of a book in which this number of updates is acknowledged.
-    pub(crate) fn none(book: &'a Mutex<Book>, acked: u64) -> BookTurns<'a>
+    /// No turn yet for the update with this number, of a book in which so many updates are acknowledged.
+    pub(crate) fn none(store: &'a Cluster, number: u64, acked: u64) -> BookTurns<'a>
         ensures acked { result.acked ≡ acked }
         ensures made { result.made ≡ 0 }
         ensures refused { result.refused ≡ false }
     {
         BookTurns {
-            book,
+            store,
+            number,
+            heard: 0,
             acked,
             made: 0,
             refused: false,
         }
     }
 
-    /// The first turn of a book, which was made in the hold that numbered an update, and answered this.
-    pub(crate) fn first(book: &'a Mutex<Book>, answer: Result<u64, Refusal>) -> BookTurns<'a>
+    /// The first turn, which was made in the hold that numbered the update. This was heard of the sites before it.
+    pub(crate) fn first(
+        store: &'a Cluster,
+        number: u64,
+        heard: u64,
+        answer: Result<u64, Refusal>,
+    ) -> BookTurns<'a>
         ensures acked { IfOk answer (λ acked. result.acked ≡ acked) }
         ensures made { result.made ≡ 1 }
         ensures ok { OnOk answer (result.refused ≡ false) }
         ensures err { OnErr answer (result.refused ≡ true) }
     {
-        let mut turns = BookTurns::none(book, 0);
+        let mut turns = BookTurns {
+            heard,
+            ..BookTurns::none(store, number, 0)
+        };
         let _ = turns.count(answer);
         turns
     }
@@ -73,9 +90,12 @@ impl Turns for BookTurns<'_> {
     ghost refused_of = { λ t. t.refused };
 
     fn turn<R: Wait>(&mut self, rt: &R) -> Result<(), Refusal> {
-        let mut book = self.book.lock(rt);
-        let answer = turn(rt, &mut book);
-        drop(book);
+        let store = self.store;
+        if self.made > 0 {
+            store.pause_for(rt, self.number, self.heard);
+        }
+        self.heard = store.listen();
+        let answer = store.turn(rt);
         self.count(answer)
     }
 

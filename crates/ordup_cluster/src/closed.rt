@@ -1,14 +1,18 @@
-ghost use Rattle.std.specs.Prelude.{◌≡◌, ◌<◌, ◌≤◌, length, Some, slice_get};
-ghost use Rattle.ordup_cluster.specs.Clusters.{IsClosed};
+ghost use Rattle.std.specs.Prelude.{◌≡◌, ◌<◌, ◌≤◌, length, None, Some, slice_get, IfOk, IfErr};
+ghost use Rattle.ordup_objects.specs.Refusals.{IsRefusal};
+ghost use Rattle.ordup_cluster.specs.Clusters.{IsClosed, most_before, next_refusal, GoesOnFrom};
 
-use ordup_objects::SiteId;
+use crate::cluster::{Cluster, MOST_BEFORE};
+use ordup_objects::{Refusal, SiteId};
 use ordup_primary::Primary;
 use ordup_site::Site;
+use std::alloc::Global;
 use std::marker::Model;
 
 /// What is left of a cluster: its primary, and its sites in order of declaration.
 #[derive(Drop)]
 pub struct Closed {
+    pub(crate) before: u64,
     pub(crate) primary: Primary,
     pub(crate) sites: Vec<Site>,
 }
@@ -18,7 +22,7 @@ impl Model for Closed {
 
     ghost Value = { ClosedState };
 
-    ghost view = { λ c. record { primary = c.primary; sites = c.sites.items } };
+    ghost view = { λ c. record { before = c.before; primary = c.primary; sites = c.sites.items } };
 
     ghost use Rattle.ordup_cluster.specs.ClosedInside.{KeepsClosed};
 
@@ -26,12 +30,20 @@ impl Model for Closed {
 }
 
 impl Closed {
-    /// The primary. Each site agrees with its log, and the records of its sites are valid.
+    /// The primary, whose numbers and places count from 1. Each site agrees with its log, and the records of its sites are valid.
     pub fn primary(&self) -> &Primary
         ensures primary { result.now ≡ self.now.primary }
         ensures kept { IsClosed self.now }
     {
         &self.primary
+    }
+
+    /// How many updates came before the store, from 0 to 10^18.
+    pub fn before(&self) -> u64
+        ensures before { result ≡ self.now.before }
+        ensures bounded { result ≤ most_before }
+    {
+        self.before
     }
 
     /// A site.
@@ -42,9 +54,32 @@ impl Closed {
         &self.sites[site.index()]
     }
 
+    /// The store that goes on from it.
+    ///
+    /// - It begins after all updates of this one, with the same objects, each at its value after the whole log.
+    /// - It has the same groups, the same sites with their capacities, and each site's last limits, in force from its start.
+    /// - It is refused `LogFull` where more than 10^18 updates would come before it, `NotYet` with the number that the last update has
+    ///   in this store while one is not acknowledged, and `NoMemory`, in this order.
+    pub fn successor(&self, alloc: Global) -> Result<Cluster, Refusal>
+        ensures next { IfOk result (λ next. GoesOnFrom self.now next) }
+        ensures allowed { IfOk result (λ _. next_refusal self.now ≡ None) }
+        ensures refused { IfErr result (λ e. IsRefusal (next_refusal self.now) e) }
+    {
+        let before = self.before + self.primary.log().len();
+        if before > MOST_BEFORE {
+            return Err(Refusal::LogFull);
+        }
+        let setup = self.primary.successor(alloc)?;
+        Cluster::after(alloc, before, setup)
+    }
+
     /// Drops it, by one call, and gives its memory back.
     pub fn discard(self) {
-        let Closed { primary, sites } = self;
+        let Closed {
+            before: _,
+            primary,
+            sites,
+        } = self;
         primary.discard();
         drop(sites);
     }

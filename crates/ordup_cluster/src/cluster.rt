@@ -1,61 +1,71 @@
-ghost use Rattle.std.specs.Prelude.{◌≡◌, ◌≢◌, ◌<◌, ◌≤◌, ◌⊎◌, ℕ, None, Some, pos, length, max, slice_get, vec_len, IfOk, OnOk, IfErr, OnErr, IfSome, IfNone};
+ghost use Rattle.std.specs.Prelude.{◌≡◌, ◌<◌, ◌≤◌, ◌+◌, None, length, max, vec_len, IfOk, OnOk, IfErr, OnErr};
 ghost use Rattle.std.specs.Vec.{vec_capacity};
 ghost use Rattle.ordup_objects.specs.Refusals.{IsRefusal};
 ghost use Rattle.ordup_objects.specs.Sizes.{most_updates};
 ghost use Rattle.ordup_primary.specs.Declarations.{start_refusal};
-ghost use Rattle.ordup_query.specs.Queries.{begin_refusal};
-ghost use Rattle.ordup_site.specs.Sites.{SiteState};
-ghost use Rattle.ordup_cluster.specs.Books.{AreSpareValues};
-ghost use Rattle.ordup_cluster.specs.Agreement.{Agrees};
 ghost use Rattle.ordup_cluster.specs.Numbering.{IsTurn, with_numbered};
-ghost use Rattle.ordup_cluster.specs.Clusters.{IsClosed, IsFirstMixed};
-ghost use Rattle.ordup_cluster.specs.Refusals.{IsNumber, IsNumberingRefusal, IsProposalRefusal, IsSettlementRefusal, IsReadRefusal, IsLimitPlace, IsBookRefusal, IsLimitChangeRefusal, undeclared_refusal, proposal_refusal, site_query_refusal};
+ghost use Rattle.ordup_cluster.specs.Opening.{AreOpened};
+ghost use Rattle.ordup_cluster.specs.Clusters.{most_before, opening_refusal};
+ghost use Rattle.ordup_cluster.specs.Refusals.{IsNumber, IsNumberingRefusal, IsProposalRefusal, IsSettlementRefusal, IsLimitPlace, IsBookRefusal, IsLimitChangeRefusal, undeclared_refusal, proposal_refusal};
 
+use crate::bell::{Bell, Bells};
 use crate::book_turns::BookTurns;
-use crate::closed::Closed;
-use crate::gate::Gate;
 use crate::holds::{
-    Book, Numbered, SeenValue, SiteCell, agree, begin, number_and_turn, open, relimit, take, until,
-    until_acknowledged, view,
+    Book, Numbered, SiteCell, number_and_turn, open, relimit, until, until_acknowledged,
 };
-use crate::room::{Room, locked, sites_of};
+use crate::progress::Progress;
+use crate::room::{Room, locked};
 use crate::session::Session;
-use crate::site_query::SiteQuery;
+use crossbeam_utils::sync::EventCount;
 use ordup_limits::check_scope;
-use ordup_log::{Groups, Scope};
-use ordup_objects::{MessageSet, ObjectId, ObjectTable, Refusal, SiteId, Values};
-use ordup_primary::{Primary, Setup};
-use ordup_query::Query;
+use ordup_log::Scope;
+use ordup_objects::{MessageSet, ObjectTable, Refusal, SiteId};
+use ordup_primary::Setup;
 use ordup_site::Site;
 use std::alloc::Global;
 use std::marker::Model;
-use std::sync::atomic::{AtomicBool, Ordering};
+use std::sync::atomic::{AtomicBool, AtomicU64, Ordering};
 use std::sync::{Mutex, Wait};
-use std::thread;
 
-/// A store that threads share.
+/// The most updates that may come before a store: at a million a second they last for 30,000 years.
+pub const MOST_BEFORE: u64 = 1_000_000_000_000_000_000;
+
+/// A store that threads share. The numbers of updates, what sites have applied and what sessions have seen count from the updates that
+/// came before it, as a log has a first index.
 ///
 /// The book of the primary lies under one lock, and the cell of each site under one of its own. No lock is taken while another is
 /// held. Each site has an applier in a thread of its own, and callers have sessions.
 #[derive(Drop)]
 pub struct Cluster {
-    book: Mutex<Book>,
-    cells: Vec<Mutex<SiteCell>>,
-    /// Copies of what was declared, so that no lock is taken to look at them.
-    objects: ObjectTable,
-    groups: Groups,
+    /// How many updates came before it.
+    pub(crate) before: u64,
+    pub(crate) book: Mutex<Book>,
+    pub(crate) cells: Vec<Mutex<SiteCell>>,
+    /// A copy of what was declared, so that no lock is taken to look at it.
+    pub(crate) setup: Setup,
     /// Empty, with a place for the site of each cell.
-    room: Vec<Site>,
-    stopped: AtomicBool,
+    pub(crate) room: Vec<Site>,
+    pub(crate) stopped: AtomicBool,
+    /// How many updates the log has.
+    pub(crate) numbered: AtomicU64,
+    /// How many it has when its keeper ends.
+    pub(crate) due: AtomicU64,
+    /// How many updates are acknowledged, without those before it.
+    pub(crate) acked: AtomicU64,
+    /// Appliers sleep on it. It is told after each hold of the book that sent something.
+    pub(crate) sent: EventCount,
+    /// Whoever waits for a site sleeps on it. It rings after each update that a site applied.
+    pub(crate) told: Bell,
+    /// Whoever waits until an update is the head sleeps on the bell of its number.
+    pub(crate) heads: Bells,
 }
 
 impl Model for Cluster {
-    ghost use Rattle.std.specs.Prelude.{vec_len};
     ghost use Rattle.ordup_cluster.specs.Clusters.{ClusterState};
 
     ghost Value = { ClusterState };
 
-    ghost view = { λ c. record { objects = c.objects; groups = c.groups; sites = vec_len c.cells } };
+    ghost view = { λ c. record { before = c.before; start = c.setup } };
 
     ghost use Rattle.ordup_cluster.specs.ClusterInside.{KeepsRoom};
 
@@ -63,19 +73,35 @@ impl Model for Cluster {
 }
 
 impl Cluster {
-    /// Opens a store in which nothing has happened, and takes the memory that `close` needs. It waits for nobody.
-    ///
-    /// - The store has the objects and groups that were declared, and as many sites.
-    /// - It is opened only where there is an object and a site.
-    /// - It is refused `Empty` where the setup lacks an object or a site, and else `NoMemory` alone.
+    /// Opens a store before which no updates came. It is refused `Empty` where the setup lacks an object or a site, and else `NoMemory`
+    /// alone.
     pub fn new(alloc: Global, setup: Setup) -> Result<Cluster, Refusal>
-        ensures cluster { IfOk result (λ c. c ≡ record { objects = setup.objects; groups = setup.groups; sites = length setup.sites }) }
+        ensures cluster { IfOk result (λ c. c ≡ record { before = 0; start = setup }) }
         ensures allowed { IfOk result (λ _. start_refusal setup ≡ None) }
         ensures refused { IfErr result (λ e. IsRefusal (start_refusal setup) e) }
     {
+        Cluster::after(alloc, 0, setup)
+    }
+
+    /// Opens a store in which nothing has happened, and before which this many updates came, from 0 to 10^18. It takes the memory that
+    /// `close` needs, and waits for nobody.
+    ///
+    /// - The store has what was declared.
+    /// - It is opened only where there is an object and a site.
+    /// - It is refused `LogFull` after more than 10^18 updates, `Empty` where the setup lacks an object or a site, and else `NoMemory`
+    ///   alone.
+    pub fn after(alloc: Global, before: u64, setup: Setup) -> Result<Cluster, Refusal>
+        ensures cluster { IfOk result (λ c. c ≡ record { before = before; start = setup }) }
+        ensures allowed { IfOk result (λ _. opening_refusal before setup ≡ None) }
+        ensures refused { IfErr result (λ e. IsRefusal (opening_refusal before setup) e) }
+    {
+        if before > MOST_BEFORE {
+            setup.discard();
+            return Err(Refusal::LogFull);
+        }
         let (book, cells) = open(alloc, setup)?;
         match Room::new(alloc, &book, cells.len()) {
-            Ok(room) => Ok(Cluster::under_locks(book, cells, room)),
+            Ok(room) => Ok(Cluster::under_locks(before, book, cells, room)),
             Err(refusal) => {
                 book.discard();
                 drop(cells);
@@ -84,39 +110,60 @@ impl Cluster {
         }
     }
 
-    /// The store of a book and of the cells of its sites, each of them under a lock of its own.
-    fn under_locks(book: Book, cells: Vec<SiteCell>, room: Room) -> Cluster
+    /// The store of a book and of the cells of its sites, each of them under a lock of its own. Book and cells are those of the
+    /// declarations, and nothing has happened in them.
+    fn under_locks(before: u64, book: Book, cells: Vec<SiteCell>, room: Room) -> Cluster
+        requires before { before ≤ most_before }
+        requires opened { AreOpened room.setup book cells.items }
         requires some { 0 < length cells.items }
         requires locks { (vec_len room.locks ≡ 0) × (length cells.items ≤ vec_capacity room.locks) }
         requires sites { (vec_len room.sites ≡ 0) × (length cells.items ≤ vec_capacity room.sites) }
-        ensures { result ≡ record { objects = room.objects; groups = room.groups; sites = length cells.items } }
+        ensures { result ≡ record { before = before; start = room.setup } }
     {
         let Room {
-            objects,
-            groups,
+            setup,
             locks,
             sites,
         } = room;
         Cluster {
+            before,
             book: Mutex::new(book),
             cells: locked(cells, locks),
-            objects,
-            groups,
+            setup,
             room: sites,
             stopped: AtomicBool::new(false),
+            numbered: AtomicU64::new(0),
+            due: AtomicU64::new(u64::MAX),
+            acked: AtomicU64::new(0),
+            sent: EventCount::new(),
+            told: Bell::new(),
+            heads: Bells::new(),
         }
+    }
+
+    /// How many updates came before it, from 0 to 10^18. They are acknowledged, and each site has applied them.
+    pub fn before(&self) -> u64
+        ensures before { result ≡ self.now.before }
+        ensures bounded { result ≤ most_before }
+    {
+        self.before
+    }
+
+    /// How many updates it has, without those that came before. Once no proposal is being made, that is the length of its log.
+    pub fn numbered(&self) -> u64 {
+        self.numbered.load(Ordering::SeqCst)
     }
 
     /// The objects as they were declared, of which callers make their message sets. It takes no lock.
     pub fn objects(&self) -> &ObjectTable
-        ensures { result.now ≡ self.now.objects }
+        ensures { result.now ≡ self.now.start.objects }
     {
-        &self.objects
+        self.setup.objects()
     }
 
     /// How many sites there are.
     pub fn sites(&self) -> usize
-        ensures { result ≡ self.now.sites }
+        ensures { result ≡ length self.now.start.sites }
     {
         self.cells.len()
     }
@@ -125,7 +172,7 @@ impl Cluster {
     /// are 1 or more. The first turn is made in the hold that numbers the update.
     ///
     /// - The session has seen the update, and no less than before.
-    /// - The answer is the number of the update, from 1 to 1,000,000.
+    /// - The answer is the number of the update, one of the 1,000,000 after those that came before the store.
     /// - It is refused `Stopped` after `stop`, `UnknownObject`, `LogFull` after 1,000,000 updates, `OutOfRange` where a result is
     ///   out of range, and `NoMemory`: then nothing was numbered. It is refused `NotYet` with the number of the update where that
     ///   is not acknowledged after the last turn, or a turn is refused a growth: the update stands, and `settle` waits for it.
@@ -139,22 +186,32 @@ impl Cluster {
     ) -> Result<u64, Refusal>
         requires { 1 ≤ turns }
         ensures seen { IfOk result (λ number. session.new.seen ≡ max session.old.seen number) }
-        ensures some { IfOk result IsNumber }
-        ensures refused { IfErr result IsProposalRefusal }
+        ensures some { IfOk result (IsNumber self.now.before) }
+        ensures refused { IfErr result (IsProposalRefusal self.now.before) }
         ensures err { OnErr result (session.new ≡ session.old) }
     {
+        let heard = self.listen();
         let numbered = self.number(rt, set)?;
-        self.wait(rt, session, numbered, turns)
+        self.wait(rt, session, heard, numbered, turns)
     }
 
     /// The hold of a proposal: its set is numbered, and the first turn is made. Where it is refused, nothing was numbered.
     fn number<R: Wait>(&self, rt: &R, set: MessageSet) -> Result<Numbered, Refusal>
-        ensures some { IfOk result (λ it. IsNumber it.number) }
+        ensures some { IfOk result (λ it. IsNumber self.now.before it.number) }
         ensures refused { IfErr result IsNumberingRefusal }
     {
         let stopped = self.stopped.load(Ordering::SeqCst);
         let mut book = self.book.lock(rt);
-        number_unless_stopped(rt, &mut book, set, stopped)
+        let before = Progress::of(book.primary());
+        let numbered = number_unless_stopped(rt, &mut book, set, stopped)?;
+        let after = Progress::of(book.primary());
+        drop(book);
+        self.tell(before, after);
+        self.note(numbered.number);
+        Ok(Numbered {
+            number: self.before + numbered.number,
+            turn: self.counted(numbered.turn),
+        })
     }
 
     /// The rest of a proposal, once its set is numbered. It is refused only where the update is not acknowledged yet.
@@ -162,6 +219,7 @@ impl Cluster {
         &self,
         rt: &R,
         session: &mut Session,
+        heard: u64,
         numbered: Numbered,
         turns: u64,
     ) -> Result<u64, Refusal>
@@ -171,7 +229,7 @@ impl Cluster {
         ensures refused { IfErr result (λ e. e ≡ Refusal.NotYet numbered.number) }
         ensures err { OnErr result (session.new ≡ session.old) }
     {
-        let mut made = BookTurns::first(&self.book, numbered.turn);
+        let mut made = BookTurns::first(self, numbered.number, heard, numbered.turn);
         match until_acknowledged(rt, &mut made, numbered.number, turns) {
             Ok(()) => {
                 session.see(numbered.number);
@@ -185,9 +243,10 @@ impl Cluster {
     /// makes no turn where the update is acknowledged already.
     ///
     /// - The session has seen the update, and no less than before.
-    /// - The number is one that an update may have, from 1 to 1,000,000.
+    /// - The number is one that an update of the store may have, or one that came before it.
     /// - It is refused `OutOfRange` where no update has this number, `NoMemory` as soon as a turn is refused a growth, and `NotYet`
-    ///   where the update is not acknowledged after the last turn. The last two come only for a number that an update may have.
+    ///   where the update is not acknowledged after the last turn. The last two come only for a number that an update of the store may
+    ///   have: those before it are acknowledged.
     /// - Where it is refused, the session stays as it was.
     pub fn settle<R: Wait>(
         &self,
@@ -198,103 +257,32 @@ impl Cluster {
     ) -> Result<(), Refusal>
         requires { 1 ≤ turns }
         ensures seen { OnOk result (session.new.seen ≡ max session.old.seen number) }
-        ensures some { OnOk result (IsNumber number) }
-        ensures refused { IfErr result (IsSettlementRefusal number) }
+        ensures some { OnOk result ((0 < number) × (number ≤ self.now.before + most_updates)) }
+        ensures refused { IfErr result (IsSettlementRefusal self.now.before number) }
         ensures err { OnErr result (session.new ≡ session.old) }
     {
         let (last, acked) = self.last_and_acked(rt);
         if number == 0 || number > last {
             return Err(Refusal::OutOfRange);
         }
-        let mut made = BookTurns::none(&self.book, acked);
-        until(rt, &mut made, number, turns)?;
+        if number > self.before {
+            let mut made = BookTurns::none(self, number, acked);
+            until(rt, &mut made, number, turns)?;
+        }
         session.see(number);
         Ok(())
     }
 
-    /// The first hold of a settlement: how many updates the log has, and how many are acknowledged.
+    /// The first hold of a settlement: how many updates there are, and how many are acknowledged, those before the store too.
     fn last_and_acked<R: Wait>(&self, rt: &R) -> (u64, u64)
-        ensures { result.0 ≤ most_updates }
+        ensures { (self.now.before ≤ result.0) × (result.0 ≤ self.now.before + most_updates) }
     {
         let book = self.book.lock(rt);
         let primary = book.primary();
-        (primary.log().len(), primary.acked())
-    }
-
-    /// Reads the value of an object at a site, with how many updates the site had applied.
-    ///
-    /// - The site had applied no fewer than the session had seen.
-    /// - The session has now seen what the site had applied.
-    /// - The object and the site are there.
-    /// - It is refused `UnknownObject`, `UnknownSite`, and `Behind` where the site applied fewer updates than the session has seen,
-    ///   with how many it applied, in this order.
-    /// - Where it is refused, the session stays as it was.
-    pub fn read<R: Wait>(
-        &self,
-        rt: &R,
-        session: &mut Session,
-        site: SiteId,
-        object: ObjectId,
-    ) -> Result<SeenValue, Refusal>
-        ensures applied { IfOk result (λ read. session.old.seen ≤ read.applied) }
-        ensures seen { IfOk result (λ read. session.new.seen ≡ read.applied) }
-        ensures allowed { IfOk result (λ _. (object < length self.now.objects) × (site < self.now.sites)) }
-        ensures refused { IfErr result (IsReadRefusal self.now (record { object = object; site = site; seen = session.old.seen })) }
-        ensures err { OnErr result (session.new ≡ session.old) }
-    {
-        if object.index() >= self.objects.len() {
-            return Err(Refusal::UnknownObject);
-        }
-        if site.index() >= self.cells.len() {
-            return Err(Refusal::UnknownSite);
-        }
-        let read = self.view(rt, site, object)?;
-        if read.applied < session.seen() {
-            return Err(Refusal::Behind {
-                applied: read.applied,
-            });
-        }
-        session.see(read.applied);
-        Ok(read)
-    }
-
-    /// The hold of a read.
-    fn view<R: Wait>(&self, rt: &R, site: SiteId, object: ObjectId) -> Result<SeenValue, Refusal>
-        requires { site < self.now.sites }
-        ensures { IfErr result (λ e. e ≡ Refusal.UnknownObject) }
-    {
-        let cell = self.cells[site.index()].lock(rt);
-        view(&cell, object)
-    }
-
-    /// Begins a query at a site with this import limit, from 0 to 10^18. Its reference is what is acknowledged now.
-    ///
-    /// - The query has this limit, and has read nothing.
-    /// - The site is there, and the limit is in range.
-    /// - It is refused `UnknownSite`, `OutOfRange` for the limit, and `NoMemory`, in this order.
-    pub fn begin<R: Wait>(&self, rt: &R, site: SiteId, limit: u64) -> Result<SiteQuery<'_>, Refusal>
-        ensures query { IfOk result (λ q. q ≡ record { place = q.place; marks = q.marks; limit = limit; sum = pos 0; total = 0; reads = 0 }) }
-        ensures allowed { IfOk result (λ _. site_query_refusal self.now.sites site limit ≡ None) }
-        ensures refused { IfErr result (λ e. IsRefusal (site_query_refusal self.now.sites site limit) e) }
-    {
-        if site.index() >= self.cells.len() {
-            return Err(Refusal::UnknownSite);
-        }
-        let query = self.begin_query(rt, limit)?;
-        Ok(SiteQuery {
-            cell: &self.cells[site.index()],
-            query,
-        })
-    }
-
-    /// The hold in which a query begins.
-    fn begin_query<R: Wait>(&self, rt: &R, limit: u64) -> Result<Query, Refusal>
-        ensures query { IfOk result (λ q. q ≡ record { place = q.place; marks = q.marks; limit = limit; sum = pos 0; total = 0; reads = 0 }) }
-        ensures allowed { IfOk result (λ _. begin_refusal limit ≡ None) }
-        ensures refused { IfErr result (λ e. IsRefusal (begin_refusal limit) e) }
-    {
-        let book = self.book.lock(rt);
-        begin(&book, limit)
+        (
+            self.before + primary.log().len(),
+            self.before.saturating_add(primary.acked()),
+        )
     }
 
     /// Changes the limit of a site on a scope from the head on, or begins one there. The amount lies from 0 to 10^18. The updates
@@ -316,12 +304,12 @@ impl Cluster {
         amount: u64,
     ) -> Result<u64, Refusal>
         ensures allowed { IfOk result (λ _. undeclared_refusal self.now site scope ≡ None) }
-        ensures place { IfOk result (IsLimitPlace site scope amount) }
+        ensures place { IfOk result (IsLimitPlace self.now.before site scope amount) }
         ensures refused { IfErr result (IsLimitChangeRefusal self.now site scope amount) }
     {
         // The prover joins branches over a borrowed scope, not over a copied one.
         let scope = &scope;
-        check_scope(&self.objects, &self.groups, *scope)?;
+        check_scope(self.setup.objects(), self.setup.groups(), *scope)?;
         if site.index() >= self.cells.len() {
             return Err(Refusal::UnknownSite);
         }
@@ -336,99 +324,19 @@ impl Cluster {
         scope: Scope,
         amount: u64,
     ) -> Result<u64, Refusal>
-        ensures place { IfOk result (IsLimitPlace site scope amount) }
+        ensures place { IfOk result (IsLimitPlace self.now.before site scope amount) }
         ensures refused { IfErr result (IsBookRefusal site scope amount) }
     {
         let mut book = self.book.lock(rt);
-        relimit(&mut book, site, scope, amount)
+        let place = relimit(&mut book, site, scope, amount)?;
+        Ok(self.before + place)
     }
 
-    /// Applies what comes to a site, and ends with a turn that began after `stop` and found the feed empty. It answers how many
-    /// updates it applied. It runs in a thread of its own.
-    pub fn applier<G: Gate, R: Wait>(&self, rt: &R, site: SiteId, gate: &G) -> u64
-        requires { site < self.now.sites }
-    {
-        let mut count = 0u64;
-        for _ in rt.forever() {
-            let stopping = self.stopped.load(Ordering::SeqCst);
-            match self.apply_next(rt, site, gate) {
-                Some(_) => count = count.saturating_add(1),
-                None if stopping => break,
-                None => thread::yield_now(),
-            }
-        }
-        count
-    }
-
-    /// One turn of an applier: the site applies the next update of its feed, if there is one, and the answer is its number.
-    fn apply_next<G: Gate, R: Wait>(&self, rt: &R, site: SiteId, gate: &G) -> Option<u64>
-        requires { site < self.now.sites }
-    {
-        let next = self.cells[site.index()].lock(rt).next();
-        gate.before_apply(rt, site, next);
-        let mut cell = self.cells[site.index()].lock(rt);
-        let next = cell.next();
-        gate.at_apply(rt, site, next);
-        take(rt, &mut cell)
-    }
-
-    /// Ends the appliers once their feeds are empty. Proposals are refused from now on.
+    /// Ends the appliers once their feeds are empty, and the keeper. Proposals are refused from now on.
     pub fn stop(&self) {
         self.stopped.store(true, Ordering::SeqCst);
-    }
-
-    /// Takes the store apart, once all threads are joined: it applies the log again, and compares each site with it. It takes no
-    /// memory, and waits for nobody.
-    ///
-    /// - The primary is sound, each site agrees with its log, and the acknowledged updates that a site has not applied keep its
-    ///   limits.
-    /// - There are as many sites as before.
-    /// - It is refused `Mixed` alone, for a site of the store: the first that does not agree with the log.
-    pub fn close(self) -> Result<Closed, Refusal>
-        ensures closed { IfOk result IsClosed }
-        ensures count { IfOk result (λ c. length c.sites ≡ self.sites) }
-        ensures refused { IfErr result (λ e. (s : ℕ) × (e ≡ Refusal.Mixed s) × (s < self.sites)) }
-    {
-        let Cluster {
-            book,
-            cells,
-            objects,
-            groups,
-            room,
-            stopped: _,
-        } = self;
-        // What is large is dropped by a call: where it goes out of scope, the proof takes it apart.
-        drop(objects);
-        drop(groups);
-        let sites = sites_of(cells, room);
-        let (primary, mut spare_values) = book.into_inner().into_parts();
-        let mixed = first_mixed(&primary, &sites, &mut spare_values);
-        drop(spare_values);
-        match mixed {
-            Some(site) => {
-                primary.discard();
-                drop(sites);
-                Err(Refusal::Mixed { site })
-            }
-            None => Ok(Closed { primary, sites }),
-        }
-    }
-
-    /// Drops it, by one call, and gives its memory back. No site is compared with the log.
-    pub fn discard(self) {
-        let Cluster {
-            book,
-            cells,
-            objects,
-            groups,
-            room,
-            stopped: _,
-        } = self;
-        book.into_inner().discard();
-        drop(cells);
-        drop(objects);
-        drop(groups);
-        drop(room);
+        self.sent.notify_all();
+        self.told.ring();
     }
 }
 
@@ -442,7 +350,7 @@ fn number_unless_stopped<R: Wait>(
     set: MessageSet,
     stopped: bool,
 ) -> Result<Numbered, Refusal>
-    ensures some { IfOk result (λ it. IsNumber it.number) }
+    ensures some { IfOk result (λ it. IsNumber 0 it.number) }
     ensures turn { IfOk result (λ it. IsTurn (with_numbered book.old set) book.new it.turn) }
     ensures allowed { IfOk result (λ _. proposal_refusal stopped book.old.primary.log set ≡ None) }
     ensures refused { IfErr result (λ e. IsRefusal (proposal_refusal stopped book.old.primary.log set) e) }
@@ -458,31 +366,4 @@ fn number_unless_stopped<R: Wait>(
         return Err(Refusal::UnknownObject);
     }
     number_and_turn(rt, book, set)
-}
-
-/// The first site that does not agree with the primary, given the initial values once for each site.
-fn first_mixed(
-    primary: &Primary,
-    sites: &Vec<Site>,
-    spare_values: &mut Vec<Values>,
-) -> Option<SiteId>
-    requires { AreSpareValues primary.now spare_values.old.items }
-    ensures mixed { IfSome result (λ s. ((length sites.now.items ≢ length primary.now.sites) × (s ≡ 0)) ⊎ IsFirstMixed primary.now sites.now.items s) }
-    ensures count { IfNone result (length sites.now.items ≡ length primary.now.sites) }
-    ensures agree { IfNone result ((s : ℕ) (x : SiteState) → slice_get sites.now.items s ≡ Some x → Agrees primary.now s x) }
-{
-    primary.keeps();
-    if sites.len() != primary.setup().sites() {
-        return Some(SiteId::new(0));
-    }
-    for index in 0..primary.setup().sites() {
-        let site = SiteId::new(index as u8);
-        let Some(values) = spare_values.pop() else {
-            return Some(site);
-        };
-        if !agree(primary, site, &sites[index], values) {
-            return Some(site);
-        }
-    }
-    None
 }

@@ -26,5 +26,5 @@ pub use numbering::{Numbered, begin, number, number_and_turn};
 pub use opening::open;
 pub use relimiting::relimit;
 pub use site_cell::{SeenValue, SiteCell, take, view};
-pub use turning::turn;
+pub use turning::{has_work, turn};
 pub use waiting::{Turns, until, until_acknowledged};

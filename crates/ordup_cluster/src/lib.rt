@@ -20,17 +20,23 @@
 //! its limits.
 #![tactic(auto)]
 
+mod applying;
+mod bell;
 mod book_turns;
 mod closed;
+mod closing;
 mod cluster;
 mod gate;
 pub mod holds;
+mod progress;
+mod reading;
 mod room;
 mod session;
 mod site_query;
+mod waking;
 
 pub use closed::Closed;
-pub use cluster::Cluster;
+pub use cluster::{Cluster, MOST_BEFORE};
 pub use gate::{Gate, OpenGate};
 pub use holds::SeenValue;
 pub use session::Session;

@@ -3,17 +3,16 @@ ghost use Rattle.std.specs.Prelude.{◌≡◌, ◌≤◌, length, vec_len, IfOk,
 ghost use Rattle.std.specs.Vec.{vec_capacity};
 
 use crate::holds::{Book, SiteCell};
-use ordup_log::Groups;
-use ordup_objects::{ObjectTable, Refusal};
+use ordup_objects::Refusal;
+use ordup_primary::Setup;
 use ordup_site::Site;
 use std::alloc::Global;
 use std::sync::Mutex;
 
 /// What a cluster needs beside its book and its cells.
 pub(crate) struct Room {
-    /// Copies of what was declared.
-    pub(crate) objects: ObjectTable,
-    pub(crate) groups: Groups,
+    /// A copy of what was declared.
+    pub(crate) setup: Setup,
     /// Empty, with a place for the lock of each site.
     pub(crate) locks: Vec<Mutex<SiteCell>>,
     /// Empty, with a place for each site.
@@ -23,33 +22,24 @@ pub(crate) struct Room {
 impl Room {
     /// The room of a cluster with this book and this number of sites.
     pub(crate) fn new(alloc: Global, book: &Book, sites: usize) -> Result<Room, Refusal>
-        ensures objects { IfOk result (λ room. room.objects ≡ book.now.primary.setup.objects) }
-        ensures groups { IfOk result (λ room. room.groups ≡ book.now.primary.setup.groups) }
+        ensures setup { IfOk result (λ room. room.setup ≡ book.now.primary.setup) }
         ensures locks { IfOk result (λ room. (vec_len room.locks ≡ 0) × (sites ≤ vec_capacity room.locks)) }
         ensures sites { IfOk result (λ room. (vec_len room.sites ≡ 0) × (sites ≤ vec_capacity room.sites)) }
         ensures refused { IfErr result (λ e. e ≡ Refusal.NoMemory) }
     {
-        let setup = book.primary().setup();
-        let objects = setup.objects().copy(alloc)?;
-        // Tables and lists are dropped by a call: where one goes out of scope, the proof takes it apart.
-        let Ok(groups) = setup.groups().copy(alloc) else {
-            drop(objects);
-            return Err(Refusal::NoMemory);
-        };
+        let setup = book.primary().setup().copy(alloc)?;
+        // What is large is dropped by a call: where it goes out of scope, the proof takes it apart.
         let Ok(locks) = Vec::with_capacity(alloc, sites) else {
-            drop(objects);
-            drop(groups);
+            setup.discard();
             return Err(Refusal::NoMemory);
         };
         let Ok(sites) = Vec::with_capacity(alloc, sites) else {
-            drop(objects);
-            drop(groups);
+            setup.discard();
             drop(locks);
             return Err(Refusal::NoMemory);
         };
         Ok(Room {
-            objects,
-            groups,
+            setup,
             locks,
             sites,
         })

@@ -9,19 +9,26 @@ use ordup_query::{Query, QueryAnswer, ReadAnswer};
 use std::marker::Model;
 use std::sync::{Mutex, Wait};
 
-/// A query at a site of a cluster. Its reference is what was acknowledged as it began.
+/// A query at a site of a cluster. Its reference is what was acknowledged as it began, which counts all updates before the store.
 #[derive(Drop)]
 pub struct SiteQuery<'a> {
     pub(crate) cell: &'a Mutex<SiteCell>,
+    /// How many updates came before the store.
+    pub(crate) before: u64,
     pub(crate) query: Query,
 }
 
 impl<'a> Model for SiteQuery<'a> {
+    ghost use Rattle.std.specs.Prelude.{◌+◌};
     ghost use Rattle.ordup_query.specs.Queries.{QueryState};
 
     ghost Value = { QueryState };
 
-    ghost view = { λ s. s.query };
+    ghost view = { λ s. record s.query { place = s.before + s.query.place } };
+
+    ghost use Rattle.ordup_cluster.specs.QueryInside.{KeepsPlace};
+
+    ghost invariant = { KeepsPlace };
 }
 
 impl SiteQuery<'_> {
@@ -65,7 +72,15 @@ impl SiteQuery<'_> {
         ensures reads { (answers : List ReadAnswer) → HasRead self.entry answers → result ≡ record { place = self.entry.place; sum = value_sum (map (λ a. a.value) answers); total = import_sum (map (λ a. a.import) answers); reads = length answers } }
         ensures within { result.total ≤ self.entry.limit }
     {
-        let SiteQuery { cell: _, query } = self;
-        query.end()
+        let SiteQuery {
+            cell: _,
+            before,
+            query,
+        } = self;
+        let answer = query.end();
+        QueryAnswer {
+            place: before + answer.place,
+            ..answer
+        }
     }
 }

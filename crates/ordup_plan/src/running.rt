@@ -72,7 +72,7 @@ fn with_appliers<R: Threads + Wait + Sync>(
     cluster: &Cluster,
     hands: Vec<Vec<MessageSet>>,
 ) -> Option<Tally>
-    requires few { cluster.now.sites ≤ most_sites }
+    requires few { length cluster.now.start.sites ≤ most_sites }
     requires bounded { sum_by vec_len hands.items < 2 ^ 64 }
     ensures { IfSome result (λ t. counted t ≤ sum_by vec_len hands.items) }
 {
@@ -80,13 +80,13 @@ fn with_appliers<R: Threads + Wait + Sync>(
         thread::scope_env(),
         rt,
         |scope| -> Option<Tally>
-            requires { (cluster.now.sites ≤ most_sites) × (sum_by vec_len hands.items < 2 ^ 64) }
+            requires { (length cluster.now.start.sites ≤ most_sites) × (sum_by vec_len hands.items < 2 ^ 64) }
             ensures { IfSome result (λ t. counted t ≤ sum_by vec_len hands.items) }
         {
             for index in 0..cluster.sites() {
                 let applier = scope.spawn(
                     move || -> u64
-                        requires { (index < cluster.now.sites) × (cluster.now.sites ≤ most_sites) }
+                        requires { (index < length cluster.now.start.sites) × (length cluster.now.start.sites ≤ most_sites) }
                     { cluster.applier(rt, SiteId::new(index as u8), &OpenGate) },
                 );
                 if applier.is_err() {

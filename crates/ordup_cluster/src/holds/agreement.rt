@@ -10,7 +10,8 @@ use ordup_site::Site;
 /// Whether a site holds the serial result of the first updates of a primary's log, as many as it applied, and it applied no fewer
 /// than it reported and no more than were sent to it.
 ///
-/// The values are the initial ones of the primary's objects: on them the log is applied again. It takes no memory.
+/// A site that applied the whole log is compared with the values that the log keeps. Else the log is applied again, to these values,
+/// which are the initial ones of the primary's objects. It takes no memory.
 pub fn agree(primary: &Primary, site: SiteId, replica: &Site, values: Values) -> bool
     requires site { site < length primary.now.sites }
     requires values { values ≡ primary.now.log.start }
@@ -20,6 +21,10 @@ pub fn agree(primary: &Primary, site: SiteId, replica: &Site, values: Values) ->
     let applied = replica.applied();
     if applied < primary.reported(site) || primary.sent(site) < applied {
         return false;
+    }
+    if applied == primary.log().len() {
+        drop(values);
+        return are_same(primary.log().end(), replica.values());
     }
     let mut replayed = values;
     replay(primary.log(), applied, &mut replayed);

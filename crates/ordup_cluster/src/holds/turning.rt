@@ -1,7 +1,7 @@
-ghost use Rattle.std.specs.Prelude.{◌≡◌, ◌<◌, ◌≤◌, ℕ, length, IfOk, IfErr, OnOk, OnErr};
+ghost use Rattle.std.specs.Prelude.{◌≡◌, ◌<◌, ◌≤◌, ℕ, false, length, IfOk, IfErr, OnOk, OnErr};
 ghost use Rattle.ordup_primary.specs.Primaries.{progress_at};
 ghost use Rattle.ordup_cluster.specs.Books.{KeepsBook, IsTied};
-ghost use Rattle.ordup_cluster.specs.Turning.{Reported, Sent, SentOut, AtEachSite, SameFeeds, Acknowledges, SettlesOut, Turned, TurnedInPart, kept_at, with_progress, send_bound};
+ghost use Rattle.ordup_cluster.specs.Turning.{Reported, Sent, SentOut, AtEachSite, SameFeeds, Acknowledges, SettlesOut, Turned, TurnedInPart, IsAtRest, kept_at, with_progress, send_bound};
 
 use crate::holds::book::Book;
 use ordup_feed::SendEnd;
@@ -26,6 +26,23 @@ pub fn turn<R: Wait>(rt: &R, book: &mut Book) -> Result<u64, Refusal>
     settle_all(primary)?;
     send_all(rt, primary, ends)?;
     Ok(primary.acked())
+}
+
+/// Whether an update is not acknowledged, or not sent to each site.
+pub fn has_work(primary: &Primary) -> bool
+    ensures { result ≡ false → IsAtRest primary.now }
+{
+    primary.keeps();
+    let last = primary.log().len();
+    if primary.acked() < last {
+        return true;
+    }
+    for index in 0..primary.setup().sites() {
+        if primary.sent(SiteId::new(index as u8)) < last {
+            return true;
+        }
+    }
+    false
 }
 
 /// For each site one look, and a report of its number.

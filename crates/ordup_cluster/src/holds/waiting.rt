@@ -53,7 +53,7 @@ pub fn until<R: Wait, T: Turns>(
         if store.made() >= turns {
             return Err(Refusal::NotYet { number });
         }
-        pause.snooze();
+        pause.spin();
         store.turn(rt)?;
     }
     Ok(())

@@ -7,19 +7,23 @@ invariant_of-result c =
     let parts = c.into_parts-primary.ensures in
     let count = rw c.in-None.is at c.first_mixed-mixed.ensures.count in
     let agree = rw c.in-None.is at c.first_mixed-mixed.ensures.agree in
-    is-closed c.into_parts-primary.result.0 c.sites_of-sites.result.items parts.sound count agree parts.within
+    record {
+      before = c.self.invariant.before;
+      closed =
+          is-closed c.self.inside.before c.into_parts-primary.result.0 c.sites_of-sites.result.items parts.sound count agree parts.within;
+    }
 
 pub returns-clause-closed : goal.returns-clause-closed
 returns-clause-closed c =
     let parts = c.into_parts-primary.ensures in
     let count = rw c.in-None.is at c.first_mixed-mixed.ensures.count in
     let agree = rw c.in-None.is at c.first_mixed-mixed.ensures.agree in
-    is-closed c.into_parts-primary.result.0 c.sites_of-sites.result.items parts.sound count agree parts.within
+    is-closed c.self.inside.before c.into_parts-primary.result.0 c.sites_of-sites.result.items parts.sound count agree parts.within
 
 pub returns-in-Some-clause-refused : goal.returns-in-Some-clause-refused
 returns-in-Some-clause-refused c =
-    let some : 0 < c.args.self.sites = search rules in
-    let all : length c.sites_of-sites.result.items ≡ c.args.self.sites = search rules in
+    let some : 0 < length c.args.self.start.sites = search rules in
+    let all : length c.sites_of-sites.result.items ≡ length c.args.self.start.sites = search rules in
     let mixed = rw c.in-Some.is at c.first_mixed-mixed.ensures.mixed in (
       c.in-Some.site,
       refl,

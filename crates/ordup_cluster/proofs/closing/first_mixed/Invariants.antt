@@ -1,7 +1,7 @@
 use Rattle.std.proofs.Common.{◌≡◌, ◌+◌, length}
 use Rattle.std.specs.Prelude.{All}
 use Rattle.ordup_cluster.specs.Clusters.{AgreeBelow}
-use Rattle.ordup_cluster.proofs.cluster.first_mixed.Given as goal
+use Rattle.ordup_cluster.proofs.closing.first_mixed.Given as goal
 
 -- the sites so far agree, and each of the others has its initial values
 abbrev pub invariant-loop-index : goal.invariant-loop-index

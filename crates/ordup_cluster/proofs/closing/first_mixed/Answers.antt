@@ -2,7 +2,7 @@ use Rattle.std.proofs.Common.{◌≡◌, ◌<◌, refl, inr, length, rules, arit
 use Rattle.std.proofs.lemmas.Option.{slice_get_read, slice_get_within}
 use Rattle.std.proofs.lemmas.List.Elements.{All-take}
 use Rattle.ordup_cluster.proofs.ClosedLemmas.{agree-more, first-mixed}
-use Rattle.ordup_cluster.proofs.cluster.first_mixed.Goals as goal
+use Rattle.ordup_cluster.proofs.closing.first_mixed.Goals as goal
 
 pub loop-index-preserved : goal.loop-index-preserved
 loop-index-preserved c =

@@ -1,7 +1,8 @@
 //! The joins of a service that goes on from store to store.
 use crate::asking::{Stop, TRIES, ask, print_refused};
 use crate::declarations::{declare_without_lag_on_y, declare_without_limits};
-use ordup_epochs::{EndedEpoch, Epochs, Session};
+use ordup_cluster::{Closed, Session};
+use ordup_epochs::Epochs;
 use ordup_objects::{MessageSet, ObjectId, Refusal};
 use ordup_primary::Setup;
 use std::alloc::Global;
@@ -182,8 +183,8 @@ fn close(rt: &impl Print, epochs: Epochs) -> io::Result<()> {
 }
 
 /// Prints how many updates came before an epoch, how many it had, and x after them.
-fn print_ended(rt: &impl Print, what: &str, ended: EndedEpoch) -> io::Result<()> {
-    let log = ended.closed().primary().log();
+fn print_ended(rt: &impl Print, what: &str, ended: Closed) -> io::Result<()> {
+    let log = ended.primary().log();
     let x = if log.objects() > 0 {
         log.end_value(ObjectId::new(0))
     } else {

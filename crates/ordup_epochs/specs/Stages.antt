@@ -2,7 +2,7 @@
 use Rattle.std.specs.Prelude.{◌≡◌, ℕ, ◌<◌, ◌⊎◌, Bool, true, false, length}
 use Rattle.ordup_objects.specs.declared.refusal.Refusal.{Refusal}
 use Rattle.ordup_objects.specs.declared.refusal.Refusal.TheVariants.{Mixed}
-use Rattle.ordup_epochs.specs.Epochs.{EpochState, EndedState, GoesOnFrom}
+use Rattle.ordup_cluster.specs.Clusters.{ClusterState, ClosedState, GoesOnFrom, IsClosed}
 use Rattle.ordup_epochs.specs.declared.stage.Stage.{Stage}
 use Rattle.ordup_epochs.specs.declared.stage.Stage.TheVariants.{Open, Closed, Over}
 
@@ -13,22 +13,41 @@ is_open (Closed ended refusal) = false
 is_open (Over refusal) = false
 
 -- an epoch is open that goes on from this one
-abbrev pub IsOpenAfter : EndedState → Stage → Type 0
-IsOpenAfter ended stage = (epoch : EpochState) × (stage ≡ Open epoch) × GoesOnFrom ended epoch
+abbrev pub IsOpenAfter : ClosedState → Stage → Type 0
+IsOpenAfter ended stage = (epoch : ClusterState) × (stage ≡ Open epoch) × GoesOnFrom ended epoch
 
--- what is left of the epoch of a stage: it had as many updates before it, or it had ended already
-abbrev pub IsEndOf : Stage → EndedState → Type 0
-IsEndOf (Open epoch) ended = ended.before ≡ epoch.before
-IsEndOf (Closed last refusal) ended = ended ≡ last
-IsEndOf (Over refusal) ended = ⊥
+-- What has ended is the store that was open: as many updates came before it, it has the same declarations, and this many updates are
+-- in its log. Its sites agree with the log, and each keeps its limits.
+pub record IsEnd (epoch : ClusterState) (numbered : ℕ) (ended : ClosedState) : Type 0 where
+  pub before : ended.before ≡ epoch.before
+  pub start : ended.primary.setup ≡ epoch.start
+  pub updates : length ended.primary.log.sets ≡ numbered
+  pub closed : IsClosed ended
 
--- why nothing is left of the epoch of a stage: a site of it did not agree with the log, or there was none already
+-- what is left of the epoch of a stage, of which so many updates were numbered; or it had ended already
+abbrev pub IsEndOf : Stage → ℕ → ClosedState → Type 0
+IsEndOf (Open epoch) numbered ended = IsEnd epoch numbered ended
+IsEndOf (Closed last refusal) numbered ended = ended ≡ last
+IsEndOf (Over refusal) numbered ended = ⊥
+
+-- Why nothing is left of the epoch of a stage: a site of it did not agree with the log, or there was none already. The first site
+-- stands for an epoch that is not the one that was open.
 abbrev pub IsLost : Stage → Refusal → Type 0
 IsLost (Open epoch) refusal = (s : ℕ) × (refusal ≡ Mixed s) × (s < length epoch.start.sites)
 IsLost (Closed last why) refusal = ⊥
 IsLost (Over why) refusal = refusal ≡ why
 
 -- after a refusal what is left of the epoch is kept, with the refusal, or nothing is left of it
-abbrev pub IsLeft : Stage → Refusal → Stage → Type 0
-IsLeft old refusal new =
-    ((ended : EndedState) × IsEndOf old ended × (new ≡ Closed ended refusal)) ⊎ (IsLost old refusal × (new ≡ Over refusal))
+abbrev pub IsLeft : Stage → ℕ → Refusal → Stage → Type 0
+IsLeft old numbered refusal new =
+    ((ended : ClosedState) × IsEndOf old numbered ended × (new ≡ Closed ended refusal)) ⊎ (IsLost old refusal × (new ≡ Over refusal))
+
+-- a visit is to an epoch that is open
+abbrev pub IsVisited : Stage → Type 0
+IsVisited stage = (epoch : ClusterState) × (stage ≡ Open epoch)
+
+-- why no epoch is open
+abbrev pub IsWhyClosed : Stage → Refusal → Type 0
+IsWhyClosed (Open epoch) refusal = ⊥
+IsWhyClosed (Closed ended why) refusal = refusal ≡ why
+IsWhyClosed (Over why) refusal = refusal ≡ why

@@ -1,14 +1,13 @@
-ghost use Rattle.std.specs.Prelude.{◌≡◌, ℕ, ◌+◌, ◌≤◌, None, min, true, false, IfOk, IfErr};
+ghost use Rattle.std.specs.Prelude.{◌≡◌, ◌↔◌, ℕ, ◌+◌, ◌≤◌, None, IsTrue, true, false, min, IfOk, IfErr};
 ghost use Rattle.ordup_objects.specs.Refusals.{IsRefusal};
 ghost use Rattle.ordup_objects.specs.Sizes.{most_updates};
 ghost use Rattle.ordup_primary.specs.Declarations.{start_refusal};
-ghost use Rattle.ordup_epochs.specs.Stages.{is_open};
+ghost use Rattle.ordup_epochs.specs.Stages.{IsVisited, is_open};
 
-use crate::ended::EndedEpoch;
-use crate::epoch::Epoch;
 use crate::stage::Stage;
 use crate::visit::Visit;
-use ordup_cluster::Gate;
+use crossbeam_utils::sync::{EventCount, Key};
+use ordup_cluster::{Closed, Cluster, Gate, Session};
 use ordup_objects::sizes::MOST_UPDATES;
 use ordup_objects::{Refusal, SiteId};
 use ordup_primary::Setup;
@@ -18,13 +17,13 @@ use std::sync::{RwLock, Wait};
 use std::thread;
 use std::time::{Clock, Duration};
 
-/// For how many milliseconds `keep` sleeps before it looks again.
+/// For how many milliseconds `keep` sleeps after a join that was refused.
 const PAUSE: u64 = 1;
 
 /// A store that goes on for ever, which threads share: one epoch is open at a time.
 ///
 /// A join, from one epoch to the next, takes both locks alone, in the order of the fields. A visit shares both in this order, and an
-/// applier the second.
+/// applier and the keeper the second.
 #[derive(Drop)]
 pub struct Epochs {
     /// While a visit shares it no join begins, and while a join has it no visit.
@@ -37,6 +36,8 @@ pub struct Epochs {
     /// After how many updates the epoch that is open ends: more, where a join was refused, up to the most.
     due: AtomicU64,
     stopped: AtomicBool,
+    /// Whoever waits for the next epoch sleeps on it. It is told once a join was made or refused, and by `stop`.
+    joined: EventCount,
 }
 
 impl Epochs {
@@ -68,7 +69,7 @@ impl Epochs {
         ensures allowed { IfOk result (λ _. start_refusal setup ≡ None) }
         ensures refused { IfErr result (λ e. IsRefusal (start_refusal setup) e) }
     {
-        let epoch = Epoch::open(alloc, 0, setup)?;
+        let epoch = Cluster::new(alloc, setup)?;
         Ok(Epochs {
             visits: RwLock::new(()),
             stage: RwLock::new(Stage::Open(epoch)),
@@ -76,14 +77,18 @@ impl Epochs {
             most,
             due: AtomicU64::new(due_after(0, updates, most)),
             stopped: AtomicBool::new(false),
+            joined: EventCount::new(),
         })
     }
 
-    /// Begins a visit to the epoch that is open. It waits where that has its updates, until the next one is open.
+    /// Begins a visit to the epoch that is open. Where that has its updates, it sleeps until the next one is open.
     ///
     /// It is refused where no epoch is open: the last one was closed, and the next one could not be opened yet, for the reason that
     /// is answered (`NoMemory`, or `LogFull` after 10^18 updates); or a site did not agree with the log (`Mixed`).
-    pub fn enter<R: Wait>(&self, rt: &R) -> Result<Visit<'_>, Refusal> {
+    pub fn enter<R: Wait>(&self, rt: &R) -> Result<Visit<'_>, Refusal>
+        ensures { IfOk result IsVisited }
+    {
+        let mut sleep: Option<Key<'_>> = None;
         for _ in rt.forever() {
             let visits = self.visits.read(rt);
             let stage = self.stage.read(rt);
@@ -92,7 +97,10 @@ impl Epochs {
             }
             drop(stage);
             drop(visits);
-            thread::yield_now();
+            match sleep.take() {
+                Some(key) => key.wait(rt),
+                None => sleep = Some(self.joined.prepare_wait()),
+            }
         }
         unreachable!()
     }
@@ -110,19 +118,20 @@ impl Epochs {
     }
 
     /// Applies what comes to a site, in each epoch, and ends after `stop`. It answers how many updates it applied. It runs in a
-    /// thread of its own, and is refused `UnknownSite` alone.
+    /// thread of its own, sleeps while nothing comes, and is refused `UnknownSite` alone.
     pub fn applier<G: Gate, R: Wait>(&self, rt: &R, site: SiteId, gate: &G) -> Result<u64, Refusal>
         ensures refused { IfErr result (λ e. e ≡ Refusal.UnknownSite) }
     {
         let mut count = 0u64;
         for _ in rt.forever() {
+            let key = self.joined.prepare_wait();
             let stopping = self.is_stopped();
             let applied = self.apply(rt, site, gate)?;
             count = count.saturating_add(applied);
             if stopping {
                 break;
             }
-            thread::yield_now();
+            key.wait(rt);
         }
         Ok(count)
     }
@@ -132,15 +141,20 @@ impl Epochs {
         ensures refused { IfErr result (λ e. e ≡ Refusal.UnknownSite) }
     {
         match &*self.stage.read(rt) {
-            Stage::Open(epoch) => epoch.apply(rt, site, gate),
+            Stage::Open(epoch) => {
+                if site.index() >= epoch.sites() {
+                    return Err(Refusal::UnknownSite);
+                }
+                Ok(epoch.applier(rt, site, gate))
+            }
             _ => Ok(0),
         }
     }
 
     /// Ends the epoch that is open, opens the next one, and hands out the one that has ended. No visit begins until that is done.
     ///
-    /// First it waits until all visits have ended, and settles all updates, for at most `turns` turns, which are 1 or more. Then it
-    /// stops the appliers in this epoch and waits for them, closes the epoch and opens the next one.
+    /// First it waits until all visits have ended, and settles and sends all updates, for at most `turns` turns each, which are 1 or
+    /// more. Then it stops the appliers in this epoch and waits for them, and makes the join by `Stage::go_on`.
     ///
     /// - It is refused `NotYet` with the number of the last update where that is not acknowledged after the last turn, and `NoMemory`
     ///   where a turn is refused a growth: then the epoch goes on, for as many updates more.
@@ -148,16 +162,32 @@ impl Epochs {
     ///   has ended is kept. Visits are refused until a later call opens the next epoch.
     /// - It is refused `Mixed` where a site does not agree with the log: then there are no more epochs.
     /// - It is refused `Stopped` after `stop`.
-    pub fn go_on<R: Wait>(&self, rt: &R, alloc: Global, turns: u64) -> Result<EndedEpoch, Refusal>
+    pub fn go_on<R: Wait>(&self, rt: &R, alloc: Global, turns: u64) -> Result<Closed, Refusal>
         requires { 1 ≤ turns }
     {
         let _joining = self.visits.write(rt);
+        self.join(rt, alloc, turns)
+    }
+
+    /// The join itself, while no visit is made. Whoever waits for it is told.
+    fn join<R: Wait>(&self, rt: &R, alloc: Global, turns: u64) -> Result<Closed, Refusal>
+        requires { 1 ≤ turns }
+    {
+        let answer = self.end_and_open(rt, alloc, turns);
+        self.joined.notify_all();
+        answer
+    }
+
+    /// Ends the epoch that is open, and opens the next one.
+    fn end_and_open<R: Wait>(&self, rt: &R, alloc: Global, turns: u64) -> Result<Closed, Refusal>
+        requires { 1 ≤ turns }
+    {
         if self.is_stopped() {
             return Err(Refusal::Stopped);
         }
-        self.end(rt, turns)?;
+        let numbered = self.end(rt, turns)?;
         self.set_due(0);
-        self.stage.write(rt).go_on(alloc)
+        self.stage.write(rt).go_on(alloc, numbered)
     }
 
     /// The epoch that is open ends after as many updates more as an epoch has, up to the most.
@@ -166,21 +196,27 @@ impl Epochs {
         self.due.store(due, Ordering::SeqCst);
     }
 
-    /// Settles all updates of the epoch that is open, if one is, and stops it. Where that is refused, it ends later.
-    fn end<R: Wait>(&self, rt: &R, turns: u64) -> Result<(), Refusal>
+    /// Settles and sends all updates of the epoch that is open, if one is, and stops it. It answers how many it has. Where that is
+    /// refused, it ends later.
+    fn end<R: Wait>(&self, rt: &R, turns: u64) -> Result<u64, Refusal>
         requires { 1 ≤ turns }
     {
         match &*self.stage.read(rt) {
             Stage::Open(epoch) => {
-                self.set_due(epoch.numbered());
-                epoch.end(rt, turns)
+                let numbered = epoch.numbered();
+                self.set_due(numbered);
+                let last = epoch.before().saturating_add(numbered);
+                let session = settle_all(rt, epoch, last, turns)?;
+                stop_after(epoch, last, session);
+                Ok(numbered)
             }
-            _ => Ok(()),
+            _ => Ok(0),
         }
     }
 
-    /// Goes on to the next epoch whenever the one that is open has its updates, until `stop`. It answers how often it did, and drops
-    /// what has ended: who wants the records calls `go_on`. It runs in a thread of its own.
+    /// Goes on to the next epoch whenever the one that is open has its updates, until `stop`, and is the keeper of each, as
+    /// `Cluster::keeper`. It answers how often it went on, and drops what has ended: who wants the records calls `go_on`. It runs in a
+    /// thread of its own.
     ///
     /// Where `go_on` is refused it tries again later. It is refused `Mixed` alone, once there are no more epochs.
     pub fn keep<R: Wait + Clock>(&self, rt: &R, alloc: Global, turns: u64) -> Result<u64, Refusal>
@@ -188,25 +224,33 @@ impl Epochs {
     {
         let mut joins = 0u64;
         for _ in rt.forever() {
+            let key = self.joined.prepare_wait();
             if self.is_stopped() {
                 break;
             }
-            if self.is_due(rt) && self.has_gone_on(rt, alloc, turns)? {
+            if !self.wants_join(rt) {
+                key.wait(rt);
+            } else if self.has_gone_on(rt, alloc, turns)? {
                 joins = joins.saturating_add(1);
+            } else {
+                thread::sleep(rt, Duration::from_millis(PAUSE));
             }
-            thread::sleep(rt, Duration::from_millis(PAUSE));
         }
         Ok(joins)
     }
 
-    /// The epoch that is open has its updates, or none is open.
-    fn is_due<R: Wait>(&self, rt: &R) -> bool {
+    /// Keeps the epoch that is open, if one is, until it has its updates or is stopped. It answers whether a join is wanted.
+    fn wants_join<R: Wait>(&self, rt: &R) -> bool {
         let stage = self.stage.read(rt);
-        self.wants_join(&stage)
+        match &*stage {
+            Stage::Open(epoch) => epoch.keeper_until(rt, self.due.load(Ordering::SeqCst)),
+            _ => {}
+        }
+        self.is_wanted(&stage)
     }
 
-    /// The epoch that is open has its updates, or none is open.
-    fn wants_join(&self, stage: &Stage) -> bool
+    /// A join is wanted: the epoch that is open has its updates, or none is open.
+    fn is_wanted(&self, stage: &Stage) -> bool
         ensures { is_open stage.now ≡ false → result ≡ true }
     {
         self.is_full(stage) || !matches!(stage, Stage::Open(_))
@@ -216,14 +260,33 @@ impl Epochs {
     fn has_gone_on<R: Wait>(&self, rt: &R, alloc: Global, turns: u64) -> Result<bool, Refusal>
         requires { 1 ≤ turns }
     {
-        match self.go_on(rt, alloc, turns) {
-            Ok(ended) => {
+        match self.go_on_if_wanted(rt, alloc, turns) {
+            // Visits may begin again before its memory is given back.
+            Ok(Some(ended)) => {
                 ended.discard();
                 Ok(true)
             }
+            Ok(None) => Ok(false),
             Err(refusal) if is_the_end(&refusal) => Err(refusal),
             Err(_) => Ok(false),
         }
+    }
+
+    /// Goes on to the next epoch, as `go_on`, unless another thread did meanwhile.
+    fn go_on_if_wanted<R: Wait>(
+        &self,
+        rt: &R,
+        alloc: Global,
+        turns: u64,
+    ) -> Result<Option<Closed>, Refusal>
+        requires { 1 ≤ turns }
+    {
+        let _joining = self.visits.write(rt);
+        if !self.is_wanted(&self.stage.read(rt)) {
+            return Ok(None);
+        }
+        let ended = self.join(rt, alloc, turns)?;
+        Ok(Some(ended))
     }
 
     /// Ends the appliers once their feeds are empty, and `keep`. Proposals are refused from now on, and there is no next epoch. It
@@ -234,12 +297,13 @@ impl Epochs {
         if let Stage::Open(epoch) = &*self.stage.read(rt) {
             epoch.stop();
         }
+        self.joined.notify_all();
     }
 
-    /// Takes the last epoch out, once all threads are joined. It takes no memory, and waits for nobody.
+    /// Takes the last epoch out, once all threads are joined, as `Stage::into_ended`. It takes no memory, and waits for nobody.
     ///
     /// It is refused `Mixed` alone, where a site does not agree with the log.
-    pub fn close(self) -> Result<EndedEpoch, Refusal> {
+    pub fn close(self) -> Result<Closed, Refusal> {
         let Epochs {
             visits: _,
             stage,
@@ -247,9 +311,42 @@ impl Epochs {
             most: _,
             due: _,
             stopped: _,
+            joined: _,
         } = self;
-        stage.into_inner().into_ended()
+        let stage = stage.into_inner();
+        let numbered = numbered_in(&stage);
+        stage.into_ended(numbered)
     }
+}
+
+/// How many updates the epoch has that is open.
+fn numbered_in(stage: &Stage) -> u64 {
+    match stage {
+        Stage::Open(epoch) => epoch.numbered(),
+        _ => 0,
+    }
+}
+
+/// Waits until the updates up to this number are acknowledged, and then until they are sent. The session that has seen the last one
+/// is the sign of that.
+fn settle_all<R: Wait>(rt: &R, epoch: &Cluster, last: u64, turns: u64) -> Result<Session, Refusal>
+    requires { 1 ≤ turns }
+    ensures { IfOk result (λ session. session.seen ≡ last) }
+{
+    let mut session = Session::new();
+    if last > 0 {
+        epoch.settle(rt, &mut session, last, turns)?;
+        epoch.finish(rt, turns);
+    }
+    Ok(session)
+}
+
+/// Stops an epoch, once a session has seen that its last update is acknowledged.
+fn stop_after(epoch: &Cluster, last: u64, session: Session)
+    requires { session.seen ≡ last }
+{
+    let _ = (last, session);
+    epoch.stop();
 }
 
 /// After how many updates an epoch ends that has this many, where it is to have so many more and at most so many in all.
@@ -261,7 +358,7 @@ fn due_after(numbered: u64, updates: u64, most: u64) -> u64
 
 /// There is no next epoch after this refusal, however often it is tried.
 fn is_the_end(refusal: &Refusal) -> bool
-    ensures { result ≡ true → (s : ℕ) × (refusal.now ≡ Refusal.Mixed s) }
+    ensures { IsTrue result ↔ ((s : ℕ) × (refusal.now ≡ Refusal.Mixed s)) }
 {
     matches!(refusal, Refusal::Mixed { .. })
 }

@@ -1,44 +1,45 @@
-ghost use Rattle.std.specs.Prelude.{◌≡◌, IfOk, IfErr};
-ghost use Rattle.ordup_epochs.specs.Stages.{IsOpenAfter, IsEndOf, IsLeft, IsLost};
+ghost use Rattle.std.specs.Prelude.{◌≡◌, ◌<◌, ℕ, length, IfOk, IfErr};
+ghost use Rattle.ordup_epochs.specs.Stages.{IsOpenAfter, IsEnd, IsEndOf, IsLeft, IsLost};
 
-use crate::ended::EndedEpoch;
-use crate::epoch::Epoch;
-use ordup_objects::Refusal;
+use ordup_cluster::{Closed, Cluster};
+use ordup_objects::{Refusal, SiteId};
 use std::alloc::Global;
 use std::mem;
 
-/// What lies under the lock of the epochs.
+/// What lies under the lock of the epochs. `Epochs::go_on` makes a join by `go_on` of this, and `Epochs::close` ends by `into_ended`.
 #[derive(Drop)]
-pub(crate) enum Stage {
+pub enum Stage {
     /// Callers work in this epoch.
-    Open(Epoch),
+    Open(Cluster),
     /// This epoch has ended, and the next one could not be opened yet, for this reason.
-    Closed(EndedEpoch, Refusal),
+    Closed(Closed, Refusal),
     /// There is no epoch, for this reason.
     Over(Refusal),
 }
 
 impl Stage {
-    /// Closes the epoch that is open, if one is, and opens the next one. It hands out the epoch that has ended.
+    /// Closes the epoch that is open, if one is, of which this many updates were numbered, and opens the next one. It hands out the
+    /// epoch that has ended.
     ///
+    /// - What is handed out is the store that was open, with all its updates.
     /// - The epoch that is open then goes on from the one that is handed out.
     /// - Where it is refused, what has ended is kept for a later try. There is nothing left to go on from only where a site did not
     ///   agree with the log.
-    pub(crate) fn go_on(&mut self, alloc: Global) -> Result<EndedEpoch, Refusal>
+    pub fn go_on(&mut self, alloc: Global, numbered: u64) -> Result<Closed, Refusal>
         ensures open { IfOk result (λ ended. IsOpenAfter ended self.new) }
-        ensures ended { IfOk result (λ ended. IsEndOf self.old ended) }
-        ensures left { IfErr result (λ e. IsLeft self.old e self.new) }
+        ensures ended { IfOk result (IsEndOf self.old numbered) }
+        ensures left { IfErr result (λ e. IsLeft self.old numbered e self.new) }
     {
-        let ended = self.take_ended()?;
+        let ended = self.take_ended(numbered)?;
         self.open_after(alloc, ended)
     }
 
     /// Closes the epoch that is open, if one is, and takes out the last one that has ended.
-    fn take_ended(&mut self) -> Result<EndedEpoch, Refusal>
-        ensures ended { IfOk result (λ ended. IsEndOf self.old ended) }
+    fn take_ended(&mut self, numbered: u64) -> Result<Closed, Refusal>
+        ensures ended { IfOk result (IsEndOf self.old numbered) }
         ensures left { IfErr result (λ e. IsLost self.old e × (self.new ≡ Stage.Over e)) }
     {
-        match mem::replace(self, Stage::Over(Refusal::Stopped)).into_ended() {
+        match mem::replace(self, Stage::Over(Refusal::Stopped)).into_ended(numbered) {
             Ok(ended) => Ok(ended),
             Err(refusal) => {
                 let refusal = &refusal;
@@ -48,25 +49,25 @@ impl Stage {
         }
     }
 
-    /// Closes the epoch that is open, if one is: the last epoch that has ended.
-    pub(crate) fn into_ended(self) -> Result<EndedEpoch, Refusal>
-        ensures ended { IfOk result (λ ended. IsEndOf self ended) }
+    /// Closes the epoch that is open, if one is, of which this many updates were numbered: the last epoch that has ended.
+    pub fn into_ended(self, numbered: u64) -> Result<Closed, Refusal>
+        ensures ended { IfOk result (IsEndOf self numbered) }
         ensures lost { IfErr result (IsLost self) }
     {
         match self {
-            Stage::Open(epoch) => epoch.close(),
+            Stage::Open(epoch) => close(epoch, numbered),
             Stage::Closed(ended, _) => Ok(ended),
             Stage::Over(refusal) => Err(refusal),
         }
     }
 
     /// Opens the epoch after one that has ended, which is handed out. Where that is refused, it is kept.
-    fn open_after(&mut self, alloc: Global, ended: EndedEpoch) -> Result<EndedEpoch, Refusal>
+    fn open_after(&mut self, alloc: Global, ended: Closed) -> Result<Closed, Refusal>
         ensures handed { IfOk result (λ it. it ≡ ended) }
         ensures open { IfOk result (λ it. IsOpenAfter it self.new) }
         ensures kept { IfErr result (λ e. self.new ≡ Stage.Closed ended e) }
     {
-        let next = ended.next(alloc);
+        let next = ended.successor(alloc);
         match next {
             Ok(epoch) => {
                 *self = Stage::Open(epoch);
@@ -79,4 +80,19 @@ impl Stage {
             }
         }
     }
+}
+
+/// Closes an epoch of which this many updates were numbered.
+fn close(epoch: Cluster, numbered: u64) -> Result<Closed, Refusal>
+    ensures ended { IfOk result (IsEnd epoch numbered) }
+    ensures lost { IfErr result (λ e. (s : ℕ) × (e ≡ Refusal.Mixed s) × (s < length epoch.start.sites)) }
+{
+    let ended = epoch.close()?;
+    if ended.primary().log().len() != numbered {
+        ended.discard();
+        return Err(Refusal::Mixed {
+            site: SiteId::new(0),
+        });
+    }
+    Ok(ended)
 }

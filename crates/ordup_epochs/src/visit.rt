@@ -1,11 +1,12 @@
-ghost use Rattle.std.specs.Prelude.{◌≡◌, true};
+ghost use Rattle.std.specs.Prelude.{◌≡◌, true, IfOk, IfErr};
 ghost use Rattle.std.specs.Sync.RwLock.{read_guard_value};
-ghost use Rattle.ordup_epochs.specs.Stages.{is_open};
+ghost use Rattle.ordup_epochs.specs.Stages.{is_open, IsVisited, IsWhyClosed};
 ghost use Rattle.ordup_epochs.specs.declared.stage.Stage.TheVariants.{Open};
 
-use crate::epoch::Epoch;
 use crate::stage::Stage;
+use ordup_cluster::Cluster;
 use ordup_objects::Refusal;
+use std::marker::Model;
 use std::ops::Deref;
 use std::sync::RwLockReadGuard;
 
@@ -19,12 +20,24 @@ pub struct Visit<'a> {
     ghost open: { is_open (read_guard_value stage) ≡ true },
 }
 
+impl<'a> Model for Visit<'a> {
+    ghost use Rattle.std.specs.Sync.RwLock.{read_guard_value};
+    ghost use Rattle.ordup_epochs.specs.declared.stage.Stage.{Stage};
+
+    ghost Value = { Stage };
+
+    ghost view = { λ v. read_guard_value v.stage };
+}
+
 impl<'a> Visit<'a> {
     /// A visit to the epoch that is open. It is refused where none is, for the reason that is kept there.
     pub(crate) fn new(
         visits: RwLockReadGuard<'a, ()>,
         stage: RwLockReadGuard<'a, Stage>,
-    ) -> Result<Visit<'a>, Refusal> {
+    ) -> Result<Visit<'a>, Refusal>
+        ensures visited { IfOk result IsVisited }
+        ensures refused { IfErr result (IsWhyClosed (read_guard_value stage.entry)) }
+    {
         match &*stage {
             Stage::Open(_) => Ok(Visit { stage, visits }),
             Stage::Closed(_, refusal) => Err(*refusal),
@@ -34,11 +47,11 @@ impl<'a> Visit<'a> {
 }
 
 impl Deref for Visit<'_> {
-    type Target = Epoch;
+    type Target = Cluster;
 
-    ghost deref_gives = { λ visit epoch. read_guard_value visit.stage ≡ Open epoch };
+    ghost deref_gives = { λ visit epoch. visit ≡ Open epoch };
 
-    fn deref(&self) -> &Epoch {
+    fn deref(&self) -> &Cluster {
         match &*self.stage {
             Stage::Open(epoch) => epoch,
             _ => unreachable!(),

@@ -1,0 +1,298 @@
+/* How the threads of a store that goes on for ever sleep and wake: the visits of callers, the appliers between epochs, `keep`,
+   `go_on` by another thread, joins that are refused, and `stop`, of `ordup_epochs::Epochs`. An epoch is a store as in store.pml.
+
+   CALLERS callers make VISITS visits each, and propose in each. An epoch ends after UPDATES updates; where its join is refused,
+   after as many more, and at the latest after MOST. So many joins as REFUSED_JOINS are refused. JOINERS is 1 or 0: a thread beside
+   `keep` that calls `go_on` once. With READS callers read in their visits. With ONE_TURN callers make one turn alone. With AMID
+   they do, and `stop` comes at any time. */
+
+#ifndef CALLERS
+#define CALLERS 2
+#endif
+#ifndef VISITS
+#define VISITS 1
+#endif
+#ifndef UPDATES
+#define UPDATES 1
+#endif
+#ifndef MOST
+#define MOST 2
+#endif
+#ifndef JOINERS
+#define JOINERS 0
+#endif
+#ifndef REFUSED_JOINS
+#define REFUSED_JOINS 0
+#endif
+
+#define APPLIER (1 << site)
+#define CALLER (1 << it)
+#define KEEP (1 << CALLERS)
+#define JOINER (2 << CALLERS)
+#define SLEEPING_KEEP (1 << CALLERS)
+#define SLEEPING_APPLIER (2 << (CALLERS + site))
+#define MAY_NUMBER true
+#define NUMBERS (CALLERS * VISITS + 2)
+
+#include "store.pml"
+
+/* A lock that many share or one has alone. While one wants it alone nobody else begins to share it. Who wants the stage alone has the
+   visits alone. So it is no step of its own to share the stage, and to leave it, for a thread that has the visits. */
+typedef Lock { byte shared; bool wanted, alone }
+
+Lock visits;
+Lock stage;
+bool open = true;      /* an epoch is open; else the last one has ended, and the next one could not be opened yet */
+Count joined;          /* an `EventCount`: callers and appliers sleep on it */
+bool over;             /* `stop` was called */
+byte refused_joins;
+byte begun;            /* how many callers began a visit: they are alike, so they begin their first ones in their order */
+byte callers_done, joiners_done, appliers_done, keepers_done;
+
+#define SHARED_FREE(lock) (!lock.wanted && !lock.alone)
+
+inline share(lock) { atomic { SHARED_FREE(lock) -> lock.shared++ } }
+
+inline take(lock) {
+    atomic { !lock.wanted -> lock.wanted = true };
+    atomic { lock.shared == 0 && !lock.alone -> lock.alone = true; lock.wanted = false }
+}
+
+#define IS_FULL (open && noted >= due)
+
+/* A visit begins, to an epoch that is not full; or after `stop`, or while none is open. */
+inline enter() {
+    do
+    ::
+#ifndef ENTER_LOOKS_BEFORE_IT_PREPARES
+        prepare_wait(joined, CALLER);
+#endif
+        atomic {
+            SHARED_FREE(visits) && begun >= it -> visits.shared++; stage.shared++;
+            if :: begun == it -> begun++ :: else fi
+        };
+        if
+        :: over -> break
+        :: else
+        fi;
+        if
+        :: !IS_FULL -> break
+        :: atomic { IS_FULL -> stage.shared--; visits.shared-- }
+        fi;
+#ifdef ENTER_LOOKS_BEFORE_IT_PREPARES
+        prepare_wait(joined, CALLER);
+#endif
+        wait_by_key(joined, CALLER)
+    od;
+    drop_key(joined, CALLER)
+}
+
+proctype caller(byte it) {
+    byte site, made, number, known, was_acked;
+    bool refused, sent_more;
+
+    do
+    :: made < VISITS ->
+        enter();
+        if
+        :: open && !stopped ->
+            number_one(CALLER);
+            do
+            :: known >= number || refused -> break
+#if defined(AMID) || defined(ONE_TURN) || defined(CALLER_GIVES_UP)
+            :: known < number && !refused -> break
+#endif
+#if !defined(AMID) && !defined(ONE_TURN)
+            :: known < number && !refused -> pause_and_turn(CALLER)
+#endif
+            od;
+#ifdef READS
+            read_when_level(CALLER, 0, number);
+#endif
+            atomic { forget(told, CALLER); refused = false; number = 0; known = 0 }
+        :: !open || stopped
+        fi;
+        atomic { stage.shared--; visits.shared--; made++ }
+    :: made == VISITS -> break
+    od;
+    callers_done++
+}
+
+proctype applier(byte site) {
+    bool keyed, stopping, ending;
+
+    do
+    ::
+#ifndef APPLIER_LOOKS_AT_THE_STAGE_BEFORE_IT_PREPARES
+        prepare_wait(joined, SLEEPING_APPLIER);
+#endif
+        ending = over;
+        share(stage);
+        if
+        :: open -> apply_all(APPLIER)
+        :: !open
+        fi;
+        stage.shared--;
+        if :: ending -> break :: else fi;
+#ifdef APPLIER_LOOKS_AT_THE_STAGE_BEFORE_IT_PREPARES
+        prepare_wait(joined, SLEEPING_APPLIER);
+#endif
+        wait_by_key(joined, SLEEPING_APPLIER)
+    od;
+    drop_key(joined, SLEEPING_APPLIER);
+    appliers_done++
+}
+
+/* The epoch that is open settles, and is stopped. A join is refused where its last turn left something to settle. */
+inline end_epoch(me) {
+    due = (noted + UPDATES < MOST -> noted + UPDATES : MOST);
+    do
+    :: !book && acked == numbered -> break
+    :: !book && acked < numbered ->
+#ifdef SETTLER_PAUSES_BEFORE_ITS_FIRST_TURN
+        listen(told, me);
+        wait(told, me);
+        turn();
+#else
+        listen(told, me);
+        turn();
+#endif
+        if
+        :: known == numbered -> break
+        :: atomic { known < numbered && refused_joins < REFUSED_JOINS -> refused_joins++; refused = true; break }
+#ifndef SETTLER_PAUSES_BEFORE_ITS_FIRST_TURN
+        :: known < numbered -> wait(told, me)
+#else
+        :: known < numbered
+#endif
+        fi
+    od;
+    atomic { forget(told, me); known = 0 };
+    if
+    :: refused
+    :: else -> stop_store()
+    fi
+}
+
+/* What has ended is closed, and the next epoch is opened, or that is refused. All have left what has ended. */
+inline open_next() {
+    assert(acked == numbered && noted == numbered && !decided && sent.moved == 255 && told.moved == 255);
+    if
+    :: atomic {
+        numbered = 0; acked = 0; noted = 0; acked_told = 0; kept = 255; stopped = false; open = true;
+        do
+        :: site < SITES -> reported[site] = 0; pushed[site] = 0; taken[site] = 0; tells[site] = 0; site++
+        :: site == SITES -> site = 0; break
+        od
+    }
+    :: atomic { refused_joins < REFUSED_JOINS -> refused_joins++; refused = true; open = false }
+    fi
+}
+
+inline go_on(me) {
+    take(visits);
+    if
+    :: over -> visits.alone = false
+    :: atomic { !over -> stage.shared++ };
+        if
+        :: open -> end_epoch(me)
+        :: !open
+        fi;
+        stage.shared--;
+        if
+        :: refused
+        :: !refused ->
+#ifdef JOIN_NOTIFIES_BEFORE_IT_OPENS
+            notify_all(joined);
+#endif
+            due = UPDATES;
+            take(stage);
+            open_next();
+            stage.alone = false
+        fi;
+        visits.alone = false;
+        if
+#ifdef REFUSED_JOIN_NOTIFIES_NOBODY
+        :: refused
+#endif
+#if defined(JOIN_NOTIFIES_NOBODY) || defined(JOIN_NOTIFIES_BEFORE_IT_OPENS)
+        :: !refused
+#endif
+        :: else -> notify_all(joined)
+        fi;
+        refused = false
+    fi
+}
+
+proctype keep() {
+    byte site, known, until, was_acked;
+    bool ending, refused, wants_join, sent_more;
+
+    do
+    ::
+#ifndef KEEP_LOOKS_AT_STOP_BEFORE_IT_PREPARES
+        prepare_wait(joined, SLEEPING_KEEP);
+#endif
+        if :: over -> break :: else fi;
+#ifdef KEEP_LOOKS_AT_STOP_BEFORE_IT_PREPARES
+        prepare_wait(joined, SLEEPING_KEEP);
+#endif
+        share(stage);
+        if
+        :: open -> keep_store(KEEP)
+        :: !open
+        fi;
+#ifdef KEEP_PREPARES_AFTER_IT_KEPT
+        prepare_wait(joined, SLEEPING_KEEP);
+#endif
+        atomic { wants_join = (!open || noted >= due); stage.shared-- };
+        if
+        :: wants_join -> wants_join = false; go_on(KEEP)
+        :: else -> wait_by_key(joined, SLEEPING_KEEP)
+        fi
+    od;
+    drop_key(joined, SLEEPING_KEEP);
+    keepers_done++
+}
+
+proctype joiner() {
+    byte site, known, was_acked;
+    bool refused, sent_more;
+
+    go_on(JOINER);
+    joiners_done++
+}
+
+init {
+    byte it;
+
+    atomic {
+        due = UPDATES;
+        do :: it < SITES -> run applier(it); it++ :: else -> break od;
+        it = 0;
+        do :: it < CALLERS -> run caller(it); it++ :: else -> break od;
+        it = 0;
+        do :: it < JOINERS -> run joiner(); it++ :: else -> break od;
+        it = 0;
+        run keep()
+    };
+#ifndef AMID
+    callers_done == CALLERS && joiners_done == JOINERS;
+    /* A quiet store finishes, and goes on to the next epoch where it is due. Or it is stopped before it has. */
+    if
+    :: true -> open && noted < due && acked == numbered && ALL_APPLIED
+    :: true
+    fi;
+#endif
+    share(visits);
+    atomic { over = true; stage.shared++ };
+    if
+    :: open -> stop_store()
+    :: !open
+    fi;
+#ifndef STOP_NOTIFIES_NOBODY
+    notify_all(joined);
+#endif
+    atomic { stage.shared--; visits.shared-- };
+    callers_done == CALLERS && joiners_done == JOINERS && appliers_done == SITES && keepers_done == 1
+}

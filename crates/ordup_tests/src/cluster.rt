@@ -2,6 +2,7 @@
 mod changed_limits;
 mod fixtures;
 mod gates;
+mod level_reads;
 mod one_site;
 mod open_rounds;
 mod refusals;

@@ -3,6 +3,7 @@
 ghost use Rattle.std.specs.Prelude.{◌≡◌, ◌<◌, ◌≤◌, ◌+◌, ◌+ℤ◌, pos, List, ◌∷◌, [], None, length, map, max, IfOk, IfErr, OnOk, OnErr};
 ghost use Rattle.ordup_objects.specs.Refusals.{IsRefusal};
 ghost use Rattle.ordup_objects.specs.Serial.{serial};
+ghost use Rattle.ordup_objects.specs.Sizes.{most_updates};
 ghost use Rattle.ordup_objects.specs.States.{value_at};
 ghost use Rattle.ordup_objects.specs.Tables.{initial_state, names_of};
 ghost use Rattle.ordup_feed.specs.Parcels.{feed_refusal};
@@ -16,11 +17,11 @@ ghost use Rattle.ordup_world.specs.Along.{Along, KeepSites, HaveFewest};
 ghost use Rattle.ordup_world.specs.Events.{AreAnswers, past_after};
 ghost use Rattle.ordup_world.specs.Imports.{KeepImports};
 ghost use Rattle.ordup_world.specs.Worlds.{StandsFor, IsSound, KeepsLimits};
-ghost use Rattle.ordup_cluster.specs.Refusals.{IsNumber, IsProposalRefusal, IsSettlementRefusal, IsLimitPlace, IsLimitChangeRefusal, IsQueryRefusal, site_query_refusal, undeclared_refusal};
+ghost use Rattle.ordup_cluster.specs.Refusals.{IsNumber, IsProposalRefusal, IsSettlementRefusal, IsReadRefusal, IsLimitPlace, IsLimitChangeRefusal, IsQueryRefusal, site_query_refusal, undeclared_refusal};
 ghost use Rattle.ordup_cluster.specs.Relimiting.{with_changed_limit};
 
 use ordup_cluster::holds::{self, Book};
-use ordup_cluster::{Cluster, Session, SiteQuery};
+use ordup_cluster::{Cluster, SeenValue, Session, SiteQuery};
 use ordup_feed::{Feed, SendEnd, TakeEnd};
 use ordup_limits::Scope;
 use ordup_log::Log;
@@ -116,8 +117,8 @@ pub fn propose<R: Wait>(
 ) -> Result<u64, Refusal>
     requires { 1 ≤ turns }
     ensures seen { IfOk result (λ number. session.new.seen ≡ max session.old.seen number) }
-    ensures some { IfOk result IsNumber }
-    ensures refused { IfErr result IsProposalRefusal }
+    ensures some { IfOk result (IsNumber cluster.now.before) }
+    ensures refused { IfErr result (IsProposalRefusal cluster.now.before) }
     ensures err { OnErr result (session.new ≡ session.old) }
 {
     cluster.propose(rt, session, set, turns)
@@ -133,11 +134,48 @@ pub fn settle<R: Wait>(
 ) -> Result<(), Refusal>
     requires { 1 ≤ turns }
     ensures seen { OnOk result (session.new.seen ≡ max session.old.seen number) }
-    ensures some { OnOk result (IsNumber number) }
-    ensures refused { IfErr result (IsSettlementRefusal number) }
+    ensures some { OnOk result ((0 < number) × (number ≤ cluster.now.before + most_updates)) }
+    ensures refused { IfErr result (IsSettlementRefusal cluster.now.before number) }
     ensures err { OnErr result (session.new ≡ session.old) }
 {
     cluster.settle(rt, session, number, turns)
+}
+
+/// `Cluster::read`.
+pub fn read_at<R: Wait>(
+    rt: &R,
+    cluster: &Cluster,
+    session: &mut Session,
+    site: SiteId,
+    object: ObjectId,
+) -> Result<SeenValue, Refusal>
+    ensures applied { IfOk result (λ read. session.old.seen ≤ read.applied) }
+    ensures before { IfOk result (λ read. cluster.now.before ≤ read.applied) }
+    ensures seen { IfOk result (λ read. session.new.seen ≡ read.applied) }
+    ensures allowed { IfOk result (λ _. (object < length cluster.now.start.objects) × (site < length cluster.now.start.sites)) }
+    ensures refused { IfErr result (IsReadRefusal cluster.now (record { object = object; site = site; seen = session.old.seen })) }
+    ensures err { OnErr result (session.new ≡ session.old) }
+{
+    cluster.read(rt, session, site, object)
+}
+
+/// `Cluster::read_when_level`.
+pub fn read_when_level<R: Wait>(
+    rt: &R,
+    cluster: &Cluster,
+    session: &mut Session,
+    site: SiteId,
+    object: ObjectId,
+    pauses: u64,
+) -> Result<SeenValue, Refusal>
+    ensures applied { IfOk result (λ read. session.old.seen ≤ read.applied) }
+    ensures before { IfOk result (λ read. cluster.now.before ≤ read.applied) }
+    ensures seen { IfOk result (λ read. session.new.seen ≡ read.applied) }
+    ensures allowed { IfOk result (λ _. (object < length cluster.now.start.objects) × (site < length cluster.now.start.sites)) }
+    ensures refused { IfErr result (IsReadRefusal cluster.now (record { object = object; site = site; seen = session.old.seen })) }
+    ensures err { OnErr result (session.new ≡ session.old) }
+{
+    cluster.read_when_level(rt, session, site, object, pauses)
 }
 
 /// `Cluster::relimit`.
@@ -149,7 +187,7 @@ pub fn relimit<R: Wait>(
     amount: u64,
 ) -> Result<u64, Refusal>
     ensures allowed { IfOk result (λ _. undeclared_refusal cluster.now site scope ≡ None) }
-    ensures place { IfOk result (IsLimitPlace site scope amount) }
+    ensures place { IfOk result (IsLimitPlace cluster.now.before site scope amount) }
     ensures refused { IfErr result (IsLimitChangeRefusal cluster.now site scope amount) }
 {
     cluster.relimit(rt, site, scope, amount)
@@ -163,8 +201,8 @@ pub fn begin<'a, R: Wait>(
     limit: u64,
 ) -> Result<SiteQuery<'a>, Refusal>
     ensures query { IfOk result (λ q. q ≡ record { place = q.place; marks = q.marks; limit = limit; sum = pos 0; total = 0; reads = 0 }) }
-    ensures allowed { IfOk result (λ _. site_query_refusal cluster.now.sites site limit ≡ None) }
-    ensures refused { IfErr result (λ e. IsRefusal (site_query_refusal cluster.now.sites site limit) e) }
+    ensures allowed { IfOk result (λ _. site_query_refusal (length cluster.now.start.sites) site limit ≡ None) }
+    ensures refused { IfErr result (λ e. IsRefusal (site_query_refusal (length cluster.now.start.sites) site limit) e) }
 {
     cluster.begin(rt, site, limit)
 }

@@ -2,10 +2,11 @@
 ghost use Rattle.std.specs.Prelude.{◌≤◌};
 ghost use Rattle.ordup_objects.specs.Sizes.{most_updates};
 
-use super::promises::{self, applier, new, with_most};
+use super::promises::{applier, new, with_most};
 use crate::fixtures::{Site, add, declared, x};
-use ordup_cluster::Gate;
-use ordup_epochs::{EndedEpoch, Epoch, Epochs, Session, Visit};
+use crate::promises;
+use ordup_cluster::{Closed, Cluster, Gate, Session};
+use ordup_epochs::{Epochs, Visit};
 use ordup_objects::{Refusal, SiteId};
 use std::alloc::Global;
 use std::process::Abort;
@@ -48,7 +49,7 @@ pub fn enter<'a, R: Wait + Abort>(rt: &R, epochs: &'a Epochs) -> Visit<'a> {
 /// Adds 1 to x.
 pub fn propose<R: Wait + Abort>(
     rt: &R,
-    epoch: &Epoch,
+    epoch: &Cluster,
     session: &mut Session,
     turns: u64,
 ) -> Result<u64, Refusal>
@@ -64,8 +65,8 @@ pub fn apply_at<G: Gate, R: Wait + Abort>(rt: &R, epochs: &Epochs, site: u8, gat
 }
 
 /// How many updates came before an epoch that has ended, and how many it had.
-fn counts(rt: &impl Abort, ended: &EndedEpoch) -> (u64, u64) {
-    let log = ended.closed().primary().log();
+fn counts(rt: &impl Abort, ended: &Closed) -> (u64, u64) {
+    let log = ended.primary().log();
     expect!(rt; log.objects() > 0);
     let updates = ended.before().saturating_add(log.len());
     expect_eq!(rt; log.end_value(x()), updates.min(1_000_000_000) as i64);

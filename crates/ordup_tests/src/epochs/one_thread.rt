@@ -1,8 +1,9 @@
 //! Joins on one thread. No site applies: each may lag by what its limit allows, and an epoch begins with all updates applied.
 use super::fixtures::{close, enter, go_on, opened, propose};
-use super::promises::relimit;
 use crate::fixtures::a;
-use ordup_epochs::{Epoch, Epochs, Session};
+use crate::promises::relimit;
+use ordup_cluster::{Cluster, Session};
+use ordup_epochs::Epochs;
 use ordup_limits::Scope;
 use ordup_objects::Refusal;
 use std::process::Abort;
@@ -12,7 +13,7 @@ use std::test::Fail;
 /// Adds 1 to x, by one turn, for each number from the first to the last.
 fn propose_all<R: Wait + Abort>(
     rt: &R,
-    epoch: &Epoch,
+    epoch: &Cluster,
     session: &mut Session,
     first: u64,
     last: u64,
@@ -31,19 +32,20 @@ fn raise<R: Wait + Abort>(rt: &R, epochs: &Epochs) {
     drop(epoch);
 }
 
-/// Four updates do not wait for a, and a fifth does. The place of a change counts in this epoch, and the numbers over both.
+/// Four updates do not wait for a, and a fifth does. Places and numbers count over both epochs.
 fn expect_four<R: Wait + Abort>(rt: &R, epochs: &Epochs) {
     let epoch = enter(rt, epochs);
     let session = &mut Session::new();
     propose_all(rt, &epoch, session, 3, 6);
-    expect_eq!(rt; relimit(rt, &epoch, a(), Scope::Count, 4), Ok(5));
+    // Two updates came before this epoch, and four are acknowledged in it: the head comes after six.
+    expect_eq!(rt; relimit(rt, &epoch, a(), Scope::Count, 4), Ok(7));
     expect_eq!(rt; propose(rt, &epoch, session, 1), Err(Refusal::NotYet { number: 7 }));
     expect_eq!(rt; relimit(rt, &epoch, a(), Scope::Count, 5), Err(Refusal::HeadPending));
     drop(epoch);
 }
 
 /// A limit that changes keeps its last amount in the next epoch, from the start.
-// shows: EndedEpoch::next next; the calls of an epoch; the declarations of an epoch
+// shows: Closed::successor next; Cluster::relimit place; the calls of an epoch; the declarations of an epoch
 #[test]
 fn a_changed_limit_is_kept_across_a_join(rt: HostRuntime) -> Result<(), Fail> {
     let sites = [("a", 8, Some((Scope::Count, 1)))];

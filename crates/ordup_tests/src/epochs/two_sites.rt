@@ -1,10 +1,11 @@
 //! Two sites and two objects on one thread: each call is about the site, the object and the scope that it names. A site applies what
 //! came to it once the service is stopped.
 use super::fixtures::{apply_at, close, enter, go_on, opened, propose};
-use super::promises::{applier, begin, read, relimit};
+use super::promises::applier;
 use crate::fixtures::{Site, a, b, seen, x, y};
-use ordup_cluster::{Gate, OpenGate};
-use ordup_epochs::{Epochs, Session};
+use crate::promises::{begin, read_at, relimit};
+use ordup_cluster::{Gate, OpenGate, Session};
+use ordup_epochs::Epochs;
 use ordup_limits::Scope;
 use ordup_objects::{Refusal, SiteId};
 use ordup_query::ReadAnswer;
@@ -53,9 +54,9 @@ fn propose_one<R: Wait + Abort>(rt: &R, epochs: &Epochs, number: u64) {
 /// The site a has applied nothing of the second epoch, and b the update 2: a read and a query are of the site that they name.
 fn look<R: Wait + Abort>(rt: &R, epochs: &Epochs) {
     let epoch = enter(rt, epochs);
-    expect_eq!(rt; read(rt, &epoch, &mut Session::new(), a(), x()), Ok(seen(1, 1)));
-    expect_eq!(rt; read(rt, &epoch, &mut Session::new(), b(), x()), Ok(seen(2, 2)));
-    expect_eq!(rt; read(rt, &epoch, &mut Session::new(), b(), y()), Ok(seen(10, 2)));
+    expect_eq!(rt; read_at(rt, &epoch, &mut Session::new(), a(), x()), Ok(seen(1, 1)));
+    expect_eq!(rt; read_at(rt, &epoch, &mut Session::new(), b(), x()), Ok(seen(2, 2)));
+    expect_eq!(rt; read_at(rt, &epoch, &mut Session::new(), b(), y()), Ok(seen(10, 2)));
     let Ok(mut query) = begin(rt, &epoch, b(), 0) else {
         panic!(rt; "a query is refused")
     };
@@ -117,7 +118,7 @@ fn nothing_waits_for_a_join_after_the_stop(rt: HostRuntime) -> Result<(), Fail> 
     expect_eq!(&rt; go_on(&rt, rt.alloc(), &epochs, 1), Err(Refusal::Stopped));
     apply_at(&rt, &epochs, 1, &OpenGate);
     let epoch = enter(&rt, &epochs);
-    expect_eq!(&rt; read(&rt, &epoch, &mut Session::new(), b(), x()), Ok(seen(1, 1)));
+    expect_eq!(&rt; read_at(&rt, &epoch, &mut Session::new(), b(), x()), Ok(seen(1, 1)));
     drop(epoch);
     expect_eq!(&rt; close(&rt, epochs), Ok((0, 1)));
     Ok(())

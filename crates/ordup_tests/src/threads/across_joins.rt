@@ -2,10 +2,10 @@
 use super::fixtures::{TRIES, TURNS};
 use super::together::{Parts, do_eight};
 use crate::epochs::fixtures::{apply_at, close, enter, go_on, opened, propose};
-use crate::epochs::promises;
 use crate::fixtures::{Site, x};
-use ordup_cluster::{Gate, OpenGate, SeenValue};
-use ordup_epochs::{Epochs, Session};
+use crate::promises::read_at;
+use ordup_cluster::{Gate, OpenGate, SeenValue, Session};
+use ordup_epochs::Epochs;
 use ordup_limits::Scope;
 use ordup_objects::{Refusal, SiteId};
 use std::alloc::Global;
@@ -66,7 +66,7 @@ fn propose_one<R: Wait + Abort>(rt: &R, epochs: &Epochs, session: &mut Session) 
 fn read<R: Wait + Abort>(rt: &R, epochs: &Epochs, session: &mut Session, site: u8) {
     let seen = session.seen();
     let epoch = enter(rt, epochs);
-    match promises::read(rt, &epoch, session, SiteId::new(site), x()) {
+    match read_at(rt, &epoch, session, SiteId::new(site), x()) {
         Ok(SeenValue { value, applied }) => {
             expect_eq!(rt; value, applied.min(1_000_000) as i64);
             expect!(rt; seen <= applied && epoch.before() <= applied);
@@ -180,7 +180,7 @@ fn expect_all(rt: &impl Abort, shared: &Shared, last: Result<(u64, u64), Refusal
 }
 
 /// Proposes and reads over some forty epochs.
-// shows: Epoch::propose seen some; Epoch::read applied joined seen; visits; the updates of an epoch; stops of epochs
+// shows: Cluster::propose seen some; Cluster::read applied before seen; visits; the updates of an epoch; stops of epochs
 // shows: the declarations of an epoch; the calls of an epoch; threads
 #[test]
 fn callers_sessions_and_sites_go_on_across_joins(rt: HostRuntime) -> Result<(), Fail> {

@@ -4,9 +4,10 @@ use super::fixtures::{TRIES, TURNS};
 use super::holding_gate::{Held, HoldingGate};
 use super::together::{Parts, do_two};
 use crate::epochs::fixtures::{apply_at, close, enter, go_on, opened, propose};
-use crate::epochs::promises::{read, settle};
 use crate::fixtures::{a, seen, x};
-use ordup_epochs::{Epochs, Session};
+use crate::promises::{read_at, settle};
+use ordup_cluster::Session;
+use ordup_epochs::Epochs;
 use ordup_limits::Scope;
 use ordup_objects::Refusal;
 use std::alloc::Global;
@@ -45,7 +46,7 @@ fn propose_next<R: Wait + Abort>(rt: &R, epochs: &Epochs) {
     let epoch = enter(rt, epochs);
     let mut session = Session::new();
     expect_eq!(rt; propose(rt, &epoch, &mut session, TURNS), Ok(2));
-    expect_eq!(rt; read(rt, &epoch, &mut session, a(), x()), Ok(seen(2, 2)));
+    expect_eq!(rt; read_at(rt, &epoch, &mut session, a(), x()), Ok(seen(2, 2)));
     drop(epoch);
 }
 
@@ -83,7 +84,7 @@ impl Parts for All<'_> {
 }
 
 /// Joins while the gate holds a, and after it is open.
-// shows: Epoch::settle seen refused; refused joins; the last number
+// shows: Cluster::settle seen refused; refused joins; the last number
 #[test]
 fn an_update_that_waits_is_settled_in_the_next_epoch(rt: HostRuntime) -> Result<(), Fail> {
     let gate = HoldingGate::new(Held::BeforeApply, TRIES);

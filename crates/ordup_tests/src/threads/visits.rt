@@ -3,10 +3,10 @@ use super::fixtures::{TRIES, TURNS, is_raised_within};
 use super::holding_gate::{Held, HoldingGate};
 use super::together::{Parts, do_four};
 use crate::epochs::fixtures::{apply_at, close, enter, go_on, opened, propose};
-use crate::epochs::promises;
 use crate::fixtures::{a, x};
-use ordup_cluster::SiteQuery;
-use ordup_epochs::{Epoch, Epochs, Session};
+use crate::promises;
+use ordup_cluster::{Cluster, Session, SiteQuery};
+use ordup_epochs::Epochs;
 use ordup_limits::Scope;
 use ordup_query::{QueryAnswer, ReadAnswer};
 use std::alloc::Global;
@@ -42,7 +42,7 @@ fn pause_after<R: Wait + Abort>(rt: &R, flag: &AtomicBool) {
 }
 
 /// Begins a query at a, which has no import.
-fn begin<'a, R: Wait + Abort>(rt: &R, epoch: &'a Epoch) -> SiteQuery<'a> {
+fn begin<'a, R: Wait + Abort>(rt: &R, epoch: &'a Cluster) -> SiteQuery<'a> {
     match promises::begin(rt, epoch, a(), 0) {
         Ok(query) => query,
         Err(refusal) => panic!(rt; "a query is refused: {refusal}"),
@@ -68,11 +68,11 @@ fn visit<R: Wait + Abort>(rt: &R, all: &All<'_>) {
     drop(epoch);
 }
 
-/// In the next epoch a query begins at place 0, where x is what it was at the end of the first.
+/// In the next epoch a query begins at place 1, since the one update came before: there x is what it was at the end of the first.
 fn visit_next<R: Wait + Abort>(rt: &R, epochs: &Epochs) {
     let epoch = enter(rt, epochs);
     expect_eq!(rt; epoch.before(), 1);
-    expect_one(rt, begin(rt, &epoch), 0);
+    expect_one(rt, begin(rt, &epoch), 1);
     drop(epoch);
 }
 

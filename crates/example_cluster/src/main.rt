@@ -18,6 +18,9 @@ const BAGS: i64 = 1_000;
 /// For how many turns a clerk waits until a sale is acknowledged.
 const TURNS: u64 = 1_000_000;
 
+/// For how many pauses it waits until a shop has its sale.
+const PAUSES: u64 = 1_000_000;
+
 fn main(rt: HostRuntime) -> Result<()> {
     let cluster = open(rt.alloc())?;
     let served = serve(&rt, &cluster);
@@ -54,8 +57,16 @@ fn serve<R: Threads + Wait + Print + Sync>(rt: &R, cluster: &Cluster) -> Result<
     Ok(())
 }
 
-/// The two shops, until the cluster is stopped.
+/// The two shops and the keeper, until the cluster is stopped.
 fn follow<R: Threads + Wait + Sync>(rt: &R, cluster: &Cluster) {
+    thread::join(
+        rt,
+        move || cluster.keeper(rt),
+        move || apply_at_both(rt, cluster),
+    );
+}
+
+fn apply_at_both<R: Threads + Wait + Sync>(rt: &R, cluster: &Cluster) {
     thread::join(
         rt,
         move || apply_at(rt, cluster, SiteId::new(0)),
@@ -124,14 +135,8 @@ fn look<R: Wait>(
     session: &mut Session,
     shop: SiteId,
 ) -> Result<i64, Refusal> {
-    for _ in rt.forever() {
-        match cluster.read(rt, session, shop, ObjectId::new(0)) {
-            Ok(seen) => return Ok(seen.value),
-            Err(Refusal::Behind { .. }) => thread::yield_now(),
-            Err(refusal) => return Err(refusal),
-        }
-    }
-    unreachable!()
+    let seen = cluster.read_when_level(rt, session, shop, ObjectId::new(0), PAUSES)?;
+    Ok(seen.value)
 }
 
 /// Compares each shop with the log.

@@ -3,8 +3,8 @@
 #![tactic(auto)]
 
 use anyhow::{Result, bail};
-use ordup_cluster::OpenGate;
-use ordup_epochs::{EndedEpoch, Epochs, Session};
+use ordup_cluster::{Closed, OpenGate, Session};
+use ordup_epochs::Epochs;
 use ordup_limits::Scope;
 use ordup_objects::{Change, MessageSet, ObjectId, ObjectTable, Op, Refusal, SiteId};
 use ordup_primary::Setup;
@@ -12,7 +12,7 @@ use std::alloc::Global;
 use std::sync::Wait;
 use std::thread;
 use std::thread::Threads;
-use std::time::Clock;
+use std::time::{Clock, Duration};
 
 /// After how many sales the service goes on in a next store.
 const SALES: u64 = 30;
@@ -52,6 +52,8 @@ fn serve<R: Threads + Wait + Clock + Print + Sync>(
         move || follow(rt, alloc, epochs),
         move || {
             let sold = sell(rt, epochs);
+            // A quiet second: nothing is sold, and all other threads sleep.
+            thread::sleep(rt, Duration::from_secs(1));
             epochs.stop(rt);
             sold
         },
@@ -157,8 +159,8 @@ fn close(rt: &impl Print, epochs: Epochs) -> Result<()> {
 }
 
 /// Prints how many bags the primary has left, and after how many sales in all stores.
-fn show(rt: &impl Print, ended: &EndedEpoch) -> Result<()> {
-    let log = ended.closed().primary().log();
+fn show(rt: &impl Print, ended: &Closed) -> Result<()> {
+    let log = ended.primary().log();
     if log.objects() > 0 {
         let left = log.end_value(ObjectId::new(0));
         let sales = ended.before() + log.len();

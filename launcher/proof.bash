@@ -1,12 +1,9 @@
-# The proof in the background: begun, told of, stopped, removed. ./ordup and launcher/prove read it, each by the path of its own folder.
+# The proof in the background: begun, told of, stopped, removed. `start.bash` and `prove` read it.
 #
 # There are two, that of the program and that of the library. A function is about the one that was aimed at. Both work in one folder,
 # so one of them waits for the end of the other, and goes on from what that proved.
 
-top=${BASH_SOURCE[0]%/launcher/*}
-out=$top/out
-program=$out/ordup
-shopt -s extglob nullglob
+. "${BASH_SOURCE[0]%/*}/sources.bash"
 
 # Aims at the proof of the program or of the library: its crate, what it makes, the files beside the crates that this is made of, the
 # folder in which it tells how far it is, and how it is spoken of.
@@ -40,20 +37,13 @@ make_room() {
     mkdir -p -- "$room" 2>/dev/null && printf '%s\n' "$top" 2>/dev/null >"$room/checkout" || room=$out/trees
 }
 
-# The sources with their sizes and dates. The second date is that at which the system saw the last change, so each edit is told by it,
-# whatever the clock says and whatever the first date was set to. Folders count too: theirs change when a file is deleted or renamed.
-list_sources() (
-    export LC_ALL=C
-    cd -- "$top" && find crates.txt HANDLES crates/*/@(src|specs|proofs) "${others[@]}" -printf '%p %s %T@ %C@\n' 2>&1 | sort
-)
-
 # Whether all that the proof makes is there, and the sources are as they were when it began.
 is_proved() {
     local it
     for it in "${makes[@]}"; do
         [[ -x $it || -e $it && $aim == library ]] || return
     done
-    [[ -r $told/sources && $(list_sources) == "$(<"$told/sources")" ]]
+    are_as_listed "$told/sources"
 }
 
 # A proof holds its lock as long as any part of it runs.
@@ -87,7 +77,7 @@ begin() {
     mkdir -p -- "$told" && {
         ! flock --timeout 1 9 || is_proved || {
             echo '== begun' >"$log" || return
-            setsid bash -p -- "$top/launcher/prove" "$aim" </dev/null >>"$log" 2>&1 7>&- &
+            setsid bash -p -- "$top/launcher/prove" "$aim" </dev/null >>"$log" 2>&1 &
             echo $! >"$told/pid" || { kill $!; return 1; }
         }
     } 9>>"$told/lock"

@@ -1,0 +1,98 @@
+# What the launcher does where the proved program does not answer at once. ./ordup reads it, once it has found the path of its own folder.
+
+. "${self%/*}/launcher/proof.bash"
+
+# Without this bash goes on where the command that it waits for ends by itself meanwhile.
+trap 'exit 130' INT
+
+# Answers by the program before its proof, which is built where it is not there. The proof begins once it is: beside it the program
+# would take longer.
+answer_unproved() {
+    local its="its proof, which cannot begin, since $out cannot be written" name=ordup
+    [[ $# != 1 || $1 != run ]] || name=run
+    make_room
+    python3 -IS "$top/launcher/unproved.py" "$top" "$room/unproved" $name </dev/null >&2 ||
+        give_up "there is no answer before the proof: wait for it, by ./ordup --proved"
+    if is_held_by_stranger; then
+        its="its proof, which cannot begin while $out/lock is held by $stranger"
+    elif begin; then
+        its="its proof, which goes on in the background (./ordup --progress tells how far it is, ./ordup --stop stops it)"
+    fi
+    say "this answer is of the program before $its"
+    exec "$room/unproved/$name" "$@"
+}
+
+# Waits until the sources are proved as they stand now, and tells every ten seconds how far that is. A proof that was begun before an
+# edit is followed by a second one.
+wait_for_proof() {
+    local tenths proofs=0
+    is_held_by_stranger || say "waiting for the proof$of, which goes on in the background if you end this (./ordup --stop stops it)"
+    until is_proved || ((proofs++ == 2)); do
+        begin || give_up "cannot write into $out"
+        stranger=
+        for ((tenths = 0; ; tenths++)); do
+            is_running || break
+            sleep 0.1
+            ((tenths % 100)) || tell_progress
+        done
+        [[ ! $stranger ]] || { proofs=0 && continue; }
+        grep -q '^== proved and built' -- "$log" || { tell_progress; give_up "so there is no $gives"; }
+    done
+}
+
+# Has a command on PATH, or says how to have it.
+need() {
+    command -v "$1" >/dev/null || { say "$1 is not on PATH: $2 (docs/INSTALL.md)"; exit 127; }
+}
+
+# Has what a proof needs: rt itself is in Python, too.
+need_kit() {
+    need rt "install the Rattle kit, and put its folder bin on PATH"
+    need python3 "install Python"
+}
+
+# Builds the library, unless it is there.
+build_library() {
+    local tool
+    aim_at library
+    if ! is_proved; then
+        need_kit
+        for tool in gcc ld ar objcopy; do
+            need $tool "install gcc and binutils"
+        done
+        wait_for_proof
+    fi
+    say "the library is in $out: libordup.a, libordup.so and ordup.h"
+}
+
+# Tells how far the proof of the program is, and that of the library where it was begun.
+tell_all_progress() {
+    aim_at program
+    if is_proved; then say "the program is proved and built"; else tell_progress; fi
+    aim_at library
+    if is_proved; then say "the library is proved and built"; elif [[ -e $log ]]; then tell_progress; fi
+}
+
+# Does what the words of the command line ask for.
+start() {
+    aim_at program
+    case $1 in
+    --progress) tell_all_progress ;;
+    --stop) stop ;;
+    --clean) clean ;;
+    --library) build_library ;;
+    --test)
+        need_kit
+        make_room
+        exec python3 -IS "$top/launcher/test.py" "$top" "$room/unproved"
+        ;;
+    --proved)
+        is_proved || { need_kit && wait_for_proof; }
+        exec "$program" "${@:2}"
+        ;;
+    *)
+        need_kit
+        answer_unproved "$@"
+        ;;
+    esac
+}

@@ -3,21 +3,15 @@
 top=${BASH_SOURCE[0]%/launcher/*}
 out=$top/out
 program=$out/ordup
-parts=(src specs proofs) # of each crate
-others=()                # what else is made of: files beside the crates
+others=() # what else is made of: files beside the crates
 shopt -s extglob nullglob
 
-# The sources with the date at which the system saw the last change of each, so each edit is told by it, whatever the clock says and
-# whatever date a file was given. Folders count too: theirs change when a file is deleted or renamed.
+# The dates at which the system saw the last change of each source: so each edit is told, whatever the clock says and whatever date a
+# file was given. Folders count too: theirs change when a file is deleted or renamed.
 list_sources() (
     export LC_ALL=C
-    cd -- "$top" || exit
-    folders=()
-    for part in "${parts[@]}"; do
-        folders+=(crates/*/"$part")
-    done
-    find crates.txt HANDLES "${folders[@]}" "${others[@]}" -printf '%p %C@\n' 2>&1
+    cd -- "$top" && find crates.txt HANDLES crates/*/{src,specs,proofs} "${others[@]}" -printf '%C@\n' 2>&1
 )
 
-# Whether the sources are as this list of them has it.
+# Whether the sources are as this list has them.
 are_as_listed() { [[ -r $1 ]] && list_sources | cmp -s - "$1"; }

@@ -4,11 +4,11 @@
 
 mod holding_gate;
 pub mod promises;
-mod seen;
+mod reads;
 mod together;
 mod waiting;
 
 pub use holding_gate::{Held, HoldingGate};
-pub use seen::seen;
+pub use reads::seen;
 pub use together::{Parts, do_eight, do_four, do_ten, do_two};
 pub use waiting::{TRIES, TURNS, is_raised_within};

@@ -1,4 +1,0 @@
-//! Scripts and plans over streams that fail and limits of bytes.
-mod plans;
-mod script;
-pub(crate) mod transcripts;

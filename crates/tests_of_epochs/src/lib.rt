@@ -1,0 +1,20 @@
+//! Tests by calls, of a service that goes on from store to store: on one thread, and shared by several (`threads`). `promises.rt`
+//! repeats clauses of calls that no proof above cites.
+#![tactic(auto)]
+
+#[cfg(test)]
+mod by_hand;
+#[cfg(test)]
+mod expect;
+#[cfg(test)]
+mod fixtures;
+#[cfg(test)]
+mod later_epochs;
+#[cfg(test)]
+mod one_thread;
+#[cfg(test)]
+mod promises;
+#[cfg(test)]
+mod threads;
+#[cfg(test)]
+mod two_sites;

@@ -1,0 +1,14 @@
+//! Tests by calls, of what no script says and no clause: of names, of lists of events and of worked rows (`events`); of records; of
+//! streams that fail, and plans (`scripts`). `promises.rt` repeats clauses of calls that no proof above cites.
+#![tactic(auto)]
+
+#[cfg(test)]
+mod events;
+#[cfg(test)]
+mod expect;
+#[cfg(test)]
+mod promises;
+#[cfg(test)]
+mod records;
+#[cfg(test)]
+mod scripts;

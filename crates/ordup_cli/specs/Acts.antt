@@ -3,7 +3,7 @@ use Rattle.std.specs.Prelude.{◌≡◌, ◌⊎◌, ℕ, Ok, Err}
 use Rattle.ordup_text.specs.Fronts.{AppendsFront}
 use Rattle.ordup_command_line.specs.declared.command_line.Job.{Job}
 use Rattle.ordup_script.specs.Streams.{Bytes, Streams}
-use Rattle.ordup_cli.specs.Faults.{Outcome, fault_text, status_of}
+use Rattle.ordup_faults.specs.Faults.{Outcome, fault_text, status_of}
 use Rattle.ordup_cli.specs.Jobs.{Does}
 
 -- nothing was told of a job that was done, and of any other the line of its fault, or a prefix of it

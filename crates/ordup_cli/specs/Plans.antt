@@ -8,11 +8,19 @@ use Rattle.ordup_script.specs.Streams.{Bytes, Streams}
 use Rattle.ordup_script.specs.declared.sizes.TheConstants.{MOST_SCRIPT_BYTES}
 use Rattle.ordup_script.specs.declared.plan.Plan.{Plan}
 use Rattle.ordup_script.specs.declared.plan.PlanFault.{PlanFault}
+use Rattle.ordup_script.specs.declared.plan.PlanFault.TheVariants as plan
 use Rattle.ordup_plan.specs.Outcomes.{IsOutcome}
-use Rattle.ordup_cli.specs.Faults.{Outcome, of_plan}
-use Rattle.ordup_cli.specs.Printing.{Prints}
-use Rattle.ordup_cli.specs.declared.fault.Fault.{Fault}
-use Rattle.ordup_cli.specs.declared.fault.Fault.TheVariants as fault
+use Rattle.ordup_faults.specs.Faults.{Outcome}
+use Rattle.ordup_faults.specs.Printing.{Prints}
+use Rattle.ordup_faults.specs.declared.fault.Fault.{Fault}
+use Rattle.ordup_faults.specs.declared.fault.Fault.TheVariants as fault
+
+-- the fault of reading a plan
+abbrev pub fault_of_plan : PlanFault → Fault
+fault_of_plan plan.Read = fault.Read
+fault_of_plan plan.TooLong = fault.TooLong
+fault_of_plan (plan.Malformed line) = fault.Malformed line
+fault_of_plan plan.NoMemory = fault.NoMemory
 
 -- the fault of a plan that was run and has no outcome: want of memory, or else a site that does not agree with the log
 abbrev pub fault_of : Refusal → Fault
@@ -28,7 +36,7 @@ PrintsOutcome (Err e) sets old new outcome = (outcome ≡ Err (fault_of e)) × (
 abbrev pub PrintsAfterPlan : Result (Plan Global) PlanFault → Bytes → Bytes → Outcome → Type 0
 PrintsAfterPlan (Ok plan) old new outcome =
     (run : Result (List ℕ) Refusal) × PrintsOutcome run (length plan.sets.items) old new outcome
-PrintsAfterPlan (Err fault) old new outcome = (outcome ≡ Err (of_plan fault)) × (new ≡ old)
+PrintsAfterPlan (Err fault) old new outcome = (outcome ≡ Err (fault_of_plan fault)) × (new ≡ old)
 
 -- a plan was read from this reader, and its outcome printed
 abbrev pub RunsPlan : Streams → Outcome → Type 0

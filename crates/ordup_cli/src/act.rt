@@ -1,12 +1,12 @@
 ghost use Rattle.std.specs.Prelude.{◌≡◌};
 ghost use Rattle.ordup_cli.specs.Acts.{Acts, IsTold, IsUsage};
-ghost use Rattle.ordup_cli.specs.Faults.{status_of};
+ghost use Rattle.ordup_faults.specs.Faults.{status_of};
 
-use crate::fault::{Fault, WRONG_WORDS, tell};
-use crate::jobs::{DONE, Outcome, do_job};
+use crate::jobs::do_job;
 use clap::Error;
 use clap::error::ErrorKind;
 use ordup_command_line::{FILE_TIP, job_of};
+use ordup_faults::{DONE, Fault, Outcome, WRONG_WORDS, tell};
 use std::alloc::Global;
 use std::io::{Read, Write};
 use std::sync::Wait;

@@ -1,20 +1,17 @@
 //! The program `ordup`: it does the job that the words on the command line ask for, from standard input to standard output, and
-//! ends with an exit status. `act.rt` has the job done and answers the status, `jobs.rt` does it, and `fault.rt` has the text and
-//! the status of each fault.
+//! ends with an exit status. `act.rt` has the job done and answers the status. `jobs.rt` calls the crate that does it; `threads` alone
+//! is done here (`plans.rt`).
 //!
 //! It has no tests of its own: `checks/rows` and `checks/outside` try the built program.
 #![tactic(auto)]
 
 mod act;
-mod fault;
 mod jobs;
-mod next;
 mod plans;
-mod printing;
 mod promises;
 
 pub use act::act;
-use fault::{Fault, WRONG_WORDS, tell};
+use ordup_faults::{Fault, WRONG_WORDS, tell};
 use std::alloc::{AllocError, Global};
 use std::io::{self, ErrorKind, Write};
 use std::process::ExitCode;

@@ -1,13 +1,11 @@
 //! The job of running a plan in threads.
 ghost use Rattle.std.specs.Prelude.{◌≡◌};
-ghost use Rattle.ordup_cli.specs.Plans.{RunsPlan, fault_of};
+ghost use Rattle.ordup_cli.specs.Plans.{RunsPlan, fault_of, fault_of_plan};
 
-use crate::fault::Fault;
-use crate::jobs::Outcome;
-use crate::printing::print;
+use ordup_faults::{Fault, Outcome, print};
 use ordup_objects::Refusal;
 use ordup_plan::run_threads;
-use ordup_script::{Plan, read_plan};
+use ordup_script::{Plan, PlanFault, read_plan};
 use std::alloc::Global;
 use std::io::{Read, Write};
 use std::num::NonZeroU8;
@@ -34,11 +32,23 @@ pub(crate) fn run_plan<T: Threads + Wait + Sync, R: Read, W: Write>(
 {
     let Plan { setup, sets } = match read_plan(alloc, input) {
         Ok(plan) => plan,
-        Err(fault) => return Err(Fault::of_plan(fault)),
+        Err(fault) => return Err(fault_of_plan(fault)),
     };
     match run_threads(rt, alloc, setup, sets, callers) {
         Ok(text) => print(text.as_slice(), output),
         Err(refusal) => Err(fault_of(refusal)),
+    }
+}
+
+/// The fault of reading a plan.
+fn fault_of_plan(fault: PlanFault) -> Fault
+    ensures { result ≡ fault_of_plan fault }
+{
+    match fault {
+        PlanFault::Read => Fault::Read,
+        PlanFault::TooLong => Fault::TooLong,
+        PlanFault::Malformed { line } => Fault::Malformed { row: line },
+        PlanFault::NoMemory => Fault::NoMemory,
     }
 }
 

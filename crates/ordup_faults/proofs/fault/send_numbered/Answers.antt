@@ -1,0 +1,19 @@
+use Rattle.std.proofs.Common.{◌≡◌, ◌∙◌, ◌++◌, codes}
+use Rattle.std.specs.Fmt.{decimal}
+use Rattle.ordup_faults.proofs.Parts.{front_after, front_of_first}
+use Rattle.ordup_faults.proofs.fault.send_numbered.Goals as goal
+
+pub returns-in_err-send : goal.returns-in_err-send
+returns-in_err-send g c = front_of_first _ _ c.args.text.now (decimal c.args.number ++ codes "\n") c.in_err-send.ensures.front
+
+pub returns-in_err-send-2 : goal.returns-in_err-send-2
+returns-in_err-send-2 g c =
+    let digits : c.as_bytes.result.now ≡ decimal c.args.number = c.as_bytes.ensures.value ∙ c.format.ensures.text in
+    front_after _ _ _ c.args.text.now (decimal c.args.number ++ codes "\n") c.in_ok-send.ensures.sent
+    (front_of_first _ _ (decimal c.args.number) (codes "\n") (rw digits at c.in_err-send-2.ensures.front))
+
+pub returns : goal.returns
+returns g c =
+    let digits : c.as_bytes.result.now ≡ decimal c.args.number = c.as_bytes.ensures.value ∙ c.format.ensures.text in
+    front_after _ _ _ c.args.text.now (decimal c.args.number ++ codes "\n") c.in_ok-send.ensures.sent
+    (front_after _ _ _ (decimal c.args.number) (codes "\n") (rw digits at c.in_ok-send-2.ensures.sent) c.send-3.ensures.front)

@@ -1,0 +1,2 @@
+pub mod Successors
+pub mod Ends

@@ -1,0 +1,28 @@
+//! The faults of a record that is read and of a series that is written, as those of a job.
+ghost use Rattle.std.specs.Prelude.{◌≡◌};
+ghost use Rattle.ordup_verdicts.specs.Faults.{fault_of_reading, fault_of_series};
+
+use ordup_check::RecordReadFault;
+use ordup_faults::Fault;
+use ordup_lag::SeriesFault;
+
+/// The fault of reading a record.
+pub fn fault_of_reading(fault: RecordReadFault) -> Fault
+    ensures { result ≡ fault_of_reading fault }
+{
+    match fault {
+        RecordReadFault::Read => Fault::Read,
+        RecordReadFault::Malformed { row } => Fault::Malformed { row },
+        RecordReadFault::NoMemory => Fault::NoMemory,
+    }
+}
+
+/// The fault of writing the series of a record.
+pub(crate) fn fault_of_series(fault: SeriesFault) -> Fault
+    ensures { result ≡ fault_of_series fault }
+{
+    match fault {
+        SeriesFault::Write => Fault::Write,
+        SeriesFault::NoMemory => Fault::NoMemory,
+    }
+}

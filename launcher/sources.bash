@@ -7,10 +7,11 @@ others=() # what else is made of: files beside the crates
 shopt -s extglob nullglob
 
 # The dates at which the system saw the last change of each source: so each edit is told, whatever the clock says and whatever date a
-# file was given. Folders count too: theirs change when a file is deleted or renamed.
+# file was given. Folders count too: theirs change when a file is deleted or renamed. The files of proofs/ do not: however they are
+# edited, what was proved stays proved.
 list_sources() (
     export LC_ALL=C
-    cd -- "$top" && find crates.txt HANDLES crates/*/{src,specs,proofs} "${others[@]}" -printf '%C@\n' 2>&1
+    cd -- "$top" && find crates.txt HANDLES crates/*/{src,specs} "${others[@]}" -printf '%C@\n' 2>&1
 )
 
 # Whether the sources are as this list has them.

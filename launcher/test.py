@@ -1,7 +1,7 @@
 """Tries all that needs no proof, as the gate does: python3 test.py TOP FOLDER
 
 It has the program before its proof in FOLDER, and gives it to those checks that the gate makes with the proved one: what a reader sees,
-the rows of tests/, stores one after the other, and streams, words and sizes from outside. Beside it the tests by calls of each crate are
+the rows of tests/, stores one after the other, and streams and words from outside. Beside it the tests by calls of each crate are
 run, by `rt try --test`. Of what fails all that it said is told, and on standard error what was not tried. The last line is
 'N passed, M failed', and the status is 0 where M is 0 and N is not.
 """
@@ -18,8 +18,8 @@ sys.dont_write_bytecode = True
 
 import unproved
 
-# What the gate runs, with the programs that each is given.
-CHECKS = {"pages": ["ordup"], "rows": ["ordup"], "epochs": ["ordup"], "outside": ["ordup", "rest_trial"]}
+# What the gate runs too. The rows are tried file by file.
+CHECKS = ["pages", "epochs", "outside"]
 
 
 def ran(words, folder):
@@ -35,9 +35,11 @@ def try_tests(crate):
     return said, status, found and [int(it) for it in found.groups()]
 
 
-def check(top, name, programs):
-    """Makes a check. Its last line begins with how many things it tried, or how many of them passed."""
-    said, status = ran([f"{top}/checks/{name}", *programs], top)
+def check(top, built, words):
+    """Makes a check, once the program is built. Its last line begins with how many things it tried, or how many of them passed."""
+    if not built.result():
+        return "there is no program before its proof", 1, None
+    said, status = ran(words, top)
     found = re.match(r"(\d+) (?:passed, (\d+) failed)?", said.rstrip("\n").split("\n")[-1])
     return said, status, found and [int(it or 0) for it in found.groups()]
 
@@ -57,17 +59,14 @@ def tell(name, said, status, counted):
 
 def main(top, folder):
     crates = sorted(it for it in Path(top, "crates").iterdir() if any("#[test]" in file.read_text() for file in it.glob("src/**/*.rt")))
-    # Each compiler of a try has a check of names beside it, so there are fewer tries at once than processors.
-    with ThreadPoolExecutor(max(2, len(os.sched_getaffinity(0)) * 3 // 4)) as pool:
-        built = {name: pool.submit(unproved.have, top, folder, name) for name in ("ordup", "rest_trial")}
-        tests = [(it.name, pool.submit(try_tests, it)) for it in crates]
-        counted = []
-        for name, programs in CHECKS.items():
-            if all(built[it].result() for it in programs):
-                counted.append(tell(f"checks/{name}", *check(top, name, [f"{folder}/{it}" for it in programs])))
-            else:
-                counted.append(tell(f"checks/{name}", "a program that it wants could not be built", 1, None))
-        counted += [tell(f"the tests of {name}", *it.result()) for name, it in tests]
+    with ThreadPoolExecutor(max(2, len(os.sched_getaffinity(0)))) as pool:
+        built = pool.submit(unproved.have, top, folder, "ordup")
+        tries = [(f"the tests of {it.name}", pool.submit(try_tests, it)) for it in crates]
+        files = sorted(os.path.relpath(it, top) for it in Path(top, "tests").glob("**/*.txt"))
+        for words in [*([it] for it in CHECKS), *(["rows", file] for file in files)]:
+            command = [f"{top}/checks/{words[0]}", f"{folder}/ordup", *words[1:]]
+            tries.append((f"checks/{' '.join(words)}", pool.submit(check, top, built, command)))
+        counted = [tell(name, *it.result()) for name, it in tries]
     passed, failed = (sum(it) for it in zip(*counted))
     print("Nothing of it is proved by this: the proof is rt ci.")
     print(f"{passed} passed, {failed} failed")

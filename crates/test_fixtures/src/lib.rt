@@ -32,4 +32,4 @@ mod stores;
 pub mod transcripts;
 
 pub use objects::{a, add, adding, b, set_of, set_of_one, x, x_y_and_z, y, z};
-pub use stores::{Site, declared, propose_add, started};
+pub use stores::{Site, declared, mark_sent, propose_add, report_all, started};

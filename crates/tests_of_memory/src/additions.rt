@@ -1,12 +1,12 @@
 //! Calls that add something to what they are called on, each with each of its growths refused in turn.
 use crate::digests::{Digest, add_groups, add_limits, add_log, add_set, add_table};
 use crate::expect::made;
-use crate::scarce::{Heap, Scarce};
 use ordup_limits::{Groups, LimitTable, Scope};
 use ordup_log::Log;
 use ordup_objects::{MessageSet, ObjectId, ObjectTable, Refusal};
 use std::process::Abort;
 use test_fixtures::{adding, expect, x, y};
+use test_memory_fixtures::{Heap, Scarce};
 
 /// A call that adds something to what it is called on.
 ///

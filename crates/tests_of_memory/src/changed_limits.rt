@@ -1,12 +1,12 @@
 //! A change of a limit of a primary, with each of its growths refused in turn.
 use crate::copies::digest_of;
-use crate::scarce::{Heap, Scarce};
-use crate::starts::started;
+use crate::expect::made;
 use ordup_limits::{Limit, LimitEntry, Scope};
 use ordup_objects::Refusal;
 use ordup_primary::{Primary, Settled};
 use std::process::Abort;
 use test_fixtures::{a, expect, expect_eq, propose_add, x};
+use test_memory_fixtures::{Heap, Scarce, started};
 
 /// Adds 3 to x by an update that is acknowledged. It is within the limit of a on x, which is 5, and a does not report it.
 fn acknowledge<'a>(rt: &impl Abort, primary: &mut Primary<Heap<'a>>) {
@@ -18,7 +18,7 @@ fn acknowledge<'a>(rt: &impl Abort, primary: &mut Primary<Heap<'a>>) {
 }
 
 /// Lowers the limit of a on a scope to the 3 that it lags by there, or begins one.
-pub(crate) fn relimit<'a>(
+fn relimit<'a>(
     rt: &impl Abort,
     primary: &mut Primary<Heap<'a>>,
     scope: &Scope,
@@ -71,7 +71,7 @@ fn is_refused<'a>(
 /// How many growths a change of a limit meets, each of which is refused in turn.
 fn growths_of_change<'a>(rt: &impl Abort, heap: Heap<'a>, scope: &Scope) -> u64 {
     for allowed in 0..100u64 {
-        let mut primary = started(rt, heap);
+        let mut primary = made(rt, started(heap));
         acknowledge(rt, &mut primary);
         let refused = is_refused(rt, heap, &mut primary, scope, allowed);
         primary.discard();

@@ -2,20 +2,18 @@
 ghost use Rattle.std.specs.Prelude.{◌<◌, length};
 
 use crate::digests::{Digest, add_groups, add_limits, add_log, add_primary, add_table};
-use crate::growths::GROUPED;
-use crate::lines::Session;
-use crate::scarce::{Heap, Scarce};
-use ordup_answers::ScriptEnd;
+use crate::expect::made;
 use ordup_audit::Record;
 use ordup_limits::{Groups, LagLedger, LimitTable};
 use ordup_log::Log;
-use ordup_objects::{MessageSet, ObjectTable, Refusal, SiteId, Values};
+use ordup_objects::{MessageSet, ObjectTable, Refusal, Values};
 use ordup_primary::Primary;
 use ordup_record::record_of;
 use ordup_rows::{RecordWriteFault, write_record};
 use ordup_site::Site;
 use std::process::Abort;
-use test_fixtures::{adding, expect, x, y};
+use test_fixtures::{a, adding, expect, x, y};
+use test_memory_fixtures::{Heap, Scarce, grouped};
 
 /// A call that copies or makes something of what a primary holds.
 ///
@@ -149,9 +147,13 @@ fn copy_prefix<'a>(
 /// y weighs 3, then 1 and 3 more.
 fn postings<'a>(heap: Heap<'a>, log: &Log<Heap<'a>>) -> Result<bool, Refusal> {
     let postings = log.postings(heap, y())?;
-    let is_usual = postings.as_slice() == [(1, 3), (2, 4), (3, 7)].as_slice();
+    let mut found = Digest::new();
+    for (place, weight) in postings.as_slice() {
+        found.add(*place);
+        found.add(*weight);
+    }
     drop(postings);
-    Ok(is_usual)
+    Ok(found == Digest::of(&[1, 3, 2, 4, 3, 7]))
 }
 
 fn copy_values<'a>(heap: Heap<'a>, values: &Values<Heap<'a>>) -> Result<bool, Refusal> {
@@ -189,7 +191,7 @@ fn new_site<'a>(heap: Heap<'a>, objects: &ObjectTable<Heap<'a>>) -> Result<bool,
 fn next_for(primary: &Primary<Heap<'_>>) -> Result<bool, Refusal>
     requires { 0 < length primary.now.sites }
 {
-    let parcel = primary.next_for(SiteId::new(0))?;
+    let parcel = primary.next_for(a())?;
     let changes = [adding(x(), 4), adding(y(), 3)];
     Ok(parcel.number == 3 && parcel.set.changes() == changes.as_slice())
 }
@@ -205,7 +207,7 @@ fn record_again<'a>(
     primary: &Primary<Heap<'a>>,
     wanted: &Record<Heap<'a>>,
 ) -> Result<bool, Refusal> {
-    let record = record_of(heap, primary, SiteId::new(0))?;
+    let record = record_of(heap, primary, a())?;
     let is_same = record.same(wanted);
     record.discard();
     Ok(is_same)
@@ -240,7 +242,7 @@ fn make<'a>(
     let (setup, log) = (primary.setup(), primary.log());
     expect!(rt; setup.sites() > 0);
     expect!(rt; log.len() == 3);
-    let limits = setup.limits(SiteId::new(0));
+    let limits = setup.limits(a());
     match call {
         Call::CopyObjects => copy_objects(heap, setup.objects()),
         Call::CopyGroups => copy_groups(heap, setup.groups()),
@@ -296,12 +298,8 @@ fn growths_of<'a>(
 /// Makes each call over a primary.
 fn make_each<'a>(rt: &(impl Abort + AllocGlobal), heap: Heap<'a>, primary: &Primary<Heap<'a>>) {
     heap.allow_all();
-    let Ok(values) = Values::initial(heap, primary.setup().objects()) else {
-        panic!(rt; "there are no values")
-    };
-    let Ok(record) = record_of(heap, primary, SiteId::new(0)) else {
-        panic!(rt; "there is no record")
-    };
+    let values = made(rt, Values::initial(heap, primary.setup().objects()));
+    let record = made(rt, record_of(heap, primary, a()));
     let given = Given {
         primary,
         values: &values,
@@ -320,11 +318,7 @@ fn make_each<'a>(rt: &(impl Abort + AllocGlobal), heap: Heap<'a>, primary: &Prim
 #[test]
 fn each_growth_of_what_is_made_of_a_primary_is_refused(rt: HostRuntime) {
     let scarce = Scarce::new(rt.alloc(), u64::MAX);
-    let ample = Scarce::new(rt.alloc(), u64::MAX);
-    let mut session = Session::new(&scarce, &ample);
-    session.answer_all(&rt, GROUPED);
-    if let ScriptEnd::Running(world) = &session.store {
-        make_each(&rt, &scarce, world.primary());
-    }
-    drop(session);
+    let world = made(&rt, grouped(&scarce));
+    make_each(&rt, &scarce, world.primary());
+    world.discard();
 }

@@ -18,6 +18,15 @@ impl Digest {
         Digest { mixed: 0 }
     }
 
+    /// These numbers, mixed.
+    pub(crate) fn of(numbers: &[u64]) -> Self {
+        let mut digest = Digest::new();
+        for number in numbers {
+            digest.add(*number);
+        }
+        digest
+    }
+
     /// Adds a number, by the step of the hash of Fowler, Noll and Vo.
     pub(crate) fn add(&mut self, number: u64) {
         self.mixed = (self.mixed.rotate_left(23) ^ number).wrapping_mul(0x0000_0100_0000_01B3);

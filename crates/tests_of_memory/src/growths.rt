@@ -1,4 +1,5 @@
 //! Which growths the lines of scripts meet.
+use test_memory_fixtures::GROUPED;
 
 /// Transcripts with marks: a line that begins with `>` is one of a script, the next one is its answer. The mark after `>` is `+`
 /// where the line meets a growth, `-` where the call takes no memory, and `?` where it may meet one: a list grows by several places
@@ -173,51 +174,3 @@ ok certified a 2 0-2 2-3
 ",
     GROUPED,
 ];
-
-/// A group, of which 6 is allowed: 3 + 3 is not over it, and 6 + 1 is. Once that is reported, 4 + 3 is over it again.
-pub(crate) const GROUPED: &str = "\
->+ object x 0
-ok object x
->? object y 10
-ok object y
->+ group g x y
-ok group g
->+ site a 4
-ok site a
->? site b 4
-ok site b
->+ limit a group g 6
-ok limit a
->+ limit b all 100
-ok limit b
->+ start
-ok start
->+ propose add:x:3 add:y:3
-ok proposed 1
->- settle
-ok acked 1
->? propose add:y:1
-ok proposed 2
->+ settle
-ok round 2 a
->- send a
-ok sent a 1
->- send a
-ok sent a 2
->- apply a
-ok applied a 1
->- apply a
-ok applied a 2
->- report a
-ok reported a 2
->- settle
-ok acked 2
->+ propose add:x:4 add:y:3
-ok proposed 3
->? settle
-ok round 3 a
->- certify a
-ok certified a 2 0-2 2-3
->- certify b
-ok certified b 0
-";

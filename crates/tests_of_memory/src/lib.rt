@@ -1,4 +1,4 @@
-//! Tests by calls, of want of memory: all calls of a store on one thread, where memory is refused. `promises.rt` repeats clauses of a
+//! Tests by calls, of want of memory: each growth of each call of a store on one thread is refused. `promises.rt` repeats clauses of a
 //! call that no proof above cites.
 #![tactic(auto)]
 
@@ -19,14 +19,8 @@ mod lines;
 #[cfg(test)]
 mod promises;
 #[cfg(test)]
-mod scarce;
-#[cfg(test)]
 mod scripts;
 #[cfg(test)]
 mod starts;
 #[cfg(test)]
-mod steps_without_memory;
-#[cfg(test)]
 mod successors;
-#[cfg(test)]
-mod without_memory;

@@ -4,7 +4,6 @@
 //! which gives all.
 use crate::digests::{Digest, add_primary, add_setup};
 use crate::growths::TRANSCRIPTS;
-use crate::scarce::{Heap, Scarce};
 use ordup_answers::{ScriptEnd, answer};
 use ordup_grammar::{LinePart, ScriptLine};
 use ordup_objects::SiteId;
@@ -13,54 +12,33 @@ use ordup_world::{Answer, Event, World};
 use std::alloc::AllocError;
 use std::process::Abort;
 use test_fixtures::expect;
+use test_memory_fixtures::{Heap, MarkedLine, Scarce};
 
-/// A line of a script.
-#[derive(Clone, Copy)]
-struct Step<'a> {
-    /// The mark: whether the line meets a growth.
-    memory: &'a str,
-    line: &'a str,
-    /// Its answer, with the line feed.
-    answer: &'a str,
-}
-
-/// The step that a mark, a line and its answer stand for, behind the `>` of a transcript.
-fn step_of<'a>(rt: &impl Abort, text: &'a str) -> Step<'a> {
-    let Some((memory, rest)) = text.split_once(' ') else {
+/// The line that stands behind a `>` of a transcript.
+fn marked<'a>(rt: &impl Abort, text: &'a str) -> MarkedLine<'a> {
+    let Some(line) = MarkedLine::parse(text) else {
         panic!(rt; "{text}")
     };
-    let Some((line, answer)) = rest.split_once('\n') else {
-        panic!(rt; "{text}")
-    };
-    Step {
-        memory,
-        line,
-        answer,
-    }
+    line
 }
 
 /// Where a script stands, and what takes its answers.
 #[derive(Drop)]
-pub(crate) struct Session<'a> {
+struct Session<'a> {
     scarce: Heap<'a>,
     ample: Heap<'a>,
-    pub(crate) store: ScriptEnd<Heap<'a>>,
+    store: ScriptEnd<Heap<'a>>,
     out: TextBuffer<Heap<'a>>,
 }
 
 impl<'a> Session<'a> {
-    pub(crate) fn new(scarce: Heap<'a>, ample: Heap<'a>) -> Self {
+    fn new(scarce: Heap<'a>, ample: Heap<'a>) -> Self {
         Session {
             scarce,
             ample,
             store: ScriptEnd::new(scarce),
             out: TextBuffer::new(ample),
         }
-    }
-
-    /// Answers all lines of a script with memory.
-    pub(crate) fn answer_all(&mut self, rt: &impl Abort, script: &str) {
-        answer_lines(rt, self, script, 0, usize::MAX);
     }
 }
 
@@ -76,7 +54,7 @@ fn answer_line(session: &mut Session<'_>, line: &str) -> Result<(), AllocError> 
 }
 
 /// Answers a line with memory, and sees that it is answered as the script says.
-fn expect_answer(rt: &impl Abort, session: &mut Session<'_>, step: Step<'_>) {
+fn expect_answer(rt: &impl Abort, session: &mut Session<'_>, step: MarkedLine<'_>) {
     session.scarce.allow_all();
     let answered = answer_line(session, step.line);
     expect!(rt; answered.is_ok(), step.line);
@@ -84,7 +62,7 @@ fn expect_answer(rt: &impl Abort, session: &mut Session<'_>, step: Step<'_>) {
 }
 
 /// Whether the last line was answered as the script says.
-fn is_answered(session: &Session<'_>, step: Step<'_>) -> bool {
+fn is_answered(session: &Session<'_>, step: MarkedLine<'_>) -> bool {
     session.out.as_slice() == step.answer.as_bytes()
 }
 
@@ -92,7 +70,7 @@ fn is_answered(session: &Session<'_>, step: Step<'_>) -> bool {
 fn answer_lines(rt: &impl Abort, session: &mut Session<'_>, script: &str, from: usize, to: usize) {
     for (index, text) in script.split('>').skip(1).enumerate() {
         if from <= index && index < to {
-            expect_answer(rt, session, step_of(rt, text));
+            expect_answer(rt, session, marked(rt, text));
         }
     }
 }
@@ -154,7 +132,12 @@ fn show(rt: &impl Abort, session: &mut Session<'_>) -> Digest {
 }
 
 /// Answers a line with this count of growths allowed: whether one was refused.
-fn answer_within(rt: &impl Abort, session: &mut Session<'_>, step: Step<'_>, allowed: u64) -> bool {
+fn answer_within(
+    rt: &impl Abort,
+    session: &mut Session<'_>,
+    step: MarkedLine<'_>,
+    allowed: u64,
+) -> bool {
     session.scarce.allow(allowed);
     let answered = answer_line(session, step.line);
     let refused = session.scarce.has_refused();
@@ -164,7 +147,12 @@ fn answer_within(rt: &impl Abort, session: &mut Session<'_>, step: Step<'_>, all
 
 /// Answers a line with this count of growths allowed: whether one was refused. Then there is no answer, and the store shows what it
 /// did before.
-fn is_refused(rt: &impl Abort, session: &mut Session<'_>, step: Step<'_>, allowed: u64) -> bool {
+fn is_refused(
+    rt: &impl Abort,
+    session: &mut Session<'_>,
+    step: MarkedLine<'_>,
+    allowed: u64,
+) -> bool {
     let line = step.line;
     let before = show(rt, session);
     let refused = answer_within(rt, session, step, allowed);
@@ -190,7 +178,7 @@ fn is_refused_at(
     let Some(text) = script.split('>').skip(1).nth(index) else {
         panic!(rt; "there is no line")
     };
-    let step = step_of(rt, text);
+    let step = marked(rt, text);
     let refused = is_refused(rt, session, step, allowed);
     let from = if refused {
         index
@@ -228,9 +216,9 @@ fn each_growth_of_each_line_is_refused(rt: HostRuntime) {
     let ample = Scarce::new(rt.alloc(), u64::MAX);
     for script in TRANSCRIPTS {
         for (index, text) in script.split('>').skip(1).enumerate() {
-            let step = step_of(&rt, text);
+            let step = marked(&rt, text);
             let growths = growths_at(&rt, &scarce, &ample, script, index);
-            let is_so = match step.memory {
+            let is_so = match step.mark {
                 "+" => growths > 0,
                 "-" => growths == 0,
                 _ => true,

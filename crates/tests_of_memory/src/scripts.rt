@@ -1,5 +1,4 @@
 //! Each growth refused in turn: a script writes a prefix of its answers, and it and a plan end in `NoMemory`.
-use crate::scarce::Scarce;
 use ordup_script::{PlanFault, ScriptFault, read_plan, run_script};
 use std::alloc::{AllocError, Global};
 use std::process::Abort;
@@ -7,6 +6,7 @@ use std::test::Fail;
 use test_fixtures::expect;
 use test_fixtures::readers::PieceReader;
 use test_fixtures::transcripts::{FIRST_RUN, parts};
+use test_memory_fixtures::Scarce;
 
 /// A shop and a depot: goods in a group, rounds of each, a swap, and queries that end and are given up.
 const SHOP: &str = "\

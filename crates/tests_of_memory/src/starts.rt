@@ -1,41 +1,18 @@
 //! A new primary, and a run of events, each with each of its growths refused in turn.
 use crate::expect::made;
-use crate::scarce::{Heap, Scarce};
 use ordup_answers::push_answer;
-use ordup_limits::Scope;
-use ordup_objects::{ObjectId, ObjectTable, Refusal, SiteId};
+use ordup_objects::{ObjectTable, Refusal};
 use ordup_primary::Primary;
 use ordup_text::TextBuffer;
-use ordup_world::{Event, Run, Setup, run};
+use ordup_world::{Event, Run, run};
 use std::alloc::AllocError;
 use std::process::Abort;
-use test_fixtures::{add, expect, x};
-
-/// The declarations of x, y and the site a, whose limit on x is 5. They are made with memory.
-fn declared<'a>(rt: &impl Abort, heap: Heap<'a>) -> Setup<Heap<'a>> {
-    heap.allow_all();
-    let mut setup = Setup::new(heap);
-    let a = SiteId::new(0);
-    expect!(rt; setup.object(b"x", 0).is_ok());
-    expect!(rt; setup.object(b"y", 10).is_ok());
-    expect!(rt; setup.site(b"a", 4).is_ok());
-    expect!(rt; setup.limit(a, Scope::Object(ObjectId::new(0)), 5).is_ok());
-    setup
-}
-
-/// A primary of these declarations.
-pub(crate) fn started<'a>(rt: &impl Abort, heap: Heap<'a>) -> Primary<Heap<'a>> {
-    let setup = declared(rt, heap);
-    expect!(rt; setup.is_ready());
-    let Ok(primary) = Primary::new(heap, setup) else {
-        panic!(rt; "there is no primary")
-    };
-    primary
-}
+use test_fixtures::{a, add, expect, x};
+use test_memory_fixtures::{Heap, Scarce, declared};
 
 /// Makes a primary with this count of growths allowed, where its declarations are given up: why there is none, if there is none.
 fn primary_refusal(rt: &impl Abort, heap: Heap<'_>, allowed: u64) -> Option<Refusal> {
-    let setup = declared(rt, heap);
+    let setup = made(rt, declared(heap));
     expect!(rt; setup.is_ready());
     heap.allow(allowed);
     match Primary::new(heap, setup) {
@@ -73,22 +50,21 @@ fn events<'a>(
     heap: Heap<'a>,
     objects: &ObjectTable<Heap<'a>>,
 ) -> Vec<Event<Heap<'a>>, Heap<'a>> {
-    let a = SiteId::new(0);
     let events = [
         Event::Propose(made(rt, add(objects, x(), 5))),
         Event::Settle,
         Event::Propose(made(rt, add(objects, x(), 1))),
         Event::Settle,
         Event::Settle,
-        Event::Send(a),
-        Event::Send(a),
-        Event::Apply(a),
-        Event::Report(a),
+        Event::Send(a()),
+        Event::Send(a()),
+        Event::Apply(a()),
+        Event::Report(a()),
         Event::Settle,
-        Event::Apply(a),
-        Event::Report(a),
+        Event::Apply(a()),
+        Event::Report(a()),
         Event::Settle,
-        Event::Show(a),
+        Event::Show(a()),
     ];
     let Ok(events) = Vec::from_array(heap, events) else {
         panic!(rt; "there is no list")
@@ -114,7 +90,7 @@ ok show a sent 2 applied 2 reported 2 rounds 1 x=6 y=10
 
 /// Runs the events with this count of growths allowed.
 fn run_with<'a>(rt: &impl Abort, heap: Heap<'a>, allowed: u64) -> Result<Run<Heap<'a>>, Refusal> {
-    let setup = declared(rt, heap);
+    let setup = made(rt, declared(heap));
     let events = events(rt, heap, setup.objects());
     heap.allow(allowed);
     run(heap, setup, events)

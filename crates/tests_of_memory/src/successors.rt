@@ -1,12 +1,12 @@
 //! The store that goes on from a primary: when there is one, what it begins with, and each growth of its setup refused in turn.
+use crate::expect::made;
 use crate::promises::successor;
-use crate::scarce::{Heap, Scarce};
-use crate::starts::started;
 use ordup_limits::{Limit, LimitEntry, Scope};
 use ordup_objects::Refusal;
 use ordup_primary::{Primary, Settled, Setup};
 use std::process::Abort;
-use test_fixtures::{a, expect, expect_eq, propose_add, x, y};
+use test_fixtures::{a, expect, expect_eq, mark_sent, propose_add, report_all, x, y};
+use test_memory_fixtures::{Heap, Scarce, started};
 
 /// Settles the head, and expects that this is acknowledged, where it is anything.
 fn settle<'a>(rt: &impl Abort, primary: &mut Primary<Heap<'a>>, acked: Option<u64>) {
@@ -26,20 +26,8 @@ fn lower<'a>(rt: &impl Abort, primary: &mut Primary<Heap<'a>>) {
 
 /// Notes that one update more was sent to a, and that a reported all that was sent to it.
 fn reach<'a>(rt: &impl Abort, primary: &mut Primary<Heap<'a>>) {
-    primary.keeps();
-    expect!(rt; primary.setup().sites() > 0);
-    expect!(rt; primary.sent(a()) < primary.log().len());
-    primary.mark_sent(a());
-    report(rt, primary);
-}
-
-/// Notes that a reported all that was sent to it.
-fn report<'a>(rt: &impl Abort, primary: &mut Primary<Heap<'a>>) {
-    primary.keeps();
-    expect!(rt; primary.setup().sites() > 0);
-    let sent = primary.sent(a());
-    expect!(rt; primary.reported(a()) <= sent);
-    primary.report(a(), sent);
+    made(rt, mark_sent(primary, a()));
+    made(rt, report_all(primary, a()));
 }
 
 /// Why no store goes on from a primary, if none does.
@@ -110,7 +98,7 @@ fn is_refused<'a>(
 #[test]
 fn a_store_goes_on_once_all_is_acknowledged(rt: HostRuntime) {
     let scarce = Scarce::new(rt.alloc(), 0);
-    let mut primary = started(&rt, &scarce);
+    let mut primary = made(&rt, started(&scarce));
     end(&rt, &scarce, &mut primary);
     let mut growths = 0u64;
     for allowed in 0..100u64 {

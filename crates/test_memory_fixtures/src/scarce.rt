@@ -4,17 +4,17 @@ use std::cell::Cell;
 
 /// Passes each call on, and refuses every allocation after those that are allowed.
 #[derive(Drop)]
-pub(crate) struct Scarce<A: Allocator> {
+pub struct Scarce<A: Allocator> {
     heap: A,
     /// How many allocations there are up to the first that is refused, with that one. It is 0 once one was refused.
     until_refused: Cell<u64>,
 }
 
 /// Where what is tested takes its memory from.
-pub(crate) type Heap<'a> = &'a Scarce<Global>;
+pub type Heap<'a> = &'a Scarce<Global>;
 
 impl<A: Allocator> Scarce<A> {
-    pub(crate) fn new(heap: A, allocations: u64) -> Self {
+    pub fn new(heap: A, allocations: u64) -> Self {
         Scarce {
             heap,
             until_refused: Cell::new(allocations.saturating_add(1)),
@@ -22,17 +22,17 @@ impl<A: Allocator> Scarce<A> {
     }
 
     /// Allows this count of allocations from now on.
-    pub(crate) fn allow(&self, allocations: u64) {
+    pub fn allow(&self, allocations: u64) {
         self.until_refused.set(allocations.saturating_add(1));
     }
 
     /// Allows more allocations than a test makes.
-    pub(crate) fn allow_all(&self) {
+    pub fn allow_all(&self) {
         self.allow(u64::MAX);
     }
 
     /// Whether one was refused since they were last allowed.
-    pub(crate) fn has_refused(&self) -> bool {
+    pub fn has_refused(&self) -> bool {
         self.until_refused.get() == 0
     }
 }

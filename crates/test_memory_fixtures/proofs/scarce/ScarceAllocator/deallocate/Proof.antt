@@ -39,11 +39,11 @@ use denote.RawPtr.{Ptr, block_ptr, null_ptr, ptr_val, rawptr_vals, rawptr_Tells}
 use denote.Builtin.{usize, RawPtr, RefOf}
 use denote.Triple.Call.{calls_at}
 use Rattle.std.proofs.alloc.Calls.{Al, α, seen, token, gives_key, Gives, at_gives, Gives-goes, Gives-Gives}
-use Rattle.tests_of_memory.specs.contracts.scarce.Scarce as wrapper
-use Rattle.tests_of_memory.specs.contracts.scarce.ScarceAllocator.deallocate as F
-use Rattle.tests_of_memory.specs.contracts.scarce.ScarceAllocator.deallocate.Key as key
-use Rattle.tests_of_memory.proofs.scarce.ScarceAllocator.deallocate.Statement as stated
-use Rattle.tests_of_memory.proofs.scarce.ScarceAllocator.deallocate.Code as code
+use Rattle.test_memory_fixtures.specs.contracts.scarce.Scarce as wrapper
+use Rattle.test_memory_fixtures.specs.contracts.scarce.ScarceAllocator.deallocate as F
+use Rattle.test_memory_fixtures.specs.contracts.scarce.ScarceAllocator.deallocate.Key as key
+use Rattle.test_memory_fixtures.proofs.scarce.ScarceAllocator.deallocate.Statement as stated
+use Rattle.test_memory_fixtures.proofs.scarce.ScarceAllocator.deallocate.Code as code
 
 module _ (Z : Al) where
   abbrev args : Args

@@ -1,17 +1,13 @@
 //! Steps of a world and of a primary that take no memory: with every growth refused they are answered as ever.
-use crate::changed_limits::relimit;
-use crate::growths::GROUPED;
-use crate::lines::Session;
-use crate::scarce::{Heap, Scarce};
-use crate::starts::started;
-use ordup_answers::ScriptEnd;
+use crate::expect::made;
 use ordup_limits::Scope;
 use ordup_objects::{Name, ObjectId, Refusal, SiteId};
 use ordup_primary::Primary;
 use ordup_query::{QueryAnswer, ReadAnswer};
 use ordup_world::{Answer, Event, World};
 use std::process::Abort;
-use test_fixtures::{a, expect, expect_eq, propose_add, x, y, z};
+use test_fixtures::{a, expect, expect_eq, mark_sent, propose_add, report_all, x, y, z};
+use test_memory_fixtures::{Heap, Scarce, grouped, started};
 
 /// What an event is answered, of those that take no memory.
 #[derive(Clone, Copy, Debug, PartialEq)]
@@ -45,13 +41,6 @@ fn step<'a>(world: &mut World<Heap<'a>>, event: Event<Heap<'a>>) -> Told {
     told
 }
 
-fn name(rt: &impl Abort, bytes: &[u8]) -> Name {
-    let Ok(name) = Name::new(bytes) else {
-        panic!(rt; "there is no name")
-    };
-    name
-}
-
 /// Begins a query at a, with this import limit.
 fn begin<'a>(world: &mut World<Heap<'a>>, query: Name, limit: u64) -> Told {
     let site = a();
@@ -65,7 +54,7 @@ fn read<'a>(world: &mut World<Heap<'a>>, query: Name, object: ObjectId) -> Told 
 
 /// Sends the third update to a, and begins two queries there, whose reference is the second: with memory. The rest has none.
 fn expect_steps<'a>(rt: &impl Abort, heap: Heap<'a>, world: &mut World<Heap<'a>>) {
-    let (q, r) = (name(rt, b"q"), name(rt, b"r"));
+    let (q, r) = (made(rt, Name::new(b"q")), made(rt, Name::new(b"r")));
     heap.allow_all();
     expect_eq!(rt; step(world, Event::Send(a())), Told::Other);
     expect_eq!(rt; begin(world, q, 5), Told::Other);
@@ -107,37 +96,23 @@ fn expect_steps<'a>(rt: &impl Abort, heap: Heap<'a>, world: &mut World<Heap<'a>>
 #[test]
 fn a_world_is_stepped_without_memory(rt: HostRuntime) {
     let scarce = Scarce::new(rt.alloc(), u64::MAX);
-    let ample = Scarce::new(rt.alloc(), u64::MAX);
-    let mut session = Session::new(&scarce, &ample);
-    session.answer_all(&rt, GROUPED);
-    if let ScriptEnd::Running(world) = &mut session.store {
-        expect_steps(&rt, &scarce, world);
-    }
-    drop(session);
+    let mut world = made(&rt, grouped(&scarce));
+    expect_steps(&rt, &scarce, &mut world);
+    world.discard();
 }
 
-/// Notes that the next update was sent to a.
-fn mark_sent<'a>(rt: &impl Abort, primary: &mut Primary<Heap<'a>>) {
+/// Replaces the limit of a on x by 3.
+fn relimit<'a>(rt: &impl Abort, primary: &mut Primary<Heap<'a>>) -> Result<u64, Refusal> {
     primary.keeps();
     expect!(rt; primary.setup().sites() > 0);
-    expect!(rt; primary.sent(a()) < primary.log().len());
-    primary.mark_sent(a());
-}
-
-/// Notes that a reported all that was sent to it.
-fn report<'a>(rt: &impl Abort, primary: &mut Primary<Heap<'a>>) {
-    primary.keeps();
-    expect!(rt; primary.setup().sites() > 0);
-    let sent = primary.sent(a());
-    expect!(rt; primary.reported(a()) <= sent);
-    primary.report(a(), sent);
+    primary.relimit(a(), Scope::Object(x()), 3)
 }
 
 /// Sees that one update was sent to a and reported by it, and that its limit on x is 3, and the only one.
 fn expect_noted<'a>(rt: &impl Abort, primary: &Primary<Heap<'a>>) {
     primary.keeps();
     expect!(rt; primary.setup().sites() > 0);
-    expect_eq!(rt; (primary.sent(a()), primary.reported(a())), (1, 1));
+    expect_eq!(rt; [primary.sent(a()), primary.reported(a())], [1, 1]);
     let limits = primary.limits(a());
     expect!(rt; limits.len() == 1);
     expect!(rt; limits.entries().len() == 1);
@@ -151,12 +126,12 @@ fn expect_noted<'a>(rt: &impl Abort, primary: &Primary<Heap<'a>>) {
 #[test]
 fn a_primary_notes_what_is_sent_and_reported_without_memory(rt: HostRuntime) {
     let scarce = Scarce::new(rt.alloc(), 0);
-    let mut primary = started(&rt, &scarce);
+    let mut primary = made(&rt, started(&scarce));
     expect_eq!(&rt; propose_add(&mut primary, 3), Ok(1));
     scarce.allow(0);
-    expect_eq!(&rt; relimit(&rt, &mut primary, &Scope::Object(x())), Ok(1));
-    mark_sent(&rt, &mut primary);
-    report(&rt, &mut primary);
+    expect_eq!(&rt; relimit(&rt, &mut primary), Ok(1));
+    made(&rt, mark_sent(&mut primary, a()));
+    made(&rt, report_all(&mut primary, a()));
     expect_noted(&rt, &primary);
     expect!(&rt; !scarce.has_refused());
     primary.discard();

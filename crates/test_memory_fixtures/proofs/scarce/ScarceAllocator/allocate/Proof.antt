@@ -44,14 +44,14 @@ use Rattle.std.proofs.alloc.Calls.{Al, α, seen, token, Answer, answer_val, Answ
 use Rattle.std.proofs.alloc.Calls.{takes_key, Takes, at_takes, Answered, Takes-goes, Takes-gives, answers}
 use Rattle.std.proofs.alloc.Shapes.{after}
 use Rattle.std.specs.contracts.cell.Cell as cell
-use Rattle.tests_of_memory.specs.contracts.scarce.take_one as taking
-use Rattle.tests_of_memory.proofs.scarce.take_one.Symbol as c_sym
-use Rattle.tests_of_memory.proofs.scarce.take_one.Met as c_met
-use Rattle.tests_of_memory.specs.contracts.scarce.Scarce as wrapper
-use Rattle.tests_of_memory.specs.contracts.scarce.ScarceAllocator.allocate as F
-use Rattle.tests_of_memory.specs.contracts.scarce.ScarceAllocator.allocate.Key as key
-use Rattle.tests_of_memory.proofs.scarce.ScarceAllocator.allocate.Statement as stated
-use Rattle.tests_of_memory.proofs.scarce.ScarceAllocator.allocate.Code as code
+use Rattle.test_memory_fixtures.specs.contracts.scarce.take_one as taking
+use Rattle.test_memory_fixtures.proofs.scarce.take_one.Symbol as c_sym
+use Rattle.test_memory_fixtures.proofs.scarce.take_one.Met as c_met
+use Rattle.test_memory_fixtures.specs.contracts.scarce.Scarce as wrapper
+use Rattle.test_memory_fixtures.specs.contracts.scarce.ScarceAllocator.allocate as F
+use Rattle.test_memory_fixtures.specs.contracts.scarce.ScarceAllocator.allocate.Key as key
+use Rattle.test_memory_fixtures.proofs.scarce.ScarceAllocator.allocate.Statement as stated
+use Rattle.test_memory_fixtures.proofs.scarce.ScarceAllocator.allocate.Code as code
 
 -- ---- `take_one` at a call
 abbrev Left : RattleType
@@ -214,5 +214,5 @@ allocate_spec 𝓤 𝓛 𝓜 𝓡 wired Y L g d d' met _ =
     (λ κs qs bounds a τ are.
     walk Z 𝓛 𝓜.mem 𝓡.returns 𝓣 (met.allocate d')
     (cited 𝓤 𝓛.H _ 𝓜 𝓡 𝓡.env c_sym.name (𝓡.env c_sym.name) refl
-    (c_met.met 𝓤 𝓛 𝓜 𝓡 (code.calls-tests_of_memory::scarce::take_one 𝓡.env wired)))
+    (c_met.met 𝓤 𝓛 𝓜 𝓡 (code.calls-test_memory_fixtures::scarce::take_one 𝓡.env wired)))
     κs.0 κs.1.0 qs.0 qs.1.0 bounds.0 a.0 a.1.0 a.1.1.0 τ are.1.0.1 are.1.1.0.1)))

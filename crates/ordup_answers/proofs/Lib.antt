@@ -1,3 +1,4 @@
+pub mod Lines
 pub mod RefusalLemmas
 pub mod NearestNumberLemmas
 pub mod AnsweringLemmas

@@ -7,5 +7,7 @@ pub mod Declarations
 pub mod Events
 pub mod ScriptStates
 pub mod Replies
+pub mod Scripts
+pub mod Output
 pub mod KnownLines
 pub mod Answers

@@ -1,7 +1,7 @@
 -- What a call tells of a text, worked out by hand: no definition can change its meaning unseen.
 use Rattle.std.proofs.Common.{◌≡◌, ℕ, [], ◌∷◌, ap, length, refl, arith}
 use Rattle.std.specs.Prelude.{codes}
-use Rattle.ordup_script.specs.Scripts.{lines_of}
+use Rattle.ordup_answers.specs.Scripts.{lines_of}
 use Rattle.ordup_c.specs.Calls.{status_of}
 use Rattle.ordup_c.specs.Sessions.{IsFront, kept}
 use Rattle.ordup_c.specs.declared.session.Session.{Session}

@@ -9,10 +9,9 @@ use Rattle.ordup_answers.specs.Replies.{request_reply, reply}
 use Rattle.ordup_answers.specs.ScriptStates.{ScriptState, Stands, first_state}
 use Rattle.ordup_grammar.specs.Requests.{Request, request_of}
 use Rattle.ordup_grammar.specs.Lines.{IsPart, Line, cut}
-use Rattle.ordup_script.proofs.Lines.{ends, joins, last-line, last-none}
-use Rattle.ordup_script.specs.Output.{Written, answered, written}
-use Rattle.ordup_script.specs.Readings.{IsCut}
-use Rattle.ordup_script.specs.Scripts.{after_lines, lines_of}
+use Rattle.ordup_answers.proofs.Lines.{ends, joins, last-line, last-none}
+use Rattle.ordup_answers.specs.Output.{Written, answered, written}
+use Rattle.ordup_answers.specs.Scripts.{IsCut, after_lines, lines_of}
 use Rattle.ordup_c.specs.Laws.{HasRun}
 use Rattle.ordup_c.specs.declared.session.Session.{Session}
 use Rattle.ordup_c.specs.Sessions.{Follows, Stays, TakesFront, answers_to, kept}

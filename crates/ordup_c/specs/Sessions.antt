@@ -3,8 +3,8 @@ use Rattle.std.specs.Prelude.{◌≡◌, ℕ, ◌≤◌, true, List, [], ◌++�
 use Rattle.std.specs.declared.alloc.Global.{Global}
 use Rattle.ordup_grammar.specs.Lines.{Line}
 use Rattle.ordup_answers.specs.ScriptStates.{ScriptState, Stands, first_state}
-use Rattle.ordup_script.specs.Output.{Written, answered}
-use Rattle.ordup_script.specs.Scripts.{after_lines, lines_of}
+use Rattle.ordup_answers.specs.Output.{Written, answered}
+use Rattle.ordup_answers.specs.Scripts.{after_lines, lines_of}
 use Rattle.ordup_c.specs.declared.session.Session.{Session}
 
 -- the answers that were not given yet

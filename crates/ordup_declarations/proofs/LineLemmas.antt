@@ -6,10 +6,9 @@ use Rattle.ordup_grammar.specs.Lines.{IsPart, cut}
 use Rattle.ordup_grammar.specs.Requests.{request_by_words, request_of}
 use Rattle.ordup_answers.specs.Replies.{reply, request_reply}
 use Rattle.ordup_answers.specs.ScriptStates.{ScriptState, first_state}
-use Rattle.ordup_script.specs.Output.{Written, answered, state_after, unwritten}
-use Rattle.ordup_script.specs.Readings.{IsCut}
-use Rattle.ordup_script.specs.Scripts.{after_lines, lines_of}
-use Rattle.ordup_script.proofs.Lines.{ends}
+use Rattle.ordup_answers.specs.Output.{Written, answered, state_after, unwritten}
+use Rattle.ordup_answers.specs.Scripts.{IsCut, after_lines, lines_of}
+use Rattle.ordup_answers.proofs.Lines.{ends}
 use Rattle.ordup_declarations.specs.Lines.{lines_text, spaced}
 use Rattle.ordup_declarations.proofs.Words.{IsWordLine, state_by}
 use Rattle.ordup_declarations.proofs.WordLemmas.{words_are_part, words_are_printed, words_are_read, words_are_short}

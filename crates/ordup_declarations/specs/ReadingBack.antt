@@ -2,7 +2,7 @@
 use Rattle.std.specs.Prelude.{◌≡◌, []}
 use Rattle.ordup_primary.specs.Declarations.{Declared}
 use Rattle.ordup_answers.specs.ScriptStates.{running}
-use Rattle.ordup_script.specs.Output.{state_after}
+use Rattle.ordup_answers.specs.Output.{state_after}
 use Rattle.ordup_declarations.specs.Declarations.{declarations_text}
 
 -- these lines, run as a script, declare the store and start it

@@ -11,7 +11,7 @@ use Rattle.ordup_grammar.specs.Requests.{Request, request_of}
 use Rattle.ordup_grammar.specs.Lines.{Line}
 use Rattle.ordup_script.specs.Answerers.{HasAnswered, HasStopped, IsLater}
 use Rattle.ordup_text.specs.Fronts.{AppendsFront}
-use Rattle.ordup_script.specs.Output.{Written, answered, written}
+use Rattle.ordup_answers.specs.Output.{Written, answered, written}
 use Rattle.ordup_script.specs.declared.stream.Answerer.{Answerer}
 use Rattle.ordup_script.specs.declared.stream.ScriptFault.{ScriptFault}
 use Rattle.ordup_script.specs.declared.stream.ScriptFault.TheVariants as fault

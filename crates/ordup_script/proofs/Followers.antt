@@ -8,7 +8,7 @@ use Rattle.ordup_grammar.specs.Requests.{Request, request_of}
 use Rattle.ordup_grammar.specs.Lines.{Line}
 use Rattle.ordup_script.specs.Followers.{HasFollowed}
 use Rattle.ordup_script.specs.Readings.{Takes}
-use Rattle.ordup_script.specs.Output.{Written, answered, written}
+use Rattle.ordup_answers.specs.Output.{Written, answered, written}
 use Rattle.ordup_script.specs.declared.following.Follower.{Follower}
 use Rattle.ordup_script.proofs.Output.{after_lines-append}
 

@@ -1,4 +1,3 @@
-pub mod Lines
 pub mod Readings
 pub mod Output
 pub mod Answerers

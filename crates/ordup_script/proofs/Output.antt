@@ -4,8 +4,8 @@ use Rattle.std.proofs.lemmas.List.{append-nil}
 use Rattle.ordup_grammar.specs.Lines.{Line}
 use Rattle.ordup_answers.specs.Replies.{reply}
 use Rattle.ordup_text.specs.Fronts.{AppendsFront}
-use Rattle.ordup_script.specs.Output.{Written, answered, written}
-use Rattle.ordup_script.specs.Scripts.{after_lines}
+use Rattle.ordup_answers.specs.Output.{Written, answered, written}
+use Rattle.ordup_answers.specs.Scripts.{after_lines}
 
 -- lines after others
 pub after_lines-append : {S : Type 0} (step : S → Line → S) (s : S) (lines more : List Line)

@@ -14,7 +14,7 @@ use Rattle.ordup_script.specs.PlanReadings.{ReadsInto, ReadsPlan}
 use Rattle.ordup_script.specs.Plans.{command_in, request_in, words_in, first_plan, malformed, plan_of, plan_result, planned, planning}
 use Rattle.ordup_script.specs.Readings.{Reads, Takes, TookOr}
 use Rattle.ordup_script.specs.declared.line_reader.Extent.TheVariants as extent
-use Rattle.ordup_script.specs.Scripts.{after_lines, lines_of}
+use Rattle.ordup_answers.specs.Scripts.{after_lines, lines_of}
 use Rattle.ordup_script.specs.Streams.{Input}
 use Rattle.ordup_script.specs.declared.plan.Planning.{Planning}
 use Rattle.ordup_script.specs.declared.plan.PlanFault.{PlanFault}

@@ -19,7 +19,7 @@ use Rattle.ordup_answers.specs.Declarations.{with_declaration}
 use Rattle.ordup_answers.specs.Refusals.{unless}
 use Rattle.ordup_script.specs.Plans.{IsPlan, PlanState, belongs_as, command_in, first_plan}
 use Rattle.ordup_script.specs.Plans.{malformed, plan_result, planned, planning, request_in}
-use Rattle.ordup_script.specs.Scripts.{after_lines}
+use Rattle.ordup_answers.specs.Scripts.{after_lines}
 
 -- before the start there is no set; after it the plan is complete
 abbrev IsSound : PlanState → Type 0

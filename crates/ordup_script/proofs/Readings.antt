@@ -8,10 +8,10 @@ use Rattle.std.proofs.KnownBytes.{Consumes-trans}
 use Rattle.std.specs.Io.KnownBytes.{Consumes}
 use Rattle.ordup_grammar.specs.LineBuffers.{Holds}
 use Rattle.ordup_grammar.specs.Lines.{IsPart, Line, cut}
-use Rattle.ordup_script.specs.Readings.{EndsIn, IsCut, IsRead, IsReadOr, Reads, ReadsOn, Takes, TookAllOr}
-use Rattle.ordup_script.specs.Scripts.{lines_of}
+use Rattle.ordup_script.specs.Readings.{EndsIn, IsRead, IsReadOr, Reads, ReadsOn, Takes, TookAllOr}
+use Rattle.ordup_answers.specs.Scripts.{IsCut, lines_of}
 use Rattle.ordup_script.specs.declared.line_reader.Extent.TheVariants as extent
-use Rattle.ordup_script.proofs.Lines.{ends, joins, last-line, last-none, lines-ended}
+use Rattle.ordup_answers.proofs.Lines.{ends, joins, last-line, last-none, lines-ended}
 
 -- the lines that ended were taken
 pub takes_ended : (took : List Line → Type 0) {held : Line} {script : List ℕ} → IsRead took held script

@@ -6,7 +6,7 @@ use Rattle.std.proofs.KnownBytes.{Consumes-whole}
 use Rattle.std.specs.Io.KnownBytes.{Appends, Consumes, IsAtEnd}
 use Rattle.ordup_grammar.specs.Lines.{Line}
 use Rattle.ordup_script.specs.Answerers.{HasAnswered, HasStopped, IsLater}
-use Rattle.ordup_script.specs.Output.{out, written}
+use Rattle.ordup_answers.specs.Output.{out, written}
 use Rattle.ordup_script.specs.Readings.{Reads}
 use Rattle.ordup_text.specs.Fronts.{AppendsFront}
 use Rattle.ordup_script.specs.Runs.{Runs}

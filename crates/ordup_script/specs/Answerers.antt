@@ -8,7 +8,7 @@ use Rattle.ordup_script.specs.declared.stream.Answerer.{Answerer}
 use Rattle.ordup_script.specs.declared.stream.ScriptFault.{ScriptFault}
 use Rattle.ordup_script.specs.declared.stream.ScriptFault.TheVariants as fault
 use Rattle.ordup_text.specs.Fronts.{AppendsFront}
-use Rattle.ordup_script.specs.Output.{written}
+use Rattle.ordup_answers.specs.Output.{written}
 
 -- one answerer is the other, later: its references are the same
 pub record IsLater {W A : Type 0} (first now : Answerer W A) : Type 0 where

@@ -1,6 +1,4 @@
 pub mod Streams
-pub mod Scripts
-pub mod Output
 pub mod Readings
 pub mod Answerers
 pub mod Followers

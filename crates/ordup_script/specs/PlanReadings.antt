@@ -5,7 +5,7 @@ use Rattle.ordup_script.specs.declared.plan.Plan.{Plan}
 use Rattle.ordup_script.specs.declared.plan.PlanFault.{PlanFault}
 use Rattle.ordup_script.specs.declared.plan.PlanFault.TheVariants as fault
 use Rattle.ordup_script.specs.Plans.{PlanState, IsPlan, planning, malformed, planned, first_plan, plan_of}
-use Rattle.ordup_script.specs.Scripts.{after_lines, lines_of}
+use Rattle.ordup_answers.specs.Scripts.{after_lines, lines_of}
 use Rattle.ordup_script.specs.Streams.{Input}
 
 -- each line so far belongs

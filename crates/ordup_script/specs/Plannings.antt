@@ -8,7 +8,7 @@ use Rattle.ordup_script.specs.declared.plan.Planning.{Planning}
 use Rattle.ordup_script.specs.declared.plan.PlanFault.{PlanFault}
 use Rattle.ordup_script.specs.declared.plan.PlanFault.TheVariants as fault
 use Rattle.ordup_script.specs.Plans.{PlanState, planning, malformed, planned, first_plan}
-use Rattle.ordup_script.specs.Scripts.{after_lines}
+use Rattle.ordup_answers.specs.Scripts.{after_lines}
 
 -- the state of a plan by the fields that stand for it
 abbrev pub plan_state : {A : Type 0} → Planning A → PlanState

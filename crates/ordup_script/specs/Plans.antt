@@ -6,7 +6,7 @@ use Rattle.ordup_objects.specs.declared.refusal.Refusal.{Refusal}
 use Rattle.ordup_objects.specs.Sets.{AreKnown, IsSet}
 use Rattle.ordup_primary.specs.Declarations.{Declared, is_ready, start_refusal}
 use Rattle.ordup_grammar.specs.Lines.{Line}
-use Rattle.ordup_script.specs.Scripts.{after_lines, lines_of}
+use Rattle.ordup_answers.specs.Scripts.{after_lines, lines_of}
 use Rattle.ordup_grammar.specs.Actions.{Propose}
 use Rattle.ordup_grammar.specs.Commands.{Command, Declare, Start, Act}
 use Rattle.ordup_grammar.specs.Requests.{Request, request_of}

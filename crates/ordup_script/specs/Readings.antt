@@ -1,17 +1,13 @@
 -- What reading the lines of a script leaves.
-use Rattle.std.specs.Prelude.{◌≡◌, ◌⊎◌, ℕ, Bool, true, false, List, ◌++◌}
+use Rattle.std.specs.Prelude.{◌⊎◌, ℕ, true, false, List, ◌++◌}
 use Rattle.std.specs.Prelude.{◌<◌, ◌≤◌, length, take, Result, Ok, Err}
 use Rattle.std.specs.Io.KnownBytes.{Consumes, IsAtEnd}
 use Rattle.ordup_grammar.specs.Lines.{Line}
 use Rattle.ordup_grammar.specs.LineBuffers.{Holds}
 use Rattle.ordup_script.specs.declared.line_reader.Extent.{Extent}
 use Rattle.ordup_script.specs.declared.line_reader.Extent.TheVariants as extent
-use Rattle.ordup_script.specs.Scripts.{lines_of}
+use Rattle.ordup_answers.specs.Scripts.{IsCut, lines_of}
 use Rattle.ordup_script.specs.Streams.{Input}
-
--- these lines of a script ended, and this part of one did not
-pub record IsCut (script : List ℕ) (lines : List Line) (part : List ℕ) : Type 0 where
-  pub same : (counts : Bool) (rest : List ℕ) → lines_of counts (script ++ rest) ≡ lines ++ lines_of counts (part ++ rest)
 
 -- the lines of a script that ended were taken, and the part of one that did not is held
 pub record IsRead (took : List Line → Type 0) (held : Line) (script : List ℕ) : Type 0 where

@@ -6,7 +6,7 @@ use Rattle.ordup_answers.specs.ScriptStates.{Stands}
 use Rattle.ordup_script.specs.declared.stream.ScriptFault.{ScriptFault}
 use Rattle.ordup_script.specs.declared.stream.ScriptFault.TheVariants as fault
 use Rattle.ordup_text.specs.Fronts.{AppendsFront}
-use Rattle.ordup_script.specs.Output.{out, out_of_ended, state_after}
+use Rattle.ordup_answers.specs.Output.{out, out_of_ended, state_after}
 use Rattle.ordup_script.specs.Streams.{Streams}
 
 -- the end is that of a run of this script

@@ -17,3 +17,7 @@ pub record Streams : Type 0 where
   pub has : Bytes
   pub old : Bytes
   pub new : Bytes
+
+-- the most lines or bytes that a number of 64 bits counts
+abbrev pub most_counted : ℕ
+most_counted = 18446744073709551615

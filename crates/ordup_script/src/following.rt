@@ -2,7 +2,7 @@
 ghost use Rattle.std.specs.Prelude.{◌≡◌, ◌+◌, [], None, IfErr};
 ghost use Rattle.ordup_script.specs.Followers.{HasFollowed};
 ghost use Rattle.ordup_script.specs.Runs.{Runs, RunsIn};
-ghost use Rattle.ordup_script.specs.Scripts.{most_counted};
+ghost use Rattle.ordup_script.specs.Streams.{most_counted};
 
 use crate::line_reader::{Extent, LineTaker, read_lines};
 use crate::sizes::MOST_SCRIPT_BYTES;

@@ -5,7 +5,7 @@ ghost use Rattle.ordup_grammar.specs.Requests.{asked};
 ghost use Rattle.ordup_grammar.specs.declared.keyword.Keyword.{Keyword};
 ghost use Rattle.ordup_script.specs.Plans.{request_in, words_in, plan_result, planning, malformed};
 ghost use Rattle.ordup_script.specs.Plannings.{Tells, HasPlanned, HasRefused, LeadsTo, plan_state};
-ghost use Rattle.ordup_script.specs.Scripts.{most_counted};
+ghost use Rattle.ordup_script.specs.Streams.{most_counted};
 
 use crate::line_reader::LineTaker;
 use ordup_answers::{declare, set_in};

@@ -5,7 +5,7 @@ ghost use Rattle.ordup_answers.specs.ScriptStates.{Stands, first_state};
 ghost use Rattle.ordup_script.specs.Answerers.{HasAnswered, HasStopped};
 ghost use Rattle.ordup_script.specs.Readings.{Takes};
 ghost use Rattle.ordup_script.specs.Runs.{Runs, RunsIn};
-ghost use Rattle.ordup_script.specs.Scripts.{most_counted};
+ghost use Rattle.ordup_script.specs.Streams.{most_counted};
 
 use crate::line_reader::{Extent, LineTaker, read_lines};
 use crate::sizes::{MOST_SCRIPT_BYTES, PIECE};

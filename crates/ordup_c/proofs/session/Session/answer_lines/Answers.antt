@@ -1,8 +1,8 @@
 use Rattle.std.proofs.Common.{◌≡◌, ◌∙◌, ◌++◌, ◌∷◌, [], ◌<◌, rules, refl, sym, ap, arith, append_assoc, length, length-append, subst, true}
 use Rattle.std.proofs.lemmas.List.{append-nil}
 use Rattle.ordup_grammar.specs.Lines.{cut}
-use Rattle.ordup_script.specs.Scripts.{lines_of}
-use Rattle.ordup_script.proofs.Lines.{ends, joins, last-none}
+use Rattle.ordup_answers.specs.Scripts.{lines_of}
+use Rattle.ordup_answers.proofs.Lines.{ends, joins, last-none}
 use Rattle.ordup_c.specs.Sessions.{Follows}
 use Rattle.ordup_c.proofs.Sessions.{follows_none, follows_stays, follows_then, last_too, no_bytes, takes_all, takes_ended}
 use Rattle.ordup_c.proofs.session.Session.answer_lines.Goals as goal

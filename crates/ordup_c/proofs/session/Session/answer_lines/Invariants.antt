@@ -1,6 +1,6 @@
 use Rattle.std.proofs.Common.{◌≡◌, ◌++◌, [], List, ℕ, length}
 use Rattle.ordup_grammar.specs.Lines.{Line}
-use Rattle.ordup_script.specs.Readings.{IsCut}
+use Rattle.ordup_answers.specs.Scripts.{IsCut}
 use Rattle.ordup_c.specs.Sessions.{Follows}
 use Rattle.ordup_c.proofs.session.Session.answer_lines.Given as goal
 

@@ -1,11 +1,7 @@
 -- The lines of a script, and what a state becomes line by line.
-use Rattle.std.specs.Prelude.{ℕ, Bool, ◌&&◌, ◌==◌, not, List, [], ◌∷◌, length, if◌then◌else◌}
+use Rattle.std.specs.Prelude.{◌≡◌, ℕ, Bool, ◌&&◌, ◌==◌, not, List, [], ◌∷◌, ◌++◌, length, if◌then◌else◌}
 use Rattle.std.specs.List.{slice_split}
 use Rattle.ordup_grammar.specs.Lines.{Line, cut, is_line_feed}
-
--- the most lines or bytes that a number of 64 bits counts
-abbrev pub most_counted : ℕ
-most_counted = 18446744073709551615
 
 -- the lines among the parts between line feeds: the last part is a line only where it counts and has a byte
 abbrev pub lines_among : Bool → List (List ℕ) → List Line
@@ -21,3 +17,7 @@ lines_of counts script = lines_among counts (slice_split is_line_feed script)
 abbrev pub after_lines : {S : Type 0} → (S → Line → S) → S → List Line → S
 after_lines step s [] = s
 after_lines step s (line ∷ lines) = after_lines step (step s line) lines
+
+-- these lines of a script ended, and this part of one did not
+pub record IsCut (script : List ℕ) (lines : List Line) (part : List ℕ) : Type 0 where
+  pub same : (counts : Bool) (rest : List ℕ) → lines_of counts (script ++ rest) ≡ lines ++ lines_of counts (part ++ rest)

@@ -1,7 +1,7 @@
 -- What is written for a script, line by line.
 use Rattle.std.specs.Prelude.{ℕ, true, false, List, [], ◌++◌}
 use Rattle.ordup_grammar.specs.Lines.{Line}
-use Rattle.ordup_script.specs.Scripts.{after_lines, lines_of}
+use Rattle.ordup_answers.specs.Scripts.{after_lines, lines_of}
 use Rattle.ordup_answers.specs.ScriptStates.{ScriptState, first_state}
 use Rattle.ordup_answers.specs.Replies.{reply}
 

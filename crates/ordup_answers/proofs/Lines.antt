@@ -6,8 +6,7 @@ use Rattle.std.proofs.lemmas.List.{append-nil}
 use Rattle.std.proofs.lemmas.List.Splits.{slice_split_at, slice_split_none}
 use Rattle.std.proofs.lemmas.Bool.Decides.{nat_tests}
 use Rattle.ordup_grammar.specs.Lines.{IsPart, Line, cut, is_line_feed}
-use Rattle.ordup_script.specs.Readings.{IsCut}
-use Rattle.ordup_script.specs.Scripts.{lines_of}
+use Rattle.ordup_answers.specs.Scripts.{IsCut, lines_of}
 
 -- ---- the parts between line feeds
 

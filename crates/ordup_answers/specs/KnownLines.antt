@@ -9,7 +9,8 @@ use Rattle.ordup_grammar.specs.SiteLines.{action_at}
 use Rattle.ordup_answers.specs.declared.known_line.KnownLine.{KnownLine}
 use Rattle.ordup_answers.specs.declared.known_lines.KnownLines.{KnownLines}
 use Rattle.ordup_answers.specs.Names.{index_among}
-use Rattle.ordup_answers.specs.ScriptStates.{ScriptState, declaring, running}
+use Rattle.ordup_answers.specs.declared.script_end.ScriptEnd.{ScriptEnd}
+use Rattle.ordup_answers.specs.ScriptStates.{ScriptState, Stands, declaring, running}
 
 -- the line
 abbrev pub line_of : KnownLine → List ℕ
@@ -37,3 +38,7 @@ Knows known (running d past) = AreKnown d known
 abbrev pub TellsIn : {A : Type 0} → KnownLine → ScriptState A → Type 0
 TellsIn line (declaring d) = Tells d line
 TellsIn line (running d past) = Tells d line
+
+-- the script stands in some state, of which what is kept of lines is true
+abbrev pub IsAnswering : {A : Type 0} → ScriptEnd A → KnownLines → Type 0
+IsAnswering {A} end known = (s : ScriptState A) × Stands end s × Knows known s

@@ -8,13 +8,15 @@ ghost use Rattle.ordup_answers.specs.ScriptStates.{ScriptState, Declares, IsWorl
 ghost use Rattle.ordup_answers.specs.Replies.{declared_name, request_reply, words_reply, command_reply, reply_or_refusal};
 ghost use Rattle.ordup_answers.specs.ScriptStates.{running};
 ghost use Rattle.ordup_primary.specs.Declarations.{Declared, start_refusal};
-ghost use Rattle.ordup_answers.specs.Answers.{Leaves};
+ghost use Rattle.ordup_answers.specs.Answers.{Leaves, Replies, StaysPut};
+ghost use Rattle.ordup_answers.specs.KnownLines.{Knows};
 
 use crate::declarations::declare;
 use crate::events::{
-    answer_abandon, answer_at_site, answer_begin, answer_end, answer_propose, answer_read,
-    answer_relimit, answer_settle, answer_show, answer_words_at_site,
+    answer_abandon, answer_begin, answer_end, answer_propose, answer_read, answer_relimit,
+    answer_settle, answer_show, answer_words_at_site,
 };
+use crate::known_lines::KnownLines;
 use crate::names::find_site;
 use crate::script_end::ScriptEnd;
 use crate::taker::AnswerTaker;
@@ -23,21 +25,32 @@ use ordup_objects::Refusal;
 use ordup_world::{Setup, World};
 use std::alloc::{AllocError, Allocator};
 
-/// Answers a line.
-///
-/// Where it succeeds: if the script was in a state, it is afterwards in the state that the reply to the line leaves, and `out` took
-/// the text of the reply. It fails only where an allocation was refused, and then nothing happened: the script stands where it
-/// stood, and `out` took nothing.
-// Inlined into the loop over lines, with the reading of a line before it, so that the words of a line are not moved.
+/// Answers a line by its words. What is known of lines stays true.
+// The known lines are an argument for the proof alone.
 #[inline(always)]
-pub fn answer<A: Allocator + Copy, O: AnswerTaker<A>>(
+pub(crate) fn answer_by_words<A: Allocator + Copy, O: AnswerTaker<A>>(
+    alloc: A,
+    store: &mut ScriptEnd<A>,
+    _known: &KnownLines,
+    line: &ScriptLine<'_>,
+    out: &mut O,
+) -> Result<(), AllocError>
+    ensures reply { Replies (λ s. Stands store.old s × Knows _known.now s) (λ s. Stands store.new s × Knows _known.now s) (O.took out.old out.new) (λ s. request_reply s (asked line.now)) result }
+    ensures kept { StaysPut store.old store.new (O.took out.old out.new) result }
+{
+    answer_line(alloc, store, line, out)
+}
+
+/// Answers a line by its words.
+#[inline(always)]
+fn answer_line<A: Allocator + Copy, O: AnswerTaker<A>>(
     alloc: A,
     store: &mut ScriptEnd<A>,
     line: &ScriptLine<'_>,
     out: &mut O,
 ) -> Result<(), AllocError>
-    ensures reply { OnOk result ((s : ScriptState A) → Stands store.old s → Leaves (Stands store.new) (O.took out.old out.new) (request_reply s (asked line.now))) }
-    ensures kept { IfErr result (λ _. (store.new ≡ store.old) × O.took out.old out.new []) }
+    ensures reply { Replies (Stands store.old) (Stands store.new) (O.took out.old out.new) (λ s. request_reply s (asked line.now)) result }
+    ensures kept { StaysPut store.old store.new (O.took out.old out.new) result }
 {
     match line {
         ScriptLine::Nothing => {
@@ -45,7 +58,6 @@ pub fn answer<A: Allocator + Copy, O: AnswerTaker<A>>(
             Ok(())
         }
         ScriptLine::NoCommand => out.refused(Refusal::Syntax),
-        ScriptLine::AtSite(line) => answer_at_site(store, line.action, &line.site, out),
         ScriptLine::Words(first, rest) => answer_words(alloc, store, first, rest, out),
     }
 }
@@ -60,8 +72,8 @@ fn answer_words<A: Allocator + Copy, O: AnswerTaker<A>>(
     rest: &Words<'_>,
     out: &mut O,
 ) -> Result<(), AllocError>
-    ensures reply { OnOk result ((s : ScriptState A) → Stands store.old s → Leaves (Stands store.new) (O.took out.old out.new) (words_reply s (command_of first.now rest.now))) }
-    ensures kept { IfErr result (λ _. (store.new ≡ store.old) × O.took out.old out.new []) }
+    ensures reply { Replies (Stands store.old) (Stands store.new) (O.took out.old out.new) (λ s. words_reply s (command_of first.now rest.now)) result }
+    ensures kept { StaysPut store.old store.new (O.took out.old out.new) result }
 {
     let Some(keyword) = Keyword::of(first) else {
         return answer_declaration(alloc, store, first, rest, out);
@@ -91,8 +103,8 @@ fn answer_declaration<A: Allocator + Copy, O: AnswerTaker<A>>(
     rest: &Words<'_>,
     out: &mut O,
 ) -> Result<(), AllocError>
-    ensures reply { OnOk result ((s : ScriptState A) → Stands store.old s → Leaves (Stands store.new) (O.took out.old out.new) (words_reply s (option_map (λ d. Declare d) (declaration_of first.now rest.now)))) }
-    ensures kept { IfErr result (λ _. (store.new ≡ store.old) × O.took out.old out.new []) }
+    ensures reply { Replies (Stands store.old) (Stands store.new) (O.took out.old out.new) (λ s. words_reply s (option_map (λ d. Declare d) (declaration_of first.now rest.now))) result }
+    ensures kept { StaysPut store.old store.new (O.took out.old out.new) result }
 {
     let Some(declaration) = Declaration::parse(first, rest) else {
         return out.refused(Refusal::Syntax);
@@ -110,8 +122,8 @@ fn carry_out<A: Allocator + Copy, O: AnswerTaker<A>>(
     declaration: &Declaration<'_>,
     out: &mut O,
 ) -> Result<(), AllocError>
-    ensures reply { OnOk result ((s : ScriptState A) → Declares setup.old s → Leaves (Declares setup.new) (O.took out.old out.new) (reply_or_refusal s (command_reply s (Declare declaration.now)))) }
-    ensures kept { IfErr result (λ _. (setup.new ≡ setup.old) × O.took out.old out.new []) }
+    ensures reply { Replies {A = A} (Declares setup.old) (Declares setup.new) (O.took out.old out.new) (λ s. reply_or_refusal s (command_reply s (Declare declaration.now))) result }
+    ensures kept { StaysPut setup.old setup.new (O.took out.old out.new) result }
 {
     out.reserve(declared_len(declaration))?;
     match declare(alloc, setup, declaration) {
@@ -142,8 +154,8 @@ fn answer_start<A: Allocator + Copy, O: AnswerTaker<A>>(
     rest: &Words<'_>,
     out: &mut O,
 ) -> Result<(), AllocError>
-    ensures reply { OnOk result ((s : ScriptState A) → Stands store.old s → Leaves (Stands store.new) (O.took out.old out.new) (words_reply s (command_by Keyword.Start rest.now))) }
-    ensures kept { IfErr result (λ _. (store.new ≡ store.old) × O.took out.old out.new []) }
+    ensures reply { Replies (Stands store.old) (Stands store.new) (O.took out.old out.new) (λ s. words_reply s (command_by Keyword.Start rest.now)) result }
+    ensures kept { StaysPut store.old store.new (O.took out.old out.new) result }
 {
     if !rest.is_empty() {
         return out.refused(Refusal::Syntax);
@@ -157,8 +169,8 @@ fn start_store<A: Allocator + Copy, O: AnswerTaker<A>>(
     store: &mut ScriptEnd<A>,
     out: &mut O,
 ) -> Result<(), AllocError>
-    ensures reply { OnOk result ((s : ScriptState A) → Stands store.old s → Leaves (Stands store.new) (O.took out.old out.new) (reply_or_refusal s (command_reply s Start))) }
-    ensures kept { IfErr result (λ _. (store.new ≡ store.old) × O.took out.old out.new []) }
+    ensures reply { Replies (Stands store.old) (Stands store.new) (O.took out.old out.new) (λ s. reply_or_refusal s (command_reply s Start)) result }
+    ensures kept { StaysPut store.old store.new (O.took out.old out.new) result }
 {
     let ScriptEnd::Declared(setup) = store else {
         return out.refused(Refusal::AlreadyStarted);
@@ -195,8 +207,8 @@ fn answer_certify<A: Allocator + Copy, O: AnswerTaker<A>>(
     rest: &Words<'_>,
     out: &mut O,
 ) -> Result<(), AllocError>
-    ensures reply { OnOk result ((s : ScriptState A) → Stands store.old s → Leaves (Stands store.new) (O.took out.old out.new) (words_reply s (command_by Keyword.Certify rest.now))) }
-    ensures kept { IfErr result (λ _. (store.new ≡ store.old) × O.took out.old out.new []) }
+    ensures reply { Replies (Stands store.old) (Stands store.new) (O.took out.old out.new) (λ s. words_reply s (command_by Keyword.Certify rest.now)) result }
+    ensures kept { StaysPut store.old store.new (O.took out.old out.new) result }
 {
     let Some(site) = rest.only_word() else {
         return out.refused(Refusal::Syntax);
@@ -216,7 +228,7 @@ fn certify<A: Allocator + Copy, O: AnswerTaker<A>>(
     name: &Word<'_>,
     out: &mut O,
 ) -> Result<(), AllocError>
-    ensures reply { OnOk result ((s : ScriptState A) → IsWorldOf world.now s → Leaves (IsWorldOf world.now) (O.took out.old out.new) (reply_or_refusal s (command_reply s (Certify name.now)))) }
+    ensures reply { Replies {A = A} (IsWorldOf world.now) (IsWorldOf world.now) (O.took out.old out.new) (λ s. reply_or_refusal s (command_reply s (Certify name.now))) result }
     ensures kept { IfErr result (λ _. O.took out.old out.new []) }
 {
     let primary = world.primary();

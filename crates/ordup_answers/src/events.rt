@@ -15,7 +15,7 @@ ghost use Rattle.ordup_grammar.specs.Commands.{Act, command_by};
 ghost use Rattle.ordup_grammar.specs.SiteLines.{action_at};
 ghost use Rattle.ordup_grammar.specs.Words.{only_word};
 ghost use Rattle.ordup_grammar.specs.declared.keyword.Keyword.{Keyword};
-ghost use Rattle.ordup_answers.specs.Answers.{Leaves};
+ghost use Rattle.ordup_answers.specs.Answers.{Replies, StaysPut, Steps};
 ghost use Rattle.ordup_answers.specs.Events.{query_name};
 ghost use Rattle.ordup_answers.specs.Refusals.{Gives};
 ghost use Rattle.ordup_answers.specs.Replies.{event_reply, words_reply};
@@ -37,8 +37,8 @@ pub(crate) fn answer_words_at_site<A: Allocator + Copy, O: AnswerTaker<A>>(
     rest: &Words<'_>,
     out: &mut O,
 ) -> Result<(), AllocError>
-    ensures reply { OnOk result ((s : ScriptState A) → Stands store.old s → Leaves (Stands store.new) (O.took out.old out.new) (words_reply s (option_map (λ a. Act a) (option_map (λ site. action_at action site) (only_word rest.now))))) }
-    ensures kept { IfErr result (λ _. (store.new ≡ store.old) × O.took out.old out.new []) }
+    ensures reply { Replies (Stands store.old) (Stands store.new) (O.took out.old out.new) (λ s. words_reply s (option_map (λ a. Act a) (option_map (λ site. action_at action site) (only_word rest.now)))) result }
+    ensures kept { StaysPut store.old store.new (O.took out.old out.new) result }
 {
     match rest.only_word() {
         Some(site) => answer_at_site(store, action, &site, out),
@@ -54,8 +54,8 @@ pub(crate) fn answer_at_site<A: Allocator + Copy, O: AnswerTaker<A>>(
     site: &Word<'_>,
     out: &mut O,
 ) -> Result<(), AllocError>
-    ensures reply { OnOk result ((s : ScriptState A) → Stands store.old s → Leaves (Stands store.new) (O.took out.old out.new) (words_reply s (Some (Act (action_at action site.now))))) }
-    ensures kept { IfErr result (λ _. (store.new ≡ store.old) × O.took out.old out.new []) }
+    ensures reply { Replies (Stands store.old) (Stands store.new) (O.took out.old out.new) (λ s. words_reply s (Some (Act (action_at action site.now)))) result }
+    ensures kept { StaysPut store.old store.new (O.took out.old out.new) result }
 {
     let ScriptEnd::Running(world) = store else {
         return out.refused(Refusal::NotStarted);
@@ -75,8 +75,8 @@ pub(crate) fn answer_show<A: Allocator + Copy, O: AnswerTaker<A>>(
     rest: &Words<'_>,
     out: &mut O,
 ) -> Result<(), AllocError>
-    ensures reply { OnOk result ((s : ScriptState A) → Stands store.old s → Leaves (Stands store.new) (O.took out.old out.new) (words_reply s (command_by Keyword.Show rest.now))) }
-    ensures kept { IfErr result (λ _. (store.new ≡ store.old) × O.took out.old out.new []) }
+    ensures reply { Replies (Stands store.old) (Stands store.new) (O.took out.old out.new) (λ s. words_reply s (command_by Keyword.Show rest.now)) result }
+    ensures kept { StaysPut store.old store.new (O.took out.old out.new) result }
 {
     let Some(site) = rest.only_word() else {
         return out.refused(Refusal::Syntax);
@@ -94,8 +94,8 @@ pub(crate) fn answer_settle<A: Allocator + Copy, O: AnswerTaker<A>>(
     rest: &Words<'_>,
     out: &mut O,
 ) -> Result<(), AllocError>
-    ensures reply { OnOk result ((s : ScriptState A) → Stands store.old s → Leaves (Stands store.new) (O.took out.old out.new) (words_reply s (command_by Keyword.Settle rest.now))) }
-    ensures kept { IfErr result (λ _. (store.new ≡ store.old) × O.took out.old out.new []) }
+    ensures reply { Replies (Stands store.old) (Stands store.new) (O.took out.old out.new) (λ s. words_reply s (command_by Keyword.Settle rest.now)) result }
+    ensures kept { StaysPut store.old store.new (O.took out.old out.new) result }
 {
     if !rest.is_empty() {
         return out.refused(Refusal::Syntax);
@@ -109,8 +109,8 @@ pub(crate) fn settle<A: Allocator + Copy, O: AnswerTaker<A>>(
     store: &mut ScriptEnd<A>,
     out: &mut O,
 ) -> Result<(), AllocError>
-    ensures reply { OnOk result ((s : ScriptState A) → Stands store.old s → Leaves (Stands store.new) (O.took out.old out.new) (words_reply s (Some (Act Settle)))) }
-    ensures kept { IfErr result (λ _. (store.new ≡ store.old) × O.took out.old out.new []) }
+    ensures reply { Replies (Stands store.old) (Stands store.new) (O.took out.old out.new) (λ s. words_reply s (Some (Act Settle))) result }
+    ensures kept { StaysPut store.old store.new (O.took out.old out.new) result }
 {
     let ScriptEnd::Running(world) = store else {
         return out.refused(Refusal::NotStarted);
@@ -125,8 +125,8 @@ pub(crate) fn answer_propose<A: Allocator + Copy, O: AnswerTaker<A>>(
     rest: &Words<'_>,
     out: &mut O,
 ) -> Result<(), AllocError>
-    ensures reply { OnOk result ((s : ScriptState A) → Stands store.old s → Leaves (Stands store.new) (O.took out.old out.new) (words_reply s (command_by Keyword.Propose rest.now))) }
-    ensures kept { IfErr result (λ _. (store.new ≡ store.old) × O.took out.old out.new []) }
+    ensures reply { Replies (Stands store.old) (Stands store.new) (O.took out.old out.new) (λ s. words_reply s (command_by Keyword.Propose rest.now)) result }
+    ensures kept { StaysPut store.old store.new (O.took out.old out.new) result }
 {
     let ScriptEnd::Running(world) = store else {
         return out.refused(syntax_or(rest, Refusal::NotStarted));
@@ -143,8 +143,8 @@ pub(crate) fn answer_begin<A: Allocator + Copy, O: AnswerTaker<A>>(
     rest: &Words<'_>,
     out: &mut O,
 ) -> Result<(), AllocError>
-    ensures reply { OnOk result ((s : ScriptState A) → Stands store.old s → Leaves (Stands store.new) (O.took out.old out.new) (words_reply s (command_by Keyword.Begin rest.now))) }
-    ensures kept { IfErr result (λ _. (store.new ≡ store.old) × O.took out.old out.new []) }
+    ensures reply { Replies (Stands store.old) (Stands store.new) (O.took out.old out.new) (λ s. words_reply s (command_by Keyword.Begin rest.now)) result }
+    ensures kept { StaysPut store.old store.new (O.took out.old out.new) result }
 {
     let Some((query, rest)) = rest.split_first() else {
         return out.refused(Refusal::Syntax);
@@ -174,8 +174,8 @@ pub(crate) fn answer_read<A: Allocator + Copy, O: AnswerTaker<A>>(
     rest: &Words<'_>,
     out: &mut O,
 ) -> Result<(), AllocError>
-    ensures reply { OnOk result ((s : ScriptState A) → Stands store.old s → Leaves (Stands store.new) (O.took out.old out.new) (words_reply s (command_by Keyword.Read rest.now))) }
-    ensures kept { IfErr result (λ _. (store.new ≡ store.old) × O.took out.old out.new []) }
+    ensures reply { Replies (Stands store.old) (Stands store.new) (O.took out.old out.new) (λ s. words_reply s (command_by Keyword.Read rest.now)) result }
+    ensures kept { StaysPut store.old store.new (O.took out.old out.new) result }
 {
     let Some((query, object)) = rest.two_words() else {
         return out.refused(Refusal::Syntax);
@@ -196,8 +196,8 @@ fn read_out<A: Allocator + Copy, O: AnswerTaker<A>>(
     id: ObjectId,
     out: &mut O,
 ) -> Result<(), AllocError>
-    ensures reply { OnOk result ((d : Declared) (past : Past A) → StandsFor d world.old past → Leaves (IsWorldOf world.new) (O.took out.old out.new) (event_reply d past (query.now, object.now) (Event.Read query.now id))) }
-    ensures kept { IfErr result (λ _. (world.new ≡ world.old) × O.took out.old out.new []) }
+    ensures reply { Steps {A = A} world.old world.new (O.took out.old out.new) (query.now, object.now) (Event.Read query.now id) result }
+    ensures kept { StaysPut world.old world.new (O.took out.old out.new) result }
 {
     out.reserve(query.len() + object.len())?;
     let answer = world.read(query, id);
@@ -210,8 +210,8 @@ pub(crate) fn answer_end<A: Allocator + Copy, O: AnswerTaker<A>>(
     rest: &Words<'_>,
     out: &mut O,
 ) -> Result<(), AllocError>
-    ensures reply { OnOk result ((s : ScriptState A) → Stands store.old s → Leaves (Stands store.new) (O.took out.old out.new) (words_reply s (command_by Keyword.End rest.now))) }
-    ensures kept { IfErr result (λ _. (store.new ≡ store.old) × O.took out.old out.new []) }
+    ensures reply { Replies (Stands store.old) (Stands store.new) (O.took out.old out.new) (λ s. words_reply s (command_by Keyword.End rest.now)) result }
+    ensures kept { StaysPut store.old store.new (O.took out.old out.new) result }
 {
     let Some(query) = rest.only_word() else {
         return out.refused(Refusal::Syntax);
@@ -231,8 +231,8 @@ pub(crate) fn answer_abandon<A: Allocator + Copy, O: AnswerTaker<A>>(
     rest: &Words<'_>,
     out: &mut O,
 ) -> Result<(), AllocError>
-    ensures reply { OnOk result ((s : ScriptState A) → Stands store.old s → Leaves (Stands store.new) (O.took out.old out.new) (words_reply s (command_by Keyword.Abandon rest.now))) }
-    ensures kept { IfErr result (λ _. (store.new ≡ store.old) × O.took out.old out.new []) }
+    ensures reply { Replies (Stands store.old) (Stands store.new) (O.took out.old out.new) (λ s. words_reply s (command_by Keyword.Abandon rest.now)) result }
+    ensures kept { StaysPut store.old store.new (O.took out.old out.new) result }
 {
     let Some(query) = rest.only_word() else {
         return out.refused(Refusal::Syntax);
@@ -252,8 +252,8 @@ pub(crate) fn answer_relimit<A: Allocator + Copy, O: AnswerTaker<A>>(
     rest: &Words<'_>,
     out: &mut O,
 ) -> Result<(), AllocError>
-    ensures reply { OnOk result ((s : ScriptState A) → Stands store.old s → Leaves (Stands store.new) (O.took out.old out.new) (words_reply s (command_by Keyword.Relimit rest.now))) }
-    ensures kept { IfErr result (λ _. (store.new ≡ store.old) × O.took out.old out.new []) }
+    ensures reply { Replies (Stands store.old) (Stands store.new) (O.took out.old out.new) (λ s. words_reply s (command_by Keyword.Relimit rest.now)) result }
+    ensures kept { StaysPut store.old store.new (O.took out.old out.new) result }
 {
     let Some((site, scope, amount)) = ScopeWord::parse_limit(rest) else {
         return out.refused(Refusal::Syntax);
@@ -282,8 +282,8 @@ fn answer_event<A: Allocator + Copy, O: AnswerTaker<A>>(
     object: &[u8],
     out: &mut O,
 ) -> Result<(), AllocError>
-    ensures reply { OnOk result ((d : Declared) (past : Past A) → StandsFor d world.old past → Leaves (IsWorldOf world.new) (O.took out.old out.new) (event_reply d past (subject.now, object.now) event)) }
-    ensures kept { IfErr result (λ _. (world.new ≡ world.old) × O.took out.old out.new []) }
+    ensures reply { Steps {A = A} world.old world.new (O.took out.old out.new) (subject.now, object.now) event result }
+    ensures kept { StaysPut world.old world.new (O.took out.old out.new) result }
 {
     if out.reserve(subject.len() + object.len()).is_err() {
         drop(event);

@@ -3,16 +3,18 @@
 //! The one contract above this layer: for every state of a script, a line is answered as the reply to it says, and leaves the state
 //! that the reply leaves; the text of the reply is taken.
 //!
-//! `names.rt` and `changes.rt` look up what the words name, `declarations.rt` and `events.rt` make declarations and events of them,
-//! and `answers.rt` lets the setup or the world answer. `known_lines.rt` keeps lines of a site that came before, so that they are
-//! found by their bytes. `taker.rt` says what takes the answers, and `text.rt` is their text.
+//! `answering.rt` is the one door for a line. `names.rt` and `changes.rt` look up what its words name, `declarations.rt` and `events.rt`
+//! make declarations and events of them, and `answers.rt` lets the setup or the world answer. `known_lines.rt` keeps lines of a site
+//! that came before, so that they are found by their bytes. `taker.rt` says what takes the answers, and `text.rt` is their text.
 //! `NearestNumbers.antt` says what stands in for a number of more than 63 bits.
 #![tactic(auto)]
 
+mod answering;
 mod answers;
 mod changes;
 mod declarations;
 mod events;
+mod known_answers;
 mod known_line;
 mod known_lines;
 mod names;
@@ -20,10 +22,9 @@ mod script_end;
 mod taker;
 mod text;
 
-pub use answers::answer;
+pub use answering::Answering;
 pub use changes::set_in;
 pub use declarations::declare;
-pub use known_lines::{KnownLines, answer_line, answer_part};
 pub use script_end::ScriptEnd;
 pub use taker::{AnswerTaker, Unanswered};
 pub use text::push_answer;

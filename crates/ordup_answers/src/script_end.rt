@@ -17,7 +17,7 @@ impl<A: Allocator + Copy> ScriptEnd<A> {
     ghost use Rattle.ordup_answers.specs.ScriptStates.{Stands, first_state};
 
     /// Where an empty script stands.
-    pub fn new(alloc: A) -> Self
+    pub(crate) fn new(alloc: A) -> Self
         ensures { Stands result first_state }
     {
         ScriptEnd::Declared(Setup::new(alloc))

@@ -48,12 +48,12 @@ follows_none v s stands = (stands, sym (append-nil v.answers.text))
 
 -- one line was taken
 pub follows_line : (old new : Session) (line : List ℕ) (request : Request) → request_of (cut line) ≡ request
-    → ((s : ScriptState Global) → Stands old.end s
-    → Leaves (Stands new.end) (λ text. new.answers.text ≡ old.answers.text ++ text) (request_reply s request))
+    → ((s : ScriptState Global) → Stands old.script s
+    → Leaves (Stands new.script) (λ text. new.answers.text ≡ old.answers.text ++ text) (request_reply s request))
     → Follows old new (cut line ∷ [])
 unfolding reply
 follows_line old new line request is leaves s stands =
-    subst (λ (r : Request). Leaves {A = Global} (Stands new.end) (λ text. new.answers.text ≡ old.answers.text ++ text) (request_reply s r))
+    subst (λ (r : Request). Leaves {A = Global} (Stands new.script) (λ text. new.answers.text ≡ old.answers.text ++ text) (request_reply s r))
     (sym is) (leaves s stands)
 
 -- lines were taken, and then more
@@ -62,7 +62,7 @@ follows_then a b c lines more one next s stands =
     let (between, grew) = one s stands in
     let (after, grows) = next (answers_to s lines).0 between in
     let both = answers_then s lines more in (
-      subst (λ (w : Written Global). Stands c.end w.0) (sym both) after,
+      subst (λ (w : Written Global). Stands c.script w.0) (sym both) after,
       grows
           ∙ ap (λ t. t ++ (answers_to (answers_to s lines).0 more).1) grew
           ∙ append_assoc a.answers.text (answers_to s lines).1 (answers_to (answers_to s lines).0 more).1
@@ -132,13 +132,13 @@ gives given count text front out is len =
 
 -- one call after those before
 pub runs_then : (v w : Session) (lines more : List Line) (given gave : List ℕ) → HasRun v lines given
-    → ((s : ScriptState Global) → Stands v.end s → Stands w.end (answers_to s more).0 × (kept v ++ (answers_to s more).1 ≡ gave ++ kept w))
+    → ((s : ScriptState Global) → Stands v.script s → Stands w.script (answers_to s more).0 × (kept v ++ (answers_to s more).1 ≡ gave ++ kept w))
     → HasRun w (lines ++ more) (given ++ gave)
 runs_then v w lines more given gave (stands, text) runs =
     let before : Written Global = written Global lines in
     let (after, next) = runs before.0 stands in
     let both : written Global (lines ++ more) ≡ ((answers_to before.0 more).0, before.1 ++ (answers_to before.0 more).1) = answers_then first_state lines more in (
-      subst (λ (u : Written Global). Stands w.end u.0) (sym both) after,
+      subst (λ (u : Written Global). Stands w.script u.0) (sym both) after,
       ap (λ (u : Written Global). u.1) both
           ∙ ap (λ t. t ++ (answers_to before.0 more).1) text
           ∙ append_assoc given (kept v) (answers_to before.0 more).1

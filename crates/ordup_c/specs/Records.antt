@@ -44,4 +44,4 @@ Tells (Err reason) old new written status = Lacks reason old new written status 
 -- the record of a site was asked for
 abbrev pub RecordCall : Option Session → List ℕ → List ℕ → List ℕ → ℕ → ℕ → Type 0
 RecordCall None site old new written status = Lacks CLOSED old new written status
-RecordCall (Some v) site old new written status = Tells (record_in v.end site) old new written status
+RecordCall (Some v) site old new written status = Tells (record_in v.script site) old new written status

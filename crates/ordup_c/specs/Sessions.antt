@@ -13,7 +13,7 @@ kept v = drop v.given v.answers.text
 
 -- it is before the first line, and keeps nothing
 abbrev pub Begins : Session → Type 0
-Begins v = Stands v.end first_state × (kept v ≡ [])
+Begins v = Stands v.script first_state × (kept v ≡ [])
 
 -- the state after lines, and the answers to them
 abbrev pub answers_to : {A : Type 0} → ScriptState A → List Line → Written A
@@ -21,12 +21,12 @@ answers_to s lines = after_lines answered (s, []) lines
 
 -- these lines were answered, and the answers stand behind those before
 abbrev pub Follows : Session → Session → List Line → Type 0
-Follows old new lines = (s : ScriptState Global) → Stands old.end s
-    → Stands new.end (answers_to s lines).0 × (new.answers.text ≡ old.answers.text ++ (answers_to s lines).1)
+Follows old new lines = (s : ScriptState Global) → Stands old.script s
+    → Stands new.script (answers_to s lines).0 × (new.answers.text ≡ old.answers.text ++ (answers_to s lines).1)
 
 -- no line was taken
 abbrev pub Stays : Session → Session → Type 0
-Stays old new = (new.end ≡ old.end) × (new.answers.text ≡ old.answers.text)
+Stays old new = (new.script ≡ old.script) × (new.answers.text ≡ old.answers.text)
 
 -- so many bytes of a text are whole lines: they can be taken first, and the rest of the text after them
 abbrev pub IsFront : ℕ → List ℕ → Type 0
@@ -39,16 +39,16 @@ TakesFront old new text taken = IsFront taken text × Follows old new (lines_of 
 
 -- the lines of a text were answered, and the answers are kept behind those that were
 abbrev pub Answers : Session → Session → List ℕ → Type 0
-Answers old new text = (s : ScriptState Global) → Stands old.end s
-    → Stands new.end (answers_to s (lines_of true text)).0
+Answers old new text = (s : ScriptState Global) → Stands old.script s
+    → Stands new.script (answers_to s (lines_of true text)).0
     × (kept new ≡ kept old ++ (answers_to s (lines_of true text)).1)
 
 -- a prefix of what was kept was given, and no line was taken
 abbrev pub Gives : Session → Session → List ℕ → Type 0
-Gives old new gave = (new.end ≡ old.end) × (kept old ≡ gave ++ kept new)
+Gives old new gave = (new.script ≡ old.script) × (kept old ≡ gave ++ kept new)
 
 -- the lines of a text were answered; what was given are the next of the answers, and the others are kept
 abbrev pub Runs : Session → Session → List ℕ → List ℕ → Type 0
-Runs old new text gave = (s : ScriptState Global) → Stands old.end s
-    → Stands new.end (answers_to s (lines_of true text)).0
+Runs old new text gave = (s : ScriptState Global) → Stands old.script s
+    → Stands new.script (answers_to s (lines_of true text)).0
     × (kept old ++ (answers_to s (lines_of true text)).1 ≡ gave ++ kept new)

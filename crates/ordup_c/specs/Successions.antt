@@ -28,4 +28,4 @@ TellsNext end old new written status =
 -- the declarations were asked for
 abbrev pub NextCall : Option Session → List ℕ → List ℕ → ℕ → ℕ → Type 0
 NextCall None old new written status = Lacks CLOSED old new written status
-NextCall (Some v) old new written status = TellsNext v.end old new written status
+NextCall (Some v) old new written status = TellsNext v.script old new written status

@@ -101,7 +101,7 @@ pub extern "C" fn ordup_record(
         *written = 0;
         return CLOSED;
     };
-    let status = tell_record(alloc, &session.end, site, rows, written);
+    let status = tell_record(alloc, session.script.end(), site, rows, written);
     store.put(session);
     status
 }
@@ -122,7 +122,7 @@ pub extern "C" fn ordup_next(
         *written = 0;
         return CLOSED;
     };
-    let status = tell_next(alloc, &session.end, lines, written);
+    let status = tell_next(alloc, session.script.end(), lines, written);
     store.put(session);
     status
 }

@@ -3,15 +3,15 @@ ghost use Rattle.std.specs.Prelude.{◌≡◌, ◌<◌, ◌≤◌, ◌∷◌, []
 ghost use Rattle.ordup_grammar.specs.Lines.{cut};
 ghost use Rattle.ordup_c.specs.Sessions.{Answers, Begins, Follows, Gives, IsFront, Stays, TakesFront, kept};
 
-use ordup_answers::{ScriptEnd, answer};
-use ordup_grammar::{LinePart, ScriptLine, split_line};
+use ordup_answers::Answering;
+use ordup_grammar::{LinePart, split_line};
 use ordup_text::TextBuffer;
 use std::alloc::{AllocError, Global};
 
 /// Where a script stands, and the answers that were not given yet.
 #[derive(Drop)]
 pub struct Session {
-    pub(crate) end: ScriptEnd,
+    pub(crate) script: Answering,
     /// Answers, of which the first `given` bytes were given.
     pub(crate) answers: TextBuffer,
     pub(crate) given: usize,
@@ -23,7 +23,7 @@ impl Session {
         ensures { Begins result }
     {
         Session {
-            end: ScriptEnd::new(alloc),
+            script: Answering::new(alloc),
             answers: TextBuffer::new(alloc),
             given: 0,
         }
@@ -42,7 +42,7 @@ impl Session {
 
     /// Forgets the answers where all of them were given.
     fn forget_given(&mut self)
-        ensures end { self.new.end ≡ self.old.end }
+        ensures script { self.new.script ≡ self.old.script }
         ensures kept { kept self.new ≡ kept self.old }
         ensures given { self.new.given ≤ length self.new.answers.text }
     {
@@ -79,12 +79,7 @@ impl Session {
         ensures kept { OnErr result (Stays self.old self.new) }
         ensures given { self.new.given ≡ self.old.given }
     {
-        answer(
-            alloc,
-            &mut self.end,
-            &ScriptLine::of(line),
-            &mut self.answers,
-        )
+        self.script.answer(alloc, line, &mut self.answers)
     }
 
     /// The answers that were not given yet.

@@ -48,5 +48,4 @@ request_of (Some line) =
 abbrev pub asked : ScriptLine → Request
 asked line.Nothing = Nothing
 asked line.NoCommand = NoCommand
-asked (line.AtSite l) = Command (commands.Act (action_at l.action l.site))
 asked (line.Words first rest) = request_by (commands.command_of first rest)

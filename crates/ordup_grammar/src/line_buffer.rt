@@ -4,13 +4,12 @@ ghost use Rattle.std.specs.Str.{bytes_eq};
 ghost use Rattle.ordup_grammar.specs.Actions.{Settle};
 ghost use Rattle.ordup_grammar.specs.Commands.{Act};
 ghost use Rattle.ordup_grammar.specs.Lines.{IsPart, cut};
-ghost use Rattle.ordup_grammar.specs.Requests.{Command, is_printed, request_of, asked};
+ghost use Rattle.ordup_grammar.specs.Requests.{Command, is_printed, request_of};
 ghost use Rattle.ordup_grammar.specs.Words.{words_of};
 ghost use Rattle.std.specs.List.{list_all};
 
 use crate::bytes::{is_spelled, printed_prefix};
 use crate::front::Front;
-use crate::script_line::ScriptLine;
 use crate::sizes::MOST_LINE_BYTES;
 use crate::words::Words;
 use memchr::memchr;
@@ -105,12 +104,14 @@ pub fn split_line(bytes: &[u8]) -> Option<(LinePart<'_>, &[u8])>
     Some((LinePart::new(&bytes[..end]), &bytes[end + 1..]))
 }
 
-/// The part of a line that no line feed has ended yet: at most its first 4,096 bytes, and whether it is longer.
+/// The most bytes of a line that are held: one more than a line may have, so that one which is too long stays so.
+const MOST_HELD_BYTES: usize = MOST_LINE_BYTES + 1;
+
+/// The part of a line that no line feed has ended yet: at most its first 4,097 bytes.
 #[derive(Drop)]
 pub struct LineBuffer {
-    bytes: [u8; MOST_LINE_BYTES],
+    bytes: [u8; MOST_HELD_BYTES],
     len: usize,
-    is_long: bool,
 }
 
 impl Model for LineBuffer {
@@ -132,9 +133,8 @@ impl LineBuffer {
         ensures { Holds result [] }
     {
         LineBuffer {
-            bytes: [0; MOST_LINE_BYTES],
+            bytes: [0; MOST_HELD_BYTES],
             len: 0,
-            is_long: false,
         }
     }
 
@@ -151,25 +151,16 @@ impl LineBuffer {
         requires { IsPart more.now }
         ensures { (part : List ℕ) → Holds self.old part → Holds self.new (part ++ more.now) }
     {
-        if self.is_long {
-            return;
-        }
-        let kept = more.len().min(MOST_LINE_BYTES - self.len);
+        let kept = more.len().min(MOST_HELD_BYTES - self.len);
         self.bytes[self.len..self.len + kept].copy_from_slice(&more[..kept]);
         self.len += kept;
-        self.is_long = kept < more.len();
     }
 
-    /// What the line is, if it ends here. What that asks for is what the line asks for.
-    #[tactic(auto, unfolding(crate::specs::Requests::request_of))]
-    pub fn line(&self) -> ScriptLine<'_>
-        ensures { request_of self.now ≡ asked result }
+    /// The line, if it ends here. Of one that is too long it is the first bytes, which are too many too.
+    pub fn line(&self) -> LinePart<'_>
+        ensures { cut result ≡ self.now }
     {
-        if self.is_long {
-            ScriptLine::NoCommand
-        } else {
-            ScriptLine::of(&LinePart::new(&self.bytes[..self.len]))
-        }
+        LinePart::new(&self.bytes[..self.len])
     }
 
     /// Forgets the line.
@@ -177,6 +168,5 @@ impl LineBuffer {
         ensures { Holds self.new [] }
     {
         self.len = 0;
-        self.is_long = false;
     }
 }

@@ -4,7 +4,6 @@ ghost use Rattle.ordup_grammar.specs.Lines.{cut};
 ghost use Rattle.ordup_grammar.specs.Requests.{request_of, asked, is_comment, is_printed};
 
 use crate::line_buffer::LinePart;
-use crate::site_line::SiteLine;
 use crate::sizes::MOST_LINE_BYTES;
 use crate::word::Word;
 use crate::words::Words;
@@ -16,28 +15,15 @@ pub enum ScriptLine<'a> {
     Nothing,
     /// It is no command: it is too long, or has a byte that is not printed.
     NoCommand,
-    /// It is a keyword, one space and a site: its words need not be looked at.
-    AtSite(SiteLine<'a>),
     /// It has a first word and the words after it, which may spell a command.
     Words(Word<'a>, Words<'a>),
 }
 
 impl<'a> ScriptLine<'a> {
     /// What the line with these bytes is. What it asks for is what the line asks for.
-    #[inline(always)]
-    pub fn of(part: &LinePart<'a>) -> ScriptLine<'a>
-        ensures { request_of (cut part.now) ≡ asked result }
-    {
-        match SiteLine::of(part) {
-            Some(line) => ScriptLine::AtSite(line),
-            None => ScriptLine::by_words(part),
-        }
-    }
-
-    /// The same, where a keyword and a site are words as others are.
     #[tactic(auto, unfolding(crate::specs::Requests::request_of))]
     #[inline(always)]
-    pub fn by_words(part: &LinePart<'a>) -> ScriptLine<'a>
+    pub fn of(part: &LinePart<'a>) -> ScriptLine<'a>
         ensures { request_of (cut part.now) ≡ asked result }
     {
         let line = part.as_bytes();

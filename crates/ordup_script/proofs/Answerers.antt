@@ -4,7 +4,6 @@ use Rattle.std.proofs.KnownBytes.{Appends-trans}
 use Rattle.std.specs.Io.KnownBytes.{Appends}
 use Rattle.std.proofs.lemmas.List.{append-nil}
 use Rattle.ordup_answers.specs.Answers.{Leaves}
-use Rattle.ordup_answers.specs.KnownLines.{Knows}
 use Rattle.ordup_answers.specs.Replies.{request_reply, reply}
 use Rattle.ordup_answers.specs.ScriptStates.{ScriptState, Stands}
 use Rattle.ordup_grammar.specs.Requests.{Request, request_of}
@@ -19,14 +18,14 @@ use Rattle.ordup_script.proofs.Output.{after_lines-append, front_of_more}
 
 module _ {W A : Type 0} where
   pub IsLater-trans : (a b c : Answerer W A) → IsLater a b → IsLater b c → IsLater a c
-  IsLater-trans a b c one next = record { store = next.store ∙ one.store; output = next.output ∙ one.output }
+  IsLater-trans a b c one next = record { script = next.script ∙ one.script; output = next.output ∙ one.output }
 
 module _ {W A : Type 0} (contents : W → Option (List ℕ)) where
   -- one line more is answered
   pub answers_line : (first before after : Answerer W A) (earlier : List Line) (request : Request) (line : Line)
       → HasAnswered contents first before earlier → request ≡ request_of line
-      → ((s : ScriptState A) → Stands before.store.now s → Knows before.known.now s
-      → Leaves (λ (t : ScriptState A). Stands after.store.now t × Knows after.known.now t) (λ text. after.answers.now.text ≡ before.answers.now.text ++ text) (request_reply s request))
+      → ((s : ScriptState A) → Stands before.script.now s
+      → Leaves (Stands after.script.now) (λ text. after.answers.now.text ≡ before.answers.now.text ++ text) (request_reply s request))
       → IsLater before after → after.output.now ≡ before.output.now
       → HasAnswered contents first after (earlier ++ line ∷ [])
   unfolding reply
@@ -34,13 +33,12 @@ module _ {W A : Type 0} (contents : W → Option (List ℕ)) where
       let w : Written A = written A earlier in
       let (left, grew) = subst
       (λ (a : Request).
-      Leaves {A = A} (λ (t : ScriptState A). Stands after.store.now t × Knows after.known.now t)
-      (λ text. after.answers.now.text ≡ before.answers.now.text ++ text) (request_reply w.0 a)) is
-      (leaves w.0 h.store h.known) in
+      Leaves {A = A} (Stands after.script.now) (λ text. after.answers.now.text ≡ before.answers.now.text ++ text)
+      (request_reply w.0 a)) is
+      (leaves w.0 h.script) in
       let next : written A (earlier ++ line ∷ []) ≡ answered w line = after_lines-append answered _ earlier (line ∷ []) in record {
         later = IsLater-trans first before after h.later later;
-        store = subst (λ (v : Written A). Stands after.store.now v.0) (sym next) left.0;
-        known = subst (λ (v : Written A). Knows after.known.now v.0) (sym next) left.1;
+        script = subst (λ (v : Written A). Stands after.script.now v.0) (sym next) left;
         sent = h.sent;
         wrote = rw same h.wrote;
         text =
@@ -69,12 +67,11 @@ module _ {W A : Type 0} (contents : W → Option (List ℕ)) where
   -- all answers that were kept are sent
   pub sends_all : (first before after : Answerer W A) (earlier : List Line) → HasAnswered contents first before earlier
       → IsLater before after → Appends (contents before.output.now) (contents after.output.now) before.answers.now.text
-      → after.store.now ≡ before.store.now → after.known.now ≡ before.known.now → after.answers.now.text ≡ []
+      → after.script.now ≡ before.script.now → after.answers.now.text ≡ []
       → HasAnswered contents first after earlier
-  sends_all first before after earlier h later grew store known none = record {
+  sends_all first before after earlier h later grew script none = record {
     later = IsLater-trans first before after h.later later;
-    store = rw store h.store;
-    known = rw known h.known;
+    script = rw script h.script;
     sent = h.sent ++ before.answers.now.text;
     wrote = Appends-trans _ _ _ h.sent before.answers.now.text h.wrote grew;
     text =

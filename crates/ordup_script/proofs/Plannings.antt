@@ -3,15 +3,12 @@ use Rattle.std.proofs.Common.{◌≡◌, ◌∙◌, refl, sym, ap, ℕ, ◌+◌,
 use Rattle.std.proofs.Common.{true, false, ◌++◌, Result, Ok, Err, inl, inr}
 use Rattle.ordup_objects.specs.declared.change.Change.{Change}
 use Rattle.ordup_primary.specs.Declarations.{Declared}
-use Rattle.ordup_grammar.specs.Commands.{Act, Command}
+use Rattle.ordup_grammar.specs.Commands.{Command}
 use Rattle.ordup_grammar.specs.Requests.{Request, request_by, request_of}
-use Rattle.ordup_grammar.specs.SiteLines.{action_at}
-use Rattle.ordup_grammar.specs.declared.site_line.SiteAction.{SiteAction}
-use Rattle.ordup_grammar.specs.declared.site_line.SiteAction.TheVariants.{Send, Apply, Report}
 use Rattle.ordup_grammar.specs.Lines.{Line}
 use Rattle.ordup_script.specs.Plannings.{HasPlanned, HasRefused, LeadsTo, Tells, plan_state}
 use Rattle.ordup_script.specs.PlanReadings.{ReadsInto, ReadsPlan}
-use Rattle.ordup_script.specs.Plans.{command_in, request_in, words_in, first_plan, malformed, plan_of, plan_result, planned, planning}
+use Rattle.ordup_script.specs.Plans.{request_in, words_in, first_plan, malformed, plan_of, plan_result, planned, planning}
 use Rattle.ordup_script.specs.Readings.{Reads, Takes, TookOr}
 use Rattle.ordup_script.specs.declared.line_reader.Extent.TheVariants as extent
 use Rattle.ordup_answers.specs.Scripts.{after_lines, lines_of}
@@ -27,16 +24,6 @@ pub asked_words : (d : Declared) (started : Bool) (sets : List (List Change)) (k
     → words_in d started sets (k + 1) c ≡ request_in (planning d started sets k) (request_by c)
 asked_words d started sets k None = refl
 asked_words d started sets k (Some c) = refl
-
--- what happens at a site does not belong
-pub at_site_malformed : (d : Declared) (started : Bool) (sets : List (List Change)) (k : ℕ) (action : SiteAction) (site : List ℕ)
-    → command_in d started sets k (Act (action_at action site)) ≡ malformed k
-at_site_malformed d false sets k Send site = refl
-at_site_malformed d false sets k Apply site = refl
-at_site_malformed d false sets k Report site = refl
-at_site_malformed d true sets k Send site = refl
-at_site_malformed d true sets k Apply site = refl
-at_site_malformed d true sets k Report site = refl
 
 -- a plan in which a line does not belong stays so
 malformed-stays : (n : ℕ) (lines : List Line) → after_lines planned (malformed n) lines ≡ malformed n

@@ -1,7 +1,6 @@
 -- How far an answerer of lines has come.
 use Rattle.std.specs.Prelude.{◌≡◌, ◌⊎◌, ℕ, List, ◌++◌, Option}
 use Rattle.std.specs.Io.KnownBytes.{Appends}
-use Rattle.ordup_answers.specs.KnownLines.{Knows}
 use Rattle.ordup_answers.specs.ScriptStates.{Stands}
 use Rattle.ordup_grammar.specs.Lines.{Line}
 use Rattle.ordup_script.specs.declared.stream.Answerer.{Answerer}
@@ -12,7 +11,7 @@ use Rattle.ordup_answers.specs.Output.{written}
 
 -- one answerer is the other, later: its references are the same
 pub record IsLater {W A : Type 0} (first now : Answerer W A) : Type 0 where
-  pub store : now.store.ghost_name ≡ first.store.ghost_name
+  pub script : now.script.ghost_name ≡ first.script.ghost_name
   pub output : now.output.ghost_name ≡ first.output.ghost_name
 
 -- what a writer holds
@@ -20,8 +19,7 @@ module _ {W A : Type 0} (contents : W → Option (List ℕ)) where
   -- these lines of a script, its first, were answered: of the answers some were sent, and the others are kept
   pub record HasAnswered (first now : Answerer W A) (lines : List Line) : Type 0 where
     pub later : IsLater first now
-    pub store : Stands now.store.now (written A lines).0
-    pub known : Knows now.known.now (written A lines).0
+    pub script : Stands now.script.now (written A lines).0
     pub sent : List ℕ
     pub wrote : Appends (contents first.output.now) (contents now.output.now) sent
     pub text : (written A lines).1 ≡ sent ++ now.answers.now.text

@@ -7,8 +7,8 @@ ghost use Rattle.ordup_script.specs.Streams.{most_counted};
 use crate::line_reader::{Extent, LineTaker, read_lines};
 use crate::sizes::MOST_SCRIPT_BYTES;
 use crate::stream::ScriptFault;
-use ordup_answers::{KnownLines, ScriptEnd, Unanswered, answer_line, answer_part};
-use ordup_grammar::{LinePart, ScriptLine};
+use ordup_answers::{Answering, ScriptEnd, Unanswered};
+use ordup_grammar::LinePart;
 use std::alloc::{AllocError, Allocator, Global};
 use std::io::Read;
 
@@ -16,8 +16,7 @@ use std::io::Read;
 #[derive(Drop)]
 struct Follower<A: Allocator + Copy = Global> {
     alloc: A,
-    store: ScriptEnd<A>,
-    known: KnownLines,
+    script: Answering<A>,
 }
 
 impl<A: Allocator + Copy> LineTaker for Follower<A> {
@@ -34,25 +33,8 @@ impl<A: Allocator + Copy> LineTaker for Follower<A> {
     ghost room = { λ _. most_counted + 1 };
 
     #[inline(always)]
-    fn take(&mut self, line: &ScriptLine<'_>) -> Result<(), AllocError> {
-        answer_line(
-            self.alloc,
-            &mut self.store,
-            &self.known,
-            line,
-            &mut Unanswered,
-        )
-    }
-
-    #[inline(always)]
-    fn take_part(&mut self, part: &LinePart<'_>) -> Result<(), AllocError> {
-        answer_part(
-            self.alloc,
-            &mut self.store,
-            &mut self.known,
-            part,
-            &mut Unanswered,
-        )
+    fn take(&mut self, line: &LinePart<'_>) -> Result<(), AllocError> {
+        self.script.answer(self.alloc, line, &mut Unanswered)
     }
 
     fn hand_out(&mut self) -> Result<(), AllocError> {
@@ -72,7 +54,7 @@ fn follow_lines<A: Allocator + Copy, R: Read>(
       has = R.remaining input.new;
       old = None;
       new = None;
-    }) limit follower.new.store result }
+    }) limit follower.new.script result }
     ensures fault { IfErr result (λ e. e ≡ ScriptFault.Write → ⊥) }
 {
     match read_lines(follower, input, limit) {
@@ -100,13 +82,14 @@ pub fn follow_script<A: Allocator + Copy, R: Read>(
 {
     let mut follower = Follower {
         alloc,
-        store: ScriptEnd::new(alloc),
-        known: KnownLines::new(),
+        script: Answering::new(alloc),
     };
-    match follow_lines(&mut follower, input, MOST_SCRIPT_BYTES) {
-        Ok(()) => Ok(follower.store),
+    let followed = follow_lines(&mut follower, input, MOST_SCRIPT_BYTES);
+    let end = follower.script.into_end();
+    match followed {
+        Ok(()) => Ok(end),
         Err(fault) => {
-            follower.store.discard();
+            end.discard();
             Err(fault)
         }
     }

@@ -9,17 +9,16 @@
 //!   where one of them is not.
 //! - **Only what a piece leaves unended is held.** It is copied into a `LineBuffer`, which has room for the 4,096 bytes that a line
 //!   may have. So a line that is too long takes no memory either.
-//! - **A taker is given the line where it lies**, and may know it by its bytes. Only a line that was held, of two pieces, comes as a
-//!   `ScriptLine`. The taking is inlined into the loop, so that words are not moved.
+//! - **A taker is given the line where it lies**, and may know it by its bytes. The taking is inlined into the loop, so that words
+//!   are not moved.
 //! - **A taker hands out once for each piece**, and before that where it has as many bytes to write as a piece has. So there is
 //!   about one write for each read.
 ghost use Rattle.std.specs.Prelude.{◌≡◌, ◌+◌, ◌<◌, ◌≤◌, ℕ, List, [], ◌∷◌, ◌++◌, OnOk, length};
 ghost use Rattle.ordup_grammar.specs.Lines.{IsPart, Line, cut};
-ghost use Rattle.ordup_grammar.specs.Requests.{request_of, asked};
 ghost use Rattle.ordup_script.specs.Readings.{EndsIn, Reads, ReadsOn, Takes};
 
 use crate::sizes::PIECE;
-use ordup_grammar::{LineBuffer, LinePart, ScriptLine, split_line};
+use ordup_grammar::{LineBuffer, LinePart, split_line};
 use std::io::Read;
 
 /// What takes the lines of a script, one after another: it answers them, or makes a plan of them.
@@ -39,19 +38,13 @@ pub(crate) trait LineTaker {
     // How many more lines it can take.
     ghost room: { Self → ℕ };
 
-    /// Takes the next line.
+    /// Takes the next line, of these bytes.
     ///
     /// After whatever lines were taken before, this line was taken too, or the taker stopped at it. It can take at most one line
     /// fewer than before.
-    fn take(&mut self, line: &ScriptLine<'_>) -> Result<(), Self::Fault>
+    fn take(&mut self, line: &LinePart<'_>) -> Result<(), Self::Fault>
         requires { 0 < room self.old }
-        ensures lines { (l : Line) → request_of l ≡ asked line.now → Takes took stopped self.old self.new (l ∷ []) result }
-        ensures room { OnOk result (room self.old ≤ room self.new + 1) };
-
-    /// Takes the next line, of these bytes, as `take` does.
-    fn take_part(&mut self, part: &LinePart<'_>) -> Result<(), Self::Fault>
-        requires { 0 < room self.old }
-        ensures lines { Takes took stopped self.old self.new (cut part.now ∷ []) result }
+        ensures lines { Takes took stopped self.old self.new (cut line.now ∷ []) result }
         ensures room { OnOk result (room self.old ≤ room self.new + 1) };
 
     /// Hands out what the lines gave so far.
@@ -102,7 +95,7 @@ fn end_line<T: LineTaker>(
     ensures room { OnOk result (T.room taker.old ≤ T.room taker.new + 1) }
 {
     if held.is_empty() {
-        return taker.take_part(part);
+        return taker.take(part);
     }
     held.hold(part.as_bytes());
     take_held(held, taker)

@@ -58,12 +58,8 @@ impl<A: Allocator + Copy> LineTaker for Planning<A> {
 
     ghost room = { λ planning. most_counted - planning.lines };
 
-    fn take(&mut self, line: &ScriptLine<'_>) -> Result<(), PlanFault> {
-        self.take_line(line)
-    }
-
-    fn take_part(&mut self, part: &LinePart<'_>) -> Result<(), PlanFault> {
-        self.take(&ScriptLine::of(part))
+    fn take(&mut self, line: &LinePart<'_>) -> Result<(), PlanFault> {
+        self.take_line(&ScriptLine::of(line))
     }
 
     fn hand_out(&mut self) -> Result<(), PlanFault> {
@@ -101,7 +97,6 @@ impl<A: Allocator + Copy> Planning<A> {
         match line {
             ScriptLine::Nothing => Ok(()),
             ScriptLine::NoCommand => self.refuse(),
-            ScriptLine::AtSite(_) => self.refuse(),
             ScriptLine::Words(first, rest) => self.follow(first, rest),
         }
     }

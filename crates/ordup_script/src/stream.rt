@@ -1,6 +1,5 @@
 //! Runs a script: its lines come from a reader, and their answers go to a writer.
 ghost use Rattle.std.specs.Prelude.{◌≡◌, ◌+◌, []};
-ghost use Rattle.ordup_answers.specs.KnownLines.{Knows};
 ghost use Rattle.ordup_answers.specs.ScriptStates.{Stands, first_state};
 ghost use Rattle.ordup_script.specs.Answerers.{HasAnswered, HasStopped};
 ghost use Rattle.ordup_script.specs.Readings.{Takes};
@@ -9,8 +8,8 @@ ghost use Rattle.ordup_script.specs.Streams.{most_counted};
 
 use crate::line_reader::{Extent, LineTaker, read_lines};
 use crate::sizes::{MOST_SCRIPT_BYTES, PIECE};
-use ordup_answers::{KnownLines, ScriptEnd, answer_line, answer_part};
-use ordup_grammar::{LinePart, ScriptLine};
+use ordup_answers::{Answering, ScriptEnd};
+use ordup_grammar::LinePart;
 use ordup_text::{TextBuffer, send};
 use std::alloc::{Allocator, Global};
 use std::io::{Read, Write};
@@ -32,8 +31,7 @@ pub enum ScriptFault {
 // It owns no memory: of a value that does, a proof does not know what it leaves behind the references in it.
 #[derive(Drop)]
 struct Answerer<'a, W, A: Allocator + Copy = Global> {
-    store: &'a mut ScriptEnd<A>,
-    known: &'a mut KnownLines,
+    script: &'a mut Answering<A>,
     answers: &'a mut TextBuffer<A>,
     output: &'a mut W,
 }
@@ -51,18 +49,9 @@ impl<W: Write, A: Allocator + Copy> LineTaker for Answerer<'_, W, A> {
     ghost room = { λ _. most_counted + 1 };
 
     #[inline(always)]
-    fn take(&mut self, line: &ScriptLine<'_>) -> Result<(), ScriptFault> {
+    fn take(&mut self, line: &LinePart<'_>) -> Result<(), ScriptFault> {
         let alloc = *self.answers.allocator();
-        match answer_line(alloc, self.store, self.known, line, self.answers) {
-            Ok(()) => self.hand_out_many(),
-            Err(_) => Err(ScriptFault::NoMemory),
-        }
-    }
-
-    #[inline(always)]
-    fn take_part(&mut self, part: &LinePart<'_>) -> Result<(), ScriptFault> {
-        let alloc = *self.answers.allocator();
-        match answer_part(alloc, self.store, self.known, part, self.answers) {
+        match self.script.answer(alloc, line, self.answers) {
             Ok(()) => self.hand_out_many(),
             Err(_) => Err(ScriptFault::NoMemory),
         }
@@ -95,26 +84,23 @@ impl<W: Write, A: Allocator + Copy> Answerer<'_, W, A> {
 
 /// Runs a script of at most `limit` bytes, of which no line was answered yet.
 fn run_in<A: Allocator + Copy, R: Read, W: Write>(
-    store: &mut ScriptEnd<A>,
-    known: &mut KnownLines,
+    script: &mut Answering<A>,
     answers: &mut TextBuffer<A>,
     input: &mut R,
     output: &mut W,
     limit: u64,
 ) -> Result<(), ScriptFault>
-    requires store { Stands store.old first_state }
-    requires known { Knows {A = A} known.old first_state }
+    requires script { Stands script.old first_state }
     requires answers { answers.old.text ≡ [] }
     ensures { RunsIn (record {
       had = R.remaining input.old;
       has = R.remaining input.new;
       old = W.contents output.old;
       new = W.contents output.new;
-    }) limit store.new result }
+    }) limit script.new result }
 {
     let mut answerer = Answerer {
-        store,
-        known,
+        script,
         answers,
         output,
     };
@@ -149,15 +135,15 @@ pub fn run_script_within<A: Allocator + Copy, R: Read, W: Write>(
       new = W.contents output.new;
     }) limit result }
 {
-    let mut store = ScriptEnd::new(alloc);
-    let mut known = KnownLines::new();
+    let mut script = Answering::new(alloc);
     let mut answers = TextBuffer::new(alloc);
-    let ran = run_in(&mut store, &mut known, &mut answers, input, output, limit);
+    let ran = run_in(&mut script, &mut answers, input, output, limit);
     drop(answers);
+    let end = script.into_end();
     match ran {
-        Ok(()) => Ok(store),
+        Ok(()) => Ok(end),
         Err(fault) => {
-            store.discard();
+            end.discard();
             Err(fault)
         }
     }

@@ -1,8 +1,8 @@
 //! A store of a group, made line by line.
 use crate::marked_lines::MarkedLine;
 use crate::scarce::Heap;
-use ordup_answers::{ScriptEnd, Unanswered, answer};
-use ordup_grammar::{LinePart, ScriptLine};
+use ordup_answers::{Answering, ScriptEnd, Unanswered};
+use ordup_grammar::LinePart;
 use ordup_objects::Refusal;
 use ordup_world::World;
 use std::alloc::AllocError;
@@ -56,11 +56,14 @@ ok certified b 0
 ";
 
 /// Answers each line of `GROUPED`.
-fn answer_all<'a>(heap: Heap<'a>, store: &mut ScriptEnd<Heap<'a>>) -> Result<(), AllocError> {
+fn answer_all<'a>(heap: Heap<'a>, script: &mut Answering<Heap<'a>>) -> Result<(), AllocError> {
     for text in GROUPED.split('>') {
         if let Some(marked) = MarkedLine::parse(text) {
-            let part = LinePart::new(marked.line.as_bytes());
-            answer(heap, store, &ScriptLine::of(&part), &mut Unanswered)?;
+            script.answer(
+                heap,
+                &LinePart::new(marked.line.as_bytes()),
+                &mut Unanswered,
+            )?;
         }
     }
     Ok(())
@@ -68,13 +71,16 @@ fn answer_all<'a>(heap: Heap<'a>, store: &mut ScriptEnd<Heap<'a>>) -> Result<(),
 
 /// The store after the lines of `GROUPED`.
 pub fn grouped<'a>(heap: Heap<'a>) -> Result<World<Heap<'a>>, Refusal> {
-    let mut store = ScriptEnd::new(heap);
-    if answer_all(heap, &mut store).is_err() {
-        store.discard();
-        return Err(Refusal::NoMemory);
-    }
-    match store {
-        ScriptEnd::Running(world) => Ok(world),
+    let mut script = Answering::new(heap);
+    let answered = answer_all(heap, &mut script);
+    match script.into_end() {
+        ScriptEnd::Running(world) => match answered {
+            Ok(()) => Ok(world),
+            Err(_) => {
+                world.discard();
+                Err(Refusal::NoMemory)
+            }
+        },
         ScriptEnd::Declared(setup) => {
             setup.discard();
             Err(Refusal::NotStarted)

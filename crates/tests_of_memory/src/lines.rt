@@ -4,11 +4,9 @@
 //! which gives all.
 use crate::digests::{Digest, add_primary, add_setup};
 use crate::growths::TRANSCRIPTS;
-use ordup_answers::{ScriptEnd, answer};
-use ordup_grammar::{LinePart, ScriptLine};
-use ordup_objects::SiteId;
+use ordup_answers::{Answering, ScriptEnd};
+use ordup_grammar::LinePart;
 use ordup_text::TextBuffer;
-use ordup_world::{Answer, Event, World};
 use std::alloc::AllocError;
 use std::process::Abort;
 use test_fixtures::expect;
@@ -27,7 +25,7 @@ fn marked<'a>(rt: &impl Abort, text: &'a str) -> MarkedLine<'a> {
 struct Session<'a> {
     scarce: Heap<'a>,
     ample: Heap<'a>,
-    store: ScriptEnd<Heap<'a>>,
+    script: Answering<Heap<'a>>,
     out: TextBuffer<Heap<'a>>,
 }
 
@@ -36,7 +34,7 @@ impl<'a> Session<'a> {
         Session {
             scarce,
             ample,
-            store: ScriptEnd::new(scarce),
+            script: Answering::new(scarce),
             out: TextBuffer::new(ample),
         }
     }
@@ -45,12 +43,10 @@ impl<'a> Session<'a> {
 /// Answers a line.
 fn answer_line(session: &mut Session<'_>, line: &str) -> Result<(), AllocError> {
     session.out.clear();
-    answer(
-        session.scarce,
-        &mut session.store,
-        &ScriptLine::of(&LinePart::new(line.as_bytes())),
-        &mut session.out,
-    )
+    let line = LinePart::new(line.as_bytes());
+    session
+        .script
+        .answer(session.scarce, &line, &mut session.out)
 }
 
 /// Answers a line with memory, and sees that it is answered as the script says.
@@ -85,48 +81,21 @@ fn digest_of(store: &ScriptEnd<Heap<'_>>) -> Digest {
     digest
 }
 
-/// What a site holds.
-fn add_held(rt: &impl Abort, digest: &mut Digest, world: &mut World<Heap<'_>>, site: SiteId) {
-    match &world.step(Event::Show(site)) {
-        Answer::Shown {
-            sent,
-            applied,
-            reported,
-            rounds,
-            values,
-        } => {
-            for number in [*sent, *applied, *reported, *rounds] {
-                digest.add(number);
-            }
-            for value in values.as_slice() {
-                digest.add_value(*value);
-            }
-        }
-        _ => panic!(rt; "a site is not shown"),
-    }
-}
-
-/// What the sites of a store hold.
-fn add_sites(rt: &impl Abort, digest: &mut Digest, world: &mut World<Heap<'_>>) {
-    for index in 0..world.primary().setup().sites() as u8 {
-        add_held(rt, digest, world, SiteId::new(index));
-    }
-}
-
 /// What the readers of a store answer, with nothing allowed.
 fn digest_without_memory(rt: &impl Abort, session: &Session<'_>) -> Digest {
     session.scarce.allow(0);
-    let digest = digest_of(&session.store);
+    let digest = digest_of(session.script.end());
     expect!(rt; !session.scarce.has_refused());
     session.scarce.allow_all();
     digest
 }
 
-/// What a store shows: what its readers answer, and what its sites hold.
+/// What a store shows: what its readers answer, and what `show` is answered, with memory.
 fn show(rt: &impl Abort, session: &mut Session<'_>) -> Digest {
     let mut digest = digest_without_memory(rt, session);
-    if let ScriptEnd::Running(world) = &mut session.store {
-        add_sites(rt, &mut digest, world);
+    for line in ["show a", "show b"] {
+        expect!(rt; answer_line(session, line).is_ok());
+        digest.add_bytes(session.out.as_slice());
     }
     digest
 }
@@ -209,7 +178,7 @@ fn growths_at(
 }
 
 /// Refuses each growth of each line in turn.
-// shows: answer kept; want of memory
+// shows: Answering::answer kept; want of memory
 #[test]
 fn each_growth_of_each_line_is_refused(rt: HostRuntime) {
     let scarce = Scarce::new(rt.alloc(), 0);

@@ -3,8 +3,8 @@ use Rattle.ordup_script.proofs.line_reader.end_line.Goals as goal
 
 pub returns-then-is_empty-clause-lines : goal.returns-then-is_empty-clause-lines
 returns-then-is_empty-clause-lines g c =
-    takes_part c.args.held.now c.args.part.now c.take_part.result c.requires.part
-    (λ held is. c.is_empty.ensures.empty held is c.if-is_empty.true) c.take_part.ensures.lines
+    takes_part c.args.held.now c.args.part.now c.take.result c.requires.part
+    (λ held is. c.is_empty.ensures.empty held is c.if-is_empty.true) c.take.ensures.lines
 
 pub returns-clause-lines : goal.returns-clause-lines
 returns-clause-lines g c =

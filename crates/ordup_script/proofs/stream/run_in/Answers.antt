@@ -15,7 +15,7 @@ returns-in-Ok g c =
     let (script, took, within, end, h) = rw c.in-Whole.is at c.in_ok-read_lines.ensures.lines in
     let later = h.later in
     let grew = Appends-kept _ _ _ _ (sent_all g.W.Write.contents _ _ _ h c.in_ok-read_lines.ensures.clear) c.flush.ensures.bytes in
-    (script, took, within, end, search rules, search (rules, h.store))
+    (script, took, within, end, search rules, search (rules, h.script))
 
 pub returns-in-Err : goal.returns-in-Err
 returns-in-Err g c =

@@ -6,13 +6,13 @@ use Rattle.ordup_script.proofs.stream.AnswererLineTaker.hand_out.Goals as goal
 pub returns-in-Err-clause-lines : goal.returns-in-Err-clause-lines
 returns-in-Err-clause-lines g c = record {
   goes_on = λ first earlier h later.
-      rw append-nil (sends_front g.W.Write.contents first c.args.self.now _ earlier h (record { store = refl; output = refl })
+      rw append-nil (sends_front g.W.Write.contents first c.args.self.now _ earlier h (record { script = refl; output = refl })
       (search rules) _ (inl refl) later);
 }
 
 pub returns-in-Ok-clause-lines : goal.returns-in-Ok-clause-lines
 returns-in-Ok-clause-lines g c = record {
   goes_on = λ first earlier h.
-      rw append-nil (sends_all g.W.Write.contents first c.args.self.now _ earlier h (record { store = refl; output = refl }) (search rules)
-      refl refl c.clear.ensures);
+      rw append-nil (sends_all g.W.Write.contents first c.args.self.now _ earlier h (record { script = refl; output = refl }) (search rules)
+      refl c.clear.ensures);
 }

@@ -4,7 +4,7 @@ use Rattle.ordup_primary.specs.Primaries.{PrimaryState}
 use Rattle.ordup_answers.specs.KnownLines.{name_of}
 use Rattle.ordup_answers.specs.Texts.{answer_text}
 use Rattle.ordup_answers.proofs.AnsweringLemmas.{left_by_event}
-use Rattle.ordup_answers.proofs.known_lines.answer_at.Goals as goal
+use Rattle.ordup_answers.proofs.known_answers.answer_at.Goals as goal
 
 pub returns-clause-reply : goal.returns-clause-reply
 returns-clause-reply g c =

@@ -1,0 +1,21 @@
+use Rattle.ordup_grammar.specs.Lines.{cut}
+use Rattle.ordup_grammar.specs.Requests.{request_of}
+use Rattle.ordup_answers.specs.Replies.{request_reply}
+use Rattle.ordup_answers.proofs.KnownLemmas.{replies_alike, stays_answering}
+use Rattle.ordup_answers.proofs.answering.Answering.answer.Goals as goal
+
+pub invariant_of-self : goal.invariant_of-self
+invariant_of-self g c =
+    let before = c.self.inside in
+    let after = c.answer.new in
+    stays_answering before.end after.store before.known after.known (g.O.AnswerTaker.took c.args.out.now after.out)
+    (λ s. request_reply s (request_of (cut c.args.line.now))) c.answer.result c.self.invariant c.answer.ensures.reply
+    c.answer.ensures.kept c.answer.ensures.known
+
+pub returns-clause-reply : goal.returns-clause-reply
+returns-clause-reply g c =
+    let before = c.self.inside in
+    let after = c.answer.new in
+    rw (← c.self.view_is) (replies_alike before.end after.store before.known after.known
+    (g.O.AnswerTaker.took c.args.out.now after.out) (λ s. request_reply s (request_of (cut c.args.line.now))) c.answer.result
+    c.self.invariant c.answer.ensures.reply)

@@ -1,3 +1,5 @@
+-- Each entry that begins makes the ledger's limits those of one entry more.
+-- The entries rise by place, so where one is later, all after it are later too.
 use Rattle.std.proofs.Common.{◌+◌, ◌≤◌, ◌∙◌, ap, arith, get_or, length, refl}
 use Rattle.std.proofs.lemmas.List.{get_or_default, length-drop}
 use Rattle.std.proofs.lemmas.List.Elements.{All-more}

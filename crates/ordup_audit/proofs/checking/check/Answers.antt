@@ -1,3 +1,5 @@
+-- The first promise says what the verdict is: the first reason, or else the number of rounds.
+-- The laws of verdicts make the other three of it.
 use Rattle.std.proofs.Common.{length, rules, ap}
 use Rattle.ordup_audit.specs.Verdicts.{IsVerdict}
 use Rattle.ordup_audit.specs.declared.verdict.Verdict.TheVariants.{Fewest, No}

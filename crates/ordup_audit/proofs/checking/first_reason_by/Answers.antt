@@ -1,3 +1,4 @@
+-- The reasons are looked for in order. Where one is found, the calls before it have shown that no earlier one is there.
 use Rattle.std.proofs.Common.{◌∙◌, ap, length, refl, rules, sym}
 use Rattle.ordup_audit.proofs.VerdictLemmas.{legal-history}
 use Rattle.ordup_audit.proofs.checking.first_reason_by.Goals as goal

@@ -1,3 +1,4 @@
+-- The changes rise by place, and all before this place are passed. So only the next change can be at the place.
 use Rattle.std.proofs.Common.{arith, ◌-◌, ◌+◌, ◌≡◌}
 use Rattle.ordup_audit.proofs.CursorLemmas.{reports-more, reports-same}
 use Rattle.ordup_audit.proofs.cursors.pass_reports.Goals as goal

@@ -1,3 +1,4 @@
+-- The cursor stands behind all rounds before this place. A place has one round at most, so one step is enough.
 use Rattle.std.proofs.Common.{arith, ◌-◌, ◌+◌, ◌≡◌}
 use Rattle.ordup_audit.proofs.CursorLemmas.{upto-more, upto-same}
 use Rattle.ordup_audit.proofs.cursors.pass_rounds.Goals as goal

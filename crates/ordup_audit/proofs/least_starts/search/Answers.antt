@@ -1,3 +1,5 @@
+-- Each span from before `low` passes a limit, and the one from `high` passes none.
+-- A test of the middle moves one of them, and keeps this.
 use Rattle.std.proofs.Common.{◌+◌, ◌-◌, ◌/◌, ◌∙◌, arith, refl}
 use Rattle.ordup_limits.proofs.LimitLemmas.{within-empty}
 use Rattle.ordup_limits.specs.Ledgers.{StandsAt}

@@ -1,3 +1,5 @@
+-- A span to the next place from before the old least start passes a limit too, unless limits that begin there allow it.
+-- Only then is the least start searched for; else it moves on from the old one.
 use Rattle.ordup_audit.proofs.Common.{◌≡◌, ◌+◌, ◌∙◌, ap, arith, History, history_of, is_within, length, length-map, refl, take}
 use Rattle.ordup_limits.specs.Limits.{within}
 use Rattle.ordup_limits.specs.Entries.{latest}

@@ -1,3 +1,4 @@
+-- An empty span passes no limit. So while the ledger is over one, its start is before its end, and may go on by an update.
 use Rattle.std.proofs.Common.{arith}
 use Rattle.ordup_audit.proofs.LeastStartLemmas.{over-forward}
 use Rattle.ordup_audit.proofs.least_starts.take_off.Goals as goal

@@ -1,3 +1,5 @@
+-- The log of a record ends before the first update that is illegal.
+-- Where the record is not legal, that update is there, and the row is that of its first change whose result is out of range.
 use Rattle.ordup_audit.proofs.Common.{◌+◌, ◌-◌, ◌<◌, ◌∙◌, ◌≡◌, [], ap, arith, Bool, Change, List, cases_lt, false, false≢true, get_or, History}
 use Rattle.ordup_audit.proofs.Common.{history_of, inl, inr, IsLegalFront, IsLegalHistory, IsTrue, length, length-map, RecordState, sym, ℕ}
 use Rattle.ordup_objects.proofs.SerialLemmas.{length-serial}

@@ -1,3 +1,4 @@
+-- The results before the index are in range. If the loop came to its end, all would be, and the set would be legal.
 use Rattle.ordup_audit.proofs.Common.{◌∙◌, ◌≡◌, ◌≤◌, arith, false≢true, greatest_value, in_range, is_legal, of_z, result_at, rules}
 use Rattle.ordup_audit.proofs.Common.{sym, to_z, to_z-of_z, true, w64}
 use Rattle.std.specs.Int.RustNames.{unsigned_abs}

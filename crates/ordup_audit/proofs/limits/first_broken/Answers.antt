@@ -1,3 +1,5 @@
+-- The cursors give what had been reported at a place and what was waited for by then, so the tested span begins at the
+-- place's base. All places before it keep the limits.
 use Rattle.ordup_audit.proofs.Common.{◌+◌, ◌<◌, ◌∙◌, ◌≡◌, All-map, ap, arith, length, length-map, not}
 use Rattle.ordup_audit.specs.Cursors.{AreUpto}
 use Rattle.ordup_audit.specs.declared.report_change.ReportChange.{ReportChange}

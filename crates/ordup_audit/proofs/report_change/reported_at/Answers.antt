@@ -1,3 +1,4 @@
+-- The changes rise by place, so the search finds where those up to the place end. The last of these has what was reported.
 use Rattle.std.proofs.Common.{leb, arith, rules}
 use Rattle.std.proofs.lemmas.List.Sorted.{IsPartitionPoint-from_clause, IsPartitionedBy-leb}
 use Rattle.ordup_audit.proofs.ReportLemmas.{places-rise, ArePassed, report_at-none, report_at-last}

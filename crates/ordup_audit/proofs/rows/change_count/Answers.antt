@@ -1,3 +1,4 @@
+-- The count so far is the sum of the lengths of the sets so far. Sets and records are too short for it to overflow.
 use Rattle.ordup_audit.proofs.Common.{◌+◌, ◌-◌, ◌<◌, ◌∙◌, ◌≡◌, [], ap, arith, Change, get_or, length, List}
 use Rattle.std.proofs.lemmas.List.Sums.{sum_by_more}
 use Rattle.ordup_audit.proofs.rows.change_count.Goals as goal

@@ -1,3 +1,5 @@
+-- A line that is pushed into an empty text is all of it, and says what the check came to.
+-- One that is not pushed was refused memory.
 use Rattle.std.proofs.Common.{◌≡◌, ◌++◌, ◌<◌, [], ℕ, List, Ok, length, sym, subst, inl, inr, refl}
 use Rattle.std.specs.Prelude.{◌⊎◌, MatchResult, OnOk, Result}
 use Rattle.std.proofs.lemmas.Result.{MatchResult-weaker}

@@ -1,3 +1,5 @@
+-- What is read up to the limit is the text itself, where the text is within it.
+-- A row that is bad in it stays bad however the text goes on, and a text that tells a record has no such row.
 use Rattle.std.proofs.Common.{◌∙◌, sym}
 use Rattle.std.proofs.lemmas.Result.{err_from_is_err_and}
 use Rattle.ordup_check.specs.StageViews.{stage_of}

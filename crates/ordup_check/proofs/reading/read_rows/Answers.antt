@@ -1,3 +1,4 @@
+-- The rows read so far lead to the stage. The next one leads to another stage, or is the first bad row, or there is none.
 use Rattle.ordup_audit.proofs.Common.{◌+◌, ◌∙◌, IfSome, inl, subst, sym}
 use Rattle.csv.specs.Reading.{source_of}
 use Rattle.ordup_check.specs.Reading.{HasBadRow}

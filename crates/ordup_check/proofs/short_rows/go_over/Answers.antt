@@ -1,3 +1,5 @@
+-- What the passed bytes, and the state behind them, make of any further text is what the whole makes of it.
+-- One step more, of a byte or of plain rows together, keeps this.
 use Rattle.std.proofs.Common.{◌∙◌, ◌++◌, ◌<◌, ◌≡◌, ◌≤◌, arith, drop, get_or, length, refl, rules, sym, take}
 use Rattle.std.proofs.lemmas.List.{drop_all, drop_more, length-drop, take_all, take_more}
 use Rattle.ordup_check.specs.ShortRows.{ends_at_long_row}

@@ -1,3 +1,5 @@
+-- The sites before the index agree with the primary.
+-- Each uses up one list of the initial values, and there are as many as sites.
 use Rattle.std.proofs.Common.{◌≡◌, ◌<◌, refl, inr, length, rules, arith}
 use Rattle.std.proofs.lemmas.Option.{slice_get_read, slice_get_within}
 use Rattle.std.proofs.lemmas.List.Elements.{All-take}

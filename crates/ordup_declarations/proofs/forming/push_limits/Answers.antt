@@ -1,3 +1,4 @@
+-- The lines of one site follow those of the sites before it, with the name and the limits that the setup has at its index.
 use Rattle.std.proofs.Common.{◌∙◌, ◌++◌, [], ap, arith, get_or, List, map, ℕ}
 use Rattle.ordup_objects.specs.Tables.{Objects}
 use Rattle.ordup_log.specs.Groups.{GroupList}

@@ -1,3 +1,4 @@
+-- A limit in force is on a scope that is there, so it has a line. That line follows those of the limits before it.
 use Rattle.std.proofs.Common.{◌∙◌, ◌++◌, ◌∷◌, [], ap, arith, length, subst, sym}
 use Rattle.std.proofs.lemmas.Option.{get_or_from_slice_get}
 use Rattle.ordup_log.specs.Spans.{IsScopeKnown}

@@ -1,3 +1,4 @@
+-- The pieces are the words of one line, with spaces between them and a line feed at the end. The value is a word of digits.
 use Rattle.std.proofs.Common.{◌∙◌, ◌++◌, ◌∷◌, [], ap, append_assoc, get_or, List, pos, rules, w64, ℕ, ℤ}
 use Rattle.std.specs.Fmt.{signed_decimal}
 use Rattle.std.specs.Prelude.{codes}

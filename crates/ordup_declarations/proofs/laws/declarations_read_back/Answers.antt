@@ -1,3 +1,5 @@
+-- By what the tables keep, each declaring line is one of words, which is read back as it was written.
+-- The lines then declare the setup part by part, since none of them is refused.
 use Rattle.std.proofs.Common.{◌∙◌}
 use Rattle.ordup_declarations.specs.Declarations.{declaring_lines}
 use Rattle.ordup_declarations.proofs.DeclaringLemmas.{setup_declared}

@@ -1,3 +1,4 @@
+-- Both ends have shares of one queue and one counter, and agree that no parcel was pushed, none taken and none told.
 use Rattle.std.proofs.Common.{refl, rules, ◌∙◌}
 use Rattle.ordup_feed.proofs.ParcelLemmas.{in-order-none}
 use Rattle.ordup_feed.proofs.feed.open.Goals as goal

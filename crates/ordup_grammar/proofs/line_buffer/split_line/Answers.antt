@@ -1,3 +1,4 @@
+-- No printed byte is a line feed. So one right behind the printed prefix is the first, and else the search finds the first.
 use Rattle.std.proofs.Common.{sym, subst, Some}
 use Rattle.std.specs.Prelude.{◌==◌}
 use Rattle.memchr.specs.Find.{IsFirstByte}

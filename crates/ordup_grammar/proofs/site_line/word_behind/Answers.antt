@@ -1,3 +1,4 @@
+-- What passes the tests is the keyword and one word, all printed. Each such line passes them, so none is missed.
 use Rattle.std.proofs.Common.{◌∙◌, ap, length, length-drop, sym, arith}
 use Rattle.ordup_grammar.proofs.SiteLineLemmas.{begins, begins_with_first, is_behind, longer, one_word, uncut}
 use Rattle.ordup_grammar.proofs.site_line.word_behind.Goals.{

@@ -1,3 +1,4 @@
+-- The rounds rise, so the place has one only if it is the first round that is not before the place.
 use Rattle.std.proofs.Common.{arith, length, rules}
 use Rattle.std.specs.Prelude.{nat_lt}
 use Rattle.std.proofs.lemmas.Bool.{le-ltb}

@@ -1,3 +1,4 @@
+-- Windows that are apart end one after the other. So the first that does not end before the place has it, or none has.
 use Rattle.std.proofs.Common.{◌+◌, ap, arith, option_map, rules}
 use Rattle.std.specs.Prelude.{nat_lt}
 use Rattle.std.proofs.lemmas.List.Sorted.{IsPartitionPoint-from_clause, IsPartitionedBy-ltb}

@@ -1,3 +1,4 @@
+-- The limits of a record are on scopes that it has, so each has a name to print, and its column goes behind the others.
 use Rattle.std.proofs.Common.{◌++◌, ◌∙◌, ap, append_assoc, arith, length}
 use Rattle.std.proofs.lemmas.Option.{get_or_from_slice_get}
 use Rattle.ordup_limits.proofs.EntryLemmas.{latest-known}

@@ -1,3 +1,5 @@
+-- The span of the ledger gains the update at its end, then the limits get those that begin, then its start moves to what the
+-- site has reported, which never falls.
 use Rattle.ordup_audit.proofs.Common.{◌+◌, ◌∙◌, ap, arith}
 use Rattle.std.specs.Prelude.{min}
 use Rattle.ordup_lag.proofs.SeriesLemmas.{report_at-rises}

@@ -1,3 +1,5 @@
+-- What was written and what is held come to the rows so far, of which a writer that fails has a prefix.
+-- The ledger has the limits that are in force at the row.
 use Rattle.ordup_audit.proofs.Common.{◌≡◌, ◌+◌, ◌∙◌, ap, arith, length, refl, report_at}
 use Rattle.std.specs.Prelude.{min}
 use Rattle.ordup_limits.specs.Entries.{latest}

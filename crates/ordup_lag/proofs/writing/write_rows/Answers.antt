@@ -1,3 +1,4 @@
+-- The buffer was empty, so the head begins the text, and the rows go behind it.
 use Rattle.ordup_lag.proofs.writing.write_rows.Goals as goal
 
 pub send_rows-requires : goal.send_rows-requires

@@ -1,3 +1,5 @@
+-- The changes before are a set already.
+-- So only the last change can be refused, for the first reason that the whole list has.
 use Rattle.std.proofs.Common.{arith, rules}
 use Rattle.std.proofs.lemmas.Grind.{common_steps}
 use Rattle.ordup_objects.proofs.RefusalLemmas.{set_refusal-last, IsSet-push}

@@ -1,3 +1,5 @@
+-- A value in range and the distance of two such values fit into 32 bits.
+-- So each move that is pushed is the one of its change.
 use Rattle.std.proofs.Common.{◌≡◌, ◌∙◌, ◌++◌, arith, rules, get_or, pos, ap, sym, to_z, of_z, w32, w64, FitsSigned}
 use Rattle.std.proofs.lemmas.Grind.{common_steps}
 use Rattle.std.proofs.lemmas.Int.{to_z-of_z, ints}

@@ -1,3 +1,4 @@
+-- The sets dealt and the sets left are all sets, and `turn` is the caller whose hand the next set goes into.
 use Rattle.std.proofs.Common.{◌≡◌, ◌+◌, ◌<◌, length, refl, inl, inr, rules, arith}
 use Rattle.std.specs.Vec.Iter.{into_iter_items}
 use Rattle.std.proofs.lemmas.Grind.{common_steps}

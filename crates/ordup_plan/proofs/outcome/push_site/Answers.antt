@@ -1,3 +1,4 @@
+-- The text is pushed piece by piece, and each piece is what the primary or the site has: the name, two numbers, the values.
 use Rattle.std.proofs.Common.{◌∙◌, ap, length}
 use Rattle.std.specs.Fmt.{decimal}
 use Rattle.ordup_primary.specs.Primaries.{progress_at}

@@ -1,3 +1,5 @@
+-- Each step of the loop takes the lowest bit off the mask and puts the decision down at its site.
+-- So the sites whose bits are gone have it, and the others are as they were.
 use Rattle.std.proofs.Common.{arith, ap, sym, refl, inl, inr, subst, ◌∙◌, ◌≡◌, ◌<◌, ◌≤◌, length, not, w64}
 use Rattle.std.specs.Int.{bit_at, trailing_zeros}
 use Rattle.std.specs.Prelude.{◌==◌, slice_index_or}

@@ -1,3 +1,4 @@
+-- Contracts see no spare capacity, so the sites stay the same. Those whose bits are gone have room.
 use Rattle.std.proofs.Common.{arith, ap, sym, refl, inl, inr, ◌∙◌, ◌≡◌, ◌<◌, length, w64}
 use Rattle.std.specs.Int.{bit_at, trailing_zeros}
 use Rattle.std.proofs.Math.Facts.{Fits-lt-pow}

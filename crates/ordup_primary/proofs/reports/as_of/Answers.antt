@@ -1,3 +1,4 @@
+-- The changes rise by place. The last one counts if it is not after the place; else a binary search finds the one that does.
 use Rattle.std.proofs.Common.{leb, arith, rules, sym}
 use Rattle.std.proofs.lemmas.List.Sorted.{IsPartitionPoint-from_clause, IsPartitionedBy-leb}
 use Rattle.ordup_log.proofs.StepLemmas.{as_of-none, as_of-some, as_of-last}

@@ -1,3 +1,4 @@
+-- The tables copied so far are the first ones of the setup. After a table for each site they are all.
 use Rattle.std.proofs.Common.{arith, ◌≡◌, ◌∙◌, []}
 use Rattle.std.proofs.lemmas.List.{take_more, take_all}
 use Rattle.ordup_primary.specs.Declarations.{limits_of}

@@ -1,3 +1,4 @@
+-- Each part of the first state has a step of its own, and each step can be refused memory alone.
 use Rattle.std.proofs.Common.{◌∙◌}
 use Rattle.std.proofs.lemmas.Result.{err_from_is_err_and, IfOk-from_err}
 use Rattle.ordup_primary.proofs.starting.begin.Goals as goal

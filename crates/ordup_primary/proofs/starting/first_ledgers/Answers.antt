@@ -1,3 +1,4 @@
+-- The declared limits are on scopes that the setup knows, and a ledger without updates is right for any such limits.
 use Rattle.std.proofs.Common.{arith, length}
 use Rattle.std.proofs.lemmas.Result.{err_from_is_err_and}
 use Rattle.ordup_primary.proofs.LedgerLemmas.{AreLedgers-first}

@@ -1,3 +1,4 @@
+-- The list has the first changes of those that are lent, and room for all. One push more makes it one longer.
 use Rattle.ordup_audit.proofs.Common.{◌++◌, ◌+◌, ◌∙◌, ◌∷◌, ◌≡◌, [], ap, arith, List, rules, slice_get, Some, sym, take, take_all, ℕ}
 use Rattle.std.proofs.lemmas.Result.{err_from_is_err_and}
 use Rattle.ordup_objects.proofs.TableLemmas.{take-next}

@@ -1,3 +1,4 @@
+-- Each of the three parts is replaced by a copy of what is lent, and no other part is touched.
 use Rattle.ordup_audit.proofs.Common.{◌∙◌, refl}
 use Rattle.std.proofs.lemmas.Result.{err_from_is_err_and}
 use Rattle.ordup_record.proofs.recording.copy_decided.Goals as goal

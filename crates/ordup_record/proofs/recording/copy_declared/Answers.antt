@@ -1,3 +1,4 @@
+-- A copy has the content of what it was made from, so after three of them the declarations are the lent ones.
 use Rattle.ordup_audit.proofs.Common.{◌∙◌, refl}
 use Rattle.std.proofs.lemmas.Result.{err_from_is_err_and}
 use Rattle.ordup_record.proofs.recording.copy_declared.Goals as goal

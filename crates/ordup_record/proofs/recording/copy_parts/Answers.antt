@@ -1,3 +1,5 @@
+-- The site, the log and the rest are right from the start, and each of the two calls says which parts it leaves alone.
+-- So the parts come to those of the lent record, which keeps the rules of a record.
 use Rattle.ordup_audit.proofs.Common.{◌∙◌, ◌≡◌, ap, History, initial_state, state_of, sym}
 use Rattle.std.proofs.lemmas.Result.{err_from_is_err_and}
 use Rattle.ordup_audit.specs.declared.record.RecordParts.{RecordParts}

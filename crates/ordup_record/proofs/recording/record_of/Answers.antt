@@ -1,3 +1,4 @@
+-- The record is a copy of what is lent. So it has the same content, and is valid since that is.
 use Rattle.ordup_audit.proofs.Common.{◌<◌, ◌∙◌, ap, arith, history_of, length, RecordState, sym}
 use Rattle.std.proofs.lemmas.Result.{err_from_is_err_and}
 use Rattle.ordup_primary.specs.Declarations.{Declared}

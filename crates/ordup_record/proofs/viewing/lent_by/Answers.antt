@@ -1,3 +1,5 @@
+-- Field by field the view shows what the primary has of the site, so it is the record by its definition.
+-- The tables keep their rules and the rounds are the fewest, so the record is valid.
 use Rattle.ordup_audit.proofs.Common.{◌++◌, ◌<◌, ◌∙◌, ◌≡◌, [], ap, append-nil, history_of, IsLegalHistory, IsRecord, length, map}
 use Rattle.ordup_audit.proofs.Common.{take}
 use Rattle.ordup_audit.specs.RecordViews.{change_of_step}

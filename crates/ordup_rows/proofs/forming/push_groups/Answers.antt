@@ -1,3 +1,5 @@
+-- The counter goes on from one group to the next, by as many rows as the group has members.
+-- So the rows are those of one list.
 use Rattle.std.proofs.Common.{◌≡◌, arith, get_or, [], List, ℕ}
 use Rattle.ordup_objects.proofs.SameLemmas.{first-at}
 use Rattle.ordup_rows.proofs.FormLemmas.{member_rows-more, more_written}

@@ -1,3 +1,4 @@
+-- The rows written and the rows left make up those of all limits, and at the end none is left.
 use Rattle.std.proofs.Common.{◌+◌, ap, refl}
 use Rattle.std.proofs.lemmas.List.{drop_all}
 use Rattle.std.proofs.lemmas.Result.{err_from_is_err_and}

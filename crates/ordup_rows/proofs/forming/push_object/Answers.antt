@@ -1,3 +1,4 @@
+-- The columns are formed from what the table has of the object: one more than its index, its name and its initial value.
 use Rattle.ordup_audit.proofs.Common.{◌∙◌, get_or-map, List, pos, rules, to_z-of_z, w64, ℕ, ℤ}
 use Rattle.ordup_objects.proofs.SameLemmas.{first-at}
 use Rattle.ordup_rows.proofs.forming.push_object.Goals as goal

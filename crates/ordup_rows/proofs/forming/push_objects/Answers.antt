@@ -1,3 +1,4 @@
+-- The counter of an object's row is one more than its index. So each row is the first of those that are left, until none is.
 use Rattle.std.proofs.Common.{◌+◌, ap, arith, pos, refl, []}
 use Rattle.std.proofs.lemmas.List.{drop_all}
 use Rattle.std.proofs.lemmas.Result.{err_from_is_err_and}

@@ -1,3 +1,4 @@
+-- Within an update the changes are counted from 1. Their rows go behind one another, until no change is left.
 use Rattle.std.proofs.Common.{◌+◌, ap, refl}
 use Rattle.std.proofs.lemmas.List.{drop_all}
 use Rattle.std.proofs.lemmas.Result.{err_from_is_err_and}

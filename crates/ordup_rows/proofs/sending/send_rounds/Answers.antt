@@ -1,3 +1,4 @@
+-- What was sent and what is held make up the rows of the rounds so far. Where the writer fails, it has a prefix of them.
 use Rattle.std.proofs.Common.{◌+◌, arith}
 use Rattle.ordup_rows.specs.Rows.{round_row}
 use Rattle.ordup_rows.proofs.FormLemmas.{counted-more}

@@ -1,3 +1,4 @@
+-- One window adds its row to what is held, and handing out moves bytes on without losing any, also where it fails.
 use Rattle.std.proofs.Common.{◌+◌, arith}
 use Rattle.ordup_rows.specs.Rows.{window_row}
 use Rattle.ordup_rows.proofs.FormLemmas.{counted-more}

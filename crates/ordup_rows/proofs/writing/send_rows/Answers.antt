@@ -1,3 +1,5 @@
+-- Five calls send the parts of one text in their order.
+-- Where one fails, what was written is a prefix of that text, since nothing of a later part was sent.
 use Rattle.ordup_audit.proofs.Common.{◌++◌, [], map}
 use Rattle.ordup_rows.specs.Forming.{csv_text, last_rows, unsent}
 use Rattle.ordup_rows.specs.Rows.{counted, report_row, round_row, window_row}

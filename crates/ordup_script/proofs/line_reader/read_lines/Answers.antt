@@ -1,3 +1,5 @@
+-- All that was read is within the limit, and its lines were taken but for the one that is held.
+-- A piece that goes past the limit is cut there. A line at which the taker stops is in the script however it goes on.
 use Rattle.std.proofs.Common.{arith, ◌≡◌, ◌∙◌, ◌++◌, ◌-◌, ◌<◌, ℕ}
 use Rattle.std.proofs.Common.{List, ap, length, length-append, sym, take, take-take}
 use Rattle.std.proofs.lemmas.Result.{err_from_is_err_and}

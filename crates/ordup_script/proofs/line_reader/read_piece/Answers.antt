@@ -1,3 +1,4 @@
+-- The lines that end in the piece were read one after another, and what is behind the last of them is held.
 use Rattle.std.proofs.Common.{◌≡◌, ◌∙◌, ◌++◌, ◌∷◌, [], ℕ, List, Err}
 use Rattle.std.proofs.Common.{ap, append_assoc, arith, length, length-append, refl, sym}
 use Rattle.std.proofs.lemmas.List.{append-nil}

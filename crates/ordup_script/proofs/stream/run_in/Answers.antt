@@ -1,3 +1,5 @@
+-- The lines that the reader took are the ones that were answered, and all answers went out.
+-- So how the reading ended says how the run ends.
 use Rattle.std.proofs.Common.{rules}
 use Rattle.std.proofs.KnownBytes.{Appends-kept}
 use Rattle.std.proofs.lemmas.Result.{err_from_is_err_and}

@@ -1,3 +1,4 @@
+-- Moves of a legal set are on known objects, in range and short. Those put and those left come to what the set makes.
 use Rattle.std.proofs.Common.{◌≡◌, ◌∙◌, arith, rules, to_z, of_z, w32, w64, FitsSigned, drop, []}
 use Rattle.std.proofs.lemmas.Int.{to_z-of_z, ints}
 use Rattle.std.proofs.lemmas.List.{drop_all}

@@ -1,3 +1,4 @@
+-- A legal change moves its object too little for the sum to overflow, and each change adds its own distance.
 use Rattle.std.proofs.Common.{◌≡◌, ◌≤◌, ◌∙◌, ap, arith, get_or, pos}
 use Rattle.std.proofs.lemmas.Grind.{common_steps}
 use Rattle.std.proofs.lemmas.Int.{to_z-of_z}

@@ -1,3 +1,4 @@
+-- What is put and what is left make up the text of all values. Nothing is left where the objects end, or the values do.
 use Rattle.std.proofs.Common.{rules, arith, ◌≡◌, ◌++◌, [], ◌∙◌, sym, ap}
 use Rattle.std.proofs.Common.{append_assoc, inl, inr, length, get_or, pos, drop, w64}
 use Rattle.std.proofs.lemmas.Int.{to_z-of_z}

@@ -1,3 +1,4 @@
+-- The bytes are those written and those left. Each write moves a prefix of what is left over to the others.
 use Rattle.std.proofs.Common.{◌≡◌, ◌∙◌, ◌++◌, ◌-◌, List, ℕ, ap, append_assoc}
 use Rattle.std.proofs.Common.{arith, drop, length, sym, take, take-append-drop}
 use Rattle.std.proofs.KnownBytes.{Appends-trans}

@@ -1,3 +1,5 @@
+-- Each promise is true at the start, and one event more keeps it:
+-- the step keeps the world sound, and its answer is the reply over the events accepted before it.
 use Rattle.std.proofs.Common.{arith, ◌≡◌, ◌++◌, ◌∷◌, [], ◌∙◌, sym, ap, append_assoc, length}
 use Rattle.std.specs.Vec.Iter.{into_iter_items}
 use Rattle.ordup_world.specs.Events.{past_after, later}

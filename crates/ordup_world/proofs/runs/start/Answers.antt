@@ -1,3 +1,4 @@
+-- A started world promises what a run does over no events. After it only the list of answers can be refused memory.
 use Rattle.std.proofs.Common.{refl}
 use Rattle.std.proofs.lemmas.Result.{err_from_is_err_and}
 use Rattle.ordup_world.proofs.runs.start.Goals as goal

@@ -1,3 +1,4 @@
+-- A span passes a limit just where it begins before the least start of its end. So one look into the list replaces the test.
 use Rattle.ordup_audit.proofs.Common.{◌≡◌, ◌+◌, arith, history_of, is_within, length}
 use Rattle.std.specs.Prelude.{slice_index}
 use Rattle.std.proofs.lemmas.List.{get_or_read}

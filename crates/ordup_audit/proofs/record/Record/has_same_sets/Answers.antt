@@ -1,3 +1,5 @@
+-- Two lists that have the same length, and the same set at each index, are the same.
+-- One set that differs shows that they are not.
 use Rattle.ordup_audit.proofs.Common.{◌+◌, ◌-◌, ◌∙◌, [], arith, get_or_default, refl, same_lists, sym}
 use Rattle.ordup_objects.proofs.SameLemmas.{not_same-at, same-more}
 use Rattle.ordup_audit.proofs.record.Record.has_same_sets.Goals as goal

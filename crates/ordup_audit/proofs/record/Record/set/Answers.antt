@@ -1,3 +1,4 @@
+-- The updates of a record are those of its log, and then the rest. A number above the log's length is counted from there.
 use Rattle.std.proofs.Common.{arith, length-append, ◌∙◌}
 use Rattle.ordup_audit.proofs.RecordLemmas.{first-of, rest-of}
 use Rattle.ordup_audit.proofs.record.Record.set.Goals as goal

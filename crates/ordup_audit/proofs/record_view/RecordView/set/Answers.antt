@@ -1,3 +1,4 @@
+-- A lent log may have more updates than the record, so the number is compared with how many of them count.
 use Rattle.std.proofs.Common.{arith, ◌∙◌}
 use Rattle.ordup_audit.proofs.RecordLemmas.{lent-count, lent-first, lent-rest}
 use Rattle.ordup_audit.proofs.record_view.RecordView.set.Goals as goal

@@ -1,3 +1,5 @@
+-- The bytes before `rest` are whole lines, and these were answered.
+-- So where a line is refused memory, they are what was taken; and what is behind the last line feed is one line more.
 use Rattle.std.proofs.Common.{◌≡◌, ◌∙◌, ◌++◌, ◌∷◌, [], ◌<◌, rules, refl, sym, ap, arith, append_assoc, length, length-append, subst, true}
 use Rattle.std.proofs.lemmas.List.{append-nil}
 use Rattle.ordup_grammar.specs.Lines.{cut}

@@ -1,3 +1,4 @@
+-- The last group, or a new one, refuses the member where no record has such a row, or for want of memory.
 use Rattle.std.proofs.Common.{rules}
 use Rattle.ordup_check.specs.ColumnViews.{columns_view}
 use Rattle.ordup_check.specs.PartialRecords.{record_so_far}

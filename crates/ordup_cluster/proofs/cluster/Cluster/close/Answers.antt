@@ -1,3 +1,4 @@
+-- A primary and sites that agree with it are a closed cluster. Where a site is mixed, its number is that of a declared one.
 use Rattle.std.proofs.Common.{◌≡◌, ◌<◌, refl, length, rules, arith, ⊎_elim}
 use Rattle.ordup_cluster.proofs.ClosedLemmas.{is-closed}
 use Rattle.ordup_cluster.proofs.cluster.Cluster.close.Goals as goal

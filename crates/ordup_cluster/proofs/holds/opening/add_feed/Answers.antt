@@ -1,3 +1,4 @@
+-- The room for an end and a cell is there before the feed is made, so both lists get theirs, or neither does.
 use Rattle.std.proofs.Common.{◌∙◌, sym, ap}
 use Rattle.ordup_objects.specs.Tables.{initial_state}
 use Rattle.ordup_cluster.proofs.OpeningLemmas.{feeds-more, has-room}

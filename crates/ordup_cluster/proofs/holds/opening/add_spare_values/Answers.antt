@@ -1,3 +1,4 @@
+-- Each step of the loop adds the initial values once more, so there are as many lists of them as sites.
 use Rattle.std.proofs.Common.{ℕ, ◌+◌, ◌≡◌, ap, ◌∙◌, refl, arith}
 use Rattle.std.proofs.lemmas.List.{length_push}
 use Rattle.std.proofs.lemmas.List.Elements.{All-push}

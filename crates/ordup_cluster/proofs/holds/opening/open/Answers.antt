@@ -1,3 +1,4 @@
+-- A primary that sent nothing is tied to feeds that are empty. So it makes a book with them, and with values for each site.
 use Rattle.std.proofs.Common.{◌∙◌, sym, length}
 use Rattle.std.proofs.lemmas.List.{length-replicate}
 use Rattle.ordup_primary.specs.Primaries.{first_progress}

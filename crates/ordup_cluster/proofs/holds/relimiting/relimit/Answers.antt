@@ -1,3 +1,5 @@
+-- The scope and the site are tested first.
+-- For those that are known, the primary's refusals are the ones that the cluster promises.
 use Rattle.std.proofs.Common.{arith}
 use Rattle.std.proofs.lemmas.Result.{err_from_is_err_and}
 use Rattle.ordup_cluster.proofs.BookLemmas.{keeps-relimited, primary-refuses}

@@ -1,3 +1,4 @@
+-- A report changes the primary at its site alone. So the sites before the index have reported, and the others are as before.
 use Rattle.std.proofs.Common.{refl, ap, ◌∙◌, length, arith}
 use Rattle.ordup_cluster.specs.Turning.{Reported}
 use Rattle.ordup_cluster.proofs.BookLemmas.{keeps-at, sites-count, upto-none, upto-more, upto-all}

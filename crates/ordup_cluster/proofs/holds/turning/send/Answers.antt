@@ -1,3 +1,5 @@
+-- At each step the feed has the updates that the primary counts as sent, and the next one may follow them.
+-- The loop ends at the last update that may be sent, or at a feed that is full.
 use Rattle.std.proofs.Common.{◌<◌, ap, length, arith, inl, inr}
 use Rattle.ordup_primary.specs.Primaries.{PrimaryState, progress_at}
 use Rattle.ordup_cluster.specs.Turning.{kept_at}

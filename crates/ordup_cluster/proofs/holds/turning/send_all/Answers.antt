@@ -1,3 +1,5 @@
+-- Sending to one site changes nothing at the others, and nothing that is acknowledged.
+-- So up to which update each may be sent is known from the start, and the sites before the index were sent as many.
 use Rattle.std.proofs.Common.{refl, sym, ap, ◌∙◌, length, arith}
 use Rattle.std.proofs.lemmas.Option.{slice_get_read}
 use Rattle.ordup_primary.specs.Declarations.{Declared}

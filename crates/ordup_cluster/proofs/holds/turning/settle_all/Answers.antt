@@ -1,3 +1,4 @@
+-- Each settlement that acknowledges the head is one more of those that were made, and none of them touches a feed.
 use Rattle.std.proofs.Common.{suc, ◌∙◌, sym}
 use Rattle.ordup_cluster.specs.Turning.{Settles}
 use Rattle.ordup_cluster.proofs.SettlementLemmas.{settled-acked, same-feeds, same-feeds-more}

@@ -1,3 +1,5 @@
+-- The settlements change nothing that the feeds are tied to.
+-- So what the reports leave is still a book when updates are sent, and its values for each site stay the initial ones.
 use Rattle.std.proofs.Common.{ap, ◌∙◌}
 use Rattle.ordup_primary.specs.Primaries.{PrimaryState}
 use Rattle.ordup_cluster.proofs.BookLemmas.{keeps-settled, spare_values-kept, spare_values-turned}

@@ -1,3 +1,4 @@
+-- An object without a mark, or without a value at the site, is unknown. Any other read is as the query answers it.
 use Rattle.std.proofs.Common.{◌<◌, length, inl, refl, rules}
 use Rattle.ordup_cluster.proofs.QueryLemmas.{refused-by}
 use Rattle.ordup_cluster.proofs.site_query.SiteQuery.read.Goals as goal

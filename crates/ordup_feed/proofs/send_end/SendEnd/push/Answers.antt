@@ -1,3 +1,4 @@
+-- A parcel that comes next keeps the order of those in the queue, which is what the queue's rule asks of whoever pushes.
 use Rattle.std.proofs.Common.{◌∙◌, refl, sym, subst, arith}
 use Rattle.std.proofs.lemmas.List.{length_push}
 use Rattle.crossbeam_queue.specs.Passes.{view}

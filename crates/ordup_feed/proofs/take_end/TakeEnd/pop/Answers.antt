@@ -1,3 +1,4 @@
+-- The queue's rule keeps all parcels in order, and one end alone takes them. So the front one is next after those taken.
 use Rattle.std.proofs.Common.{[], refl, subst, ◌∙◌, arith}
 use Rattle.std.proofs.lemmas.List.{length_push}
 use Rattle.crossbeam_queue.specs.Passes.{view}

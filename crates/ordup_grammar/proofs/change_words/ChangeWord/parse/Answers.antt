@@ -1,3 +1,4 @@
+-- The kind is what is before the first colon, and the object what is before the second. So the operand decides the rest.
 use Rattle.std.proofs.Common.{arith}
 use Rattle.std.proofs.lemmas.Grind.{common_steps}
 use Rattle.ordup_grammar.specs.Operations.{kind_text}

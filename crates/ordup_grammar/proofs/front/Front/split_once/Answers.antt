@@ -1,3 +1,4 @@
+-- The index of the first separator is where the first part ends. If it is the length of the text, there is only this part.
 use Rattle.std.proofs.Common.{◌≡◌, length, length-take, arith}
 use Rattle.std.specs.Prelude.{◌==◌}
 use Rattle.ordup_grammar.proofs.Splits.{index_within, slice_split-index, slice_split-no_index}

@@ -1,3 +1,5 @@
+-- The list of members leaves the table while it grows, and then goes back.
+-- So the table is the old one but for the added member; and where memory is refused, it is the old one.
 use Rattle.std.proofs.Common.{arith, ◌∙◌, ◌≡◌, ◌-◌, sym, ap, refl, ℕ, List, Vec}
 use Rattle.std.specs.Prelude.{option_map}
 use Rattle.std.proofs.Math.ListN.{length-set}

@@ -1,3 +1,5 @@
+-- What the test of a group allows is what the table asks: a free name, room, and members that are distinct and known.
+-- So each way out leaves the groups as they were, or one more.
 use Rattle.std.proofs.Common.{◌∙◌, refl, sym}
 use Rattle.std.proofs.lemmas.Result.{IfOk-from_err, err_from_is_err_and}
 use Rattle.ordup_log.proofs.GroupLemmas.{index_of-view, group_allowed, groups_of-few, groups_of-push, are_groups-push}

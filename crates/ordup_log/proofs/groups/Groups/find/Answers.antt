@@ -1,3 +1,4 @@
+-- A group has the same index in the table as in the list that contracts see, which has another form of the members alone.
 use Rattle.std.proofs.Common.{arith, Some, ap, sym, ◌∙◌}
 use Rattle.ordup_log.proofs.GroupLemmas.{index_of-view, groups_of-length}
 use Rattle.ordup_log.proofs.groups.Groups.find.Goals as goal

@@ -1,3 +1,5 @@
+-- The weight of an update comes from its moves, and the running weight is the span from the start of the log.
+-- A span weighs so little that the sum cannot overflow.
 use Rattle.std.proofs.Common.{arith, ◌≡◌, ◌+◌, ◌∙◌}
 use Rattle.ordup_objects.specs.Weights.{object_weight, object_span}
 use Rattle.ordup_log.proofs.MovingLemmas.{on-moves}

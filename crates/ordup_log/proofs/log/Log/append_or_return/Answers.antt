@@ -1,3 +1,5 @@
+-- What the log keeps beside its updates follows from their moves. With the moves of the set behind them, it is what a log
+-- with one update more keeps. A refused set changes nothing that contracts see.
 use Rattle.std.proofs.Common.{arith, ◌∙◌, ◌≡◌, ◌∷◌, [], ◌++◌, ◌+◌, ◌<◌, ap, refl, true, length, sym, subst, drop, sum_by, List}
 use Rattle.std.specs.Prelude.{All, ◌^◌}
 use Rattle.std.proofs.lemmas.List.{length-append}

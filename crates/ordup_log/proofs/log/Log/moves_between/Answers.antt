@@ -1,3 +1,4 @@
+-- The moves of all updates stand in one list, with an index for each place. So those between two places are one part of it.
 use Rattle.std.proofs.Common.{arith, ◌≤◌, ◌∙◌, ap, length, ◌++◌}
 use Rattle.std.proofs.lemmas.List.{length-append}
 use Rattle.ordup_objects.specs.Serial.{History}

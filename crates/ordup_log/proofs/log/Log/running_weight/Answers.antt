@@ -1,3 +1,5 @@
+-- The last row of marks has the weight up to its place, and the moves after it have the rest.
+-- An unknown object weighs nothing.
 use Rattle.std.proofs.Common.{arith, ◌≡◌, ◌/◌, ◌*◌, ◌-◌, ap, sym}
 use Rattle.ordup_objects.specs.Weights.{object_span}
 use Rattle.ordup_log.specs.Rows.{updates_a_row}

@@ -1,3 +1,4 @@
+-- The marks of a row sum to the weight on all objects, to which the moves behind the row add theirs.
 use Rattle.std.proofs.Common.{arith, ◌≡◌, ◌/◌, ◌*◌, [], ap}
 use Rattle.ordup_log.specs.Rows.{updates_a_row}
 use Rattle.ordup_log.specs.Spans.{span}

@@ -1,3 +1,4 @@
+-- A span on a group is the sum of those on its members, and a span on the count is how many updates it has.
 use Rattle.std.proofs.Common.{arith, ◌-◌, sym, ap, ◌∙◌, sum_by}
 use Rattle.ordup_objects.specs.Weights.{object_span}
 use Rattle.ordup_log.specs.Groups.{members_at}

@@ -1,3 +1,5 @@
+-- The weight of an object's span is that of its moves.
+-- Spans add up, so it is also the difference of two from the log's start.
 use Rattle.std.proofs.Common.{arith, ◌∙◌}
 use Rattle.ordup_objects.proofs.SpanLemmas.{object_span-add}
 use Rattle.ordup_log.proofs.MovingLemmas.{on-part}

@@ -1,3 +1,4 @@
+-- What holds of one object holds of all: a short span is summed, and a long one is the difference of two running weights.
 use Rattle.std.proofs.Common.{arith, [], ◌∙◌}
 use Rattle.ordup_log.specs.declared.scope.Scope.TheVariants.{All as Everything}
 use Rattle.ordup_log.proofs.MovingLemmas.{all-part}

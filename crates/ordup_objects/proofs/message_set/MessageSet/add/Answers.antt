@@ -1,3 +1,4 @@
+-- The test of one change more promises the same of the longer set, so only the push itself can still be refused.
 use Rattle.std.proofs.Common.{arith, refl}
 use Rattle.std.proofs.lemmas.Result.{err_from_is_err_and}
 use Rattle.std.proofs.lemmas.Grind.{common_steps}

@@ -1,3 +1,4 @@
+-- A list of one change is stored as that change. Any other list is kept as it is, once the tests promise what a set keeps.
 use Rattle.std.proofs.Common.{◌≡◌, ◌∙◌, sym, [], ◌∷◌, arith, refl}
 use Rattle.std.proofs.lemmas.Result.{err_from_is_err_and}
 use Rattle.ordup_objects.proofs.ListLemmas.{alone}

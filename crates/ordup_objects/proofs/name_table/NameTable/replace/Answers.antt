@@ -1,3 +1,4 @@
+-- Another entry at an index changes no name, so the names stay distinct and each stays where it was.
 use Rattle.std.proofs.Common.{rules, List, ℕ, Some, ◌∙◌, ap, sym}
 use Rattle.std.specs.Option.{option_copied_mut}
 use Rattle.std.proofs.lemmas.Option.{slice_get-map}

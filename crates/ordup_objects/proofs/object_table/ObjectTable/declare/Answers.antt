@@ -1,3 +1,4 @@
+-- The test has seen to name, value and count. So the push can lack memory alone, and the longer table keeps its rules.
 use Rattle.std.proofs.Common.{Option, rules, refl, sym, subst, w64}
 use Rattle.std.proofs.lemmas.Int.{to_z-of_z}
 use Rattle.std.proofs.lemmas.Result.{err_from_is_err_and}

@@ -1,3 +1,4 @@
+-- The tests are those of the definition, in its order: what the table of limits refuses, then the head, then the lag.
 use Rattle.std.proofs.Common.{arith, ap, sym, subst, length, get_or, ◌≡◌, ◌∙◌, ◌<◌, ◌+◌, []}
 use Rattle.std.proofs.lemmas.List.{get_or_read}
 use Rattle.std.proofs.lemmas.Result.{err_from_is_err_and}

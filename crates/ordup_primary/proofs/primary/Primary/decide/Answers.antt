@@ -1,3 +1,5 @@
+-- The ledgers, which go up to the head, have a bit for each site that it takes past a limit.
+-- A site that is neither forced nor moved would get nothing from the decision, so it need not be looked at.
 use Rattle.std.proofs.Common.{arith, ap, refl, sym, ◌∙◌, length, map, ◌==◌}
 use Rattle.std.proofs.lemmas.List.{length-map}
 use Rattle.std.proofs.lemmas.Result.{err_from_is_err_and}

@@ -1,3 +1,4 @@
+-- The lag is a span that ends at the last acknowledged update. A site that reported as much or more has an empty one.
 use Rattle.std.proofs.Common.{arith, refl, ap, ◌≡◌, ◌-◌}
 use Rattle.ordup_primary.specs.Primaries.{PrimaryState, progress_at}
 use Rattle.ordup_primary.specs.PrimaryInside.{state_of}

@@ -1,3 +1,4 @@
+-- The number sent rises by one and stays within the log. Neither the ledgers nor what is kept of reports depend on it.
 use Rattle.std.proofs.Common.{arith, refl, ap, ◌+◌}
 use Rattle.std.proofs.lemmas.Grind.{common_steps}
 use Rattle.ordup_primary.specs.Primaries.{SiteProgress, PrimaryState}

@@ -1,3 +1,4 @@
+-- At the start nothing is decided and nothing was reported, so what a primary keeps follows from what its declarations keep.
 use Rattle.std.proofs.Common.{List, length, get_or, arith, ap, refl}
 use Rattle.ordup_primary.specs.Primaries.{SiteProgress, first_progress}
 use Rattle.ordup_primary.specs.PrimaryInside.{state_of, first_state}

@@ -1,3 +1,5 @@
+-- A site was sent at most the whole log.
+-- Where it was sent less, the next update is in the log, and its copy can lack memory alone.
 use Rattle.std.proofs.Common.{arith, refl, ap, sym, length, ◌+◌, ◌∙◌, ◌≡◌, None}
 use Rattle.std.proofs.lemmas.Bool.{eq-eqb}
 use Rattle.std.proofs.lemmas.Result.{err_from_is_err_and}

@@ -1,3 +1,4 @@
+-- An update at the end of the log changes nothing before it, and ledgers and decisions are about the updates before it.
 use Rattle.std.proofs.Common.{refl, rules}
 use Rattle.std.proofs.lemmas.Result.{on_ok_weaker, on_err_weaker}
 use Rattle.ordup_objects.specs.Sets.{IsSet}

@@ -1,3 +1,5 @@
+-- The limit changes in the table of the site and in its ledger alike, and only from the head on, which is not decided.
+-- Where the table is refused memory, neither has changed.
 use Rattle.std.proofs.Common.{arith, ap, refl, sym, subst, ◌≡◌, ◌<◌, ◌+◌, ◌∙◌, [], length, get_or}
 use Rattle.std.proofs.Math.ListN.{set}
 use Rattle.std.proofs.lemmas.List.{get_or_read, set-get_or}

@@ -1,3 +1,4 @@
+-- After the tests memory alone can be refused. On each way out the primary is as before, or has the new limit.
 use Rattle.std.proofs.Common.{arith, refl, ap, ◌+◌, ◌∙◌}
 use Rattle.std.proofs.lemmas.Result.{err_from_is_err_and}
 use Rattle.ordup_primary.specs.Primaries.{PrimaryState}

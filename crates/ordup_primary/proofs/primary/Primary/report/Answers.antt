@@ -1,3 +1,5 @@
+-- The site's bit is set among those that moved, so it may differ from what was last put down.
+-- Its ledger begins at the new place, as its progress says.
 use Rattle.std.proofs.Common.{arith, refl, ap, sym, ◌<◌, ◌^◌, ◌*◌, ◌%◌, ◌∙◌}
 use Rattle.std.specs.Int.RustNames.{bit_or}
 use Rattle.std.proofs.lemmas.Bool.{eq-eqb, ne_eqb, false≢true}

@@ -1,3 +1,5 @@
+-- Of what a site reported only the changes are kept.
+-- As of a decided place they give the same number as a list with one for each place.
 use Rattle.std.proofs.Common.{arith, ap, sym, ◌∙◌}
 use Rattle.ordup_primary.specs.Primaries.{SiteProgress, reported_at}
 use Rattle.ordup_primary.proofs.PrimaryLemmas.{changes_at, view_at}

@@ -1,3 +1,5 @@
+-- The head is settled for the first time where all decided updates are acknowledged, and again where they are not.
+-- Either case makes the clauses of the other empty, and only the first takes memory.
 use Rattle.std.proofs.Common.{◌≡◌, ◌∙◌, arith, refl, None}
 use Rattle.std.proofs.lemmas.Bool.{eq-eqb}
 use Rattle.std.proofs.lemmas.Result.{IfErr-weaker, IfOk-weaker, on_ok_weaker}

@@ -1,3 +1,4 @@
+-- The head is acknowledged where no site is waited for. It was decided before, so neither ledgers nor reports change.
 use Rattle.std.proofs.Common.{arith, ◌∙◌, ◌≡◌, ◌==◌, ap, refl, length}
 use Rattle.ordup_primary.specs.Primaries.{PrimaryState, acked_after, waiting_now}
 use Rattle.ordup_primary.specs.PrimaryInside.{state_of}

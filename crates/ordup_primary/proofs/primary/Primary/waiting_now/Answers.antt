@@ -1,3 +1,4 @@
+-- The list has the sites below the index that are waited for, in order. At the end the index is past all sites.
 use Rattle.std.proofs.Common.{arith, ap, sym, length, ◌∙◌}
 use Rattle.std.proofs.lemmas.List.{length_push}
 use Rattle.ordup_primary.specs.Primaries.{waits_for}

@@ -1,3 +1,4 @@
+-- A new group leaves those before it known, so each limit is still on a scope that is there.
 use Rattle.std.proofs.Common.{refl}
 use Rattle.std.proofs.lemmas.Result.{on_ok_weaker, on_err_weaker}
 use Rattle.ordup_primary.specs.Declarations.{Declared}

@@ -1,3 +1,5 @@
+-- One table gets an entry that holds from place 1, on a scope that was found to be there.
+-- If the table refuses it, all is as before.
 use Rattle.std.proofs.Common.{arith, false, nat_lt, refl, sym, subst, length, ◌≡◌, ◌<◌, ◌≤◌}
 use Rattle.std.proofs.lemmas.Bool.{le-ltb}
 use Rattle.std.proofs.lemmas.Result.{err_from_is_err_and}

@@ -1,3 +1,4 @@
+-- A new object changes no index of those before it, so groups and limits keep the objects that they were declared with.
 use Rattle.std.proofs.Common.{refl, rules, w64, ℤ, List, ℕ}
 use Rattle.std.proofs.lemmas.Int.{to_z-of_z}
 use Rattle.std.proofs.lemmas.Result.{on_ok_weaker, on_err_weaker}

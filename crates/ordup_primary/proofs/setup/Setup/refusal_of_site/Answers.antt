@@ -1,3 +1,5 @@
+-- The name is tested first, then the capacity, then the count, as in the definition.
+-- Each branch knows what those before it found.
 use Rattle.std.proofs.Common.{ap, sym, true, false, ◌≡◌, ◌∙◌}
 use Rattle.std.specs.Prelude.{is_some}
 use Rattle.ordup_objects.specs.Tables.{index_of}

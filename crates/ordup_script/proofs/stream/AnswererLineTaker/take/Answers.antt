@@ -1,3 +1,5 @@
+-- The reply of the line goes behind the answers to those before it.
+-- Where memory is refused, these are all that was answered.
 use Rattle.std.proofs.Common.{[], ◌∷◌, ◌++◌, append_assoc, inr, refl}
 use Rattle.std.proofs.KnownBytes.{Appends-nil}
 use Rattle.std.proofs.lemmas.List.{append-nil}

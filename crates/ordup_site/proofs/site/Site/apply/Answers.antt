@@ -1,3 +1,4 @@
+-- Values and distances move by the changes of the set, which is the step of a site from one place of a log to the next.
 use Rattle.ordup_site.specs.Sites.{SiteState}
 use Rattle.ordup_site.proofs.SiteLemmas.{IsStep-moved, HasApplied-last, HasApplied-next}
 use Rattle.ordup_site.proofs.site.Site.apply.Goals as goal

@@ -1,3 +1,4 @@
+-- The moves alone say what the values become. So the step is that of any set that has them, the log's next one included.
 use Rattle.std.proofs.Common.{◌+◌, refl}
 use Rattle.ordup_objects.specs.Serial.{set_at}
 use Rattle.ordup_site.specs.Sites.{SiteState}

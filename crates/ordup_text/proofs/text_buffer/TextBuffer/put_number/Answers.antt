@@ -1,3 +1,4 @@
+-- A number has no more digits than there is room for. Written up to their end, they begin where the text ended.
 use Rattle.std.proofs.Common.{arith, ◌≡◌}
 use Rattle.std.proofs.lemmas.Grind.{common_steps}
 use Rattle.std.proofs.lemmas.Fmt.{length-decimal-le}

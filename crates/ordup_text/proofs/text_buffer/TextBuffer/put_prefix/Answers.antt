@@ -1,3 +1,4 @@
+-- All bytes of the array go behind the text, and a shorter length then drops the last ones.
 use Rattle.std.proofs.Common.{arith, ap, ◌∙◌, length, length-append}
 use Rattle.std.proofs.lemmas.List.{length-take-le}
 use Rattle.ordup_text.specs.TextBuffers.{BufferedText}

@@ -1,3 +1,5 @@
+-- Each test is a refusal of the definition, in its order, and changes nothing.
+-- The last branch adds one query to the open ones.
 use Rattle.std.proofs.Common.{arith}
 use Rattle.std.proofs.lemmas.Grind.{common_steps}
 use Rattle.ordup_world.proofs.QueryStepLemmas.{unknown-begin, limit_out_of_range, too_many_open, already_open, begun}

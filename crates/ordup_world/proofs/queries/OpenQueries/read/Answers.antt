@@ -1,3 +1,4 @@
+-- A sound world has the site of each open query, and a mark and a value for each object. So the query's answer is the reply.
 use Rattle.std.proofs.Common.{arith, ◌<◌, length}
 use Rattle.std.proofs.lemmas.Grind.{common_steps}
 use Rattle.ordup_world.specs.Worlds.{WorldState, with_queries, find_query}

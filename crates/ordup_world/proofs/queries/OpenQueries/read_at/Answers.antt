@@ -1,3 +1,4 @@
+-- The query changes where it stands in the table. So its name finds the new one, and every other name finds what it found.
 use Rattle.std.proofs.Common.{◌∙◌, ap, sym}
 use Rattle.std.specs.Cmp.Lexicographic.{nat_list_eq_equiv}
 use Rattle.std.proofs.lemmas.Option.{slice_get_within}

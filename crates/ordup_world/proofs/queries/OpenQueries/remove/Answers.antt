@@ -1,3 +1,5 @@
+-- What is at the index of the name goes out, and no other name loses its query.
+-- Contracts see nothing of the hint that is noted.
 use Rattle.std.proofs.Common.{◌≡◌, ◌∙◌, ap, refl, sym, Some, ℕ, List}
 use Rattle.std.specs.Prelude.{option_map}
 use Rattle.ordup_world.specs.Worlds.{OpenState}

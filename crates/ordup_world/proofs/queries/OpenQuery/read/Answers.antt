@@ -1,3 +1,4 @@
+-- An open query is a query with its site. So by a read it becomes what the query becomes, with the same site beside it.
 use Rattle.std.proofs.Common.{◌≡◌, ℕ, ◌+◌, None, Result, Ok, Err, ap, arith}
 use Rattle.std.specs.Prelude.{IfOk, OnOk}
 use Rattle.std.proofs.lemmas.List.{get_or_read}

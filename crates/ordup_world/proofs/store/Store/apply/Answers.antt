@@ -1,3 +1,5 @@
+-- What was sent is in the log, so the update is there.
+-- The site has the values before it, so the moves in the log are its own too.
 use Rattle.std.proofs.Common.{arith, refl, ◌≡◌, ◌<◌, ◌+◌, length, get_or}
 use Rattle.std.proofs.lemmas.Grind.{common_steps}
 use Rattle.ordup_objects.specs.Serial.{set_at}

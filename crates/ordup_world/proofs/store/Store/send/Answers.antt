@@ -1,3 +1,4 @@
+-- The feed has what was sent and not applied, so the difference of two numbers says whether it is full.
 use Rattle.std.proofs.Common.{arith, ◌+◌, ◌∙◌, refl, sym, ap}
 use Rattle.std.proofs.lemmas.Grind.{common_steps}
 use Rattle.ordup_world.proofs.StepLemmas.{unknown-site, nothing_to_send, feed_full, sent_next}

@@ -1,3 +1,4 @@
+-- A new primary and sites with the initial values are a store after an empty past.
 use Rattle.std.proofs.lemmas.Result.{err_from_is_err_and}
 use Rattle.ordup_world.specs.StoreInside.{state_of}
 use Rattle.ordup_world.proofs.StoreLemmas.{IsStore-start}

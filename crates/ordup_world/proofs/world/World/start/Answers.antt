@@ -1,3 +1,4 @@
+-- A started store without open queries is a sound world, and each sound world keeps its limits and has the fewest rounds.
 use Rattle.std.proofs.Common.{[], rules}
 use Rattle.std.proofs.lemmas.Result.{err_from_is_err_and}
 use Rattle.ordup_primary.proofs.PrimaryLemmas.{HasFewestRounds-sound}

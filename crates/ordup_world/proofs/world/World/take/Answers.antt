@@ -1,3 +1,4 @@
+-- Each event is a step of the store or of the open queries, and either is a step of the world.
 use Rattle.std.proofs.Common.{refl}
 use Rattle.ordup_world.specs.StoreInside.{state_of}
 use Rattle.ordup_world.proofs.QueryStepLemmas.{stepped}

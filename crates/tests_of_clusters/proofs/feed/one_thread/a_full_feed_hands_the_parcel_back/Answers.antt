@@ -1,3 +1,4 @@
+-- Each push asks for the parcel that comes next: the first, the second, and the second again, since it was handed back.
 use Rattle.std.proofs.Common.{length, ap, ◌∙◌, arith}
 use Rattle.std.proofs.lemmas.List.{length-map, length_push}
 use Rattle.ordup_feed.specs.Ends.{Sending}

@@ -19,7 +19,7 @@ impl<'a> ChangeWord<'a> {
     pub fn parse(word: &Word<'a>) -> Option<ChangeWord<'a>>
         ensures { result ≡ change_of word.now }
     {
-        let (kind, rest) = Kind::split(&word.front())?;
+        let (kind, rest) = Kind::split(&word.prefix())?;
         let (object, operand) = rest.split_once(b':')?;
         if object.len() == 0 {
             return None;

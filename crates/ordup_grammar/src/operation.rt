@@ -3,8 +3,8 @@ ghost use Rattle.std.specs.List.{slice_split};
 ghost use Rattle.ordup_grammar.specs.ChangeWords.{change_of};
 ghost use Rattle.ordup_grammar.specs.Operations.{kind_text, operation_of};
 
-use crate::front::Front;
 use crate::number::Number;
+use crate::prefix::Prefix;
 use crate::word::Word;
 use ordup_objects::NumberOp;
 
@@ -21,7 +21,7 @@ impl<'a> Operation<'a> {
     /// The operation of a kind, with what stands behind the second colon. The operand is a single part where it has no colon itself. A
     /// number has none.
     #[inline(always)]
-    pub(crate) fn parse(kind: Kind, operand: Front<'a>) -> Option<Operation<'a>>
+    pub(crate) fn parse(kind: Kind, operand: Prefix<'a>) -> Option<Operation<'a>>
         ensures { result ≡ (if is_some (position (λ byte. byte == 58) operand.entry) then None else operation_of (kind_text kind) operand.entry) }
     {
         match kind {
@@ -51,7 +51,7 @@ pub(crate) enum Kind {
 impl Kind {
     /// The kind of a change word, and what stands behind its first colon.
     #[inline(always)]
-    pub(crate) fn split<'a>(word: &Front<'a>) -> Option<(Kind, Front<'a>)>
+    pub(crate) fn split<'a>(word: &Prefix<'a>) -> Option<(Kind, Prefix<'a>)>
         ensures { MatchOption result (change_of word.now ≡ None) (λ found.
             slice_split (λ byte. byte == 58) word.now ≡ kind_text found.0 ∷ slice_split (λ byte. byte == 58) found.1) }
     {

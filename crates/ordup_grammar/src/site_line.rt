@@ -73,7 +73,7 @@ fn word_behind<'a>(part: &LinePart<'a>, first: &[u8]) -> Option<Word<'a>>
     ensures printed { IfSome result (λ _. list_all is_printed part.now ≡ true) }
     ensures found { (word : List ℕ) → IsWordBehind first.now part.now word → IsSome result }
 {
-    let line = part.front();
+    let line = part.prefix();
     let len = first.len();
     if line.len() <= len || !is_spelled(line.up_to(len).as_bytes(), first) {
         return None;

@@ -1,12 +1,12 @@
 ghost use Rattle.std.specs.Prelude.{◌≡◌, ℕ, List};
 
-use crate::front::Front;
+use crate::prefix::Prefix;
 use std::marker::Model;
 
 /// A word of a line, or the part of one that is a name. It may name nothing.
 #[derive(Drop)]
 pub struct Word<'a> {
-    bytes: Front<'a>,
+    bytes: Prefix<'a>,
 }
 
 impl<'a> Model for Word<'a> {
@@ -20,12 +20,12 @@ impl<'a> Word<'a> {
     pub fn new(bytes: &'a [u8]) -> Self
         ensures { result ≡ bytes.now }
     {
-        Word::of(Front::whole(bytes))
+        Word::of(Prefix::whole(bytes))
     }
 
-    /// The word of these bytes, behind which their text goes on.
+    /// The word of these bytes, which are a prefix of their text.
     #[inline(always)]
-    pub(crate) fn of(bytes: Front<'a>) -> Self
+    pub(crate) fn of(bytes: Prefix<'a>) -> Self
         ensures { result ≡ bytes.entry }
     {
         Word { bytes }
@@ -39,9 +39,9 @@ impl<'a> Word<'a> {
         self.bytes.as_bytes()
     }
 
-    /// Its bytes, behind which their text goes on.
+    /// Its bytes, as a prefix of their text.
     #[inline(always)]
-    pub(crate) fn front(&self) -> Front<'a>
+    pub(crate) fn prefix(&self) -> Prefix<'a>
         ensures { result ≡ self.now }
     {
         self.bytes.copy()

@@ -1,15 +1,15 @@
 ghost use Rattle.std.specs.Prelude.{◌≡◌, ◌≤◌, [], ◌∷◌, ◌==◌, ℕ, List, MatchOption, length};
 ghost use Rattle.ordup_grammar.specs.Words.{words_of, only_word, two_words, name_and_number, only_number};
 
-use crate::front::Front;
 use crate::number::Number;
+use crate::prefix::Prefix;
 use crate::word::Word;
 use std::marker::Model;
 
 /// The words of a line, or those of them that are left. Words stand between spaces.
 #[derive(Drop)]
 pub struct Words<'a> {
-    line: Front<'a>,
+    line: Prefix<'a>,
 }
 
 impl<'a> Model for Words<'a> {
@@ -19,9 +19,9 @@ impl<'a> Model for Words<'a> {
 }
 
 impl<'a> Words<'a> {
-    /// The words of a line, behind which its text goes on.
+    /// The words of a line, which is a prefix of its text.
     #[inline(always)]
-    pub(crate) fn in_line(line: Front<'a>) -> Self
+    pub(crate) fn in_line(line: Prefix<'a>) -> Self
         ensures { result ≡ words_of line.entry }
     {
         Words { line }

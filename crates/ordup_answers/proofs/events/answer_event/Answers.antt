@@ -1,3 +1,5 @@
+-- Spare capacity for the answer is there before the step. So taking it fails only where the event was refused memory, and
+-- then the world did not change. Any other answer is the reply.
 use Rattle.std.proofs.Common.{◌∙◌, ap, refl}
 use Rattle.std.proofs.lemmas.Result.{on_ok_weaker}
 use Rattle.ordup_primary.specs.Primaries.{PrimaryState}

@@ -1,3 +1,5 @@
+-- In some state in which the script stands, all that is kept of lines is true, and each line leaves such a state.
+-- It is then true in every state in which the script stands, so the reply is right from any of these.
 use Rattle.ordup_grammar.specs.Lines.{cut}
 use Rattle.ordup_grammar.specs.Requests.{request_of}
 use Rattle.ordup_answers.specs.Replies.{request_reply}

@@ -12,8 +12,8 @@ new-requires-2-clause-ends c =
     keeps-first c.args.setup _ _ c.in-Ok-first_feeds.cells.items
     (first-is _ _ made.setup made.log made.numbers made.sites made.limits) feeds
 
-pub new-requires-2-clause-rooms : goal.new-requires-2-clause-rooms
-new-requires-2-clause-rooms c =
+pub new-requires-2-clause-spare : goal.new-requires-2-clause-spare
+new-requires-2-clause-spare c =
     let made = c.in_ok-primary.ensures in
     let count = rw (c.setup.ensures, made.setup) at c.in-Ok.ensures.count in
     let values = rw (c.setup.ensures, made.setup) at c.in-Ok.ensures.values in (

@@ -46,10 +46,10 @@ struct Site {
 /// hundred is drawn with no regard to that, so that some are refused: about one in five
 /// thousand. Four changes in five add, the others set. There is about one `propose` to
 /// four `send` and four `apply`, in an order drawn at random. Nothing is settled.
-fn first<W: Write>(script: &mut Script<W>) -> io::Result<()> {
+fn first<W: Write>(script: &mut Script<W>, names: [&'static str; 4]) -> io::Result<()> {
     let mut random = Random(1);
-    let site = |name, capacity| Site { name, capacity, sent: 0, applied: 0 };
-    let mut sites = [site("north", 64), site("south", 128), site("east", 256), site("west_depot", 1024)];
+    let site = |at: usize, capacity| Site { name: names[at], capacity, sent: 0, applied: 0 };
+    let mut sites = [site(0, 64), site(1, 128), site(2, 256), site(3, 1024)];
     for (index, name) in OBJECTS.iter().enumerate() {
         script.line(format_args!("object {name} {}", index * 100))?;
     }
@@ -855,7 +855,8 @@ fn main() -> ExitCode {
     };
     let mut script = Script { to: BufWriter::new(io::stdout().lock()), left };
     let written = match words[0].as_str() {
-        "first" => first(&mut script),
+        "first" => first(&mut script, ["north", "south", "east", "west_depot"]),
+        "short" => first(&mut script, ["a", "b", "c", "d"]),
         "mixed" => mixed(&mut script),
         "wide" => wide(&mut script),
         "queries" => queries(&mut script),

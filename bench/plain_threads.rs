@@ -82,7 +82,7 @@ fn apply(held: &mut [Held], changes: &[Change]) -> u64 {
     weight
 }
 
-/// What the book knows of a site. It is sent at most as many updates before it reports as its queue has room for.
+/// What the book knows of a site. It is sent at most as many updates before it reports as its queue can hold.
 struct Known {
     sent: usize,
     reported: usize,
@@ -134,8 +134,8 @@ impl Book {
         self.sites.iter().enumerate().any(|(index, site)| rounds >> index & 1 == 1 && site.reported < head)
     }
 
-    /// Acknowledges updates as long as that is allowed, and then sends each site what it has room for, but nothing behind a head that
-    /// waits for it. It answers who is to be woken.
+    /// Acknowledges updates as long as that is allowed, and then sends each site what its queue can take, but nothing behind a head
+    /// that waits for it. It answers who is to be woken.
     fn turn(&mut self, feeds: &[Alone<Feed>]) -> Woken {
         while self.acknowledged < self.log.len() {
             let head = self.acknowledged + 1;

@@ -25,16 +25,16 @@ say() { printf 'ordup: %s\n' "$*" >&2; }
 give_up() { say "$@"; exit 70; }
 
 # Names the folder that the proof works in, one for each checkout: in the user's cache, or in out/ where there is none.
-name_room() {
+name_folder() {
     local cache=${XDG_CACHE_HOME:-${HOME:+$HOME/.cache}} name
-    room=$out/trees
-    [[ $cache != /* ]] || ! name=$(printf %s "$top" | sha256sum) || room=$cache/ordup/${name:0:32}
+    folder=$out/trees
+    [[ $cache != /* ]] || ! name=$(printf %s "$top" | sha256sum) || folder=$cache/ordup/${name:0:32}
 }
 
 # Makes that folder.
-make_room() {
-    name_room
-    mkdir -p -- "$room" 2>/dev/null && printf '%s\n' "$top" 2>/dev/null >"$room/checkout" || room=$out/trees
+make_folder() {
+    name_folder
+    mkdir -p -- "$folder" 2>/dev/null && printf '%s\n' "$top" 2>/dev/null >"$folder/checkout" || folder=$out/trees
 }
 
 # Whether all that the proof makes is there, and the sources are as they were when it began.
@@ -129,15 +129,15 @@ stop() {
 
 # Removes what the proofs left, unless one is running: of this checkout, or of one that stood in its place before and is gone.
 clean() {
-    name_room
-    [[ -e $out || -e $room ]] || { say "there is nothing to remove" && return; }
+    name_folder
+    [[ -e $out || -e $folder ]] || { say "there is nothing to remove" && return; }
     for aim in library program; do
         aim_at $aim
         ! is_held_by_stranger || give_up "nothing is removed while $told/lock is held by $stranger"
     done
     mkdir -p -- "$out/library" && exec 9>>"$out/lock" 10>>"$out/library/lock" || exit 70
-    flock --timeout 1 9 && flock --timeout 1 10 && { [[ ! -e $room/lock ]] || flock --nonblock "$room/lock" true; } ||
+    flock --timeout 1 9 && flock --timeout 1 10 && { [[ ! -e $folder/lock ]] || flock --nonblock "$folder/lock" true; } ||
         give_up "nothing is removed while a proof is running: wait for its end, or stop it (./ordup --stop)"
-    say "removing $(du -shc -- "$out" "$room" 2>/dev/null | tail -n 1 | cut -f 1): $out and $room"
-    rm -rf -- "$room" "$out" || exit 70
+    say "removing $(du -shc -- "$out" "$folder" 2>/dev/null | tail -n 1 | cut -f 1): $out and $folder"
+    rm -rf -- "$folder" "$out" || exit 70
 }

@@ -10,8 +10,8 @@ trap 'exit 130' INT
 answer_unproved() {
     local its="its proof, which cannot begin, since $out cannot be written" name=ordup
     [[ $# != 1 || $1 != run ]] || name=run
-    make_room
-    python3 -IS "$top/launcher/unproved.py" "$top" "$room/unproved" $name </dev/null >&2 ||
+    make_folder
+    python3 -IS "$top/launcher/unproved.py" "$top" "$folder/unproved" $name </dev/null >&2 ||
         give_up "there is no answer before the proof: wait for it, by ./ordup --proved"
     if is_held_by_stranger; then
         its="its proof, which cannot begin while $out/lock is held by $stranger"
@@ -19,7 +19,7 @@ answer_unproved() {
         its="its proof, which goes on in the background (./ordup --progress tells how far it is, ./ordup --stop stops it)"
     fi
     say "this answer is of the program before $its"
-    exec "$room/unproved/$name" "$@"
+    exec "$folder/unproved/$name" "$@"
 }
 
 # Waits until the sources are proved as they stand now, and tells every ten seconds how far that is. A proof that was begun before an
@@ -83,8 +83,8 @@ start() {
     --library) build_library ;;
     --test)
         need_kit
-        make_room
-        exec python3 -IS "$top/launcher/test.py" "$top" "$room/unproved"
+        make_folder
+        exec python3 -IS "$top/launcher/test.py" "$top" "$folder/unproved"
         ;;
     --proved)
         is_proved || { need_kit && wait_for_proof; }

@@ -77,7 +77,7 @@ pub struct Out {
 }
 
 impl Out {
-    /// Has room for one more answer while fewer than so many bytes are unwritten.
+    /// Has spare capacity for one more answer while fewer than so many bytes are unwritten.
     pub fn new(unwritten: usize) -> Out {
         Out { bytes: vec![0; unwritten + LONGEST_ANSWER], end: 0 }
     }
@@ -86,7 +86,7 @@ impl Out {
         self.end
     }
 
-    /// Makes room for so many bytes more than an answer has.
+    /// Reserves so many bytes more than an answer has.
     pub fn reserve(&mut self, more: usize) {
         let wanted = self.end + more + LONGEST_ANSWER;
         if self.bytes.len() < wanted {

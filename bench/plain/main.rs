@@ -106,13 +106,13 @@ fn refusal_of(line: &[u8], refusal: Refusal) -> Option<Refusal> {
 /// that place. A line that is too long comes as one of `LONGEST_LINE + 1` bytes.
 fn pieces(input: &mut impl Read, mut take: impl FnMut(&[u8], usize) -> io::Result<()>) -> io::Result<()> {
     let mut piece = vec![0; PIECE + LONGEST_LINE + BEHIND];
-    let room = piece.len() - BEHIND;
+    let most = piece.len() - BEHIND;
     let too_long = [vec![b'x'; LONGEST_LINE + 1], vec![b'\n'; 1 + BEHIND]].concat();
     // The unended line at the front of the piece. Of one that is too long nothing is held.
     let mut held = 0;
     let mut is_too_long = false;
     loop {
-        let end = match input.read(&mut piece[held..room]) {
+        let end = match input.read(&mut piece[held..most]) {
             Ok(0) => break,
             Ok(count) => held + count,
             Err(error) if error.kind() == io::ErrorKind::Interrupted => continue,

@@ -62,7 +62,7 @@ pub struct Store {
     /// How far the acknowledged updates moved each object.
     pub marks: Vec<u64>,
     pub open: Table,
-    /// Queries, with those that are no longer open: the room of these is used again.
+    /// Queries, with those that are no longer open: the memory of these is used again.
     pub queries: Vec<Query>,
     pub unused: Vec<usize>,
 }

@@ -94,7 +94,7 @@ impl Cluster {
     }
 
     /// One turn: each site reports what it told; then the settlements that acknowledge the head; then each site is sent what
-    /// its feed has room for, but nothing behind a head that waits for it.
+    /// its feed can take, but nothing behind a head that waits for it.
     fn turn(&self, book: &mut Store) -> usize {
         for (index, feed) in self.feeds.iter().enumerate() {
             book.learn(index, feed.told.0.load(Ordering::Acquire));

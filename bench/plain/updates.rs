@@ -94,8 +94,8 @@ pub enum Settled {
     Waiting(u32),
 }
 
-/// Reads the changes of a line to the end of a list. They belong together as a set: what is left to ask is whether there is
-/// room for one more update, and whether the results are in range.
+/// Reads the changes of a line to the end of a list. They belong together as a set: what is left to ask is whether the log
+/// may have one more update, and whether the results are in range.
 #[inline]
 pub fn read_set(objects: &Names, is_started: bool, words: &mut Words, to: &mut Vec<Change>) -> Result<(), Refusal> {
     let from = to.len();

@@ -2,7 +2,7 @@
 
 A promise is a row of docs/PROOFS.md: an item that ends with a colon, with its contract on the next line. The contract names public
 calls, each with clauses: `Log::{append, append_or_return} number added`. A clause without a name is named by the definition that it
-cites, as in `act Answers`, or by a case of that: `Runs.Ok`. The contract of a law begins with `law` or `laws`.
+cites, as in `act Answers`, or by a case or a field of that: `Runs.Ok`, `answer`. The contract of a law begins with `law` or `laws`.
 
 The first line of an edit names a call with one clause or more of its row, or several such with '; ' between them:
 

@@ -1,10 +1,11 @@
-/* How the threads of a store that goes on for ever sleep and wake: the visits of callers, the appliers between epochs, `keep`,
-   `go_on` by another thread, joins that are refused, and `stop`, of `ordup_epochs::Epochs`. An epoch is a store as in store.pml.
+/* How the threads of a store that never ends sleep and wake: the visits of callers, the appliers between epochs, `keep`,
+   `start_successor` by another thread, successors that are refused, and `stop`, of `ordup_epochs::Epochs`. An epoch is a store as in
+   store.pml.
 
-   CALLERS callers make VISITS visits each, and propose in each. An epoch ends after UPDATES updates; where its join is refused,
-   after as many more, and at the latest after MOST. So many joins as REFUSED_JOINS are refused. JOINERS is 1 or 0: a thread beside
-   `keep` that calls `go_on` once. With READS callers read in their visits. With ONE_TURN callers make one turn alone. With AMID
-   they do, and `stop` comes at any time. */
+   CALLERS callers make VISITS visits each, and propose in each. An epoch ends after UPDATES updates; where its
+   successor is refused, after as many more, and at the latest after MOST. So many successors as REFUSED_SUCCESSORS are refused.
+   STARTERS is 1 or 0: a thread beside `keep` that calls `start_successor` once. With READS callers read in their visits. With
+   ONE_TURN callers make one turn alone. With AMID they do, and `stop` comes at any time. */
 
 #ifndef CALLERS
 #define CALLERS 2
@@ -18,17 +19,17 @@
 #ifndef MOST
 #define MOST 2
 #endif
-#ifndef JOINERS
-#define JOINERS 0
+#ifndef STARTERS
+#define STARTERS 0
 #endif
-#ifndef REFUSED_JOINS
-#define REFUSED_JOINS 0
+#ifndef REFUSED_SUCCESSORS
+#define REFUSED_SUCCESSORS 0
 #endif
 
 #define APPLIER (1 << site)
 #define CALLER (1 << it)
 #define KEEP (1 << CALLERS)
-#define JOINER (2 << CALLERS)
+#define STARTER (2 << CALLERS)
 #define SLEEPING_KEEP (1 << CALLERS)
 #define SLEEPING_APPLIER (2 << (CALLERS + site))
 #define MAY_NUMBER true
@@ -42,12 +43,12 @@ typedef Lock { byte shared; bool wanted, alone }
 
 Lock visits;
 Lock stage;
-bool open = true;      /* an epoch is open; else the last one has ended, and the next one could not be opened yet */
-Count joined;          /* an `EventCount`: callers and appliers sleep on it */
+bool open = true;      /* an epoch is open; else the last one has ended, and its successor could not be opened yet */
+Count started;         /* an `EventCount`: callers and appliers sleep on it */
 bool over;             /* `stop` was called */
-byte refused_joins;
+byte refused_successors;
 byte begun;            /* how many callers began a visit: they are alike, so they begin their first ones in their order */
-byte callers_done, joiners_done, appliers_done, keepers_done;
+byte callers_done, starters_done, appliers_done, keepers_done;
 
 #define SHARED_FREE(lock) (!lock.wanted && !lock.alone)
 
@@ -65,7 +66,7 @@ inline enter() {
     do
     ::
 #ifndef ENTER_LOOKS_BEFORE_IT_PREPARES
-        prepare_wait(joined, CALLER);
+        prepare_wait(started, CALLER);
 #endif
         atomic {
             SHARED_FREE(visits) && begun >= it -> visits.shared++; stage.shared++;
@@ -80,11 +81,11 @@ inline enter() {
         :: atomic { IS_FULL -> stage.shared--; visits.shared-- }
         fi;
 #ifdef ENTER_LOOKS_BEFORE_IT_PREPARES
-        prepare_wait(joined, CALLER);
+        prepare_wait(started, CALLER);
 #endif
-        wait_by_key(joined, CALLER)
+        wait_by_key(started, CALLER)
     od;
-    drop_key(joined, CALLER)
+    drop_key(started, CALLER)
 }
 
 proctype caller(byte it) {
@@ -124,7 +125,7 @@ proctype applier(byte site) {
     do
     ::
 #ifndef APPLIER_LOOKS_AT_THE_STAGE_BEFORE_IT_PREPARES
-        prepare_wait(joined, SLEEPING_APPLIER);
+        prepare_wait(started, SLEEPING_APPLIER);
 #endif
         ending = over;
         share(stage);
@@ -135,15 +136,15 @@ proctype applier(byte site) {
         stage.shared--;
         if :: ending -> break :: else fi;
 #ifdef APPLIER_LOOKS_AT_THE_STAGE_BEFORE_IT_PREPARES
-        prepare_wait(joined, SLEEPING_APPLIER);
+        prepare_wait(started, SLEEPING_APPLIER);
 #endif
-        wait_by_key(joined, SLEEPING_APPLIER)
+        wait_by_key(started, SLEEPING_APPLIER)
     od;
-    drop_key(joined, SLEEPING_APPLIER);
+    drop_key(started, SLEEPING_APPLIER);
     appliers_done++
 }
 
-/* The epoch that is open settles, and is stopped. A join is refused where its last turn left something to settle. */
+/* The epoch that is open settles, and is stopped. A successor is refused where the last turn left something to settle. */
 inline end_epoch(me) {
     due = (noted + UPDATES < MOST -> noted + UPDATES : MOST);
     do
@@ -159,7 +160,7 @@ inline end_epoch(me) {
 #endif
         if
         :: known == numbered -> break
-        :: atomic { known < numbered && refused_joins < REFUSED_JOINS -> refused_joins++; refused = true; break }
+        :: atomic { known < numbered && refused_successors < REFUSED_SUCCESSORS -> refused_successors++; refused = true; break }
 #ifndef SETTLER_PAUSES_BEFORE_ITS_FIRST_TURN
         :: known < numbered -> wait(told, me)
 #else
@@ -174,8 +175,8 @@ inline end_epoch(me) {
     fi
 }
 
-/* What has ended is closed, and the next epoch is opened, or that is refused. All have left what has ended. */
-inline open_next() {
+/* What has ended is closed, and its successor is opened, or that is refused. All have left what has ended. */
+inline open_successor() {
     assert(acked == numbered && noted == numbered && !decided && sent.moved == 255 && told.moved == 255);
     if
     :: atomic {
@@ -185,11 +186,11 @@ inline open_next() {
         :: site == SITES -> site = 0; break
         od
     }
-    :: atomic { refused_joins < REFUSED_JOINS -> refused_joins++; refused = true; open = false }
+    :: atomic { refused_successors < REFUSED_SUCCESSORS -> refused_successors++; refused = true; open = false }
     fi
 }
 
-inline go_on(me) {
+inline start_successor(me) {
     take(visits);
     if
     :: over -> visits.alone = false
@@ -202,23 +203,23 @@ inline go_on(me) {
         if
         :: refused
         :: !refused ->
-#ifdef JOIN_NOTIFIES_BEFORE_IT_OPENS
-            notify_all(joined);
+#ifdef START_NOTIFIES_BEFORE_IT_OPENS
+            notify_all(started);
 #endif
             due = UPDATES;
             take(stage);
-            open_next();
+            open_successor();
             stage.alone = false
         fi;
         visits.alone = false;
         if
-#ifdef REFUSED_JOIN_NOTIFIES_NOBODY
+#ifdef REFUSED_START_NOTIFIES_NOBODY
         :: refused
 #endif
-#if defined(JOIN_NOTIFIES_NOBODY) || defined(JOIN_NOTIFIES_BEFORE_IT_OPENS)
+#if defined(START_NOTIFIES_NOBODY) || defined(START_NOTIFIES_BEFORE_IT_OPENS)
         :: !refused
 #endif
-        :: else -> notify_all(joined)
+        :: else -> notify_all(started)
         fi;
         refused = false
     fi
@@ -226,16 +227,16 @@ inline go_on(me) {
 
 proctype keep() {
     byte site, known, until, was_acked;
-    bool ending, refused, wants_join, sent_more;
+    bool ending, refused, wants_successor, sent_more;
 
     do
     ::
 #ifndef KEEP_LOOKS_AT_STOP_BEFORE_IT_PREPARES
-        prepare_wait(joined, SLEEPING_KEEP);
+        prepare_wait(started, SLEEPING_KEEP);
 #endif
         if :: over -> break :: else fi;
 #ifdef KEEP_LOOKS_AT_STOP_BEFORE_IT_PREPARES
-        prepare_wait(joined, SLEEPING_KEEP);
+        prepare_wait(started, SLEEPING_KEEP);
 #endif
         share(stage);
         if
@@ -243,24 +244,24 @@ proctype keep() {
         :: !open
         fi;
 #ifdef KEEP_PREPARES_AFTER_IT_KEPT
-        prepare_wait(joined, SLEEPING_KEEP);
+        prepare_wait(started, SLEEPING_KEEP);
 #endif
-        atomic { wants_join = (!open || noted >= due); stage.shared-- };
+        atomic { wants_successor = (!open || noted >= due); stage.shared-- };
         if
-        :: wants_join -> wants_join = false; go_on(KEEP)
-        :: else -> wait_by_key(joined, SLEEPING_KEEP)
+        :: wants_successor -> wants_successor = false; start_successor(KEEP)
+        :: else -> wait_by_key(started, SLEEPING_KEEP)
         fi
     od;
-    drop_key(joined, SLEEPING_KEEP);
+    drop_key(started, SLEEPING_KEEP);
     keepers_done++
 }
 
-proctype joiner() {
+proctype starter() {
     byte site, known, was_acked;
     bool refused, sent_more;
 
-    go_on(JOINER);
-    joiners_done++
+    start_successor(STARTER);
+    starters_done++
 }
 
 init {
@@ -272,13 +273,13 @@ init {
         it = 0;
         do :: it < CALLERS -> run caller(it); it++ :: else -> break od;
         it = 0;
-        do :: it < JOINERS -> run joiner(); it++ :: else -> break od;
+        do :: it < STARTERS -> run starter(); it++ :: else -> break od;
         it = 0;
         run keep()
     };
 #ifndef AMID
-    callers_done == CALLERS && joiners_done == JOINERS;
-    /* A quiet store finishes, and goes on to the next epoch where it is due. Or it is stopped before it has. */
+    callers_done == CALLERS && starters_done == STARTERS;
+    /* A quiet store finishes, and starts a successor where that is due. Or it is stopped before it has. */
     if
     :: true -> open && noted < due && acked == numbered && ALL_APPLIED
     :: true
@@ -291,8 +292,8 @@ init {
     :: !open
     fi;
 #ifndef STOP_NOTIFIES_NOBODY
-    notify_all(joined);
+    notify_all(started);
 #endif
     atomic { stage.shared--; visits.shared-- };
-    callers_done == CALLERS && joiners_done == JOINERS && appliers_done == SITES && keepers_done == 1
+    callers_done == CALLERS && starters_done == STARTERS && appliers_done == SITES && keepers_done == 1
 }

@@ -156,7 +156,7 @@ static void records_are_told_and_checked(void) {
 }
 
 /* The objects begin with the values of the whole log, and the limits are those in force. */
-static void what_goes_on_is_declared(void) {
+static void successor_is_declared(void) {
     static const char before[] = "object x 0\nobject y 10\nsite a 4\nlimit a object x 5\nstart\n";
     static const char after[] = "object x 5\nobject y 12\nsite a 4\nlimit a object x 7\nstart\n";
     ordup_store store = ORDUP_STORE, following = ORDUP_STORE;
@@ -181,7 +181,7 @@ int main(void) {
     lines_have_their_answers();
     answers_come_in_parts();
     records_are_told_and_checked();
-    what_goes_on_is_declared();
+    successor_is_declared();
     printf("%d statements, %d are not so\n", count, failed);
     return failed ? 1 : 0;
 }

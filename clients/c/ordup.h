@@ -96,8 +96,8 @@ uint32_t ordup_record(ordup_store *store, const char *site, size_t bytes, char *
  * 8 GiB breaks a rule) or NO_MEMORY. */
 uint32_t ordup_check(const char *record, size_t bytes, char *verdict, size_t room, size_t *written);
 
-/* Gives the declarations of the store that goes on with what this one ends with: the bytes that `ordup next` prints. The store is
- * as it was.
+/* Gives the declarations of the successor, which begins with what this store ends with: the bytes that `ordup next` prints. The
+ * store is as it was.
  *
  * `*written` is how many bytes they have. DONE: they were written. MORE: they have more than `room` bytes, and none was written.
  * Call again with room for `*written`. Else `*written` is 0, and nothing was written: CLOSED, NOT_STARTED, NOT_YET (an update is

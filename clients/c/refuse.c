@@ -1,5 +1,5 @@
 /* Refuses each allocation of some calls in turn, and then all from it on until a call says so. What was not done for that is asked
- * again. The answers, the record, the verdict and what goes on are then those of a run in which nothing was refused, and each block
+ * again. The answers, the record, the verdict and the successor are then those of a run in which nothing was refused, and each block
  * of memory is given back. Link it with -Wl,--wrap=malloc,--wrap=realloc,--wrap=free. */
 #include <stdio.h>
 #include <stdlib.h>
@@ -57,7 +57,7 @@ static int is_short(uint32_t status) {
     return 1;
 }
 
-/* All that the calls give: the answers, the record of a, the verdict on it, and what goes on. */
+/* All that the calls give: the answers, the record of a, the verdict on it, and the successor. */
 struct given {
     char text[4 * ROOM];
     size_t bytes;

@@ -160,7 +160,7 @@ func (store *Store) Record(site string) (string, error) {
 	})
 }
 
-// NextDeclarations gives the declarations of the store that goes on with what this one ends with, once all updates are
+// NextDeclarations gives the declarations of the successor, which begins with what this store ends with, once all updates are
 // acknowledged: as `ordup next` prints them.
 func (store *Store) NextDeclarations() (string, error) {
 	return store.given(func(room []byte, written *C.size_t) C.uint32_t {

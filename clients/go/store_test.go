@@ -220,7 +220,7 @@ func TestARecordIsToldAndChecked(t *testing.T) {
 	is(t, Verdict{Kind: Malformed, Row: 1}, verdict, err)
 }
 
-func TestWhatGoesOnIsDeclared(t *testing.T) {
+func TestTheSuccessorIsDeclared(t *testing.T) {
 	store := open(t)
 	if _, err := store.NextDeclarations(); err != ErrNotStarted {
 		t.Error(err)

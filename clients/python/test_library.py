@@ -50,7 +50,7 @@ class InProcess(TestCase):
         self.assertEqual(check(VALID.replace(b"object,2", b"object,3")), Malformed(3))
         self.assertEqual(check(b""), Malformed(1))
 
-    def test_the_store_that_goes_on(self):
+    def test_the_successor(self):
         store = self.shop()
         store.propose({"x": ("add", 3), "y": ("set", 7)})
         self.refused(22, "NotYet", store.next_declarations)

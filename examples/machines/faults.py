@@ -194,25 +194,26 @@ class Faults:
         for name in PRIMARIES:
             self.deployment.start(name)
 
-    def kill_primary_at_a_join(self):
+    def kill_primary_as_an_epoch_ends(self):
         """As the epoch is to end, once the next one has begun, or once what was before is archived: each in its turn."""
-        writer, step = self.writer(), self.times["kill_primary_at_a_join"] % 3
+        writer, step = self.writer(), self.times["kill_primary_as_an_epoch_ends"] % 3
         epoch = self.trial.ask(lambda engine: engine.epoch()[0])
         self.trial.ask(self.trial.want)
         ends = time.monotonic() + (PATIENCE if step else self.chance.uniform(0, 0.3))
-        while self.steps_of_join(epoch) < max(step, 1) and time.monotonic() < ends:
+        while self.steps_of_end(epoch) < max(step, 1) and time.monotonic() < ends:
             pass
         self.deployment.kill(writer)
-        self.note(f"primaries killed {('before', 'after', 'after the archive of')[self.steps_of_join(epoch)]} a join")
+        when = ("before an epoch ended", "after an epoch ended", "after an epoch was archived")[self.steps_of_end(epoch)]
+        self.note(f"primaries killed {when}")
         self.pause(0.1, 0.5)
         self.deployment.start(writer)
 
-    def steps_of_join(self, epoch):
+    def steps_of_end(self, epoch):
         """0 before the next epoch has begun, 1 after that, and 2 once what was before is archived."""
         last, first = self.trial.ask(lambda engine: engine.epoch())
         return 0 if last == epoch else 1 + (self.trial.ask(lambda engine: engine.first()) >= first)
 
-    def cut_site_at_a_join(self):
+    def cut_site_as_an_epoch_ends(self):
         """A site that may lag, and that the head does not wait for. The epoch may not end before it is back."""
         site = self.chance.choice([name for name in ("south", "east", "west") if name not in self.trial.out])
         with self.trial.alone():
@@ -224,7 +225,7 @@ class Faults:
         self.pause(1, 2)
         self.deployment.hosts("mend", site)
 
-    def kill_site_of_fleet_at_a_join(self):
+    def kill_site_of_fleet_as_an_epoch_ends(self):
         """The other one is served, so the fleet is. Until both are back the epoch goes on."""
         with self.trial.alone():
             self.deployment.kill("east")
@@ -299,7 +300,7 @@ class Faults:
         self.deployment.hosts("mend", *names)
 
     def fill_disk_of_member(self):
-        """The disk of the last member. The member may end, and is started again when there is room."""
+        """The disk of the last member. The member may end, and is started again when there is space."""
         name = MEMBERS[-1]
         filler = self.deployment.disk(name) / "filler"
         with open(filler, "wb", buffering=0) as file:
@@ -317,7 +318,7 @@ class Faults:
             self.deployment.start(name)
 
     def fill_engine(self):
-        """Up to its quota. Then the operator makes room again."""
+        """Up to its quota. Then the operator frees space again."""
         self.fills = True
         self.trial.fill_engine()
         self.pause(0.5, 2)
@@ -325,4 +326,4 @@ class Faults:
         ends = time.monotonic() + PATIENCE
         while (full := self.trial.ask(lambda engine: engine.alarms())) and time.monotonic() < ends:
             time.sleep(0.1)
-        self.check(not full, "there was no room again")
+        self.check(not full, "there was no space again")

@@ -56,7 +56,7 @@ MISTAKES = {
         ("primary.py", "        self.view.drop(wish)\n", ""),
         ("streams.py", "        holds += [self.txn.value(key) == value for key, value in stays.items()]\n", ""),
     ],
-    # A join waits for a site of a fleet that is away, since the fleet is served.
+    # The next epoch waits for a site of a fleet that is away, since the fleet is served.
     "waits_for_a_fleet_that_is_away": [
         ("primary.py", "missing <= NEAR and streams.now() - self.heard.get(site, 0) < streams.TTL", "missing <= NEAR"),
     ],

@@ -220,12 +220,12 @@ class Primary:
 
     def reports(self, places):
         """The lines for what sites told."""
-        lines, room = [], TOLD
+        lines, left = [], TOLD
         for site, place in places.items():
-            new = min(place - self.applied[site], room)
+            new = min(place - self.applied[site], left)
             if new > 0:
                 lines += [f"send {site}", f"apply {site}"] * new + [f"report {site}"]
-                room -= new
+                left -= new
                 self.heard[site] = streams.now()
         return lines
 

@@ -61,7 +61,7 @@ class Away(Exception):
 
 
 class Full(Away):
-    """The engine has no room for a write. What it has stays."""
+    """The engine has no space for a write. What it has stays."""
 
 
 class Compacted(Away):

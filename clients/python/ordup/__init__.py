@@ -161,7 +161,7 @@ class Store:
         return self._in_process("ordup record SITE").record(site)
 
     def next_declarations(self) -> bytes:
-        """The declarations of the store that goes on with what this one ends with, for its `run`.
+        """The declarations of the successor, which begins with what this store ends with, for its `run`.
 
         Only a store in the process has them: else `ordup next` makes them of the script.
         """

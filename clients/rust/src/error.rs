@@ -28,13 +28,13 @@ pub enum Error {
     /// Memory was refused, and nothing is lost. The lines in the first `taken` bytes of the text were taken. The rest of it may be
     /// given again.
     NoMemory { taken: usize },
-    /// There is no record, and nothing that goes on: no `start` was accepted.
+    /// There is no record, and no successor: no `start` was accepted.
     NotStarted,
     /// There is no record of this site: it is not declared.
     UnknownSite,
     /// The text has more bytes than a record may have.
     TooLong,
-    /// Nothing goes on yet: an update is not acknowledged.
+    /// There is no successor yet: an update is not acknowledged.
     NotYet,
     /// This answer is none to the command. So the library is another one.
     BadAnswer(String),

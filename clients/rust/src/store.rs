@@ -132,8 +132,8 @@ impl Store {
         })
     }
 
-    /// The declarations of the store that goes on with what this one ends with, once all updates are acknowledged: as `ordup next`
-    /// prints them.
+    /// The declarations of the successor, which begins with what this store ends with, once all updates are acknowledged: as
+    /// `ordup next` prints them.
     pub fn next_declarations(&mut self) -> Result<String, Error> {
         // SAFETY: as in `run`.
         given(65_536, |room, size, written| unsafe { ordup_next(&mut self.0, room, size, written) })

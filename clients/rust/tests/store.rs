@@ -180,7 +180,7 @@ fn a_record_is_told_and_checked() {
 }
 
 #[test]
-fn what_goes_on_is_declared() {
+fn the_successor_is_declared() {
     let mut store = Store::new().unwrap();
     assert_eq!(store.next_declarations(), Err(Error::NotStarted));
     run(&mut store, "object x 0\nobject y 10\nsite a 4\nlimit a object x 5\nstart\npropose add:x:5 set:y:12");

@@ -116,7 +116,6 @@ impl<A: Allocator + Copy> Load<A> {
     /// Steps the store by an event, which is not to be refused, and passes its answer over.
     fn take(&mut self, event: Event<A>) -> Result<(), Refusal> {
         let answer = self.step(event)?;
-        // By a call: where it goes out of scope, the proof takes it apart.
         drop(answer);
         Ok(())
     }

@@ -1,4 +1,4 @@
-//! Callers of a store that goes on from one epoch to the next.
+//! Callers of a service whose epochs follow one another.
 use crate::job::{Done, Job};
 use crate::store::{TURNS, declare, next_set, now};
 use anyhow::Result;
@@ -16,13 +16,13 @@ use std::time::{Clock, Duration};
 /// How many updates an epoch has in the load `epochs`.
 const UPDATES: u64 = 500_000;
 
-/// How many updates an epoch may have in the load `join`, which joins by a call.
+/// How many updates an epoch may have in the load `successor`, which starts one by a call.
 const MOST_UPDATES: u64 = 1_000_000;
 
-/// How long a caller rests between two updates while it looks for the join, in microseconds.
+/// How long a caller rests between two updates while it looks for the successor, in microseconds.
 const REST: u64 = 100;
 
-/// For how many milliseconds the callers look before the join and after it.
+/// For how many milliseconds the callers look before the successor starts and after it.
 const LOOK: u64 = 20;
 
 fn open(alloc: Global, job: &Job, updates: u64) -> Result<Epochs> {
@@ -46,7 +46,7 @@ fn apply_at<R: Wait>(rt: &R, epochs: &Epochs, site: u64) -> u64 {
         .unwrap_or(0)
 }
 
-/// The callers, with a keeper that makes the joins.
+/// The callers, with a keeper that starts the successors.
 pub(crate) fn run<R: Threads + Wait + Clock + Sync>(
     rt: &R,
     alloc: Global,
@@ -118,19 +118,20 @@ fn propose<R: Wait>(
     epoch.propose(rt, session, set, TURNS).is_ok()
 }
 
-/// The callers, with one join after so many updates. It answers the longest time that a proposal took while the callers looked.
-pub(crate) fn join<R: Threads + Wait + Clock + Sync>(
+/// The callers, with one successor after so many updates. It answers the longest time that a proposal took while the callers
+/// looked.
+pub(crate) fn start_one<R: Threads + Wait + Clock + Sync>(
     rt: &R,
     alloc: Global,
     job: &Job,
 ) -> Result<Done> {
     let epochs = open(alloc, job, MOST_UPDATES)?;
-    let done = serve_one_join(rt, alloc, &epochs, job);
+    let done = serve_one_start(rt, alloc, &epochs, job);
     close(epochs);
     Ok(done)
 }
 
-fn serve_one_join<R: Threads + Wait + Clock + Sync>(
+fn serve_one_start<R: Threads + Wait + Clock + Sync>(
     rt: &R,
     alloc: Global,
     epochs: &Epochs,
@@ -142,7 +143,7 @@ fn serve_one_join<R: Threads + Wait + Clock + Sync>(
         }
         let _ = propose_all(rt, epochs, 0, job.count);
         thread::sleep(rt, Duration::from_millis(LOOK));
-        let nanos = longest_at_join(rt, alloc, epochs, job.threads);
+        let nanos = longest_at_start(rt, alloc, epochs, job.threads);
         epochs.stop(rt);
         Done {
             nanos,
@@ -151,7 +152,7 @@ fn serve_one_join<R: Threads + Wait + Clock + Sync>(
     })
 }
 
-fn longest_at_join<R: Threads + Wait + Clock + Sync>(
+fn longest_at_start<R: Threads + Wait + Clock + Sync>(
     rt: &R,
     alloc: Global,
     epochs: &Epochs,
@@ -166,7 +167,7 @@ fn longest_at_join<R: Threads + Wait + Clock + Sync>(
             });
         }
         thread::sleep(rt, Duration::from_millis(LOOK));
-        if let Ok(ended) = epochs.go_on(rt, alloc, TURNS) {
+        if let Ok(ended) = epochs.start_successor(rt, alloc, TURNS) {
             ended.discard();
         }
         thread::sleep(rt, Duration::from_millis(LOOK));

@@ -15,9 +15,9 @@ pub(crate) enum Kind {
     Rounds,
     /// Nobody calls.
     Idle,
-    /// How long a caller stands still at a join.
-    Join,
-    /// Callers that go on through joins.
+    /// How long a caller stands still while a successor is started.
+    Successor,
+    /// Callers over many epochs.
     Epochs,
 }
 
@@ -32,7 +32,7 @@ impl Kind {
             "wake" => Some(Kind::Wake),
             "rounds" => Some(Kind::Rounds),
             "idle" => Some(Kind::Idle),
-            "join" => Some(Kind::Join),
+            "successor" => Some(Kind::Successor),
             "epochs" => Some(Kind::Epochs),
             _ => None,
         }

@@ -43,7 +43,7 @@ fn main(rt: HostRuntime) -> Result<()> {
         }
         Kind::Wake => wakes::run(&rt, alloc, &job)?,
         Kind::Rounds | Kind::Idle => rounds::run(&rt, alloc, &job)?,
-        Kind::Join => epochs::join(&rt, alloc, &job)?,
+        Kind::Successor => epochs::start_one(&rt, alloc, &job)?,
         Kind::Epochs => epochs::run(&rt, alloc, &job)?,
     };
     println!(&rt; "{} {}", done.nanos, done.count)?;

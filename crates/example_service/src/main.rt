@@ -1,5 +1,5 @@
-//! A tea service that never stops: two clerks sell from one stock, and two shops follow. Each clerk and each shop has a thread of its
-//! own, and one more thread goes on to a next store whenever one has 30 sales.
+//! A tea service that never stops: two clerks sell from one stock, and two shops follow. Each clerk and each shop has a thread of
+//! its own, and one more thread starts a successor whenever a store has 30 sales.
 #![tactic(auto)]
 
 use anyhow::{Result, bail};
@@ -14,7 +14,7 @@ use std::thread;
 use std::thread::Threads;
 use std::time::{Clock, Duration};
 
-/// After how many sales the service goes on in a next store.
+/// After how many sales a store has a successor.
 const SALES: u64 = 30;
 
 /// For how many turns a clerk waits until a sale is acknowledged.
@@ -47,7 +47,7 @@ fn serve<R: Threads + Wait + Clock + Print + Sync>(
     alloc: Global,
     epochs: &Epochs,
 ) -> Result<()> {
-    let (joins, sold) = thread::join(
+    let (started, sold) = thread::join(
         rt,
         move || follow(rt, alloc, epochs),
         move || {
@@ -59,23 +59,23 @@ fn serve<R: Threads + Wait + Clock + Print + Sync>(
         },
     );
     println!(rt; "{sold} bags were sold")?;
-    println!(rt; "the service went on {} times", joins?)?;
+    println!(rt; "{} successors were started", started?)?;
     look(rt, epochs, "north", 0)?;
     look(rt, epochs, "south", 1)
 }
 
-/// Goes on to a next store whenever one has its sales, while the shops follow, until the service is stopped.
+/// Starts a successor whenever a store has its sales, while the shops follow, until the service is stopped.
 fn follow<R: Threads + Wait + Clock + Sync>(
     rt: &R,
     alloc: Global,
     epochs: &Epochs,
 ) -> Result<u64, Refusal> {
-    let (joins, _) = thread::join(
+    let (started, _) = thread::join(
         rt,
         move || epochs.keep(rt, alloc, TURNS),
         move || apply(rt, epochs),
     );
-    joins
+    started
 }
 
 /// The two shops, until the service is stopped.

@@ -1,23 +1,23 @@
-//! The program `memory_trial` makes the calls of a feed, of a cluster and of a service that goes on from store to store, as far as
-//! they may be refused memory, on one thread, and prints how each ended. A call that is refused memory is made a second time. Where
-//! it is refused again, the trial ends with what stands then. `checks/allocations` refuses it one allocation after the other.
+//! The program `memory_trial` makes the calls of a feed, of a cluster and of a service that starts successors, as far as they may
+//! be refused memory, on one thread, and prints how each ended. A call that is refused memory is made a second time. Where it is
+//! refused again, the trial ends with what stands then. `checks/allocations` refuses it one allocation after the other.
 #![tactic(auto)]
 
 mod asking;
 mod closing;
 mod clusters;
 mod declarations;
-mod joins;
+mod successors;
 
 use asking::{Stop, ask};
 use clusters::{try_cluster_that_waits, try_cluster_with_new_limits, try_cluster_without_limits};
 use declarations::{declare_objects, one_change, two_changes};
-use joins::{try_joins, try_joins_that_wait};
 use ordup_feed::Feed;
 use ordup_objects::ObjectTable;
 use std::alloc::Global;
 use std::process::ExitCode;
 use std::sync::Wait;
+use successors::{try_successors, try_successors_that_wait};
 
 fn main(rt: HostRuntime) -> ExitCode {
     match try_all(&rt, rt.alloc()) {
@@ -33,7 +33,6 @@ fn main(rt: HostRuntime) -> ExitCode {
 fn try_all<R: Wait + Print>(rt: &R, alloc: Global) -> Result<(), Stop> {
     let objects = ask(rt, "objects", || declare_objects(alloc))?;
     let tried = try_calls(rt, alloc, &objects);
-    // By a call: where it goes out of scope, the proof takes it apart.
     drop(objects);
     tried
 }
@@ -47,6 +46,6 @@ fn try_calls<R: Wait + Print>(rt: &R, alloc: Global, objects: &ObjectTable) -> R
     try_cluster_without_limits(rt, alloc, &[&two, &one])?;
     try_cluster_with_new_limits(rt, alloc, &one, &two)?;
     try_cluster_that_waits(rt, alloc, &two)?;
-    try_joins(rt, alloc, &two)?;
-    try_joins_that_wait(rt, alloc, &one, &two)
+    try_successors(rt, alloc, &two)?;
+    try_successors_that_wait(rt, alloc, &one, &two)
 }

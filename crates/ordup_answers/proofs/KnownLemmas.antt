@@ -43,17 +43,17 @@ module _ {A E : Type 0} (old new : ScriptEnd A) (before after : KnownLines) (Too
       → Replies (λ s. Stands old s × Knows before s) (λ s. Stands new s × Knows after s) Took reply r → StaysPut old new Took r
       → IfErr r (λ _. (s : ScriptState A) → Stands old s → Knows before s → Knows after s)
       → IsAnswering new after
-  stays_answering (Ok done) (s, stands, knows) replies stays still =
+  stays_answering (Ok done) (s, (stands, knows)) replies stays still =
       let left = replies s (stands, knows) in
-      ((reply s).0, left.0.0, left.0.1)
-  stays_answering (Err e) (s, stands, knows) replies stays still =
-      (s, subst (λ (x : ScriptEnd A). Stands x s) (sym stays.0) stands, still s stands knows)
+      ((reply s).0, left.0)
+  stays_answering (Err e) (s, (stands, knows)) replies stays still =
+      (s, (subst (λ (x : ScriptEnd A). Stands x s) (sym stays.0) stands, still s stands knows))
 
   -- so the reply is that to each state in which it stood
   pub replies_alike : (r : Result (Unit {0}) E) → IsAnswering old before
       → Replies (λ s. Stands old s × Knows before s) (λ s. Stands new s × Knows after s) Took reply r
       → Replies (Stands old) (Stands new) Took reply r
-  replies_alike (Ok done) (t, there, knows) replies = λ s stands.
+  replies_alike (Ok done) (t, (there, knows)) replies = λ s stands.
       let left = replies s (stands, knows_alike old before t s there stands knows) in
       (left.0.0, left.1)
   replies_alike (Err e) is replies = tt

@@ -37,8 +37,8 @@ use Rattle.ordup_objects.specs.Repeats.{repeats}
 use Rattle.ordup_grammar.specs.declared.change_words.ChangeWord.{ChangeWord}
 use Rattle.ordup_objects.specs.declared.change.NumberOp.{NumberOp}
 use Rattle.ordup_objects.specs.declared.change.NumberOp.TheVariants.{Add}
-use Rattle.ordup_grammar.specs.declared.operation.Operation.{Operation}
-use Rattle.ordup_grammar.specs.declared.operation.Operation.TheVariants.{WithNumber, Take}
+use Rattle.ordup_grammar.specs.declared.change_words.Operation.{Operation}
+use Rattle.ordup_grammar.specs.declared.change_words.Operation.TheVariants.{WithNumber, Take}
 use Rattle.ordup_answers.specs.Changes.{op_in, change_in, changes_in, set_in}
 use Rattle.ordup_answers.specs.NearestNumbers.{nearest, nearest_operation, nearest_change, nearest_changes}
 use Rattle.ordup_answers.specs.Refusals.{Gives}

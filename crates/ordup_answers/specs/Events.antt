@@ -1,5 +1,5 @@
 -- The events that the actions of a script stand for.
-use Rattle.std.specs.Prelude.{ℕ, List, [], Result, Ok, Err, if◌then◌else◌}
+use Rattle.std.specs.Prelude.{ℕ, List, [], Option, Result, Ok, Err, if◌then◌else◌, option_map}
 use Rattle.ordup_objects.specs.Names.{is_name}
 use Rattle.ordup_objects.specs.declared.refusal.Refusal.{Refusal}
 use Rattle.ordup_objects.specs.declared.refusal.Refusal.TheVariants.{BadName, UnknownQuery}
@@ -21,9 +21,17 @@ use Rattle.ordup_grammar.specs.Actions.{
   Show,
   Relimit,
 }
+use Rattle.ordup_grammar.specs.Commands.{Act, Command}
+use Rattle.ordup_grammar.specs.SiteLines.{action_at}
+use Rattle.ordup_grammar.specs.Words.{only_word}
+use Rattle.ordup_grammar.specs.declared.script_line.SiteAction.{SiteAction}
 use Rattle.ordup_answers.specs.Changes.{set_in}
 use Rattle.ordup_answers.specs.Names.{index_among, scope_in}
 use Rattle.ordup_answers.specs.Refusals.{made_of}
+
+-- what the words after the keyword of an action at a site ask for
+abbrev pub asked_at : SiteAction → List (List ℕ) → Option Command
+asked_at action words = option_map (λ a. Act a) (option_map (λ site. action_at action site) (only_word words))
 
 -- the name of a query: none is open by what is no name
 abbrev pub query_name : List ℕ → Result (List ℕ) Refusal

@@ -3,7 +3,7 @@ pub mod Refusals
 pub mod Names
 pub mod Changes
 pub mod NearestNumbers
-pub mod Declarations
+pub mod Declaring
 pub mod Events
 pub mod ScriptStates
 pub mod Replies

@@ -2,8 +2,8 @@
 use Rattle.std.specs.Prelude.{ℤ, List, map}
 use Rattle.std.specs.Int.{saturate_signed, w64}
 use Rattle.ordup_grammar.specs.declared.change_words.ChangeWord.{ChangeWord}
-use Rattle.ordup_grammar.specs.declared.operation.Operation.{Operation}
-use Rattle.ordup_grammar.specs.declared.operation.Operation.TheVariants.{WithNumber, Take}
+use Rattle.ordup_grammar.specs.declared.change_words.Operation.{Operation}
+use Rattle.ordup_grammar.specs.declared.change_words.Operation.TheVariants.{WithNumber, Take}
 
 -- the number, or the i64 nearest to it
 abbrev pub nearest : ℤ → ℤ

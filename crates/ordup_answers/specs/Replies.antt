@@ -12,7 +12,7 @@ use Rattle.ordup_grammar.specs.Requests as request
 use Rattle.ordup_grammar.specs.Commands.{Command, Declare, Start, Certify, Act}
 use Rattle.ordup_grammar.specs.declared.declaration.Declaration.{Declaration}
 use Rattle.ordup_grammar.specs.declared.declaration.Declaration.TheVariants.{Object, Group, Site, Limit}
-use Rattle.ordup_answers.specs.Declarations.{with_declaration}
+use Rattle.ordup_answers.specs.Declaring.{with_declaration}
 use Rattle.ordup_answers.specs.Events.{event_of, names_of}
 use Rattle.ordup_answers.specs.Names.{index_among}
 use Rattle.ordup_answers.specs.Refusals.{made_of, unless}

@@ -9,8 +9,8 @@ use Rattle.ordup_primary.specs.declared.settled.Settled.{Settled}
 use Rattle.ordup_primary.specs.declared.settled.Settled.TheVariants.{Acked, Round, Waiting}
 use Rattle.ordup_query.specs.declared.answer.ReadAnswer.{ReadAnswer}
 use Rattle.ordup_query.specs.declared.answer.QueryAnswer.{QueryAnswer}
-use Rattle.ordup_grammar.specs.declared.site_line.SiteAction.{SiteAction}
-use Rattle.ordup_grammar.specs.declared.site_line.SiteAction.TheVariants as action
+use Rattle.ordup_grammar.specs.declared.script_line.SiteAction.{SiteAction}
+use Rattle.ordup_grammar.specs.declared.script_line.SiteAction.TheVariants as action
 use Rattle.ordup_text.specs.Lines.{named_text, done_text, numbered_text, values_text}
 use Rattle.ordup_world.specs.declared.event.Answer.{Answer}
 use Rattle.ordup_world.specs.declared.event.Answer.TheVariants.{Proposed, Sent, Applied, Reported, Settlement, Relimited, Begun}

@@ -3,11 +3,11 @@
 //! Most lines of a script are one of a few: `settle`, and `send S`, `apply S` and `report S` of each site. The first is known as it
 //! stands. A line of a site is looked for among those that came before, by its bytes, and where it is not among them by its keyword
 //! and its site. The words of all other lines are looked at.
-ghost use Rattle.std.specs.Prelude.{◌≡◌, Some, OnOk, IfErr};
+ghost use Rattle.std.specs.Prelude.{◌≡◌, Some, IfErr};
 ghost use Rattle.ordup_grammar.specs.Lines.{cut};
-ghost use Rattle.ordup_grammar.specs.Requests.{request_of, asked};
-ghost use Rattle.ordup_answers.specs.Answers.{Leaves, Replies, StaysPut};
-ghost use Rattle.ordup_answers.specs.KnownLines.{Knows};
+ghost use Rattle.ordup_grammar.specs.Requests.{request_of};
+ghost use Rattle.ordup_answers.specs.Answers.{Replies, StaysPut};
+ghost use Rattle.ordup_answers.specs.KnownLines.{Knows, StandsKnowing};
 ghost use Rattle.ordup_answers.specs.Replies.{request_reply};
 ghost use Rattle.ordup_answers.specs.ScriptStates.{ScriptState, Stands, first_state};
 
@@ -80,20 +80,20 @@ impl<A: Allocator + Copy> Answering<A> {
         ensures reply { Replies (Stands self.old) (Stands self.new) (O.took out.old out.new) (λ s. request_reply s (request_of (cut line.now))) result }
         ensures kept { StaysPut self.old self.new (O.took out.old out.new) result }
     {
-        answer(alloc, &mut self.end, &mut self.known, line, out)
+        answer_line(alloc, &mut self.end, &mut self.known, line, out)
     }
 }
 
 /// Answers a line, and may keep what it asks for.
 #[inline(always)]
-fn answer<A: Allocator + Copy, O: AnswerTaker<A>>(
+fn answer_line<A: Allocator + Copy, O: AnswerTaker<A>>(
     alloc: A,
     store: &mut ScriptEnd<A>,
     known: &mut KnownLines,
     line: &LinePart<'_>,
     out: &mut O,
 ) -> Result<(), AllocError>
-    ensures reply { Replies (λ s. Stands store.old s × Knows known.old s) (λ s. Stands store.new s × Knows known.new s) (O.took out.old out.new) (λ s. request_reply s (request_of (cut line.now))) result }
+    ensures reply { Replies (StandsKnowing store.old known.old) (StandsKnowing store.new known.new) (O.took out.old out.new) (λ s. request_reply s (request_of (cut line.now))) result }
     ensures kept { StaysPut store.old store.new (O.took out.old out.new) result }
     ensures known { IfErr result (λ _. (s : ScriptState A) → Stands store.old s → Knows known.old s → Knows known.new s) }
 {
@@ -107,5 +107,5 @@ fn answer<A: Allocator + Copy, O: AnswerTaker<A>>(
         known.keep(store, line, &at);
         return answer_at_site(store, at.action, &at.site, out);
     }
-    answer_by_words(alloc, store, known, &ScriptLine::of(line), out)
+    answer_by_words(alloc, store, &ScriptLine::of(line), out)
 }

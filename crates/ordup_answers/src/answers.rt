@@ -1,5 +1,5 @@
 //! The answer to a line: what its command does to the setup or to the world, and the text that says so.
-ghost use Rattle.std.specs.Prelude.{◌≡◌, [], None, Some, IfOk, IfErr, OnOk, length, option_map};
+ghost use Rattle.std.specs.Prelude.{◌≡◌, [], None, Some, IfOk, IfErr, length, option_map};
 ghost use Rattle.ordup_grammar.specs.Commands.{Certify, Declare, Start, command_by, command_of};
 ghost use Rattle.ordup_grammar.specs.Declarations.{declaration_of};
 ghost use Rattle.ordup_grammar.specs.Requests.{asked};
@@ -8,15 +8,13 @@ ghost use Rattle.ordup_answers.specs.ScriptStates.{ScriptState, Declares, IsWorl
 ghost use Rattle.ordup_answers.specs.Replies.{declared_name, request_reply, words_reply, command_reply, reply_or_refusal};
 ghost use Rattle.ordup_answers.specs.ScriptStates.{running};
 ghost use Rattle.ordup_primary.specs.Declarations.{Declared, start_refusal};
-ghost use Rattle.ordup_answers.specs.Answers.{Leaves, Replies, StaysPut};
-ghost use Rattle.ordup_answers.specs.KnownLines.{Knows};
+ghost use Rattle.ordup_answers.specs.Answers.{Replies, StaysPut};
 
-use crate::declarations::declare;
+use crate::declaring::declare;
 use crate::events::{
     answer_abandon, answer_begin, answer_end, answer_propose, answer_read, answer_relimit,
     answer_settle, answer_show, answer_words_at_site,
 };
-use crate::known_lines::KnownLines;
 use crate::names::find_site;
 use crate::script_end::ScriptEnd;
 use crate::taker::AnswerTaker;
@@ -25,25 +23,9 @@ use ordup_objects::Refusal;
 use ordup_world::{Setup, World};
 use std::alloc::{AllocError, Allocator};
 
-/// Answers a line by its words. What is known of lines stays true.
-// The known lines are an argument for the proof alone.
-#[inline(always)]
-pub(crate) fn answer_by_words<A: Allocator + Copy, O: AnswerTaker<A>>(
-    alloc: A,
-    store: &mut ScriptEnd<A>,
-    _known: &KnownLines,
-    line: &ScriptLine<'_>,
-    out: &mut O,
-) -> Result<(), AllocError>
-    ensures reply { Replies (λ s. Stands store.old s × Knows _known.now s) (λ s. Stands store.new s × Knows _known.now s) (O.took out.old out.new) (λ s. request_reply s (asked line.now)) result }
-    ensures kept { StaysPut store.old store.new (O.took out.old out.new) result }
-{
-    answer_line(alloc, store, line, out)
-}
-
 /// Answers a line by its words.
 #[inline(always)]
-fn answer_line<A: Allocator + Copy, O: AnswerTaker<A>>(
+pub(crate) fn answer_by_words<A: Allocator + Copy, O: AnswerTaker<A>>(
     alloc: A,
     store: &mut ScriptEnd<A>,
     line: &ScriptLine<'_>,
@@ -115,7 +97,7 @@ fn answer_declaration<A: Allocator + Copy, O: AnswerTaker<A>>(
     }
 }
 
-/// Declares what a declaration says, and answers it. Room for the answer is made first.
+/// Declares what a declaration says, and answers it. Spare capacity for the answer is reserved first.
 fn carry_out<A: Allocator + Copy, O: AnswerTaker<A>>(
     alloc: A,
     setup: &mut Setup<A>,

@@ -3,9 +3,9 @@
 //!
 //! Where a function fails, memory was refused, and all is as it was.
 //!
-//! Each function is a call. The memory of a function's values is cleared where the function begins, so that of these values is
-//! cleared for the lines of one keyword alone.
-ghost use Rattle.std.specs.Prelude.{◌≡◌, [], Some, OnOk, IfErr, option_map};
+//! Each function stays a call. A function clears the memory of its values where it begins, so a line has only the values of its own
+//! keyword cleared.
+ghost use Rattle.std.specs.Prelude.{◌≡◌, [], Some};
 ghost use Rattle.ordup_primary.specs.Declarations.{Declared};
 ghost use Rattle.ordup_world.specs.Events.{Past};
 ghost use Rattle.ordup_world.specs.Worlds.{StandsFor};
@@ -13,10 +13,9 @@ ghost use Rattle.ordup_world.specs.declared.event.Event.{Event};
 ghost use Rattle.ordup_grammar.specs.Actions.{Settle};
 ghost use Rattle.ordup_grammar.specs.Commands.{Act, command_by};
 ghost use Rattle.ordup_grammar.specs.SiteLines.{action_at};
-ghost use Rattle.ordup_grammar.specs.Words.{only_word};
 ghost use Rattle.ordup_grammar.specs.declared.keyword.Keyword.{Keyword};
 ghost use Rattle.ordup_answers.specs.Answers.{Replies, StaysPut, Steps};
-ghost use Rattle.ordup_answers.specs.Events.{query_name};
+ghost use Rattle.ordup_answers.specs.Events.{asked_at, query_name};
 ghost use Rattle.ordup_answers.specs.Refusals.{Gives};
 ghost use Rattle.ordup_answers.specs.Replies.{event_reply, words_reply};
 ghost use Rattle.ordup_answers.specs.ScriptStates.{ScriptState, IsWorldOf, Stands};
@@ -26,7 +25,7 @@ use crate::names::{find_object, find_scope, find_site};
 use crate::script_end::ScriptEnd;
 use crate::taker::AnswerTaker;
 use ordup_grammar::{ScopeWord, SiteAction, Word, Words};
-use ordup_objects::{Name, ObjectId, Refusal};
+use ordup_objects::{Name, ObjectId, Refusal, or_give_up};
 use ordup_world::{Event, World};
 use std::alloc::{AllocError, Allocator};
 
@@ -37,7 +36,7 @@ pub(crate) fn answer_words_at_site<A: Allocator + Copy, O: AnswerTaker<A>>(
     rest: &Words<'_>,
     out: &mut O,
 ) -> Result<(), AllocError>
-    ensures reply { Replies (Stands store.old) (Stands store.new) (O.took out.old out.new) (λ s. words_reply s (option_map (λ a. Act a) (option_map (λ site. action_at action site) (only_word rest.now)))) result }
+    ensures reply { Replies (Stands store.old) (Stands store.new) (O.took out.old out.new) (λ s. words_reply s (asked_at action rest.now)) result }
     ensures kept { StaysPut store.old store.new (O.took out.old out.new) result }
 {
     match rest.only_word() {
@@ -187,7 +186,7 @@ pub(crate) fn answer_read<A: Allocator + Copy, O: AnswerTaker<A>>(
     read_out(world, query.as_bytes(), object.as_bytes(), id, out)
 }
 
-/// Reads an object by the query of this name, and answers that. Room for the answer is made first.
+/// Reads an object by the query of this name, and answers that. Spare capacity for the answer is reserved first.
 #[inline(always)]
 fn read_out<A: Allocator + Copy, O: AnswerTaker<A>>(
     world: &mut World<A>,
@@ -272,7 +271,7 @@ pub(crate) fn answer_relimit<A: Allocator + Copy, O: AnswerTaker<A>>(
 
 /// Steps the world by an event, and answers it. The subject is the site or the query that it names, if it names one.
 ///
-/// Room for the answer is made first, so that an event whose answer finds no memory does not happen.
+/// Spare capacity for the answer is reserved first, so that an event whose answer finds no memory does not happen.
 // Inlined, with the steps, so that an event is not moved where it is known.
 #[inline(always)]
 fn answer_event<A: Allocator + Copy, O: AnswerTaker<A>>(
@@ -285,10 +284,7 @@ fn answer_event<A: Allocator + Copy, O: AnswerTaker<A>>(
     ensures reply { Steps {A = A} world.old world.new (O.took out.old out.new) (subject.now, object.now) event result }
     ensures kept { StaysPut world.old world.new (O.took out.old out.new) result }
 {
-    if out.reserve(subject.len() + object.len()).is_err() {
-        drop(event);
-        return Err(AllocError);
-    }
+    or_give_up!(out.reserve(subject.len() + object.len()), event);
     let answer = world.step(event);
     out.stepped(world.primary().setup(), subject, object, &answer)
 }

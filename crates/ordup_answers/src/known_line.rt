@@ -4,8 +4,8 @@ use ordup_grammar::{SiteAction, is_kept_line};
 use ordup_objects::SiteId;
 use ordup_objects::sizes::MOST_NAME_BYTES;
 
-/// The fewest bytes of a line that is kept.
-pub(crate) const FEWEST_KEPT_BYTES: usize = 8;
+/// The fewest bytes of a line that is kept: those of `send` and a site of one letter.
+pub(crate) const FEWEST_KEPT_BYTES: usize = 6;
 /// The most bytes of a line that is kept. `report` and a site have at most 23.
 pub(crate) const MOST_KEPT_BYTES: usize = 24;
 
@@ -20,13 +20,13 @@ pub(crate) struct KnownLine {
     name_len: usize,
     pub(crate) action: SiteAction,
     pub(crate) site: SiteId,
-    ghost kept: { (8 ≤ len) × (len ≤ 24) × (name_len ≤ 16) },
+    ghost kept: { (6 ≤ len) × (len ≤ 24) × (name_len ≤ 16) },
 }
 
 impl KnownLine {
     /// What is kept of a line.
     pub(crate) fn new(line: &[u8], name: &[u8], action: SiteAction, site: SiteId) -> Self
-        requires { (8 ≤ length line.now) × (length line.now ≤ 24) × (length name.now ≤ 16) }
+        requires { (6 ≤ length line.now) × (length line.now ≤ 24) × (length name.now ≤ 16) }
         ensures line { take result.len result.bytes ≡ line.now }
         ensures name { take result.name_len result.name ≡ name.now }
         ensures action { result.action ≡ action }

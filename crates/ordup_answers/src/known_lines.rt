@@ -1,8 +1,8 @@
 //! Lines of a keyword and a site that came before, each with the site and its name as they are needed for the event and the answer.
 //!
-//! Each line has one slot, which its bytes pick. A slot keeps the first line that comes to it: of a script that has 16 sites there
-//! are 48 lines, so few go without a slot, and none is kept in turns. Only a line whose site is declared is kept, and only after the
-//! start, so what is kept stays true.
+//! Each line has one slot, which its bytes pick. A slot keeps the first line that comes to it, and no later one takes its place. A
+//! script with 16 sites has 48 such lines, so few of them find their slot taken. Only a line whose site is declared is kept, and
+//! only after the start, so what is kept stays true.
 ghost use Rattle.std.specs.Prelude.{◌≡◌, IfSome};
 ghost use Rattle.ordup_primary.specs.Declarations.{Declared};
 ghost use Rattle.ordup_grammar.specs.Commands.{Act};
@@ -17,6 +17,7 @@ use crate::names::find_site;
 use crate::script_end::ScriptEnd;
 use ordup_grammar::{LinePart, SiteLine};
 use ordup_objects::sizes::MOST_NAME_BYTES;
+use ordup_objects::slot_of;
 use ordup_world::Setup;
 use std::alloc::Allocator;
 
@@ -91,16 +92,4 @@ impl KnownLines {
         };
         self.note(world.primary().setup(), part.as_bytes(), asked);
     }
-}
-
-/// The slot that the bytes of a line pick.
-#[inline(always)]
-fn slot_of(line: &[u8]) -> u8 {
-    let (Some(first), Some(last)) = (line.first_chunk::<8>(), line.last_chunk::<8>()) else {
-        return 0;
-    };
-    let mixed = u64::from_le_bytes(*first)
-        .wrapping_add(u64::from_le_bytes(*last).rotate_left(7))
-        .wrapping_mul(0x9e37_79b9_7f4a_7c15);
-    (mixed >> 56) as u8
 }

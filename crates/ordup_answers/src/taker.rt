@@ -2,7 +2,7 @@
 ghost use Rattle.std.specs.Prelude.{◌≡◌, ◌+◌, ◌≤◌, ◌++◌, ℕ, List, [], OnOk, IfErr, length, take};
 ghost use Rattle.ordup_answers.specs.Replies.{declared_name, declared_text};
 ghost use Rattle.ordup_answers.specs.Texts.{answer_text, certified_text, placed_text, refused_text, started_text};
-ghost use Rattle.ordup_answers.specs.declared.text.TheConstants.{ANSWER_ROOM};
+ghost use Rattle.ordup_answers.specs.declared.text.TheConstants.{MOST_ANSWER_BYTES};
 
 use crate::text::{
     push_certified, push_refused, put_answer, put_declared, put_placed, put_started, reserve_answer,
@@ -17,17 +17,17 @@ use std::alloc::{AllocError, Allocator};
 
 /// Takes the answers to the lines of a script, one after another. A call fails only for want of memory, and then it took nothing.
 ///
-/// Room for the answer to what changes the store is made before the change, and the answer is taken after it.
+/// Spare capacity for the answer to what changes the store is reserved before the change, and the answer is taken after it.
 pub trait AnswerTaker<A: Allocator + Copy> {
     // What was `old` took an answer of this text, and is `new` now.
     ghost took: { Self → Self → List ℕ → Type 0 };
 
-    // It has room for an answer whose line has names of this many bytes.
-    ghost has_room: { Self → ℕ → Type 0 };
+    // It has spare capacity for an answer whose line has names of this many bytes.
+    ghost has_spare: { Self → ℕ → Type 0 };
 
-    /// Makes room for an answer whose line has names of this many bytes. What is taken after it is taken as before it.
+    /// Reserves spare capacity for an answer whose line has names of this many bytes. What is taken after it is taken as before it.
     fn reserve(&mut self, names: usize) -> Result<(), AllocError>
-        ensures room { OnOk result (has_room self.new names) }
+        ensures spare { OnOk result (has_spare self.new names) }
         ensures same { (later : Self) (text : List ℕ) → took self.new later text → took self.old later text }
         ensures nothing { took self.old self.new [] };
 
@@ -42,12 +42,12 @@ pub trait AnswerTaker<A: Allocator + Copy> {
 
     /// Takes the answer to a declaration.
     fn declared(&mut self, declaration: &Declaration<'_>)
-        requires { has_room self.old (length (declared_name declaration.now)) }
+        requires { has_spare self.old (length (declared_name declaration.now)) }
         ensures { took self.old self.new (declared_text declaration.now) };
 
     /// Takes the answer to the start.
     fn started(&mut self)
-        requires { has_room self.old 0 }
+        requires { has_spare self.old 0 }
         ensures { took self.old self.new started_text };
 
     /// Takes the answer to an event. The subject is the site or the query that the event names, and the object the one that it
@@ -59,13 +59,13 @@ pub trait AnswerTaker<A: Allocator + Copy> {
         object: &[u8],
         answer: &Answer<A>,
     ) -> Result<(), AllocError>
-        requires { has_room self.old (length subject.now + length object.now) }
+        requires { has_spare self.old (length subject.now + length object.now) }
         ensures text { OnOk result ((answer.now ≡ Answer.Refused Refusal.NoMemory → ⊥) × took self.old self.new (answer_text setup.now subject.now object.now answer.now)) }
         ensures kept { IfErr result (λ _. (answer.now ≡ Answer.Refused Refusal.NoMemory) × took self.old self.new []) };
 
     /// Takes the answer to an action at a site: the name is the first `len` bytes of an array.
     fn placed(&mut self, action: SiteAction, name: &[u8; MOST_NAME_BYTES], len: usize, place: u64)
-        requires { (len ≤ 16) × has_room self.old len }
+        requires { (len ≤ 16) × has_spare self.old len }
         ensures { took self.old self.new (placed_text action (take len name.now) place) };
 
     /// Takes how many rounds a site has at least, and its windows.
@@ -77,7 +77,7 @@ pub trait AnswerTaker<A: Allocator + Copy> {
 impl<A: Allocator + Copy> AnswerTaker<A> for TextBuffer<A> {
     ghost took = { λ old new text. new.text ≡ old.text ++ text };
 
-    ghost has_room = { λ out names. names + ANSWER_ROOM ≤ out.room };
+    ghost has_spare = { λ out names. names + MOST_ANSWER_BYTES ≤ out.spare };
 
     #[inline(always)]
     fn reserve(&mut self, names: usize) -> Result<(), AllocError> {
@@ -136,7 +136,7 @@ pub struct Unanswered;
 impl<A: Allocator + Copy> AnswerTaker<A> for Unanswered {
     ghost took = { λ old new text. Unit {0} };
 
-    ghost has_room = { λ taker names. Unit {0} };
+    ghost has_spare = { λ taker names. Unit {0} };
 
     fn reserve(&mut self, _: usize) -> Result<(), AllocError> {
         Ok(())

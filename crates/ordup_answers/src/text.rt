@@ -1,15 +1,16 @@
 //! The text of answers.
 //!
-//! The room for an answer is made before the event that it answers, so that no answer is lost for want of memory. What puts takes
-//! that room as given.
+//! Spare capacity for an answer is reserved before the event that it answers, so that no answer is lost for want of memory. What
+//! puts takes it as given.
 ghost use Rattle.std.specs.Prelude.{◌≡◌, ◌+◌, ◌*◌, ◌≤◌, ◌++◌, ◌∷◌, [], OnOk, IfErr, codes, length, slice_index_or, take};
 ghost use Rattle.std.specs.Fmt.{decimal, signed_decimal};
 ghost use Rattle.ordup_text.specs.Lines.{named_text, done_text, numbered_text};
 ghost use Rattle.ordup_text.specs.declared.text_buffer.TheConstants.{MOST_DIGITS};
-ghost use Rattle.ordup_answers.specs.declared.text.TheConstants.{ANSWER_ROOM, REFUSAL_ROOM, SITE_ROOM, WINDOW_ROOM};
+ghost use Rattle.ordup_answers.specs.declared.text.TheConstants.{MOST_ANSWER_BYTES, MOST_REFUSAL_BYTES, MOST_SITE_BYTES, MOST_WINDOW_BYTES};
 ghost use Rattle.ordup_objects.specs.Sizes.{most_sites};
 ghost use Rattle.ordup_answers.specs.Replies.{declared_text, declared_name};
-ghost use Rattle.ordup_answers.specs.Texts.{refused_text, started_text, shown_text, sites_text, listed_text, settled_text, read_text, ended_text, placed_text, window_text, windows_text, certified_text, answer_text};
+ghost use Rattle.ordup_answers.specs.Texts.{answer_text, certified_text, ended_text, listed_text, placed_text, read_text, refused_text};
+ghost use Rattle.ordup_answers.specs.Texts.{settled_text, shown_text, sites_text, started_text, window_text, windows_text};
 
 use ordup_grammar::{Declaration, SiteAction};
 use ordup_objects::sizes::MOST_NAME_BYTES;
@@ -23,26 +24,26 @@ use std::alloc::{AllocError, Allocator};
 
 /// The most bytes of an answer without the names that its line has: of `ok show`, where there are 256 objects. Only the answer to
 /// `certify` may have more.
-pub const ANSWER_ROOM: usize = 10_106;
+pub const MOST_ANSWER_BYTES: usize = 10_106;
 /// The most bytes of `refused N NAME`.
-pub const REFUSAL_ROOM: usize = 45;
+pub const MOST_REFUSAL_BYTES: usize = 45;
 /// The most bytes of ` S`.
-pub const SITE_ROOM: usize = 17;
+pub const MOST_SITE_BYTES: usize = 17;
 /// The most bytes of ` A-B`.
-pub const WINDOW_ROOM: usize = 42;
+pub const MOST_WINDOW_BYTES: usize = 42;
 
-/// Makes room for an answer whose line has names of this many bytes.
+/// Reserves spare capacity for an answer whose line has names of this many bytes.
 #[inline(always)]
 pub(crate) fn reserve_answer<A: Allocator + Copy>(
     out: &mut TextBuffer<A>,
     names: usize,
 ) -> Result<(), AllocError>
     ensures text { out.new.text ≡ out.old.text }
-    ensures room { OnOk result (names + ANSWER_ROOM ≤ out.new.room) }
+    ensures spare { OnOk result (names + MOST_ANSWER_BYTES ≤ out.new.spare) }
     // No list has more bytes.
-    ensures most { OnOk result (out.new.room ≤ 9223372036854775807) }
+    ensures most { OnOk result (out.new.spare ≤ 9223372036854775807) }
 {
-    out.reserve(names.saturating_add(ANSWER_ROOM))
+    out.reserve(names.saturating_add(MOST_ANSWER_BYTES))
 }
 
 /// Adds the answer to what was refused. Want of memory has no answer.
@@ -53,7 +54,7 @@ pub fn push_refused<A: Allocator + Copy>(
     ensures text { OnOk result ((refusal ≡ Refusal.NoMemory → ⊥) × (out.new.text ≡ out.old.text ++ refused_text refusal)) }
     ensures kept { IfErr result (λ _. out.new.text ≡ out.old.text) }
 {
-    out.reserve(REFUSAL_ROOM)?;
+    out.reserve(MOST_REFUSAL_BYTES)?;
     put_refused(out, refusal)
 }
 
@@ -62,7 +63,7 @@ fn put_refused<A: Allocator + Copy>(
     out: &mut TextBuffer<A>,
     refusal: Refusal,
 ) -> Result<(), AllocError>
-    requires { REFUSAL_ROOM ≤ out.old.room }
+    requires { MOST_REFUSAL_BYTES ≤ out.old.spare }
     ensures text { OnOk result ((refusal ≡ Refusal.NoMemory → ⊥) × (out.new.text ≡ out.old.text ++ refused_text refusal)) }
     ensures kept { IfErr result (λ _. (refusal ≡ Refusal.NoMemory) × (out.new.text ≡ out.old.text)) }
 {
@@ -82,7 +83,7 @@ pub(crate) fn put_declared<A: Allocator + Copy>(
     out: &mut TextBuffer<A>,
     declaration: &Declaration<'_>,
 )
-    requires { length (declared_name declaration.now) + ANSWER_ROOM ≤ out.old.room }
+    requires { length (declared_name declaration.now) + MOST_ANSWER_BYTES ≤ out.old.spare }
     ensures { out.new.text ≡ out.old.text ++ declared_text declaration.now }
 {
     match declaration {
@@ -95,7 +96,7 @@ pub(crate) fn put_declared<A: Allocator + Copy>(
 
 /// Puts the answer to the start.
 pub(crate) fn put_started<A: Allocator + Copy>(out: &mut TextBuffer<A>)
-    requires { ANSWER_ROOM ≤ out.old.room }
+    requires { MOST_ANSWER_BYTES ≤ out.old.spare }
     ensures { out.new.text ≡ out.old.text ++ started_text }
 {
     out.put(b"ok start\n");
@@ -118,7 +119,7 @@ fn put_shown<A: Allocator + Copy>(
     objects: &ObjectTable<A>,
     values: &[i64],
 )
-    requires { length site.now + ANSWER_ROOM ≤ out.old.room }
+    requires { length site.now + MOST_ANSWER_BYTES ≤ out.old.spare }
     ensures { out.new.text ≡ out.old.text ++ shown_text site.now (record {
       sent = numbers.sent;
       applied = numbers.applied;
@@ -164,51 +165,21 @@ pub(crate) fn put_answer<A: Allocator + Copy>(
     object: &[u8],
     answer: &Answer<A>,
 ) -> Result<(), AllocError>
-    requires { length subject.now + length object.now + ANSWER_ROOM ≤ out.old.room }
+    requires { length subject.now + length object.now + MOST_ANSWER_BYTES ≤ out.old.spare }
     ensures text { OnOk result ((answer.now ≡ Answer.Refused Refusal.NoMemory → ⊥) × (out.new.text ≡ out.old.text ++ answer_text setup.now subject.now object.now answer.now)) }
     ensures kept { IfErr result (λ _. (answer.now ≡ Answer.Refused Refusal.NoMemory) × (out.new.text ≡ out.old.text)) }
 {
     match answer {
-        Answer::Proposed(number) => {
-            put_proposed(out, *number);
-            Ok(())
-        }
-        Answer::Sent { number, .. } => {
-            put_place(out, b"ok sent ", subject, *number);
-            Ok(())
-        }
-        Answer::Applied { number, .. } => {
-            put_place(out, b"ok applied ", subject, *number);
-            Ok(())
-        }
-        Answer::Reported { place, .. } => {
-            put_place(out, b"ok reported ", subject, *place);
-            Ok(())
-        }
-        Answer::Settlement(settled) => {
-            put_settled(out, setup, settled);
-            Ok(())
-        }
-        Answer::Relimited { place, .. } => {
-            put_place(out, b"ok relimit ", subject, *place);
-            Ok(())
-        }
-        Answer::Begun { query, place } => {
-            put_begun(out, query, *place);
-            Ok(())
-        }
-        Answer::ReadOut(answer) => {
-            put_read(out, subject, object, *answer);
-            Ok(())
-        }
-        Answer::Ended(answer) => {
-            put_ended(out, subject, *answer);
-            Ok(())
-        }
-        Answer::Abandoned(query) => {
-            put_abandoned(out, query);
-            Ok(())
-        }
+        Answer::Proposed(number) => put_proposed(out, *number),
+        Answer::Sent { number, .. } => put_place(out, b"ok sent ", subject, *number),
+        Answer::Applied { number, .. } => put_place(out, b"ok applied ", subject, *number),
+        Answer::Reported { place, .. } => put_place(out, b"ok reported ", subject, *place),
+        Answer::Settlement(settled) => put_settled(out, setup, settled),
+        Answer::Relimited { place, .. } => put_place(out, b"ok relimit ", subject, *place),
+        Answer::Begun { query, place } => put_begun(out, query, *place),
+        Answer::ReadOut(answer) => put_read(out, subject, object, *answer),
+        Answer::Ended(answer) => put_ended(out, subject, *answer),
+        Answer::Abandoned(query) => put_abandoned(out, query),
         Answer::Shown {
             sent,
             applied,
@@ -223,10 +194,10 @@ pub(crate) fn put_answer<A: Allocator + Copy>(
                 rounds: *rounds,
             };
             put_shown(out, subject, numbers, setup.objects(), values.as_slice());
-            Ok(())
         }
-        Answer::Refused(refusal) => put_refused(out, *refusal),
+        Answer::Refused(refusal) => return put_refused(out, *refusal),
     }
+    Ok(())
 }
 
 /// Puts the answer to a proposal.
@@ -234,7 +205,7 @@ pub(crate) fn put_answer<A: Allocator + Copy>(
 // the step of an event with it.
 #[inline(never)]
 fn put_proposed<A: Allocator + Copy>(out: &mut TextBuffer<A>, number: u64)
-    requires { ANSWER_ROOM ≤ out.old.room }
+    requires { MOST_ANSWER_BYTES ≤ out.old.spare }
     ensures { out.new.text ≡ out.old.text ++ done_text (codes "ok proposed ") number }
 {
     put_done(out, b"ok proposed ", number);
@@ -248,7 +219,7 @@ fn put_place<A: Allocator + Copy, const N: usize>(
     name: &[u8],
     place: u64,
 )
-    requires { N + length name.now + MOST_DIGITS + 2 ≤ out.old.room }
+    requires { N + length name.now + MOST_DIGITS + 2 ≤ out.old.spare }
     ensures { out.new.text ≡ out.old.text ++ numbered_text done.now name.now place }
 {
     put_numbered(out, done, name, place);
@@ -263,7 +234,7 @@ pub(crate) fn put_placed<A: Allocator + Copy>(
     len: usize,
     place: u64,
 )
-    requires { (len ≤ 16) × (len + ANSWER_ROOM ≤ out.old.room) }
+    requires { (len ≤ 16) × (len + MOST_ANSWER_BYTES ≤ out.old.spare) }
     ensures { out.new.text ≡ out.old.text ++ placed_text action (take len name.now) place }
 {
     match action {
@@ -282,7 +253,7 @@ fn put_name_and_place<A: Allocator + Copy, const N: usize>(
     len: usize,
     place: u64,
 )
-    requires { (len ≤ 16) × (N + 16 + MOST_DIGITS + 2 ≤ out.old.room) }
+    requires { (len ≤ 16) × (N + 16 + MOST_DIGITS + 2 ≤ out.old.spare) }
     ensures { out.new.text ≡ out.old.text ++ numbered_text done.now (take len name.now) place }
 {
     out.put_array(done);
@@ -294,7 +265,7 @@ fn put_name_and_place<A: Allocator + Copy, const N: usize>(
 
 /// Puts the answer to a query that began.
 fn put_begun<A: Allocator + Copy>(out: &mut TextBuffer<A>, query: &Name, place: u64)
-    requires { ANSWER_ROOM ≤ out.old.room }
+    requires { MOST_ANSWER_BYTES ≤ out.old.spare }
     ensures { out.new.text ≡ out.old.text ++ numbered_text (codes "ok begun ") query.now place }
 {
     put_place(out, b"ok begun ", query.as_bytes(), place);
@@ -302,7 +273,7 @@ fn put_begun<A: Allocator + Copy>(out: &mut TextBuffer<A>, query: &Name, place: 
 
 /// Puts the answer to a query that was abandoned.
 fn put_abandoned<A: Allocator + Copy>(out: &mut TextBuffer<A>, query: &Name)
-    requires { ANSWER_ROOM ≤ out.old.room }
+    requires { MOST_ANSWER_BYTES ≤ out.old.spare }
     ensures { out.new.text ≡ out.old.text ++ named_text (codes "ok abandoned ") query.now }
 {
     put_named(out, b"ok abandoned ", query.as_bytes());
@@ -315,7 +286,7 @@ fn put_read<A: Allocator + Copy>(
     object: &[u8],
     answer: ReadAnswer,
 )
-    requires { length query.now + length object.now + ANSWER_ROOM ≤ out.old.room }
+    requires { length query.now + length object.now + MOST_ANSWER_BYTES ≤ out.old.spare }
     ensures { out.new.text ≡ out.old.text ++ read_text query.now object.now answer }
 {
     out.put_array(b"ok read ");
@@ -333,7 +304,7 @@ fn put_read<A: Allocator + Copy>(
 
 /// Puts the answer to the end of a query: what its reads came to.
 fn put_ended<A: Allocator + Copy>(out: &mut TextBuffer<A>, query: &[u8], answer: QueryAnswer)
-    requires { length query.now + ANSWER_ROOM ≤ out.old.room }
+    requires { length query.now + MOST_ANSWER_BYTES ≤ out.old.spare }
     ensures { out.new.text ≡ out.old.text ++ ended_text query.now answer }
 {
     out.put_array(b"ok end ");
@@ -347,7 +318,7 @@ fn put_ended<A: Allocator + Copy>(out: &mut TextBuffer<A>, query: &[u8], answer:
 
 /// Puts the answer to a settlement.
 fn put_settled<A: Allocator + Copy>(out: &mut TextBuffer<A>, setup: &Setup<A>, settled: &Settled)
-    requires { ANSWER_ROOM ≤ out.old.room }
+    requires { MOST_ANSWER_BYTES ≤ out.old.spare }
     ensures { out.new.text ≡ out.old.text ++ settled_text setup.now.sites settled.now }
 {
     match settled {
@@ -365,7 +336,7 @@ fn put_listed<A: Allocator + Copy, const N: usize>(
     setup: &Setup<A>,
     sites: &SiteList,
 )
-    requires { N + most_sites * SITE_ROOM + MOST_DIGITS + 1 ≤ out.old.room }
+    requires { N + most_sites * MOST_SITE_BYTES + MOST_DIGITS + 1 ≤ out.old.spare }
     ensures { out.new.text ≡ out.old.text ++ listed_text done.now number setup.now.sites sites.now }
 {
     sites.keeps();
@@ -377,9 +348,9 @@ fn put_listed<A: Allocator + Copy, const N: usize>(
 
 /// Puts ` S` for each of these sites.
 fn put_sites<A: Allocator + Copy>(out: &mut TextBuffer<A>, setup: &Setup<A>, sites: &[SiteId])
-    requires { length sites.now * SITE_ROOM ≤ out.old.room }
+    requires { length sites.now * MOST_SITE_BYTES ≤ out.old.spare }
     ensures text { out.new.text ≡ out.old.text ++ sites_text setup.now.sites sites.now }
-    ensures room { out.old.room ≤ out.new.room + length sites.now * SITE_ROOM }
+    ensures spare { out.old.spare ≤ out.new.spare + length sites.now * MOST_SITE_BYTES }
 {
     for site in sites {
         put_site(out, setup, *site);
@@ -388,9 +359,9 @@ fn put_sites<A: Allocator + Copy>(out: &mut TextBuffer<A>, setup: &Setup<A>, sit
 
 /// Puts ` S`: a space, and the name of the site where there is one.
 fn put_site<A: Allocator + Copy>(out: &mut TextBuffer<A>, setup: &Setup<A>, site: SiteId)
-    requires { SITE_ROOM ≤ out.old.room }
+    requires { MOST_SITE_BYTES ≤ out.old.spare }
     ensures text { out.new.text ≡ out.old.text ++ 32 ∷ [] ++ (slice_index_or setup.now.sites site ([], 0)).0 }
-    ensures room { out.old.room ≤ out.new.room + SITE_ROOM }
+    ensures spare { out.old.spare ≤ out.new.spare + MOST_SITE_BYTES }
 {
     out.put_array(b" ");
     if site.index() < setup.sites() {
@@ -411,7 +382,7 @@ pub fn push_certified<A: Allocator + Copy>(
     reserve_answer(
         out,
         site.len()
-            .saturating_add(windows.len().saturating_mul(WINDOW_ROOM)),
+            .saturating_add(windows.len().saturating_mul(MOST_WINDOW_BYTES)),
     )?;
     out.put_array(b"ok certified ");
     out.put_name(site);
@@ -424,9 +395,9 @@ pub fn push_certified<A: Allocator + Copy>(
 
 /// Puts ` A-B` for each of these windows.
 fn put_windows<A: Allocator + Copy>(out: &mut TextBuffer<A>, windows: &[Window])
-    requires { length windows.now * WINDOW_ROOM ≤ out.old.room }
+    requires { length windows.now * MOST_WINDOW_BYTES ≤ out.old.spare }
     ensures text { out.new.text ≡ out.old.text ++ windows_text windows.now }
-    ensures room { out.old.room ≤ out.new.room + length windows.now * WINDOW_ROOM }
+    ensures spare { out.old.spare ≤ out.new.spare + length windows.now * MOST_WINDOW_BYTES }
 {
     for window in windows {
         put_window(out, *window);
@@ -435,9 +406,9 @@ fn put_windows<A: Allocator + Copy>(out: &mut TextBuffer<A>, windows: &[Window])
 
 /// Puts ` A-B`.
 fn put_window<A: Allocator + Copy>(out: &mut TextBuffer<A>, window: Window)
-    requires { WINDOW_ROOM ≤ out.old.room }
+    requires { MOST_WINDOW_BYTES ≤ out.old.spare }
     ensures text { out.new.text ≡ out.old.text ++ window_text window }
-    ensures room { out.old.room ≤ out.new.room + WINDOW_ROOM }
+    ensures spare { out.old.spare ≤ out.new.spare + MOST_WINDOW_BYTES }
 {
     put_with_number(out, b" ", window.from);
     put_with_number(out, b"-", window.to);

@@ -58,4 +58,4 @@ pub use Rattle.ordup_audit.specs.RecordInside.{AreParts, state_of}
 pub use Rattle.ordup_audit.specs.Records.{AreGroups, AreReportChanges, history_of, is_within, IsRecord, RecordState}
 pub use Rattle.ordup_audit.specs.Records.{report_at}
 pub use Rattle.ordup_audit.specs.Sizes.{most_windows}
-pub use Rattle.ordup_audit.specs.Validity.{IsLegalFront, IsValid}
+pub use Rattle.ordup_audit.specs.Validity.{IsLegalPrefix, IsValid}

@@ -1,6 +1,6 @@
 -- Updates that are legal up to one that is not.
 use Rattle.ordup_audit.proofs.Common.{◌++◌, ◌+◌, ◌<◌, ◌∙◌, ◌∷◌, ◌≡◌, ◌≤◌, [], All, ap, AreKnown, arith, Bool, cases_lt, Change, drop, false}
-use Rattle.ordup_audit.proofs.Common.{get_or, get_or-map, greatest_value, History, history_of, in_range, inl, inr, IsLegalFront}
+use Rattle.ordup_audit.proofs.Common.{get_or, get_or-map, greatest_value, History, history_of, in_range, inl, inr, IsLegalPrefix}
 use Rattle.ordup_audit.proofs.Common.{IsLegalHistory, le-leb, length, lt-leb, List, list_all, map, RecordState, refl, result_at}
 use Rattle.ordup_audit.proofs.Common.{serial, serial-longer, State, subst, suc, sym, take-append-drop, take_all, true, with_more}
 use Rattle.ordup_audit.proofs.Common.{ℕ, ℤ}
@@ -43,7 +43,7 @@ result-fails v changes i c z lt at is many =
     get_or-map test changes i c true lt ∙ ap test (sym at)
     ∙ lt-leb (unsigned_abs (result_at v c)) greatest_value (rw is at many)
 
-module _ (r : RecordState) (log : History) (front : IsLegalFront r log) where
+module _ (r : RecordState) (log : History) (front : IsLegalPrefix r log) where
   history-front : history_of r ≡ with_more log (drop (length log.sets) r.sets)
   history-front =
       let all : log.sets ++ drop (length log.sets) r.sets ≡ r.sets =

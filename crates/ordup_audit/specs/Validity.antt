@@ -12,7 +12,7 @@ pub record IsValid (r : RecordState) : Type 0 where
   pub certificate : IsCertificate (is_within r) (report_at r.reports) (length r.sets) r.rounds r.windows
 
 -- the updates of a record up to the first that is not legal after those before it, over the initial values
-pub record IsLegalFront (r : RecordState) (log : History) : Type 0 where
+pub record IsLegalPrefix (r : RecordState) (log : History) : Type 0 where
   pub start : log.start ≡ initial_state r.objects
   pub legal : IsLegalHistory log
   pub upto : length log.sets ≤ length r.sets

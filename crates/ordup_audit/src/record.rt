@@ -66,7 +66,7 @@ impl<A: Allocator + Copy> Record<A> {
     ghost use Rattle.ordup_objects.specs.Serial.{set_at, IsLegalHistory};
     ghost use Rattle.ordup_audit.specs.Records.{IsRecord, history_of, report_at};
     ghost use Rattle.ordup_audit.specs.RecordInside.{state_of, AreParts};
-    ghost use Rattle.ordup_audit.specs.Validity.{IsLegalFront};
+    ghost use Rattle.ordup_audit.specs.Validity.{IsLegalPrefix};
 
     /// The record of these parts.
     pub fn from_parts(parts: RecordParts<A>) -> Self
@@ -159,7 +159,7 @@ impl<A: Allocator + Copy> Record<A> {
 
     /// The decided updates up to the first that is not legal after those before it.
     pub fn log(&self) -> &Log<A>
-        ensures front { IsLegalFront self.now result.now }
+        ensures front { IsLegalPrefix self.now result.now }
         ensures whole { IsLegalHistory (history_of self.now) → result.now ≡ history_of self.now }
     {
         self.parts.log.keeps();

@@ -3,7 +3,7 @@ use Rattle.std.proofs.Common.{◌≡◌, ℕ, [], ◌∷◌, ap, length, refl, a
 use Rattle.std.specs.Prelude.{codes}
 use Rattle.ordup_answers.specs.Scripts.{lines_of}
 use Rattle.ordup_c.specs.Calls.{status_of}
-use Rattle.ordup_c.specs.Sessions.{IsFront, kept}
+use Rattle.ordup_c.specs.Sessions.{AreWholeLines, kept}
 use Rattle.ordup_c.specs.declared.session.Session.{Session}
 use Rattle.ordup_c.specs.declared.status.TheConstants.{DONE, MORE, NO_MEMORY}
 
@@ -18,10 +18,10 @@ some_left : (v : Session) → status_of v 3 ≡ NO_MEMORY
 some_left v = refl
 
 -- a text can be taken up to the end of a line, and not up to its last byte
-whole_line : IsFront 3 (codes "ab\ncd")
+whole_line : AreWholeLines 3 (codes "ab\ncd")
 unfolding lines_of
 whole_line = (omega arith, refl)
 
-half_line : ¬ IsFront 2 (codes "ab\ncd")
+half_line : ¬ AreWholeLines 2 (codes "ab\ncd")
 unfolding lines_of
 half_line is = let count : 2 ≡ 3 = ap length is.1 in absurd (omega (arith, count))

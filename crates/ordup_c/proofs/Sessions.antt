@@ -14,7 +14,7 @@ use Rattle.ordup_answers.specs.Output.{Written, answered, written}
 use Rattle.ordup_answers.specs.Scripts.{IsCut, after_lines, lines_of}
 use Rattle.ordup_c.specs.Laws.{HasRun}
 use Rattle.ordup_c.specs.declared.session.Session.{Session}
-use Rattle.ordup_c.specs.Sessions.{Follows, Stays, TakesFront, answers_to, kept}
+use Rattle.ordup_c.specs.Sessions.{Follows, Stays, TakesWholeLines, answers_to, kept}
 
 pub on_ok_map : {P Q T E : Type 0} (r : Result T E) → (P → Q) → OnOk r P → OnOk r Q
 on_ok_map (Ok x) f p = f p
@@ -82,7 +82,7 @@ no_bytes xs zero = sym (take-length xs) ∙ ap (λ n. take n xs) zero
 
 -- the lines that ended are a prefix
 pub takes_ended : (a b : Session) (done rest text : List ℕ) (lines : List Line) (n : ℕ) → text ≡ done ++ rest
-    → n + length rest ≡ length text → IsCut done lines [] → Follows a b lines → TakesFront a b text n
+    → n + length rest ≡ length text → IsCut done lines [] → Follows a b lines → TakesWholeLines a b text n
 takes_ended a b done rest text lines n is count at follows =
     let size : n ≡ length done = omega (arith, count, ap length is, length-append done rest) in
     let front : take n text ≡ done = ap (take n) is ∙ ap (λ k. take k (done ++ rest)) size ∙ take-append_seam done rest in
@@ -101,7 +101,7 @@ no_line = refl
 
 -- all of a text is a prefix
 pub takes_all : (a b : Session) (text : List ℕ) (lines : List Line) → lines_of true text ≡ lines → Follows a b lines
-    → TakesFront a b text (length text)
+    → TakesWholeLines a b text (length text)
 takes_all a b text lines is follows =
     let front : take (length text) text ≡ text = take-length text in
     let back : drop (length text) text ≡ [] = ap (drop (length text)) (sym (append-nil text)) ∙ drop-append_seam text [] in

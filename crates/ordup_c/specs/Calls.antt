@@ -2,7 +2,7 @@
 use Rattle.std.specs.Prelude.{◌≡◌, ℕ, ◌-◌, ◌==◌, List, [], length, take, Option, Some, None, if◌then◌else◌}
 use Rattle.ordup_c.specs.declared.session.Session.{Session}
 use Rattle.ordup_c.specs.declared.status.TheConstants.{DONE, MORE, CLOSED, OPEN, NO_MEMORY}
-use Rattle.ordup_c.specs.Sessions.{Begins, IsFront, Runs, kept}
+use Rattle.ordup_c.specs.Sessions.{Begins, AreWholeLines, Runs, kept}
 
 -- a store was opened: it is before its first line
 abbrev pub Opens : Option Session → Option Session → ℕ → Type 0
@@ -20,4 +20,4 @@ RunsCall None None text taken gave status = (status ≡ CLOSED) × (taken ≡ 0)
 RunsCall None (Some w) text taken gave status = ⊥
 RunsCall (Some v) None text taken gave status = ⊥
 RunsCall (Some v) (Some w) text taken gave status =
-    (status ≡ status_of w (length text - taken)) × IsFront taken text × Runs v w (take taken text) gave
+    (status ≡ status_of w (length text - taken)) × AreWholeLines taken text × Runs v w (take taken text) gave

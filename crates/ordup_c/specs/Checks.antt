@@ -46,8 +46,8 @@ IsMalformed text line = (row : ℕ) × IsMalformedWithin most_record_bytes text 
 abbrev pub Finds : List ℕ → List ℕ → ℕ → Type 0
 Finds text line status = (IsJudged text line × (status ≡ DONE)) ⊎ (IsMalformed text line × (status ≡ MALFORMED))
 
--- of the line that was found for a text the length was told, and the line written where there is room for it; or there is none, for
--- want of memory, or since the text has more bytes than a record may
+-- of the line that was found for a text the length was told, and the line written where it fits; or there is none, for want of
+-- memory, or since the text has more bytes than a record may
 abbrev pub ChecksCall : List ℕ → List ℕ → List ℕ → ℕ → ℕ → Type 0
 ChecksCall text old new written status =
     ((line : List ℕ) × (found : ℕ) × Finds text line found × (written ≡ length line) × Copies line found old new status)

@@ -4,5 +4,5 @@ pub mod Sessions
 pub mod Calls
 pub mod Records
 pub mod Checks
-pub mod Successions
+pub mod Successors
 pub mod Laws

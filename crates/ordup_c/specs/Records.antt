@@ -15,10 +15,14 @@ abbrev pub record_at : PrimaryState → Option ℕ → Result (List ℕ) ℕ
 record_at p None = Err UNKNOWN_SITE
 record_at p (Some s) = Ok (rows_text (rows_of (record_of p s)))
 
--- the text of the record of the site of this name, or why there is none
+-- the same of the site of this name
+abbrev pub record_named : PrimaryState → List ℕ → Result (List ℕ) ℕ
+record_named p site = record_at p (index_of site p.setup.sites)
+
+-- the same of a script
 abbrev pub record_in : ScriptEnd Global → List ℕ → Result (List ℕ) ℕ
 record_in (Declared setup) site = Err NOT_STARTED
-record_in (Running world) site = record_at world.primary (index_of site world.primary.setup.sites)
+record_in (Running world) site = record_named world.primary site
 
 -- what is wanted was formed, or memory refused
 abbrev pub Forms : Result (List ℕ) ℕ → Result (List ℕ) ℕ → Type 0
@@ -35,7 +39,7 @@ Copies text done old new status =
 abbrev pub Lacks : ℕ → List ℕ → List ℕ → ℕ → ℕ → Type 0
 Lacks reason old new written status = (status ≡ reason) × (written ≡ 0) × (new ≡ old)
 
--- of what is wanted the length was told, and the text written where there is room for it; or there is none, or memory was refused
+-- of what is wanted the length was told, and the text written where it fits; or there is none, or memory was refused
 abbrev pub Tells : Result (List ℕ) ℕ → List ℕ → List ℕ → ℕ → ℕ → Type 0
 Tells (Ok text) old new written status =
     ((written ≡ length text) × Copies text DONE old new status) ⊎ Lacks NO_MEMORY old new written status

@@ -29,13 +29,13 @@ abbrev pub Stays : Session → Session → Type 0
 Stays old new = (new.script ≡ old.script) × (new.answers.text ≡ old.answers.text)
 
 -- so many bytes of a text are whole lines: they can be taken first, and the rest of the text after them
-abbrev pub IsFront : ℕ → List ℕ → Type 0
-IsFront taken text =
+abbrev pub AreWholeLines : ℕ → List ℕ → Type 0
+AreWholeLines taken text =
     (taken ≤ length text) × (lines_of true text ≡ lines_of true (take taken text) ++ lines_of true (drop taken text))
 
 -- so many bytes of a text were taken, which are whole lines, and these were answered
-abbrev pub TakesFront : Session → Session → List ℕ → ℕ → Type 0
-TakesFront old new text taken = IsFront taken text × Follows old new (lines_of true (take taken text))
+abbrev pub TakesWholeLines : Session → Session → List ℕ → ℕ → Type 0
+TakesWholeLines old new text taken = AreWholeLines taken text × Follows old new (lines_of true (take taken text))
 
 -- the lines of a text were answered, and the answers are kept behind those that were
 abbrev pub Answers : Session → Session → List ℕ → Type 0

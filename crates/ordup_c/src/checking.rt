@@ -12,7 +12,7 @@ use ordup_rows::sizes::MOST_RECORD_BYTES;
 use ordup_text::{TextBuffer, push_with_number};
 use std::alloc::{AllocError, Global};
 
-/// Checks a record, and tells the verdict: how long its line is, and the line where there is room for it.
+/// Checks a record, and tells the verdict: how long its line is, and the line where it fits.
 pub(crate) fn tell_verdict(alloc: Global, rows: &[u8], out: &mut [u8], written: &mut usize) -> u32
     ensures { ChecksCall rows.now out.old out.new written.new result }
 {
@@ -38,9 +38,9 @@ fn find_line(alloc: Global, rows: &[u8], line: &mut TextBuffer) -> Result<u32, u
 {
     let mut input = rows;
     match read_record(alloc, &mut input) {
-        Ok(read) => {
-            let verdict = check(&read);
-            read.discard();
+        Ok(audited) => {
+            let verdict = check(&audited);
+            audited.discard();
             found(push_verdict(line, verdict), DONE)
         }
         Err(RecordReadFault::Malformed { row }) => found(push_malformed(line, row), MALFORMED),

@@ -5,7 +5,7 @@ ghost use Rattle.ordup_c.specs.Checks.{ChecksCall};
 ghost use Rattle.ordup_c.specs.Records.{RecordCall};
 ghost use Rattle.ordup_c.specs.declared.exports.TheConstants.{VERSION};
 ghost use Rattle.ordup_c.specs.Sessions.{kept};
-ghost use Rattle.ordup_c.specs.Successions.{NextCall};
+ghost use Rattle.ordup_c.specs.Successors.{NextCall};
 
 use crate::checking::tell_verdict;
 use crate::next::tell_next;
@@ -54,7 +54,7 @@ fn open(alloc: Global, store: &mut Store) -> u32
     }
 }
 
-/// Answers the lines of a text, and gives the next answers: as many bytes as there is room for.
+/// Answers the lines of a text, and gives the next answers: as many bytes as fit into the buffer.
 ///
 /// `taken` is how many bytes of the text were taken, which are whole lines: all of them, unless memory was refused. The rest of the
 /// text may be given again.
@@ -68,7 +68,7 @@ pub extern "C" fn ordup_run(
     written: &mut usize,
 ) -> u32
     ensures runs { RunsCall store.old.held.session store.new.held.session text.now taken.new (take written.new answers.new) result }
-    ensures room { written.new ≤ length answers.old }
+    ensures fits { written.new ≤ length answers.old }
     ensures full { IfSome store.new.held.session (λ w. 0 < length (kept w) → written.new ≡ length answers.old) }
     ensures rest { drop written.new answers.new ≡ drop written.new answers.old }
 {
@@ -85,7 +85,7 @@ pub extern "C" fn ordup_run(
     status
 }
 
-/// Tells the record of a site: how long it is, and its text where there is room for it.
+/// Tells the record of a site: how long it is, and its text where it fits.
 #[unsafe(no_mangle)]
 pub extern "C" fn ordup_record(
     alloc: Global,
@@ -106,8 +106,8 @@ pub extern "C" fn ordup_record(
     status
 }
 
-/// Tells the declarations of the store that goes on with what this one ends with: how long they are, and their text where there is
-/// room for it.
+/// Tells the declarations of the successor, which begins with what this store ends with: how long they are, and their text where it
+/// fits.
 #[unsafe(no_mangle)]
 pub extern "C" fn ordup_next(
     alloc: Global,
@@ -127,7 +127,7 @@ pub extern "C" fn ordup_next(
     status
 }
 
-/// Checks a record, and tells the verdict: how long its line is, and the line where there is room for it.
+/// Checks a record, and tells the verdict: how long its line is, and the line where it fits.
 #[unsafe(no_mangle)]
 pub extern "C" fn ordup_check(
     alloc: Global,
@@ -194,52 +194,52 @@ mod tests {
         ordup_close(alloc, &mut store);
     }
 
-    // shows: ordup_run runs; ordup_run room rest
+    // shows: ordup_run runs; ordup_run fits rest
     #[test]
     fn answers_are_given_in_parts(rt: HostRuntime) {
         let alloc = rt.alloc();
         let mut store = Store::none(alloc);
-        let mut room = [0; 8];
+        let mut out = [0; 8];
         let mut taken = 0;
         let mut written = 0;
         let _status = ordup_open(alloc, &mut store);
         let text = b"object x 1";
-        let first = ordup_run(alloc, &mut store, text, &mut taken, &mut room, &mut written);
+        let first = ordup_run(alloc, &mut store, text, &mut taken, &mut out, &mut written);
         assert_eq!(rt; first, MORE);
         assert_eq!(rt; taken, 10);
-        assert_eq!(rt; room[..written], b"ok objec"[..]);
-        let next = ordup_run(alloc, &mut store, b"", &mut taken, &mut room, &mut written);
+        assert_eq!(rt; out[..written], b"ok objec"[..]);
+        let next = ordup_run(alloc, &mut store, b"", &mut taken, &mut out, &mut written);
         assert_eq!(rt; next, DONE);
-        assert_eq!(rt; room[..written], b"t x\n"[..]);
+        assert_eq!(rt; out[..written], b"t x\n"[..]);
         ordup_close(alloc, &mut store);
     }
 
     // shows: ordup_next store lines
     #[test]
-    fn a_store_goes_on(rt: HostRuntime) {
+    fn a_successor_is_declared(rt: HostRuntime) {
         let alloc = rt.alloc();
         let mut store = Store::none(alloc);
-        let mut room = [0; 64];
+        let mut out = [0; 64];
         let mut taken = 0;
         let mut written = 0;
         let _status = ordup_open(alloc, &mut store);
-        let early = ordup_next(alloc, &mut store, &mut room, &mut written);
+        let early = ordup_next(alloc, &mut store, &mut out, &mut written);
         assert_eq!(rt; early, NOT_STARTED);
         let text = b"object x 1\nsite a 1\nstart\npropose add:x:2";
-        let _answers = ordup_run(alloc, &mut store, text, &mut taken, &mut room, &mut written);
-        let pending = ordup_next(alloc, &mut store, &mut room, &mut written);
+        let _answers = ordup_run(alloc, &mut store, text, &mut taken, &mut out, &mut written);
+        let pending = ordup_next(alloc, &mut store, &mut out, &mut written);
         assert_eq!(rt; pending, NOT_YET);
         let _settled = ordup_run(
             alloc,
             &mut store,
             b"settle",
             &mut taken,
-            &mut room,
+            &mut out,
             &mut written,
         );
-        let next = ordup_next(alloc, &mut store, &mut room, &mut written);
+        let next = ordup_next(alloc, &mut store, &mut out, &mut written);
         assert_eq!(rt; next, DONE);
-        assert_eq!(rt; room[..written], b"object x 3\nsite a 1\nstart\n"[..]);
+        assert_eq!(rt; out[..written], b"object x 3\nsite a 1\nstart\n"[..]);
         ordup_close(alloc, &mut store);
     }
 
@@ -248,17 +248,17 @@ mod tests {
     fn a_record_is_told_and_checked(rt: HostRuntime) {
         let alloc = rt.alloc();
         let mut store = Store::none(alloc);
-        let mut room = [0; 64];
+        let mut out = [0; 64];
         let mut line = [0; 64];
         let mut taken = 0;
         let mut written = 0;
         let _status = ordup_open(alloc, &mut store);
         let text = b"object x 1\nsite a 1\nstart";
-        let _answers = ordup_run(alloc, &mut store, text, &mut taken, &mut room, &mut written);
-        let told = ordup_record(alloc, &mut store, b"a", &mut room, &mut written);
+        let _answers = ordup_run(alloc, &mut store, text, &mut taken, &mut out, &mut written);
+        let told = ordup_record(alloc, &mut store, b"a", &mut out, &mut written);
         assert_eq!(rt; told, DONE);
-        assert_eq!(rt; room[..8], b"ordup,1,"[..]);
-        let judged = ordup_check(alloc, &room[..written], &mut line, &mut written);
+        assert_eq!(rt; out[..8], b"ordup,1,"[..]);
+        let judged = ordup_check(alloc, &out[..written], &mut line, &mut written);
         assert_eq!(rt; judged, DONE);
         assert_eq!(rt; line[..written], b"yes 0\n"[..]);
         let malformed = ordup_check(alloc, b"ordup,1\n", &mut line, &mut written);

@@ -15,4 +15,4 @@ mod session;
 mod status;
 mod store;
 
-pub use laws::{each_run_goes_on, opened_stores_have_run_nothing};
+pub use laws::{each_run_adds_lines_and_answers, opened_stores_have_run_nothing};

@@ -1,16 +1,16 @@
-//! The declarations of the store that goes on, as text in a buffer.
+//! The declarations of the successor, as text in a buffer.
 ghost use Rattle.std.specs.Prelude.{◌≡◌, [], MatchResult};
-ghost use Rattle.ordup_c.specs.Successions.{Declares, IsUndeclared, TellsNext};
+ghost use Rattle.ordup_c.specs.Successors.{Declares, IsUndeclared, TellsNext};
 
 use crate::record::copy_whole;
 use crate::status::{DONE, NO_MEMORY, NOT_STARTED, NOT_YET};
 use ordup_answers::ScriptEnd;
-use ordup_declarations::push_successor;
 use ordup_objects::Refusal;
+use ordup_succession::push_successor;
 use ordup_text::TextBuffer;
 use std::alloc::Global;
 
-/// Tells the declarations of the store that goes on: how long they are, and their text where there is room for it.
+/// Tells the declarations of the successor: how long they are, and their text where it fits.
 pub(crate) fn tell_next(alloc: Global, end: &ScriptEnd, out: &mut [u8], written: &mut usize) -> u32
     ensures { TellsNext end.now out.old out.new written.new result }
 {

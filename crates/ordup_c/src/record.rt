@@ -1,8 +1,7 @@
 //! The record of a site, as text in a buffer.
 ghost use Rattle.std.specs.Prelude.{◌≡◌, MatchResult, Ok, Err};
-ghost use Rattle.ordup_objects.specs.Tables.{index_of};
 ghost use Rattle.ordup_rows.specs.Rows.{rows_of, rows_text};
-ghost use Rattle.ordup_c.specs.Records.{Copies, Forms, Tells, record_at, record_in};
+ghost use Rattle.ordup_c.specs.Records.{Copies, Forms, Tells, record_in, record_named};
 
 use crate::status::{DONE, MORE, NO_MEMORY, NOT_STARTED, UNKNOWN_SITE};
 use ordup_answers::ScriptEnd;
@@ -12,7 +11,7 @@ use ordup_record::view_of;
 use ordup_rows::write_view;
 use std::alloc::Global;
 
-/// Tells the record of the site of this name: how long it is, and its text where there is room for it.
+/// Tells the record of the site of this name: how long it is, and its text where it fits.
 pub(crate) fn tell_record(
     alloc: Global,
     end: &ScriptEnd,
@@ -36,7 +35,7 @@ pub(crate) fn tell_record(
     }
 }
 
-/// Writes a text over the front of a buffer, where there is room for it. Then the answer is this status.
+/// Writes a text over the front of a buffer, where it fits. Then the answer is this status.
 pub(crate) fn copy_whole(text: &[u8], done: u32, out: &mut [u8]) -> u32
     ensures { Copies text.now done out.old out.new result }
 {
@@ -59,7 +58,7 @@ fn record_text(alloc: Global, end: &ScriptEnd, site: &[u8]) -> Result<Vec<u8>, u
 
 /// The text of the record of the site of this name.
 fn text_of_site(alloc: Global, primary: &Primary, site: &[u8]) -> Result<Vec<u8>, u32>
-    ensures { MatchResult result (λ v. Forms (record_at primary.now (index_of site.now primary.now.setup.sites)) (Ok v.items)) (λ status. Forms (record_at primary.now (index_of site.now primary.now.setup.sites)) (Err status)) }
+    ensures { MatchResult result (λ v. Forms (record_named primary.now site.now) (Ok v.items)) (λ status. Forms (record_named primary.now site.now) (Err status)) }
 {
     primary.keeps();
     let Some(site) = primary.setup().find_site(site) else {

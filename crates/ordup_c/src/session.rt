@@ -1,7 +1,7 @@
 //! A script that is run a text at a time.
 ghost use Rattle.std.specs.Prelude.{◌≡◌, ◌<◌, ◌≤◌, ◌∷◌, [], OnErr, OnOk, drop, length, min, take};
 ghost use Rattle.ordup_grammar.specs.Lines.{cut};
-ghost use Rattle.ordup_c.specs.Sessions.{Answers, Begins, Follows, Gives, IsFront, Stays, TakesFront, kept};
+ghost use Rattle.ordup_c.specs.Sessions.{Answers, Begins, Follows, Gives, AreWholeLines, Stays, TakesWholeLines, kept};
 
 use ordup_answers::Answering;
 use ordup_grammar::{LinePart, split_line};
@@ -33,7 +33,7 @@ impl Session {
     ///
     /// These are whole lines. All of them were taken, unless memory was refused.
     pub(crate) fn run(&mut self, alloc: Global, text: &[u8]) -> usize
-        ensures taken { IsFront result text.now }
+        ensures taken { AreWholeLines result text.now }
         ensures answers { Answers self.old self.new (take result text.now) }
     {
         self.forget_given();
@@ -54,7 +54,7 @@ impl Session {
 
     /// Answers the lines of a text, the last of which needs no line feed, and says how many of its bytes were taken.
     fn answer_lines(&mut self, alloc: Global, text: &[u8]) -> usize
-        ensures taken { TakesFront self.old self.new text.now result }
+        ensures taken { TakesWholeLines self.old self.new text.now result }
         ensures given { self.new.given ≡ self.old.given }
     {
         let mut rest = text;
@@ -90,7 +90,7 @@ impl Session {
         &answers[self.given.min(answers.len())..]
     }
 
-    /// Gives the next of the answers: as many bytes as there is room for.
+    /// Gives the next of the answers: as many bytes as fit into the buffer.
     pub(crate) fn give(&mut self, out: &mut [u8]) -> usize
         ensures count { result ≡ min (length (kept self.old)) (length out.old) }
         ensures gives { Gives self.old self.new (take result out.new) }

@@ -2,7 +2,7 @@
 
 /// All was done, and all bytes were given.
 pub const DONE: u32 = 0;
-/// There are more bytes than there was room for.
+/// There are more bytes than fit into the buffer.
 pub const MORE: u32 = 1;
 /// There is no store.
 pub const CLOSED: u32 = 2;

@@ -16,8 +16,8 @@ bad_passes text n (rows, begins, came, bad) = short_malformed text n (inl (rows,
 
 split_bad : (left : List ℕ) (n : ℕ) → HasBadRow (from_row (left ++ never ∷ [])) n → (more : List ℕ)
     → Splits left (λ more. from_row (left ++ more)) → IsMalformedAt (left ++ more) n
-split_bad left n bad more (inl (place, room, same)) =
-    begun_bad left n (subst (λ t. HasBadRow t n) (same (never ∷ []) ∙ ap (λ l. left ++ l) (one_byte place room never)) bad) more
+split_bad left n bad more (inl (place, spare, same)) =
+    begun_bad left n (subst (λ t. HasBadRow t n) (same (never ∷ []) ∙ ap (λ l. left ++ l) (one_byte place spare never)) bad) more
 split_bad left n bad more (inr (front, same)) =
     bad_passes (left ++ more) n (subst (λ t. HasBadRow t n) (same (never ∷ []) ∙ sym (same more)) bad)
 

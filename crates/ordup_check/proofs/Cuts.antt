@@ -54,11 +54,11 @@ pub reads_cut : (n count : ℕ) (old new : Option (List ℕ)) (buffer more : Lis
     → Consumes old new (take count buffer) × (count ≡ 0 → 0 < length buffer → IsAtEnd new)
     → Consumes (option_map (cut_at n) old) (option_map (cut_at (n - count)) new) (take count (buffer ++ more))
     × (count ≡ 0 → 0 < length (buffer ++ more) → IsAtEnd (option_map (cut_at (n - count)) new))
-reads_cut n count old new buffer more few fits room h =
+reads_cut n count old new buffer more few fits spare h =
     let long : length (take count buffer) ≡ count = simp length-take (omega (arith, fits)) in (
       subst (Consumes (option_map (cut_at n) old) (option_map (cut_at (n - count)) new)) (sym (take-append-le count buffer more fits))
           (consumes_cut n count old new (take count buffer) long few h.0),
-      λ none given. end_cut (n - count) new (h.1 none (room given)),
+      λ none given. end_cut (n - count) new (h.1 none (spare given)),
     )
 
 -- ---- a text that is read within a limit

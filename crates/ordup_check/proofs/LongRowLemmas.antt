@@ -13,9 +13,9 @@ use Rattle.csv.specs.declared.parser.State.{State}
 use Rattle.csv.specs.declared.parser.State.TheVariants as st
 use Rattle.ordup_rows.specs.Rows.{Row, row_line}
 use Rattle.ordup_rows.specs.Stages.{Stage}
-use Rattle.ordup_rows.specs.Telling.{CanGoOn, IsBadRow}
+use Rattle.ordup_rows.specs.Telling.{BeginARecord, IsBadRow}
 use Rattle.ordup_rows.specs.Texts.{IsMalformedAt}
-use Rattle.ordup_rows.proofs.GoingOn.{what_is_taken_can_go_on}
+use Rattle.ordup_rows.proofs.Beginnings.{taken_rows_begin_a_record}
 use Rattle.ordup_rows.proofs.PlainLemmas.{IsLine, all_lines}
 use Rattle.ordup_rows.proofs.RecordsSoFar.{all_at}
 use Rattle.ordup_check.specs.Reading.{IsTaken}
@@ -113,8 +113,8 @@ line_size : (row : Row) → 100 < size row → 100 < length (row_line row)
 line_size [] long = absurd (omega (arith, long))
 line_size (column ∷ row) long = omega (arith, long, size_line column row, length-append (join_with_byte 44 (column ∷ row)) (10 ∷ []))
 
--- rows with one that is so long cannot go on
-too_long : (rows init : List Row) (last : Row) → rows ≡ init ++ last ∷ [] → 100 < size last → CanGoOn rows → ⊥
+-- rows with one that is so long begin no record
+too_long : (rows init : List Row) (last : Row) → rows ≡ init ++ last ∷ [] → 100 < size last → BeginARecord rows → ⊥
 too_long rows init last is long (r, more, tells) =
     let there : (init ++ last ∷ []) ++ more ≡ init ++ last ∷ more = append_assoc init (last ∷ []) more in
     let line : IsLine last =
@@ -521,11 +521,11 @@ other_bad init last other n far (some, within, before, bad) =
     let front : n - 1 ≤ length init = omega (arith, within, count) in (
       some,
       omega (arith, within, count, counted),
-      subst CanGoOn (take-append-le (n - 1) init (last ∷ []) front ∙ sym (take-append-le (n - 1) init (other ∷ []) front)) before,
-      elim (cases_lt (length init) n) as (λ x. CanGoOn (take n (init ++ other ∷ [])) → ⊥) [
+      subst BeginARecord (take-append-le (n - 1) init (last ∷ []) front ∙ sym (take-append-le (n - 1) init (other ∷ []) front)) before,
+      elim (cases_lt (length init) n) as (λ x. BeginARecord (take n (init ++ other ∷ [])) → ⊥) [
         | inl after ↦ (λ on. too_long (init ++ other ∷ []) init other refl far
-            (subst CanGoOn (take_all n (init ++ other ∷ []) (omega (arith, after, counted))) on))
-        | inr early ↦ (λ on. bad (subst CanGoOn
+            (subst BeginARecord (take_all n (init ++ other ∷ []) (omega (arith, after, counted))) on))
+        | inr early ↦ (λ on. bad (subst BeginARecord
             (take-append-le n init (other ∷ []) early ∙ sym (take-append-le n init (last ∷ []) early)) on))
       ],
     )
@@ -545,7 +545,7 @@ pub short_taken : (text : List ℕ) (stage : Stage) (n : ℕ) → IsTaken (from_
 short_taken text stage n (rows, (t, rest, h, none), came, ran, counted) = elim (rows_walk rows st.StartRecord t text rest (refl, refl) h) [
   | inl (rest2, follow, end) ↦ (rows, (t, rest2, follow, end none), came, ran, counted)
   | inr (init, last, other, is, long, far, t2, rest2, follow) ↦
-      absurd (too_long rows init last is long (what_is_taken_can_go_on rows stage ran))
+      absurd (too_long rows init last is long (taken_rows_begin_a_record rows stage ran))
 ]
 
 -- ---- where the text ends depends on its first bytes alone

@@ -45,7 +45,7 @@ next_in_column at.MarkOfOne b plain other = absurd cc
 next_in_column at.MarkOfTwo b plain other = absurd cc
 next_in_column at.Quoted b plain other = absurd cc
 
--- bytes without a quote, for which a row has room, are passed on up to a line feed behind them
+-- bytes without a quote, which a row can take, are passed on up to a line feed behind them
 passes_feed : (bytes : List ℕ) (s : RowState) (left : ℕ) (more : List ℕ) → is_plain s ≡ true → length bytes ≤ left
     → left ≤ most_row_bytes → All IsUnquoted bytes
     → ends_at_long_row s left (bytes ++ 10 ∷ more) ≡ bytes ++ 10 ∷ from_row more

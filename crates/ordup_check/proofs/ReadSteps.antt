@@ -12,8 +12,8 @@ use Rattle.ordup_rows.specs.Rows.{Row}
 use Rattle.ordup_rows.specs.Stages.{Stage, closed, run, step, unread}
 use Rattle.ordup_check.specs.declared.reading.RecordReadFault.TheVariants as fault
 use Rattle.ordup_rows.proofs.Columns.{bound}
-use Rattle.ordup_rows.proofs.GoingOn.{what_is_not_closed_is_missing, what_is_not_taken_is_bad}
-use Rattle.ordup_rows.proofs.Running.{what_is_read_is_told}
+use Rattle.ordup_rows.proofs.Beginnings.{incomplete_records_miss_a_row, first_row_not_taken_is_bad}
+use Rattle.ordup_rows.proofs.Running.{reading_is_sound}
 
 -- ---- row after row
 
@@ -66,7 +66,7 @@ onward rem old new (Some text) stage next count row config (rows, rest, source, 
 not-taken : (rows : List Row) (row : Row) (stage : Stage) → run unread rows ≡ Some stage → step stage row ≡ None
     → IsBadRow (rows ++ row ∷ []) (length rows + 1)
 not-taken rows row stage ran none =
-    elim (what_is_not_taken_is_bad rows row [] stage ran none) as (λ x. IsBadRow (rows ++ row ∷ []) (length rows + 1)) [
+    elim (first_row_not_taken_is_bad rows row [] stage ran none) as (λ x. IsBadRow (rows ++ row ∷ []) (length rows + 1)) [
       | inl first ↦ first
       | inr missing ↦ absurd (omega (arith, missing.0, length_push rows row))
     ]
@@ -98,13 +98,13 @@ malformed-number m n e = cc
 pub closed-tells : (text : List ℕ) (stage : Stage) (n : ℕ) (r : RecordState) → IsTaken text stage n → closed stage ≡ Some r
     → TextTells text r
 closed-tells text stage n r (rows, are, came, ran, counted) end =
-    (rows, are, what_is_read_is_told rows r (ap (option_and_then closed) ran ∙ end))
+    (rows, are, reading_is_sound rows r (ap (option_and_then closed) ran ∙ end))
 
 -- what was taken and cannot be closed misses a row
 not-closed : (text : List ℕ) (rows : List Row) (stage : Stage) → HasRows text rows → run unread rows ≡ Some stage → closed stage ≡ None
     → IsMalformedAt text (length rows + 1)
 not-closed text rows stage are ran none =
-    elim (what_is_not_closed_is_missing rows stage ran none) as (λ x. IsMalformedAt text (length rows + 1)) [
+    elim (incomplete_records_miss_a_row rows stage ran none) as (λ x. IsMalformedAt text (length rows + 1)) [
       | inl first ↦ absurd (omega (arith, first.1))
       | inr missing ↦ inr (rows, are, missing)
     ]

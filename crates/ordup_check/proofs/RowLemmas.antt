@@ -14,8 +14,8 @@ use Rattle.ordup_grammar.specs.ChangeWords.{change_of}
 use Rattle.ordup_grammar.specs.Numbers.{number_of}
 use Rattle.ordup_grammar.specs.declared.change_words.ChangeWord.{ChangeWord}
 use Rattle.ordup_objects.specs.declared.change.NumberOp.TheVariants.{Add}
-use Rattle.ordup_grammar.specs.declared.operation.Operation.{Operation}
-use Rattle.ordup_grammar.specs.declared.operation.Operation.TheVariants as word
+use Rattle.ordup_grammar.specs.declared.change_words.Operation.{Operation}
+use Rattle.ordup_grammar.specs.declared.change_words.Operation.TheVariants as word
 use Rattle.ordup_objects.specs.Ops as ops
 use Rattle.ordup_objects.specs.declared.refusal.Refusal.{Refusal}
 use Rattle.ordup_objects.specs.declared.refusal.Refusal.TheVariants.{BadName, NameTaken, OutOfRange, TooMany, UnknownObject, NoMemory}

@@ -2,7 +2,7 @@
 use Rattle.ordup_audit.proofs.Common.{◌≡◌, ◌≤◌, arith, Err, IfSome, inl, inr, length, List, Ok, Option, RecordState, refl, Some, ℕ}
 use Rattle.csv.specs.Reading.{strip_bom}
 use Rattle.ordup_rows.specs.Texts.{TextTells}
-use Rattle.ordup_rows.proofs.TextLemmas.{texts_tell_one_record, told_texts_are_not_malformed}
+use Rattle.ordup_rows.proofs.TextLemmas.{texts_tell_one_record, texts_of_a_record_are_not_malformed}
 use Rattle.ordup_check.specs.Answers.{AnswersRecord}
 use Rattle.ordup_check.specs.Limits.{IsMalformedWithin}
 use Rattle.ordup_check.specs.declared.reading.RecordReadFault.{RecordReadFault}
@@ -19,6 +19,6 @@ fault_answered limit o text fault.Read r is few tells malformed = tt
 fault_answered limit o text fault.NoMemory r is few tells malformed = tt
 fault_answered limit o text (fault.Malformed n) r is few tells malformed =
     elim (rw is at (malformed n refl)) [
-      | inl whole ↦ told_texts_are_not_malformed (strip_bom text) r n tells whole.1
+      | inl whole ↦ texts_of_a_record_are_not_malformed (strip_bom text) r n tells whole.1
       | inr long ↦ absurd (omega (arith, few, long.0))
     ]

@@ -5,8 +5,8 @@ use Rattle.csv.specs.Records.{field_at}
 use Rattle.ordup_grammar.specs.ChangeWords.{change_of}
 use Rattle.ordup_grammar.specs.Numbers.{number_of}
 use Rattle.ordup_grammar.specs.declared.change_words.ChangeWord.{ChangeWord}
-use Rattle.ordup_grammar.specs.declared.operation.Operation.{Operation}
-use Rattle.ordup_grammar.specs.declared.operation.Operation.TheVariants as word
+use Rattle.ordup_grammar.specs.declared.change_words.Operation.{Operation}
+use Rattle.ordup_grammar.specs.declared.change_words.Operation.TheVariants as word
 use Rattle.ordup_objects.specs.Ops.{op_with}
 use Rattle.ordup_objects.specs.States.{in_range}
 use Rattle.ordup_objects.specs.Tables.{index_of, Objects}

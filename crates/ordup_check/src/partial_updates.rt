@@ -8,7 +8,7 @@ ghost use Rattle.ordup_rows.specs.Stages.{last_set, with_change};
 ghost use Rattle.ordup_check.specs.PartialUpdates.{BeginsIllegal};
 
 use ordup_log::Log;
-use ordup_objects::{Change, MessageSet, ObjectTable, Refusal};
+use ordup_objects::{Change, MessageSet, ObjectTable, Refusal, or_give_up};
 use std::alloc::{AllocError, Global};
 use std::marker::Model;
 use std::mem::replace;
@@ -110,18 +110,15 @@ impl PartialUpdates {
     }
 
     /// Adds the first update.
-    // Not inlined, since room for what is begun would be cleared for each row.
+    // Not inlined, since memory for what is begun would be cleared for each row.
     #[inline(never)]
     fn begin(&mut self, set: MessageSet) -> Result<(), AllocError>
         requires none { self.old.sets ≡ [] }
         requires known { AreKnown (length self.old.objects) set }
         ensures { IfOk result (λ _. self.new ≡ record { objects = self.old.objects; sets = set ∷ [] }) }
     {
-        let Ok(log) = Log::new(self.alloc, &self.objects) else {
-            return Err(AllocError);
-        };
         self.begun = Some(BegunUpdates {
-            log,
+            log: first_log(self.alloc, &self.objects)?,
             rest: Vec::new(self.alloc),
             last: set,
         });
@@ -160,23 +157,24 @@ impl PartialUpdates {
                     mut rest,
                     last,
                 } = begun;
-                match put(&mut log, &mut rest, last) {
-                    Ok(()) => Ok((objects, log, rest)),
-                    Err(error) => {
-                        // By a call: where they go out of scope, the proof takes them apart.
-                        drop((objects, log, rest));
-                        Err(error)
-                    }
-                }
+                or_give_up!(put(&mut log, &mut rest, last), (objects, log, rest));
+                Ok((objects, log, rest))
             }
-            None => match Log::new(alloc, &objects) {
-                Ok(log) => Ok((objects, log, Vec::new(alloc))),
-                Err(_) => {
-                    drop(objects);
-                    Err(AllocError)
-                }
-            },
+            None => {
+                let log = or_give_up!(first_log(alloc, &objects), objects);
+                Ok((objects, log, Vec::new(alloc)))
+            }
         }
+    }
+}
+
+/// The log of no update over these objects.
+fn first_log(alloc: Global, objects: &ObjectTable) -> Result<Log, AllocError>
+    ensures { IfOk result (λ log. (log.sets ≡ []) × (log.start ≡ initial_state objects.now)) }
+{
+    match Log::new(alloc, objects) {
+        Ok(log) => Ok(log),
+        Err(_) => Err(AllocError),
     }
 }
 

@@ -20,6 +20,7 @@ use crate::short_rows::ShortRows;
 use crate::stage::{Stage, take_row};
 use csv::{ByteRecord, Reader, ReaderBuilder};
 use ordup_audit::{Record, RecordParts};
+use ordup_objects::or_give_up;
 use ordup_rows::sizes::MOST_RECORD_BYTES;
 use std::alloc::{AllocError, Global};
 use std::io::Read;
@@ -50,24 +51,21 @@ fn whole_record(read: PartialRecord) -> Result<Record, AllocError>
         rounds,
         windows,
     } = read;
-    match updates.into_parts() {
-        Ok((objects, log, rest)) => Ok(Record::from_parts(RecordParts {
-            site,
-            objects,
-            groups,
-            limits,
-            log,
-            rest,
-            reports,
-            rounds,
-            windows,
-        })),
-        Err(error) => {
-            // By a call: where they go out of scope, the proof takes them apart.
-            drop((groups, limits, reports, rounds, windows));
-            Err(error)
-        }
-    }
+    let (objects, log, rest) = or_give_up!(
+        updates.into_parts(),
+        (groups, limits, reports, rounds, windows)
+    );
+    Ok(Record::from_parts(RecordParts {
+        site,
+        objects,
+        groups,
+        limits,
+        log,
+        rest,
+        reports,
+        rounds,
+        windows,
+    }))
 }
 
 /// The record, if no row is missing.
@@ -151,13 +149,8 @@ fn read_stage<R: Read>(alloc: Global, rdr: &mut Reader<R>) -> Result<(Stage, u64
     let mut stage = Stage::Unread;
     let read = read_rows(alloc, rdr, &mut row, &mut stage);
     drop(row);
-    match read {
-        Ok(next) => Ok((stage, next)),
-        Err(fault) => {
-            drop(stage);
-            Err(fault)
-        }
-    }
+    let next = or_give_up!(read, stage);
+    Ok((stage, next))
 }
 
 /// Reads a record of at most `limit` bytes. A byte order mark at the start is passed over. It promises, clause by clause, of a

@@ -143,14 +143,14 @@ struct Passed {
 }
 
 /// Goes over bytes, up to the first that is too many of a row.
-fn go_over(start: RowState, room: u64, bytes: &[u8]) -> Passed
+fn go_over(start: RowState, spare: u64, bytes: &[u8]) -> Passed
     ensures few { result.count ≤ length bytes.now }
     ensures whole { result.is_ended ≡ false → result.count ≡ length bytes.now }
-    ensures text { (more : List ℕ) → ends_at_long_row start room (bytes.now ++ more)
+    ensures text { (more : List ℕ) → ends_at_long_row start spare (bytes.now ++ more)
         ≡ take result.count bytes.now ++ (if result.is_ended then [] else ends_at_long_row result.state result.left more) }
 {
     let mut state = start;
-    let mut left = room;
+    let mut left = spare;
     let mut count = 0;
     while count < bytes.len() {
         let rows = whole_rows(state, left, &bytes[count..]);

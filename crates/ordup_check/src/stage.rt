@@ -62,7 +62,7 @@ fn read_head(alloc: Global, c: &RowColumns<'_>) -> Option<Stage>
 }
 
 /// Takes the first row, where it may stand there, and answers whether it did.
-// Not inlined, since room for a stage would be cleared for each row.
+// Not inlined, since memory for a stage would be cleared for each row.
 #[inline(never)]
 fn take_head(alloc: Global, stage: &mut Stage, c: &RowColumns<'_>) -> bool
     ensures { then_some result (stage_of stage.new) ≡ head_of (columns_view c.now) }

@@ -8,8 +8,8 @@ use Rattle.ordup_runs.specs.Answers.{Answers}
 use Rattle.ordup_runs.specs.Records.{Records}
 use Rattle.ordup_verdicts.specs.Verdicts.{Checks}
 use Rattle.ordup_verdicts.specs.Lags.{Lags}
-use Rattle.ordup_successors.specs.Successors.{DeclaresNext}
-use Rattle.ordup_successors.specs.Ends.{DeclaresEnd}
+use Rattle.ordup_next.specs.Successors.{DeclaresSuccessor}
+use Rattle.ordup_next.specs.Ends.{DeclaresEnd}
 use Rattle.ordup_cli.specs.Plans.{RunsPlan}
 
 -- the job was done over these streams, and ended so
@@ -18,6 +18,6 @@ Does job.Run s outcome = Answers s outcome
 Does (job.Record site) s outcome = Records (string_bytes site) s outcome
 Does job.Check s outcome = Checks s.had s.old s.new outcome
 Does job.Lag s outcome = Lags s.had s.old s.new outcome
-Does job.Next s outcome = DeclaresNext s outcome
+Does job.Next s outcome = DeclaresSuccessor s outcome
 Does job.NextOfRecord s outcome = DeclaresEnd s.had s.old s.new outcome
 Does (job.Threads callers) s outcome = RunsPlan s outcome

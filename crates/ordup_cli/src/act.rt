@@ -37,7 +37,6 @@ pub fn act<T: Threads + Wait + Sync, R: Read, W: Write, E: Write>(
         Ok(None) => WRONG_WORDS,
         Err(error) => {
             let status = show_usage(output, faults, &error);
-            // By a call: where it goes out of scope, the proof takes it apart.
             drop(error);
             status
         }

@@ -1,4 +1,4 @@
--- Ends of waiting and sends that the definitions refuse; changes of a limit, and a store that goes on, worked out by hand.
+-- Ends of waiting and sends that the definitions refuse; changes of a limit, and a successor, worked out by hand.
 use Rattle.std.proofs.Common.{◌≡◌, ◌≤◌, ℤ, List, [], ◌∷◌, Some, None, pos, refl, arith, inl, inr}
 use Rattle.std.specs.Prelude.{codes, false}
 use Rattle.ordup_objects.specs.declared.change.Op.TheVariants.{Add}
@@ -8,7 +8,7 @@ use Rattle.ordup_limits.specs.Entries.{entry_of}
 use Rattle.ordup_primary.specs.LimitChanges.{limit_change_refusal}
 use Rattle.ordup_primary.specs.Primaries.{PrimaryState, first_progress, site_view}
 use Rattle.ordup_cluster.specs.Books.{BookState}
-use Rattle.ordup_cluster.specs.Clusters.{ClusterState, ClosedState, GoesOnFrom, count_at_end, next_refusal, opening_refusal}
+use Rattle.ordup_cluster.specs.Clusters.{ClusterState, ClosedState, IsSuccessor, count_at_end, closed_successor_refusal, opening_refusal}
 use Rattle.ordup_cluster.specs.Relimiting.{with_changed_limit}
 use Rattle.ordup_cluster.specs.Turning.{KeptSite, SentOut}
 use Rattle.ordup_cluster.specs.Waiting.{EndsUnmet}
@@ -29,9 +29,9 @@ unmet-met ends = elim ends [
 
 -- nothing was sent, though two may be, to a feed that has a capacity of 4
 sends-none : (x : KeptSite) → x.progress ≡ first_progress → x.end.feed.capacity ≡ 4 → SentOut (λ s. 2) 0 x x → ⊥
-sends-none x first room is = elim is.out [
+sends-none x first spare is = elim is.out [
   | inl all ↦ absurd (let le : 2 ≤ 0 = rw first at all in omega arith)
-  | inr full ↦ absurd (let le : 4 ≤ 0 = rw (room, first) at full in omega arith)
+  | inr full ↦ absurd (let le : 4 ≤ 0 = rw (spare, first) at full in omega arith)
 ]
 
 -- A primary of the object x and the sites a and b, whose limits on x are 5. Its one update adds 3 to x; it is acknowledged, and no
@@ -65,7 +65,7 @@ changes_b : (b : BookState) → b.primary ≡ lagging → (with_changed_limit b 
     ≡ (entry_of (Object 0) 5 1 ∷ []) ∷ (entry_of (Object 0) 5 1 ∷ entry_of (Object 0) 3 2 ∷ []) ∷ []
 changes_b b is = rw is refl
 
--- ---- the store that goes on from it, where 100 updates came before, and a has the limit 3 from place 2 on
+-- ---- its successor, where 100 updates came before, and a has the limit 3 from place 2 on
 
 abbrev ended : ClosedState
 ended = record {
@@ -77,8 +77,8 @@ ended = record {
 }
 
 -- It begins after 101 updates, with x at 3, and has each site's last limit from its start.
-abbrev next : ClusterState
-next = record {
+abbrev successor : ClusterState
+successor = record {
   before = 101;
   start = record {
     objects = (codes "x", pos 3) ∷ [];
@@ -88,17 +88,17 @@ next = record {
   };
 }
 
-goes_on : (count_at_end ended ≡ 101) × (next_refusal ended ≡ None) × GoesOnFrom ended next
-goes_on = (refl, refl, record { before = refl; objects = refl; values = refl; groups = refl; sites = refl; limits = refl })
+succeeds : (count_at_end ended ≡ 101) × (closed_successor_refusal ended ≡ None) × IsSuccessor ended successor
+succeeds = (refl, refl, record { before = refl; objects = refl; values = refl; groups = refl; sites = refl; limits = refl })
 
 -- at the initial values it does not begin
-not_anew : GoesOnFrom ended (record next { start = lagging.setup }) → ⊥
+not_anew : IsSuccessor ended (record successor { start = lagging.setup }) → ⊥
 not_anew is = absurd (let same : pos 0 ∷ [] ≡ pos 3 ∷ [] = is.values in cc)
 
 -- nor while an update waits, nor after more than 10^18 updates
-refuses : (next_refusal (record ended { primary = record lagging { acked = 0; decided = 0 } }) ≡ Some (NotYet 1))
-    × (next_refusal (record ended { before = 999999999999999999 }) ≡ None)
-    × (next_refusal (record ended { before = 1000000000000000000 }) ≡ Some LogFull)
+refuses : (closed_successor_refusal (record ended { primary = record lagging { acked = 0; decided = 0 } }) ≡ Some (NotYet 1))
+    × (closed_successor_refusal (record ended { before = 999999999999999999 }) ≡ None)
+    × (closed_successor_refusal (record ended { before = 1000000000000000000 }) ≡ Some LogFull)
     × (opening_refusal 1000000000000000000 lagging.setup ≡ None)
     × (opening_refusal 1000000000000000001 lagging.setup ≡ Some LogFull)
 refuses = (refl, refl, refl, refl, refl)

@@ -31,9 +31,9 @@ pub at-end : {A : Type 0} → (l : List A) (a : A) → slice_get (l ++ a ∷ [])
 at-end [] a = refl
 at-end (x ∷ xs) a = at-end xs a
 
--- room for one element more
-pub has-room : (len room : ℕ) → len + 1 ≤ room → len < room
-has-room len room h = omega arith
+-- spare capacity for one element more
+pub has-spare : (len spare : ℕ) → len + 1 ≤ spare → len < spare
+has-spare len spare h = omega arith
 
 -- where a loop has ended
 pub at-last : (i n count : ℕ) → n ≤ i → i ≤ n → n ≡ count → i ≡ count
@@ -69,7 +69,7 @@ keeps-first d p ends cells is feeds = rw is (record {
       let first : progress_at (first_state d) s ≡ first_progress =
       get_or-replicate (length d.sites) s first_progress first_progress inside in
       record {
-        capacity = made.room;
+        capacity = made.holds;
         pushed = rw (first, made.sender) refl;
         reported = rw first (omega arith);
       };

@@ -1,4 +1,4 @@
--- What contracts see of a cluster, of what is left of it, and how the next one begins.
+-- What contracts see of a cluster, of what is left of it, and how its successor begins.
 use Rattle.std.specs.Prelude.{◌≡◌, ℕ, ◌+◌, ◌*◌, ◌<◌, Option, Some, None, List, length, slice_get, true, if◌then◌else◌, nat_lt}
 use Rattle.std.specs.Option.{option_or}
 use Rattle.ordup_objects.specs.Serial.{serial}
@@ -56,16 +56,16 @@ opening_refusal before d = option_or (count_refusal before) (start_refusal d)
 abbrev pub count_at_end : ClosedState → ℕ
 count_at_end closed = closed.before + length closed.primary.log.sets
 
--- A store goes on from a closed one: after all its updates, with the same objects, each at its value after the whole log, the same
--- groups and sites, and each site's last limits, in force from the start.
-pub record GoesOnFrom (closed : ClosedState) (next : ClusterState) : Type 0 where
-  pub before : next.before ≡ count_at_end closed
-  pub objects : names_of next.start.objects ≡ names_of closed.primary.setup.objects
-  pub values : initial_state next.start.objects ≡ serial closed.primary.log (length closed.primary.log.sets)
-  pub groups : next.start.groups ≡ closed.primary.setup.groups
-  pub sites : next.start.sites ≡ closed.primary.setup.sites
-  pub limits : next.start.limits ≡ limits_from_start closed.primary.limits
+-- A store is the successor of a closed one: it begins after all its updates, with the same objects, each at its value after the
+-- whole log, the same groups and sites, and each site's last limits, in force from the start.
+pub record IsSuccessor (closed : ClosedState) (successor : ClusterState) : Type 0 where
+  pub before : successor.before ≡ count_at_end closed
+  pub objects : names_of successor.start.objects ≡ names_of closed.primary.setup.objects
+  pub values : initial_state successor.start.objects ≡ serial closed.primary.log (length closed.primary.log.sets)
+  pub groups : successor.start.groups ≡ closed.primary.setup.groups
+  pub sites : successor.start.sites ≡ closed.primary.setup.sites
+  pub limits : successor.start.limits ≡ limits_from_start closed.primary.limits
 
--- why no store goes on from a closed one, if none does: there are no more numbers, or an update waits
-abbrev pub next_refusal : ClosedState → Option Refusal
-next_refusal closed = option_or (count_refusal (count_at_end closed)) (successor_refusal closed.primary)
+-- why a closed store has no successor, if it has none: there are no more numbers, or an update waits
+abbrev pub closed_successor_refusal : ClosedState → Option Refusal
+closed_successor_refusal closed = option_or (count_refusal (count_at_end closed)) (successor_refusal closed.primary)

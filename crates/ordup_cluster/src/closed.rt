@@ -1,6 +1,6 @@
 ghost use Rattle.std.specs.Prelude.{◌≡◌, ◌<◌, ◌≤◌, length, None, Some, slice_get, IfOk, IfErr};
 ghost use Rattle.ordup_objects.specs.Refusals.{IsRefusal};
-ghost use Rattle.ordup_cluster.specs.Clusters.{IsClosed, most_before, next_refusal, GoesOnFrom};
+ghost use Rattle.ordup_cluster.specs.Clusters.{IsClosed, most_before, closed_successor_refusal, IsSuccessor};
 
 use crate::cluster::{Cluster, MOST_BEFORE};
 use ordup_objects::{Refusal, SiteId};
@@ -54,16 +54,16 @@ impl Closed {
         &self.sites[site.index()]
     }
 
-    /// The store that goes on from it.
+    /// Its successor: the store that begins with what it ended with.
     ///
     /// - It begins after all updates of this one, with the same objects, each at its value after the whole log.
     /// - It has the same groups, the same sites with their capacities, and each site's last limits, in force from its start.
     /// - It is refused `LogFull` where more than 10^18 updates would come before it, `NotYet` with the number that the last update has
     ///   in this store while one is not acknowledged, and `NoMemory`, in this order.
     pub fn successor(&self, alloc: Global) -> Result<Cluster, Refusal>
-        ensures next { IfOk result (λ next. GoesOnFrom self.now next) }
-        ensures allowed { IfOk result (λ _. next_refusal self.now ≡ None) }
-        ensures refused { IfErr result (λ e. IsRefusal (next_refusal self.now) e) }
+        ensures successor { IfOk result (λ successor. IsSuccessor self.now successor) }
+        ensures allowed { IfOk result (λ _. closed_successor_refusal self.now ≡ None) }
+        ensures refused { IfErr result (λ e. IsRefusal (closed_successor_refusal self.now) e) }
     {
         let before = self.before + self.primary.log().len();
         if before > MOST_BEFORE {

@@ -7,7 +7,7 @@ ghost use Rattle.ordup_cluster.specs.Clusters.{IsClosed, IsFirstMixed};
 use crate::closed::Closed;
 use crate::cluster::Cluster;
 use crate::holds::agree;
-use crate::room::sites_of;
+use crate::reserved::sites_of;
 use ordup_objects::{Refusal, SiteId, Values};
 use ordup_primary::{Primary, Setup};
 use ordup_site::Site;
@@ -34,7 +34,7 @@ impl Cluster {
             book,
             cells,
             setup,
-            room,
+            spare_sites,
             stopped: _,
             numbered: _,
             due: _,
@@ -43,10 +43,9 @@ impl Cluster {
             told: _,
             heads: _,
         } = self;
-        let sites = sites_of(cells, room);
+        let sites = sites_of(cells, spare_sites);
         let (primary, mut spare_values) = book.into_inner().into_parts();
         let mixed = first_mixed(&setup, &primary, &sites, &mut spare_values);
-        // What is large is dropped by a call: where it goes out of scope, the proof takes it apart.
         drop(spare_values);
         setup.discard();
         match mixed {
@@ -70,7 +69,7 @@ impl Cluster {
             book,
             cells,
             setup,
-            room,
+            spare_sites,
             stopped: _,
             numbered: _,
             due: _,
@@ -82,7 +81,7 @@ impl Cluster {
         book.into_inner().discard();
         drop(cells);
         setup.discard();
-        drop(room);
+        drop(spare_sites);
     }
 }
 

@@ -14,12 +14,12 @@ use crate::holds::{
     Book, Numbered, SiteCell, number_and_turn, open, relimit, until, until_acknowledged,
 };
 use crate::progress::Progress;
-use crate::room::{Room, locked};
+use crate::reserved::{Reserved, locked};
 use crate::session::Session;
 use crossbeam_utils::sync::EventCount;
 use ordup_limits::check_scope;
 use ordup_log::Scope;
-use ordup_objects::{MessageSet, ObjectTable, Refusal, SiteId};
+use ordup_objects::{MessageSet, ObjectTable, Refusal, SiteId, or_give_up};
 use ordup_primary::Setup;
 use ordup_site::Site;
 use std::alloc::Global;
@@ -44,7 +44,7 @@ pub struct Cluster {
     /// A copy of what was declared, so that no lock is taken to look at it.
     pub(crate) setup: Setup,
     /// Empty, with a place for the site of each cell.
-    pub(crate) room: Vec<Site>,
+    pub(crate) spare_sites: Vec<Site>,
     pub(crate) stopped: AtomicBool,
     /// How many updates the log has.
     pub(crate) numbered: AtomicU64,
@@ -67,9 +67,9 @@ impl Model for Cluster {
 
     ghost view = { λ c. record { before = c.before; start = c.setup } };
 
-    ghost use Rattle.ordup_cluster.specs.ClusterInside.{KeepsRoom};
+    ghost use Rattle.ordup_cluster.specs.ClusterInside.{KeepsCluster};
 
-    ghost invariant = { KeepsRoom };
+    ghost invariant = { KeepsCluster };
 }
 
 impl Cluster {
@@ -100,37 +100,31 @@ impl Cluster {
             return Err(Refusal::LogFull);
         }
         let (book, cells) = open(alloc, setup)?;
-        match Room::new(alloc, &book, cells.len()) {
-            Ok(room) => Ok(Cluster::under_locks(before, book, cells, room)),
-            Err(refusal) => {
-                book.discard();
-                drop(cells);
-                Err(refusal)
-            }
-        }
+        let reserved = or_give_up!(Reserved::new(alloc, &book, cells.len()), book, cells);
+        Ok(Cluster::under_locks(before, book, cells, reserved))
     }
 
     /// The store of a book and of the cells of its sites, each of them under a lock of its own. Book and cells are those of the
     /// declarations, and nothing has happened in them.
-    fn under_locks(before: u64, book: Book, cells: Vec<SiteCell>, room: Room) -> Cluster
+    fn under_locks(before: u64, book: Book, cells: Vec<SiteCell>, reserved: Reserved) -> Cluster
         requires before { before ≤ most_before }
-        requires opened { AreOpened room.setup book cells.items }
+        requires opened { AreOpened reserved.setup book cells.items }
         requires some { 0 < length cells.items }
-        requires locks { (vec_len room.locks ≡ 0) × (length cells.items ≤ vec_capacity room.locks) }
-        requires sites { (vec_len room.sites ≡ 0) × (length cells.items ≤ vec_capacity room.sites) }
-        ensures { result ≡ record { before = before; start = room.setup } }
+        requires locks { (vec_len reserved.locks ≡ 0) × (length cells.items ≤ vec_capacity reserved.locks) }
+        requires sites { (vec_len reserved.sites ≡ 0) × (length cells.items ≤ vec_capacity reserved.sites) }
+        ensures { result ≡ record { before = before; start = reserved.setup } }
     {
-        let Room {
+        let Reserved {
             setup,
             locks,
             sites,
-        } = room;
+        } = reserved;
         Cluster {
             before,
             book: Mutex::new(book),
             cells: locked(cells, locks),
             setup,
-            room: sites,
+            spare_sites: sites,
             stopped: AtomicBool::new(false),
             numbered: AtomicU64::new(0),
             due: AtomicU64::new(u64::MAX),
@@ -356,7 +350,6 @@ fn number_unless_stopped<R: Wait>(
     ensures refused { IfErr result (λ e. IsRefusal (proposal_refusal stopped book.old.primary.log set) e) }
     ensures err { OnErr result (book.new ≡ book.old) }
 {
-    // What is large is dropped by a call: where it goes out of scope, the proof takes it apart.
     if stopped {
         drop(set);
         return Err(Refusal::Stopped);

@@ -30,7 +30,7 @@ mod gate;
 pub mod holds;
 mod progress;
 mod reading;
-mod room;
+mod reserved;
 mod session;
 mod site_query;
 mod waking;

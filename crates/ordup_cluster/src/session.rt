@@ -2,8 +2,8 @@ ghost use Rattle.std.specs.Prelude.{◌≡◌, max};
 
 use std::marker::Model;
 
-/// How many updates one caller has seen by its calls, those before its store too. It sees no less afterwards, in whatever store that
-/// goes on from there.
+/// How many updates one caller has seen by its calls, those before its store too. It sees no less afterwards, in whatever successor
+/// of that store.
 #[derive(Drop)]
 pub struct Session {
     seen: u64,

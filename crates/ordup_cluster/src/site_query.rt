@@ -1,6 +1,6 @@
-ghost use Rattle.std.specs.Prelude.{◌≡◌, ◌<◌, ◌≤◌, ◌+◌, ◌+ℤ◌, None, List, ◌∷◌, length, map, IfOk, IfErr, OnErr};
+ghost use Rattle.std.specs.Prelude.{◌≡◌, ◌<◌, ◌≤◌, ◌+◌, ◌+ℤ◌, None, List, ◌∷◌, length, IfOk, IfErr, OnErr};
 ghost use Rattle.ordup_query.specs.declared.answer.ReadAnswer.{ReadAnswer};
-ghost use Rattle.ordup_query.specs.Queries.{HasRead, read_refusal, value_sum, import_sum};
+ghost use Rattle.ordup_query.specs.Queries.{HasRead, read_refusal, summed_up};
 ghost use Rattle.ordup_cluster.specs.Refusals.{IsQueryRefusal};
 
 use crate::holds::SiteCell;
@@ -69,7 +69,7 @@ impl SiteQuery<'_> {
     /// - The total is within the limit.
     pub fn end(self) -> QueryAnswer
         ensures answer { result ≡ record { place = self.entry.place; sum = self.entry.sum; total = self.entry.total; reads = self.entry.reads } }
-        ensures reads { (answers : List ReadAnswer) → HasRead self.entry answers → result ≡ record { place = self.entry.place; sum = value_sum (map (λ a. a.value) answers); total = import_sum (map (λ a. a.import) answers); reads = length answers } }
+        ensures reads { (answers : List ReadAnswer) → HasRead self.entry answers → result ≡ summed_up self.entry.place answers }
         ensures within { result.total ≤ self.entry.limit }
     {
         let SiteQuery {

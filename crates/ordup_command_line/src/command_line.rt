@@ -16,7 +16,7 @@ pub enum Job {
     Check,
     /// Prints the lag of a site, as its record tells it.
     Lag,
-    /// Prints the declarations of the store that goes on from a script.
+    /// Prints the declarations of the successor of a script's store.
     Next,
     /// Prints the declarations of the objects of a record, at their values after its last update, and of its groups.
     NextOfRecord,
@@ -177,7 +177,7 @@ fn next<'a>(alloc: Global) -> Result<Command<'a>, AllocError> {
     words_of(
         alloc,
         "next",
-        "Runs a script and prints the declarations of a store that goes on from it",
+        "Runs a script and prints the declarations of the successor of its store",
         NEXT_HELP,
     )
     .arg(
@@ -232,7 +232,7 @@ answer for each command on standard output:
 fewest that keep its limits: `yes N`, or `no ROW REASON`. `ordup lag` prints, from
 the same record, how far behind the site was at each decision.
 
-`ordup next` prints the declarations of a store that goes on where a script ends.
+`ordup next` prints the declarations of the successor of a script's store.
 
 `ordup threads CLIENTS` reads a plan, which is declarations, `start` and then
 proposals alone, and lets callers in threads of their own make the proposals,
@@ -332,7 +332,7 @@ The cells: docs/FORMATS.md. A picture of them: examples/lag.gp";
 
 const NEXT_HELP: &str = "\
 Reads a script from standard input to its end and prints no answers. Then it
-prints the declarations of a store that goes on from there, as lines of a script:
+prints the declarations of the successor of its store, as lines of a script:
 each object with its value after the last update, the groups, the sites with the
 capacities of their feeds, the last limits of each site, and `start`:
 

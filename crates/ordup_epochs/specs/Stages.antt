@@ -1,8 +1,8 @@
--- What lies under the lock of the epochs, and what a join makes of it.
+-- What lies under the lock of the epochs, and what the start of a successor makes of it.
 use Rattle.std.specs.Prelude.{◌≡◌, ℕ, ◌<◌, ◌⊎◌, Bool, true, false, length}
 use Rattle.ordup_objects.specs.declared.refusal.Refusal.{Refusal}
 use Rattle.ordup_objects.specs.declared.refusal.Refusal.TheVariants.{Mixed}
-use Rattle.ordup_cluster.specs.Clusters.{ClusterState, ClosedState, GoesOnFrom, IsClosed}
+use Rattle.ordup_cluster.specs.Clusters.{ClusterState, ClosedState, IsSuccessor, IsClosed}
 use Rattle.ordup_epochs.specs.declared.stage.Stage.{Stage}
 use Rattle.ordup_epochs.specs.declared.stage.Stage.TheVariants.{Open, Closed, Over}
 
@@ -12,9 +12,9 @@ is_open (Open epoch) = true
 is_open (Closed ended refusal) = false
 is_open (Over refusal) = false
 
--- an epoch is open that goes on from this one
+-- the epoch that is open is the successor of this one
 abbrev pub IsOpenAfter : ClosedState → Stage → Type 0
-IsOpenAfter ended stage = (epoch : ClusterState) × (stage ≡ Open epoch) × GoesOnFrom ended epoch
+IsOpenAfter ended stage = (epoch : ClusterState) × (stage ≡ Open epoch) × IsSuccessor ended epoch
 
 -- What has ended is the store that was open: as many updates came before it, it has the same declarations, and this many updates are
 -- in its log. Its sites agree with the log, and each keeps its limits.

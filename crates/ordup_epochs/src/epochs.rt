@@ -17,27 +17,27 @@ use std::sync::{RwLock, Wait};
 use std::thread;
 use std::time::{Clock, Duration};
 
-/// For how many milliseconds `keep` sleeps after a join that was refused.
+/// For how many milliseconds `keep` sleeps after a successor was refused.
 const PAUSE: u64 = 1;
 
-/// A store that goes on for ever, which threads share: one epoch is open at a time.
+/// A store that never ends, which threads share: one epoch is open at a time, and the next one is its successor.
 ///
-/// A join, from one epoch to the next, takes both locks alone, in the order of the fields. A visit shares both in this order, and an
-/// applier and the keeper the second.
+/// Whoever starts a successor takes both locks alone, in the order of the fields. A visit shares both in this order, and an applier
+/// and the keeper the second.
 #[derive(Drop)]
 pub struct Epochs {
-    /// While a visit shares it no join begins, and while a join has it no visit.
+    /// While a visit shares it no successor starts, and while one starts no visit begins.
     visits: RwLock<()>,
     stage: RwLock<Stage>,
     /// After how many updates an epoch ends.
     updates: u64,
     /// After how many updates it ends at the latest.
     most: u64,
-    /// After how many updates the epoch that is open ends: more, where a join was refused, up to the most.
+    /// After how many updates the epoch that is open ends: more, where its successor was refused, up to the most.
     due: AtomicU64,
     stopped: AtomicBool,
-    /// Whoever waits for the next epoch sleeps on it. It is told once a join was made or refused, and by `stop`.
-    joined: EventCount,
+    /// Whoever waits for a successor sleeps on it. It is told once one was started or refused, and by `stop`.
+    started: EventCount,
 }
 
 impl Epochs {
@@ -52,9 +52,9 @@ impl Epochs {
 
     /// Opens the first epoch, in which nothing has happened. It waits for nobody.
     ///
-    /// Each epoch ends after this many updates, which are 1 or more. Where its join is refused, it ends after as many more, and at the
-    /// latest after `most` updates, which are from 1 to 1,000,000: from then on visits wait until a join is made. The visits that have
-    /// begun by then may have more updates, for which a log of 1,000,000 has no room.
+    /// Each epoch ends after this many updates, which are 1 or more. Where its successor is refused, it ends after as many more,
+    /// and at the latest after `most` updates, which are from 1 to 1,000,000: from then on visits wait until the successor is
+    /// started. The visits that have begun by then may have more updates, which a log of 1,000,000 cannot take.
     ///
     /// - It is opened only where there is an object and a site.
     /// - It is refused `Empty` where the setup lacks an object or a site, and else `NoMemory` alone.
@@ -77,14 +77,14 @@ impl Epochs {
             most,
             due: AtomicU64::new(due_after(0, updates, most)),
             stopped: AtomicBool::new(false),
-            joined: EventCount::new(),
+            started: EventCount::new(),
         })
     }
 
-    /// Begins a visit to the epoch that is open. Where that has its updates, it sleeps until the next one is open.
+    /// Begins a visit to the epoch that is open. Where that has its updates, it sleeps until its successor is open.
     ///
-    /// It is refused where no epoch is open: the last one was closed, and the next one could not be opened yet, for the reason that
-    /// is answered (`NoMemory`, or `LogFull` after 10^18 updates); or a site did not agree with the log (`Mixed`).
+    /// It is refused where no epoch is open: the last one was closed, and its successor could not be opened yet, for the reason
+    /// that is answered (`NoMemory`, or `LogFull` after 10^18 updates); or a site did not agree with the log (`Mixed`).
     pub fn enter<R: Wait>(&self, rt: &R) -> Result<Visit<'_>, Refusal>
         ensures { IfOk result IsVisited }
     {
@@ -99,7 +99,7 @@ impl Epochs {
             drop(visits);
             match sleep.take() {
                 Some(key) => key.wait(rt),
-                None => sleep = Some(self.joined.prepare_wait()),
+                None => sleep = Some(self.started.prepare_wait()),
             }
         }
         unreachable!()
@@ -124,7 +124,7 @@ impl Epochs {
     {
         let mut count = 0u64;
         for _ in rt.forever() {
-            let key = self.joined.prepare_wait();
+            let key = self.started.prepare_wait();
             let stopping = self.is_stopped();
             let applied = self.apply(rt, site, gate)?;
             count = count.saturating_add(applied);
@@ -151,34 +151,40 @@ impl Epochs {
         }
     }
 
-    /// Ends the epoch that is open, opens the next one, and hands out the one that has ended. No visit begins until that is done.
+    /// Ends the epoch that is open, starts its successor, and hands out the epoch that has ended. No visit begins until that is
+    /// done.
     ///
-    /// First it waits until all visits have ended, and settles and sends all updates, for at most `turns` turns each, which are 1 or
-    /// more. Then it stops the appliers in this epoch and waits for them, and makes the join by `Stage::go_on`.
+    /// First it waits until all visits have ended, and settles and sends all updates, for at most `turns` turns each, which are 1
+    /// or more. Then it stops the appliers in this epoch and waits for them, and calls `Stage::start_successor`.
     ///
     /// - It is refused `NotYet` with the number of the last update where that is not acknowledged after the last turn, and `NoMemory`
     ///   where a turn is refused a growth: then the epoch goes on, for as many updates more.
-    /// - It is refused `NoMemory`, or `LogFull` after 10^18 updates, where the epoch is closed and the next one cannot be opened. What
-    ///   has ended is kept. Visits are refused until a later call opens the next epoch.
+    /// - It is refused `NoMemory`, or `LogFull` after 10^18 updates, where the epoch is closed and its successor cannot be opened.
+    ///   What has ended is kept. Visits are refused until a later call opens the successor.
     /// - It is refused `Mixed` where a site does not agree with the log: then there are no more epochs.
     /// - It is refused `Stopped` after `stop`.
-    pub fn go_on<R: Wait>(&self, rt: &R, alloc: Global, turns: u64) -> Result<Closed, Refusal>
+    pub fn start_successor<R: Wait>(
+        &self,
+        rt: &R,
+        alloc: Global,
+        turns: u64,
+    ) -> Result<Closed, Refusal>
         requires { 1 ≤ turns }
     {
-        let _joining = self.visits.write(rt);
-        self.join(rt, alloc, turns)
+        let _no_visits = self.visits.write(rt);
+        self.start_and_wake(rt, alloc, turns)
     }
 
-    /// The join itself, while no visit is made. Whoever waits for it is told.
-    fn join<R: Wait>(&self, rt: &R, alloc: Global, turns: u64) -> Result<Closed, Refusal>
+    /// Starts the successor while no visit is made, and wakes whoever waits for it.
+    fn start_and_wake<R: Wait>(&self, rt: &R, alloc: Global, turns: u64) -> Result<Closed, Refusal>
         requires { 1 ≤ turns }
     {
         let answer = self.end_and_open(rt, alloc, turns);
-        self.joined.notify_all();
+        self.started.notify_all();
         answer
     }
 
-    /// Ends the epoch that is open, and opens the next one.
+    /// Ends the epoch that is open, and opens its successor.
     fn end_and_open<R: Wait>(&self, rt: &R, alloc: Global, turns: u64) -> Result<Closed, Refusal>
         requires { 1 ≤ turns }
     {
@@ -187,7 +193,7 @@ impl Epochs {
         }
         let numbered = self.end(rt, turns)?;
         self.set_due(0);
-        self.stage.write(rt).go_on(alloc, numbered)
+        self.stage.write(rt).start_successor(alloc, numbered)
     }
 
     /// The epoch that is open ends after as many updates more as an epoch has, up to the most.
@@ -214,33 +220,33 @@ impl Epochs {
         }
     }
 
-    /// Goes on to the next epoch whenever the one that is open has its updates, until `stop`, and is the keeper of each, as
-    /// `Cluster::keeper`. It answers how often it went on, and drops what has ended: who wants the records calls `go_on`. It runs in a
-    /// thread of its own.
+    /// Starts a successor whenever the epoch that is open has its updates, until `stop`, and is the keeper of each epoch, as
+    /// `Cluster::keeper`. It answers how many it started, and drops what has ended: who wants the records calls `start_successor`.
+    /// It runs in a thread of its own.
     ///
-    /// Where `go_on` is refused it tries again later. It is refused `Mixed` alone, once there are no more epochs.
+    /// Where a successor is refused it tries again later. It is refused `Mixed` alone, once there are no more epochs.
     pub fn keep<R: Wait + Clock>(&self, rt: &R, alloc: Global, turns: u64) -> Result<u64, Refusal>
         requires { 1 ≤ turns }
     {
-        let mut joins = 0u64;
+        let mut successors = 0u64;
         for _ in rt.forever() {
-            let key = self.joined.prepare_wait();
+            let key = self.started.prepare_wait();
             if self.is_stopped() {
                 break;
             }
-            if !self.wants_join(rt) {
+            if !self.wants_successor(rt) {
                 key.wait(rt);
-            } else if self.has_gone_on(rt, alloc, turns)? {
-                joins = joins.saturating_add(1);
+            } else if self.has_started_successor(rt, alloc, turns)? {
+                successors = successors.saturating_add(1);
             } else {
                 thread::sleep(rt, Duration::from_millis(PAUSE));
             }
         }
-        Ok(joins)
+        Ok(successors)
     }
 
-    /// Keeps the epoch that is open, if one is, until it has its updates or is stopped. It answers whether a join is wanted.
-    fn wants_join<R: Wait>(&self, rt: &R) -> bool {
+    /// Keeps the epoch that is open, if one is, until it has its updates or is stopped. It answers whether a successor is wanted.
+    fn wants_successor<R: Wait>(&self, rt: &R) -> bool {
         let stage = self.stage.read(rt);
         match &*stage {
             Stage::Open(epoch) => epoch.keeper_until(rt, self.due.load(Ordering::SeqCst)),
@@ -249,18 +255,23 @@ impl Epochs {
         self.is_wanted(&stage)
     }
 
-    /// A join is wanted: the epoch that is open has its updates, or none is open.
+    /// A successor is wanted: the epoch that is open has its updates, or none is open.
     fn is_wanted(&self, stage: &Stage) -> bool
         ensures { is_open stage.now ≡ false → result ≡ true }
     {
         self.is_full(stage) || !matches!(stage, Stage::Open(_))
     }
 
-    /// Goes on to the next epoch, and answers whether it did. It is refused where there are no more epochs.
-    fn has_gone_on<R: Wait>(&self, rt: &R, alloc: Global, turns: u64) -> Result<bool, Refusal>
+    /// Starts the successor, and answers whether it did. It is refused where there are no more epochs.
+    fn has_started_successor<R: Wait>(
+        &self,
+        rt: &R,
+        alloc: Global,
+        turns: u64,
+    ) -> Result<bool, Refusal>
         requires { 1 ≤ turns }
     {
-        match self.go_on_if_wanted(rt, alloc, turns) {
+        match self.start_if_wanted(rt, alloc, turns) {
             // Visits may begin again before its memory is given back.
             Ok(Some(ended)) => {
                 ended.discard();
@@ -272,8 +283,8 @@ impl Epochs {
         }
     }
 
-    /// Goes on to the next epoch, as `go_on`, unless another thread did meanwhile.
-    fn go_on_if_wanted<R: Wait>(
+    /// Starts the successor, as `start_successor`, unless another thread did meanwhile.
+    fn start_if_wanted<R: Wait>(
         &self,
         rt: &R,
         alloc: Global,
@@ -281,23 +292,23 @@ impl Epochs {
     ) -> Result<Option<Closed>, Refusal>
         requires { 1 ≤ turns }
     {
-        let _joining = self.visits.write(rt);
+        let _no_visits = self.visits.write(rt);
         if !self.is_wanted(&self.stage.read(rt)) {
             return Ok(None);
         }
-        let ended = self.join(rt, alloc, turns)?;
+        let ended = self.start_and_wake(rt, alloc, turns)?;
         Ok(Some(ended))
     }
 
-    /// Ends the appliers once their feeds are empty, and `keep`. Proposals are refused from now on, and there is no next epoch. It
-    /// waits while a join is made; the thread that calls it has no visit.
+    /// Ends the appliers once their feeds are empty, and `keep`. Proposals are refused from now on, and no successor starts. It
+    /// waits while one is started; the thread that calls it has no visit.
     pub fn stop<R: Wait>(&self, rt: &R) {
         let _visits = self.visits.read(rt);
         self.stopped.store(true, Ordering::SeqCst);
         if let Stage::Open(epoch) = &*self.stage.read(rt) {
             epoch.stop();
         }
-        self.joined.notify_all();
+        self.started.notify_all();
     }
 
     /// Takes the last epoch out, once all threads are joined, as `Stage::into_ended`. It takes no memory, and waits for nobody.
@@ -311,7 +322,7 @@ impl Epochs {
             most: _,
             due: _,
             stopped: _,
-            joined: _,
+            started: _,
         } = self;
         let stage = stage.into_inner();
         let numbered = numbered_in(&stage);
@@ -356,7 +367,7 @@ fn due_after(numbered: u64, updates: u64, most: u64) -> u64
     numbered.saturating_add(updates).min(most)
 }
 
-/// There is no next epoch after this refusal, however often it is tried.
+/// No successor starts after this refusal, however often it is tried.
 fn is_the_end(refusal: &Refusal) -> bool
     ensures { IsTrue result ↔ ((s : ℕ) × (refusal.now ≡ Refusal.Mixed s)) }
 {

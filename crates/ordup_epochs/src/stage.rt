@@ -6,32 +6,32 @@ use ordup_objects::{Refusal, SiteId};
 use std::alloc::Global;
 use std::mem;
 
-/// What lies under the lock of the epochs. `Epochs::go_on` makes a join by `go_on` of this, and `Epochs::close` ends by `into_ended`.
+/// What lies under the lock of the epochs. `Epochs::start_successor` ends with the call of that name here, and `Epochs::close` with
+/// `into_ended`.
 #[derive(Drop)]
 pub enum Stage {
     /// Callers work in this epoch.
     Open(Cluster),
-    /// This epoch has ended, and the next one could not be opened yet, for this reason.
+    /// This epoch has ended, and its successor could not be opened yet, for this reason.
     Closed(Closed, Refusal),
     /// There is no epoch, for this reason.
     Over(Refusal),
 }
 
 impl Stage {
-    /// Closes the epoch that is open, if one is, of which this many updates were numbered, and opens the next one. It hands out the
-    /// epoch that has ended.
+    /// Closes the epoch that is open, if one is, of which this many updates were numbered, and opens its successor. It hands out
+    /// the epoch that has ended.
     ///
     /// - What is handed out is the store that was open, with all its updates.
-    /// - The epoch that is open then goes on from the one that is handed out.
-    /// - Where it is refused, what has ended is kept for a later try. There is nothing left to go on from only where a site did not
-    ///   agree with the log.
-    pub fn go_on(&mut self, alloc: Global, numbered: u64) -> Result<Closed, Refusal>
+    /// - The epoch that is open then is the successor of the one that is handed out.
+    /// - Where it is refused, what has ended is kept for a later try. All is lost only where a site did not agree with the log.
+    pub fn start_successor(&mut self, alloc: Global, numbered: u64) -> Result<Closed, Refusal>
         ensures open { IfOk result (λ ended. IsOpenAfter ended self.new) }
         ensures ended { IfOk result (IsEndOf self.old numbered) }
         ensures left { IfErr result (λ e. IsLeft self.old numbered e self.new) }
     {
         let ended = self.take_ended(numbered)?;
-        self.open_after(alloc, ended)
+        self.open_successor(alloc, ended)
     }
 
     /// Closes the epoch that is open, if one is, and takes out the last one that has ended.
@@ -61,14 +61,14 @@ impl Stage {
         }
     }
 
-    /// Opens the epoch after one that has ended, which is handed out. Where that is refused, it is kept.
-    fn open_after(&mut self, alloc: Global, ended: Closed) -> Result<Closed, Refusal>
+    /// Opens the successor of an epoch that has ended, which is handed out. Where that is refused, it is kept.
+    fn open_successor(&mut self, alloc: Global, ended: Closed) -> Result<Closed, Refusal>
         ensures handed { IfOk result (λ it. it ≡ ended) }
         ensures open { IfOk result (λ it. IsOpenAfter it self.new) }
         ensures kept { IfErr result (λ e. self.new ≡ Stage.Closed ended e) }
     {
-        let next = ended.successor(alloc);
-        match next {
+        let successor = ended.successor(alloc);
+        match successor {
             Ok(epoch) => {
                 *self = Stage::Open(epoch);
                 Ok(ended)

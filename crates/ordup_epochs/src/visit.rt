@@ -12,7 +12,7 @@ use std::sync::RwLockReadGuard;
 
 /// The visit of a caller to the epoch that is open, which does not end before the visit does.
 ///
-/// A thread has one visit at a time: a second one could wait for a join that waits for the first.
+/// A thread has one visit at a time: a second one could wait for a successor that waits for the first.
 #[derive(Drop)]
 pub struct Visit<'a> {
     stage: RwLockReadGuard<'a, Stage>,

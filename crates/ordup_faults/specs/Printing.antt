@@ -12,6 +12,6 @@ Prints status text old new (Err fault.Write) = AppendsFront old new text
 Prints status text old new (Err e) = ⊥
 
 -- the same, or nothing was printed for want of memory
-abbrev pub PrintsIfRoom : ℕ → List ℕ → Option (List ℕ) → Option (List ℕ) → Outcome → Type 0
-PrintsIfRoom status text old new (Err fault.NoMemory) = new ≡ old
-PrintsIfRoom status text old new outcome = Prints status text old new outcome
+abbrev pub PrintsIfMemory : ℕ → List ℕ → Option (List ℕ) → Option (List ℕ) → Outcome → Type 0
+PrintsIfMemory status text old new (Err fault.NoMemory) = new ≡ old
+PrintsIfMemory status text old new outcome = Prints status text old new outcome

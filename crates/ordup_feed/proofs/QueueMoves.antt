@@ -14,9 +14,9 @@ use Rattle.ordup_feed.proofs.ParcelLemmas.{in-order-push, in-order-front}
 -- push taken
 pub pushes : (n port : ℕ) (v : View) (x : PlainParcel) → IsSender v → IsNext (start_of v) (parcels_of v) x → IsSet x.set
     → Pushes QueueHolds n port v x (Pushed v x)
-pushes n zero v x is next set items (Whole ∷ []) room h at = absurd cc
-pushes n (suc port) v x is next set items (Whole ∷ []) room h at = absurd cc
-pushes n zero v x is next set items (Sender start pushed ∷ Taker begun taken ∷ []) room h at =
+pushes n zero v x is next set items (Whole ∷ []) spare h at = absurd cc
+pushes n (suc port) v x is next set items (Whole ∷ []) spare h at = absurd cc
+pushes n zero v x is next set items (Sender start pushed ∷ Taker begun taken ∷ []) spare h at =
     let here : Sender start pushed ≡ v = some-injective _ _ at in
     let s : start_of v ≡ start = sym (ap start_of here) in
     let p : parcels_of v ≡ pushed = sym (ap parcels_of here) in
@@ -29,9 +29,9 @@ pushes n zero v x is next set items (Sender start pushed ∷ Taker begun taken �
       ),
       refl,
     )
-pushes n (suc zero) v x is next set items (Sender start pushed ∷ Taker begun taken ∷ []) room h at = absurd cc
-pushes n (suc (suc port)) v x is next set items (Sender start pushed ∷ Taker begun taken ∷ []) room h at = absurd cc
-pushes n port v x is next set items views room h at = absurd h
+pushes n (suc zero) v x is next set items (Sender start pushed ∷ Taker begun taken ∷ []) spare h at = absurd cc
+pushes n (suc (suc port)) v x is next set items (Sender start pushed ∷ Taker begun taken ∷ []) spare h at = absurd cc
+pushes n port v x is next set items views spare h at = absurd h
 
 -- push refused full
 pub learns : (port : ℕ) (v : View) → IsSender v → Learns QueueHolds port v (IsBackOfPushed v)

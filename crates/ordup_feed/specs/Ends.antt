@@ -24,8 +24,8 @@ pub record Taking : Type 0 where
   pub taken : List PlainParcel
   pub told : ℕ
 
--- the two ends of a feed with room for this many parcels, through which none went yet
+-- the two ends of a feed that can hold this many parcels, through which none went yet
 pub record AreNewEnds (start : State) (capacity : ℕ) (s : Sending) (t : Taking) : Type 0 where
   pub sender : s ≡ record { feed = s.feed; start = start; pushed = []; known = 0 }
   pub taker : t ≡ record { feed = s.feed; start = start; taken = []; told = 0 }
-  pub room : s.feed.capacity ≡ capacity
+  pub holds : s.feed.capacity ≡ capacity

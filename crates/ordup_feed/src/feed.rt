@@ -20,7 +20,7 @@ use std::sync::Arc;
 pub struct Feed;
 
 impl Feed {
-    /// The two ends of a feed with room for `capacity` parcels, 1 to 1,024, over the initial values of the objects.
+    /// The two ends of a feed that can hold `capacity` parcels, 1 to 1,024, over the initial values of the objects.
     ///
     /// It takes all the memory that the ends ever need. It is refused `OutOfRange` for the capacity, and `NoMemory`.
     pub fn new(
@@ -46,7 +46,7 @@ fn open<J: Start>(
     objects: &ObjectTable,
     capacity: usize,
 ) -> Result<(SendEnd, TakeEnd), AllocError>
-    requires room { 0 < capacity }
+    requires spare { 0 < capacity }
     requires start { J.start ≡ initial_state objects.now }
     requires state { IsState J.start }
     ensures { IfOk result (λ ends. AreNewEnds (initial_state objects.now) capacity ends.0 ends.1) }

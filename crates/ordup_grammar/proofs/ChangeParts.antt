@@ -13,7 +13,7 @@ use Rattle.std.proofs.lemmas.Bool.{cases_Bool}
 use Rattle.std.specs.Str.{all_ascii_digits}
 use Rattle.std.specs.Str.Parse.{digits_value}
 use Rattle.ordup_grammar.specs.declared.change_words.ChangeWord.{ChangeWord}
-use Rattle.ordup_grammar.specs.declared.operation.Operation.{Operation}
+use Rattle.ordup_grammar.specs.declared.change_words.Operation.{Operation}
 use Rattle.ordup_grammar.specs.ChangeWords.{change_of, change_of_parts}
 use Rattle.ordup_grammar.specs.Numbers.{number_of, magnitude_of, negated, is_plain}
 use Rattle.ordup_grammar.specs.Operations.{operation_of}

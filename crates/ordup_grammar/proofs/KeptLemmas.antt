@@ -17,22 +17,22 @@ byte_of_eight : (text : List ℕ) (index i : ℕ) → i < 8 → get_or (eight in
 byte_of_eight text index i below = get_or-take 8 (drop index text) i 0 below ∙ get_or-drop index text i 0
 
 are_bytes : (text : List ℕ) (index : ℕ) → AreBytes text → index + 8 ≤ length text → AreBytes (eight index text)
-are_bytes text index fit room i = elim (cases_lt i 8) [
+are_bytes text index fit spare i = elim (cases_lt i 8) [
   | inl below ↦ rw (byte_of_eight text index i below) (fit (index + i))
   | inr past ↦ grind (arith, length-take 8 (drop index text), length-drop index text)
 ]
 
 long : (text : List ℕ) (index : ℕ) → index + 8 ≤ length text → length (eight index text) ≡ 8
-long text index room = omega (arith, length-take 8 (drop index text), length-drop index text)
+long text index spare = omega (arith, length-take 8 (drop index text), length-drop index text)
 
 module _ (line kept : List ℕ) (same : length line ≡ length kept) (least : 8 ≤ length kept) (most : length kept ≤ 24)
     (fit : AreBytes line) (kept_fit : AreBytes kept) where
   -- equal numbers are of equal bytes
   pub equal_eight : (index : ℕ) → index + 8 ≤ length kept → from_le_bytes w64 (eight index line) ≡ from_le_bytes w64 (eight index kept)
       → eight index line ≡ eight index kept
-  equal_eight index room e =
+  equal_eight index spare e =
       sym (le_bytes_8 (eight index line) _ (long line index (omega arith)) (are_bytes line index fit (omega arith)) refl)
-      ∙ le_bytes_8 (eight index kept) _ (long kept index room) (are_bytes kept index kept_fit room) e
+      ∙ le_bytes_8 (eight index kept) _ (long kept index spare) (are_bytes kept index kept_fit spare) e
 
   same_byte : (index i : ℕ) → eight index line ≡ eight index kept → index ≤ i → i < index + 8 → get_or line i 0 ≡ get_or kept i 0
   same_byte index i e from to =

@@ -1,6 +1,6 @@
 pub mod ChangeParts
 pub mod Decimals
-pub mod FrontLemmas
+pub mod PrefixLemmas
 pub mod Splits
 pub mod PrintedLemmas
 pub mod PositionLemmas

@@ -13,7 +13,7 @@ module _ (wanted : ℕ) where
   abbrev is_wanted : ℕ → Bool
   is_wanted byte = byte == wanted
 
-  module _ (text : List ℕ) (index n : ℕ) (room : index + n ≤ length text) (few : n ≤ 64) where
+  module _ (text : List ℕ) (index n : ℕ) (spare : index + n ≤ length text) (few : n ≤ 64) where
     abbrev block : List ℕ
     block = take n (drop index text)
 

@@ -72,7 +72,7 @@ without_zero m n a b chosen some = grind (arith, chosen)
 pub with_zero : (m n a b : ℕ) → cond (m == 0) n a ≡ b → m ≡ 0 → n ≡ b
 with_zero m n a b chosen none = grind (arith, chosen)
 
-module _ (bytes : List ℕ) (index : ℕ) (room : index + 16 ≤ length bytes) (fit : (i : ℕ) → get_or bytes i 0 < 256) where
+module _ (bytes : List ℕ) (index : ℕ) (spare : index + 16 ≤ length bytes) (fit : (i : ℕ) → get_or bytes i 0 < 256) where
   abbrev block : List ℕ
   block = take 16 (drop index bytes)
 
@@ -116,7 +116,7 @@ without_all r rest whole is lt = grind (arith, is)
 with_all : (r rest whole : ℕ) → whole ≡ cond (r == 16) (16 + rest) r → 16 ≤ r → r ≤ 16 → whole ≡ 16 + rest
 with_all r rest whole is le ge = grind (arith, is)
 
-module _ (bytes : List ℕ) (index r : ℕ) (room : index + 16 ≤ length bytes)
+module _ (bytes : List ℕ) (index r : ℕ) (spare : index + 16 ≤ length bytes)
     (so_far : prefix_len is_printed bytes ≡ index + prefix_len is_printed (drop index bytes))
     (found : r ≡ prefix_len is_printed (take 16 (drop index bytes))) where
   parts : prefix_len is_printed (drop index bytes) ≡ cond (r == 16) (16 + prefix_len is_printed (drop (index + 16) bytes)) r

@@ -20,22 +20,22 @@ byte_of_four : (text : List ℕ) (index i : ℕ) → i < 4 → get_or (four inde
 byte_of_four text index i below = get_or-take 4 (drop index text) i 0 below ∙ get_or-drop index text i 0
 
 are_bytes : (text : List ℕ) (index : ℕ) → AreBytes text → index + 4 ≤ length text → AreBytes (four index text)
-are_bytes text index fit room i = elim (cases_lt i 4) [
+are_bytes text index fit spare i = elim (cases_lt i 4) [
   | inl below ↦ rw (byte_of_four text index i below) (fit (index + i))
   | inr past ↦ grind (arith, length-take 4 (drop index text), length-drop index text)
 ]
 
 long : (text : List ℕ) (index : ℕ) → index + 4 ≤ length text → length (four index text) ≡ 4
-long text index room = omega (arith, length-take 4 (drop index text), length-drop index text)
+long text index spare = omega (arith, length-take 4 (drop index text), length-drop index text)
 
 module _ (word keyword : List ℕ) (same : length word ≡ length keyword) (least : 4 ≤ length keyword) (most : length keyword ≤ 8)
     (fit : AreBytes word) (keyword_fit : AreBytes keyword) where
   -- equal numbers are of equal bytes
   equal_four : (index : ℕ) → index + 4 ≤ length keyword → from_le_bytes w32 (four index word) ≡ from_le_bytes w32 (four index keyword)
       → four index word ≡ four index keyword
-  equal_four index room e =
+  equal_four index spare e =
       sym (le_bytes_4 (four index word) _ (long word index (omega arith)) (are_bytes word index fit (omega arith)) refl)
-      ∙ le_bytes_4 (four index keyword) _ (long keyword index room) (are_bytes keyword index keyword_fit room) e
+      ∙ le_bytes_4 (four index keyword) _ (long keyword index spare) (are_bytes keyword index keyword_fit spare) e
 
   same_byte : (index i : ℕ) → four index word ≡ four index keyword → index ≤ i → i < index + 4 → get_or word i 0 ≡ get_or keyword i 0
   same_byte index i e from to =

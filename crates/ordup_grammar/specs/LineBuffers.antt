@@ -8,9 +8,9 @@ use Rattle.ordup_grammar.specs.declared.line_buffer.LineBuffer.TheInside.{Inside
 abbrev pub line_of : Inside → Line
 line_of b = cut (take b.len b.bytes)
 
--- there is room for one byte more than a line may have
+-- one byte more can be held than a line may have
 pub record IsBuffer (b : Inside) : Type 0 where
-  pub room : length b.bytes ≡ most_line_bytes + 1
+  pub spare : length b.bytes ≡ most_line_bytes + 1
   pub few : b.len ≤ most_line_bytes + 1
 
 -- the line that is held is this part of a line, in which no line feed stands

@@ -4,10 +4,10 @@ use Rattle.std.specs.Str.{bytes_eq}
 use Rattle.ordup_grammar.specs.Numbers.{number_of}
 use Rattle.ordup_objects.specs.declared.change.NumberOp.{NumberOp}
 use Rattle.ordup_objects.specs.declared.change.NumberOp.TheVariants.{Add, Set, Mul, Max, Min}
-use Rattle.ordup_grammar.specs.declared.operation.Operation.{Operation}
-use Rattle.ordup_grammar.specs.declared.operation.Operation.TheVariants.{WithNumber, Take}
-use Rattle.ordup_grammar.specs.declared.operation.Kind.{Kind}
-use Rattle.ordup_grammar.specs.declared.operation.Kind.TheVariants as kind
+use Rattle.ordup_grammar.specs.declared.change_words.Operation.{Operation}
+use Rattle.ordup_grammar.specs.declared.change_words.Operation.TheVariants.{WithNumber, Take}
+use Rattle.ordup_grammar.specs.declared.change_words.Kind.{Kind}
+use Rattle.ordup_grammar.specs.declared.change_words.Kind.TheVariants as kind
 
 -- the operation by a number that a word spells
 abbrev pub number_op_of : List ℕ → Option NumberOp

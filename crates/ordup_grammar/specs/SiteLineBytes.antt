@@ -2,8 +2,8 @@
 use Rattle.std.specs.Prelude.{◌≡◌, ℕ, ◌<◌, true, false, ◌==◌, List, ◌++◌, length, codes}
 use Rattle.std.specs.List.{All, list_all}
 use Rattle.ordup_grammar.specs.Requests.{is_printed}
-use Rattle.ordup_grammar.specs.declared.site_line.SiteAction.{SiteAction}
-use Rattle.ordup_grammar.specs.declared.site_line.SiteAction.TheVariants as site
+use Rattle.ordup_grammar.specs.declared.script_line.SiteAction.{SiteAction}
+use Rattle.ordup_grammar.specs.declared.script_line.SiteAction.TheVariants as site
 
 -- the keyword of an action, and one space
 abbrev pub keyword_at : SiteAction → List ℕ

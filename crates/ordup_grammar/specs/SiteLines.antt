@@ -1,8 +1,8 @@
 -- Lines of a keyword and a site.
 use Rattle.std.specs.Prelude.{ℕ, List}
 use Rattle.ordup_grammar.specs.Actions.{Action, Send, Apply, Report}
-use Rattle.ordup_grammar.specs.declared.site_line.SiteAction.{SiteAction}
-use Rattle.ordup_grammar.specs.declared.site_line.SiteAction.TheVariants as site
+use Rattle.ordup_grammar.specs.declared.script_line.SiteAction.{SiteAction}
+use Rattle.ordup_grammar.specs.declared.script_line.SiteAction.TheVariants as site
 
 -- the action at a site of this name
 abbrev pub action_at : SiteAction → List ℕ → Action

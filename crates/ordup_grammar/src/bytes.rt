@@ -6,9 +6,9 @@
 //! - **Where a line ends, and whether all of it is printed** (`printed_prefix`, sixteen bytes at a time): the first byte that is
 //!   not printed is as a rule the line feed, so `split_line` finds both in one pass. Only where it is another byte does `memchr`
 //!   look for the line feed.
-//! - **Where a word ends** (`index_of`): one comparison of sixteen bytes, whatever the length of the word. The text goes on
-//!   behind a word, as a rule (`Front`), so there are sixteen. Only at the end of a piece, or in a longer word, `memchr` looks for
-//!   the end.
+//! - **Where a word ends** (`index_of`): one comparison of sixteen bytes, whatever the length of the word. As a rule more bytes
+//!   stand behind a word (`Prefix`), so there are sixteen. Only at the end of a piece, or in a longer word, `memchr` looks for the
+//!   end.
 //! - **Whether a word is a keyword, or begins with a kind of change** (`is_spelled`, two comparisons of four bytes): a comparison of
 //!   slices would be a call. The compiler makes one jump by the length of the keywords.
 //!
@@ -129,16 +129,19 @@ pub(crate) fn is_spelled(word: &[u8], keyword: &[u8]) -> bool
     four_bytes(word, last) == four_bytes(keyword, last)
 }
 
-/// Whether a line is one that is kept, by the numbers that their bytes are, eight at once.
+/// Whether a line is one that is kept, by the numbers that their bytes are: eight at once, or four of a shorter line.
 ///
 /// The length is compared first: the numbers alone would not tell where a line ends.
 #[inline(always)]
 pub fn is_kept_line(line: &[u8], kept: &[u8]) -> bool
-    requires { (8 ≤ length kept.now) × (length kept.now ≤ 24) }
+    requires { (4 ≤ length kept.now) × (length kept.now ≤ 24) }
     ensures same { result ≡ true → line.now ≡ kept.now }
     ensures found { line.now ≡ kept.now → result ≡ true }
 {
     let len = kept.len();
+    if len < 8 {
+        return is_spelled(line, kept);
+    }
     if line.len() != len || eight_bytes(line, 0) != eight_bytes(kept, 0) {
         return false;
     }

@@ -3,8 +3,7 @@ ghost use Rattle.ordup_grammar.specs.Declarations.{declaration_of, limit_of, sco
 
 use crate::bytes::is_word;
 use crate::number::Number;
-use crate::word::Word;
-use crate::words::Words;
+use crate::words::{Word, Words};
 
 /// What is declared before the start.
 #[derive(Drop)]

@@ -2,7 +2,7 @@ ghost use Rattle.std.specs.Prelude.{◌≡◌};
 ghost use Rattle.ordup_grammar.specs.Keywords.{keyword_of};
 
 use crate::bytes::{is_spelled, is_word};
-use crate::word::Word;
+use crate::words::Word;
 
 /// The first word of a command that is no declaration.
 #[derive(Clone, Copy)]

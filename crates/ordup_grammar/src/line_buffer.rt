@@ -9,7 +9,7 @@ ghost use Rattle.ordup_grammar.specs.Words.{words_of};
 ghost use Rattle.std.specs.List.{list_all};
 
 use crate::bytes::{is_spelled, printed_prefix};
-use crate::front::Front;
+use crate::prefix::Prefix;
 use crate::sizes::MOST_LINE_BYTES;
 use crate::words::Words;
 use memchr::memchr;
@@ -18,7 +18,7 @@ use std::marker::Model;
 /// The part of a line that lies within one piece of a script, without the line feed.
 #[derive(Drop)]
 pub struct LinePart<'a> {
-    bytes: Front<'a>,
+    bytes: Prefix<'a>,
     /// Each of them is known to be printed.
     is_printed: bool,
 }
@@ -40,7 +40,7 @@ impl<'a> LinePart<'a> {
         ensures { result ≡ bytes.now }
     {
         LinePart {
-            bytes: Front::whole(bytes),
+            bytes: Prefix::whole(bytes),
             is_printed: false,
         }
     }
@@ -52,9 +52,9 @@ impl<'a> LinePart<'a> {
         self.bytes.as_bytes()
     }
 
-    /// Its bytes, behind which their text goes on.
+    /// Its bytes, as a prefix of their text.
     #[inline(always)]
-    pub(crate) fn front(&self) -> Front<'a>
+    pub(crate) fn prefix(&self) -> Prefix<'a>
         ensures { result ≡ self.now }
     {
         self.bytes.copy()
@@ -95,7 +95,7 @@ pub fn split_line(bytes: &[u8]) -> Option<(LinePart<'_>, &[u8])>
     let printed = printed_prefix(bytes);
     if printed < bytes.len() && bytes[printed] == b'\n' {
         let part = LinePart {
-            bytes: Front::new(bytes, printed),
+            bytes: Prefix::new(bytes, printed),
             is_printed: true,
         };
         return Some((part, &bytes[printed + 1..]));

@@ -1,15 +1,59 @@
 ghost use Rattle.std.specs.Prelude.{◌≡◌, ◌≤◌, [], ◌∷◌, ◌==◌, ℕ, List, MatchOption, length};
 ghost use Rattle.ordup_grammar.specs.Words.{words_of, only_word, two_words, name_and_number, only_number};
 
-use crate::front::Front;
 use crate::number::Number;
-use crate::word::Word;
+use crate::prefix::Prefix;
 use std::marker::Model;
+
+/// A word of a line, or the part of one that is a name. It may name nothing.
+#[derive(Drop)]
+pub struct Word<'a> {
+    bytes: Prefix<'a>,
+}
+
+impl<'a> Model for Word<'a> {
+    ghost Value = { List ℕ };
+
+    ghost view = { λ w. w.bytes };
+}
+
+impl<'a> Word<'a> {
+    /// The word of these bytes.
+    pub fn new(bytes: &'a [u8]) -> Self
+        ensures { result ≡ bytes.now }
+    {
+        Word::of(Prefix::whole(bytes))
+    }
+
+    /// The word of these bytes, which are a prefix of their text.
+    #[inline(always)]
+    pub(crate) fn of(bytes: Prefix<'a>) -> Self
+        ensures { result ≡ bytes.entry }
+    {
+        Word { bytes }
+    }
+
+    /// Its bytes.
+    #[inline(always)]
+    pub fn as_bytes(&self) -> &'a [u8]
+        ensures { result.now ≡ self.now }
+    {
+        self.bytes.as_bytes()
+    }
+
+    /// Its bytes, as a prefix of their text.
+    #[inline(always)]
+    pub(crate) fn prefix(&self) -> Prefix<'a>
+        ensures { result ≡ self.now }
+    {
+        self.bytes.copy()
+    }
+}
 
 /// The words of a line, or those of them that are left. Words stand between spaces.
 #[derive(Drop)]
 pub struct Words<'a> {
-    line: Front<'a>,
+    line: Prefix<'a>,
 }
 
 impl<'a> Model for Words<'a> {
@@ -19,9 +63,9 @@ impl<'a> Model for Words<'a> {
 }
 
 impl<'a> Words<'a> {
-    /// The words of a line, behind which its text goes on.
+    /// The words of a line, which is a prefix of its text.
     #[inline(always)]
-    pub(crate) fn in_line(line: Front<'a>) -> Self
+    pub(crate) fn in_line(line: Prefix<'a>) -> Self
         ensures { result ≡ words_of line.entry }
     {
         Words { line }

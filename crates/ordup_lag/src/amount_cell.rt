@@ -2,21 +2,21 @@
 
 ghost use Rattle.std.specs.Prelude.{◌≡◌, ◌≤◌, ◌+◌, ◌++◌, IfOk, codes, length};
 ghost use Rattle.std.specs.Fmt.{decimal};
-ghost use Rattle.ordup_lag.specs.declared.amount_cell.TheConstants.{CELL_ROOM};
+ghost use Rattle.ordup_lag.specs.declared.amount_cell.TheConstants.{CELL_BYTES};
 
 use ordup_text::{MOST_DIGITS, TextBuffer, put_with_number};
 use std::alloc::{AllocError, Allocator};
 use std::marker::Model;
 
-/// Room for a cell, in whole words: for a comma, and the most digits of a number.
-pub(crate) const CELL_ROOM: usize = MOST_DIGITS + 4;
+/// The bytes of a cell, in whole words: a comma, and the most digits of a number.
+pub(crate) const CELL_BYTES: usize = MOST_DIGITS + 4;
 
 /// The cell of an amount, as it was last written. Its digits are made where the amount changes, and not in each row.
 #[derive(Drop)]
 pub(crate) struct AmountCell {
     amount: u64,
     /// The text of the cell, and then bytes without meaning.
-    bytes: [u8; CELL_ROOM],
+    bytes: [u8; CELL_BYTES],
     len: usize,
 }
 
@@ -34,7 +34,7 @@ impl Model for AmountCell {
 impl AmountCell {
     /// The cell of 0.
     pub(crate) fn new() -> Self {
-        let mut bytes = [0; CELL_ROOM];
+        let mut bytes = [0; CELL_BYTES];
         bytes[0] = b',';
         bytes[1] = b'0';
         AmountCell {
@@ -47,9 +47,9 @@ impl AmountCell {
     /// Puts the cell of an amount. A cell must fit into the spare capacity.
     #[inline(always)]
     pub(crate) fn put<A: Allocator + Copy>(&mut self, out: &mut TextBuffer<A>, amount: u64)
-        requires { CELL_ROOM ≤ out.old.room }
+        requires { CELL_BYTES ≤ out.old.spare }
         ensures text { out.new.text ≡ out.old.text ++ (codes "," ++ decimal amount) }
-        ensures room { out.old.room ≤ out.new.room + CELL_ROOM }
+        ensures spare { out.old.spare ≤ out.new.spare + CELL_BYTES }
     {
         if self.amount != amount {
             self.put_other(out, amount);
@@ -61,9 +61,9 @@ impl AmountCell {
     /// Puts the cell of another amount, and keeps it.
     #[inline(never)]
     fn put_other<A: Allocator + Copy>(&mut self, out: &mut TextBuffer<A>, amount: u64)
-        requires { CELL_ROOM ≤ out.old.room }
+        requires { CELL_BYTES ≤ out.old.spare }
         ensures text { out.new.text ≡ out.old.text ++ (codes "," ++ decimal amount) }
-        ensures room { out.old.room ≤ out.new.room + CELL_ROOM }
+        ensures spare { out.old.spare ≤ out.new.spare + CELL_BYTES }
     {
         let before = out.len();
         put_with_number(out, b",", amount);
@@ -75,7 +75,7 @@ impl AmountCell {
         requires { text.now ≡ codes "," ++ decimal amount }
     {
         let len = text.len();
-        if len <= CELL_ROOM {
+        if len <= CELL_BYTES {
             self.bytes[..len].copy_from_slice(text);
             self.amount = amount;
             self.len = len;

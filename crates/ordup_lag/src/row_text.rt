@@ -7,14 +7,14 @@ ghost use Rattle.ordup_log.specs.Spans.{IsScopeKnown};
 ghost use Rattle.ordup_limits.specs.Entries.{in_force, latest};
 ghost use Rattle.ordup_limits.specs.Ledgers.{StandsFor, StandsAt};
 ghost use Rattle.ordup_limits.specs.Sizes.{most_limits};
-ghost use Rattle.ordup_lag.specs.declared.amount_cell.TheConstants.{CELL_ROOM};
+ghost use Rattle.ordup_lag.specs.declared.amount_cell.TheConstants.{CELL_BYTES};
 ghost use Rattle.ordup_rows.specs.Rows.{scope_text};
 ghost use Rattle.ordup_audit.specs.Records.{history_of, report_at};
 ghost use Rattle.ordup_audit.specs.Validity.{IsValid};
 ghost use Rattle.ordup_lag.specs.Series.{row_at, uses_of};
 ghost use Rattle.ordup_lag.specs.Texts.{head_text, round_text, row_text, scope_head, scope_heads, use_text, uses_text, window_text};
 
-use crate::amount_cell::{AmountCell, CELL_ROOM};
+use crate::amount_cell::{AmountCell, CELL_BYTES};
 use crate::places::{has_round, window_of};
 use ordup_audit::Record;
 use ordup_limits::{Groups, LagLedger, Scope};
@@ -103,9 +103,9 @@ fn put_use<A: Allocator + Copy>(
     weight: u64,
     amount: u64,
 )
-    requires { 2 * CELL_ROOM ≤ out.old.room }
+    requires { 2 * CELL_BYTES ≤ out.old.spare }
     ensures text { out.new.text ≡ out.old.text ++ use_text (Some (record { weight = weight; amount = amount })) }
-    ensures room { out.old.room ≤ out.new.room + 2 * CELL_ROOM }
+    ensures spare { out.old.spare ≤ out.new.spare + 2 * CELL_BYTES }
 {
     put_with_number(out, b",", weight);
     cell.put(out, amount);
@@ -119,10 +119,10 @@ fn put_any_use<A: Allocator + Copy>(
     ledger: &LagLedger<A>,
     index: usize,
 )
-    requires { 2 * CELL_ROOM ≤ out.old.room }
+    requires { 2 * CELL_BYTES ≤ out.old.spare }
     ensures text { (h : History) (groups : GroupList) → StandsFor ledger.now h groups →
         out.new.text ≡ out.old.text ++ use_text (slice_get (uses_of ledger.now h groups) index) }
-    ensures room { out.old.room ≤ out.new.room + 2 * CELL_ROOM }
+    ensures spare { out.old.spare ≤ out.new.spare + 2 * CELL_BYTES }
 {
     let limits = ledger.limits();
     if index < limits.len() {
@@ -145,7 +145,7 @@ fn push_uses<A: Allocator + Copy>(
     ensures text { OnOk result ((h : History) (groups : GroupList) → StandsFor ledger.now h groups →
         out.new.text ≡ out.old.text ++ uses_text (uses_of ledger.now h groups) scopes) }
 {
-    out.reserve(2 * CELL_ROOM * scopes)?;
+    out.reserve(2 * CELL_BYTES * scopes)?;
     for index in 0..scopes {
         put_any_use(out, &mut cells[index], ledger, index);
     }

@@ -54,7 +54,6 @@ pub fn write_series<A: Allocator + Copy, W: Write>(
         return Err(SeriesFault::NoMemory);
     };
     let written = write_with(alloc, &mut ledger, audited, output);
-    // By a call: where it goes out of scope, the proof takes it apart.
     drop(ledger);
     written
 }
@@ -77,7 +76,6 @@ fn write_with<A: Allocator + Copy, W: Write>(
     };
     let mut out = TextBuffer::new(alloc);
     let written = write_rows(&mut out, &mut cells, ledger, audited, output);
-    // By calls, as above.
     drop(out);
     drop(cells);
     written

@@ -27,7 +27,7 @@ use Rattle.ordup_limits.specs.declared.limit_entry.LimitEntry.{LimitEntry}
 use Rattle.ordup_limits.specs.Limits.{Limits, is_same_scope, are_on_one_scope, AreScopesKnown, keeps_limit, within, scope_refusal}
 use Rattle.ordup_limits.specs.Entries.{change_refusal}
 use Rattle.ordup_limits.specs.Entries.{Entries, put, latest, in_force, are_one_entry, changed, has_few, HoldFrom, AreEntries}
-use Rattle.ordup_limits.specs.Entries.{AreEntriesKnown, LimitsInForceAreTests, LimitsInForceKeepTheirNumbers}
+use Rattle.ordup_limits.specs.Entries.{AreEntriesKnown, LimitsInForceAreALimitTest, LimitsInForceKeepTheirNumbers}
 use Rattle.ordup_limits.specs.Sizes.{most_limits, most_entries, greatest_amount}
 use Rattle.ordup_limits.proofs.PutLemmas.{put-length, put-found, put-new, position-absent, list_any-put, repeats-put, All-put}
 use Rattle.ordup_limits.proofs.LimitLemmas.{within-empty, within-later}
@@ -252,7 +252,7 @@ pub in_force-before : (entries : Entries) (e : LimitEntry) (k : ℕ) → k < e.p
 in_force-before entries e k lt = ap latest (filter-changed entries e k lt)
 
 -- the limits in force at the end of a span are what is asked of a test of limits
-pub in_force-test : LimitsInForceAreTests
+pub in_force-test : LimitsInForceAreALimitTest
 in_force-test h groups entries = record {
   later = λ a b c le is. within-later h groups (in_force entries c) a b c le is;
   empty = λ a b le. within-empty h groups (in_force entries b) a b le;
@@ -303,14 +303,14 @@ are_one_entry-alike e f g one =
     let place : e.place ≡ f.place = eqb-true e.place f.place both.1 in
     rw (same_scope e.limit.scope f.limit.scope both.0, place) refl
 
--- a table keeps all that with a change for which there is room
+-- a table keeps all that with a change for which it has an entry to spare
 pub AreEntries-changed : (entries : Entries) (e : LimitEntry) → AreEntries entries → HoldFrom e.place entries → 0 < e.place
     → e.limit.amount ≤ greatest_amount → has_few (changed entries e) ≡ true → AreEntries (changed entries e)
 AreEntries-changed entries e are hold begun amount few =
-    let room = and_parts (nat_le (length (latest (changed entries e))) most_limits) (nat_le (length (changed entries e)) most_entries) few in
+    let spare = and_parts (nat_le (length (latest (changed entries e))) most_limits) (nat_le (length (changed entries e)) most_entries) few in
     record {
-      scopes = leb-true (length (latest (changed entries e))) most_limits room.0;
-      few = leb-true (length (changed entries e)) most_entries room.1;
+      scopes = leb-true (length (latest (changed entries e))) most_limits spare.0;
+      few = leb-true (length (changed entries e)) most_entries spare.1;
       amounts = All-put (λ (f : LimitEntry). f.limit.amount ≤ greatest_amount) are_one_entry entries e are.amounts amount;
       begun = All-put (λ (f : LimitEntry). 0 < f.place) are_one_entry entries e are.begun begun;
       rising = rising-changed entries e are.rising hold;
@@ -395,7 +395,7 @@ or_none : (o p : Option Refusal) → option_or o p ≡ None → p ≡ None
 or_none None p e = e
 or_none (Some r) p e = absurd cc
 
--- a change that is allowed has a small amount, and room
+-- a change that is allowed has a small amount, and an entry to spare
 pub change-allowed : (n : ℕ) (groups : GroupList) (entries : Entries) (e : LimitEntry) → change_refusal n groups entries e ≡ None
     → (e.limit.amount ≤ greatest_amount) × (has_few (changed entries e) ≡ true)
 change-allowed n groups entries e allowed =
@@ -405,7 +405,7 @@ change-allowed n groups entries e allowed =
     elim (cases_Bool (nat_lt greatest_amount e.limit.amount)) [
       | inl large ↦ absurd (let no : Some OutOfRange ≡ None = rw large at rest in cc)
       | inr small ↦ elim (cases_Bool (has_few (changed entries e))) [
-        | inl room ↦ (ltb-false greatest_amount e.limit.amount small, room)
+        | inl spare ↦ (ltb-false greatest_amount e.limit.amount small, spare)
         | inr full ↦ absurd (let no : Some TooMany ≡ None = rw (small, full) at rest in cc)
       ]
     ]

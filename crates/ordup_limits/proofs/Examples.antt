@@ -108,7 +108,7 @@ wide = map (λ x. entry (Object x) 1 1) (range_with_len 0 64)
 abbrev long : List LimitEntry
 long = map (λ k. entry Count 1 k) (range_with_len 1 1088)
 
--- the order of the refusals of a change, and what is replaced has room
+-- the order of the refusals of a change, and what is replaced is never one too many
 change_refusals : (change_refusal 99 groups wide (entry (Object 99) 1000000000000000001 2) ≡ Some UnknownObject)
     × (change_refusal 99 groups wide (entry (Group 1) 1000000000000000001 2) ≡ Some UnknownGroup)
     × (change_refusal 99 groups wide (entry Count 1000000000000000001 2) ≡ Some OutOfRange)

@@ -10,7 +10,8 @@ use Rattle.ordup_log.specs.declared.scope.Scope.{Scope}
 use Rattle.ordup_log.specs.declared.scope.Scope.TheVariants.{Count}
 use Rattle.ordup_log.proofs.SpanLemmas.{span-longer, span-inner}
 use Rattle.ordup_limits.specs.Limits.{Limits}
-use Rattle.ordup_limits.specs.Totals.{weighed, kept_amount, AreTotals, AreAllowed, AreMasks}
+use Rattle.ordup_limits.specs.Masks.{AreMasks}
+use Rattle.ordup_limits.specs.Totals.{weighed, kept_amount, AreTotals, AreAllowed}
 use Rattle.ordup_limits.specs.Ledgers.{LedgerState, StandsFor, LongerHistoriesKeepLedgers}
 use Rattle.ordup_limits.proofs.TotalLemmas.{span-from_start}
 

@@ -16,7 +16,8 @@ use Rattle.std.proofs.lemmas.List.{get_or-set_other}
 use Rattle.std.proofs.lemmas.List.Folds.{list_any_more}
 use Rattle.std.proofs.lemmas.Nat.Bits.{bit_at_or, bit_at-lt, bit_at-pow_same, bit_at-pow_other}
 use Rattle.std.proofs.lemmas.Nat.Bits.{bit_at_clear_same, bit_at_clear_other}
-use Rattle.ordup_limits.specs.Totals.{has_bit, share}
+use Rattle.ordup_limits.specs.Masks.{has_bit}
+use Rattle.ordup_limits.specs.Totals.{share, HaveTotalAt}
 
 shifted : (limit : ℕ) → limit < 64 → 1 * 2 ^ limit % 18446744073709551616 ≡ 2 ^ limit
 shifted limit lt = let small : 2 ^ limit < 18446744073709551616 = pow-lt lt in omega (arith, small)
@@ -132,13 +133,14 @@ share-most true weight = omega arith
 share-most false weight = omega arith
 
 -- a total with the weight of one bit more, which is left no longer
-pub share-next : (totals : List ℕ) (rest z k value weight total : ℕ) → z < 64 → k < 64 → z < length totals → bit_at rest z ≡ 1
-    → value ≡ get_or totals z 0 → get_or totals k 0 + share (bit_at rest k == 1) weight ≡ total
-    → get_or (set totals z (value + weight)) k 0 + share (bit_at (cleared rest z) k == 1) weight ≡ total
-share-next totals rest z k value weight total few below lt one is before = elim (cases_eq k z) [
+pub share-next : (totals next : List ℕ) (rest z k value weight total : ℕ) → z < 64 → k < 64 → bit_at rest z ≡ 1
+    → HaveTotalAt z (value + weight) totals next → value ≡ get_or totals z 0
+    → get_or totals k 0 + share (bit_at rest k == 1) weight ≡ total
+    → get_or next k 0 + share (bit_at (cleared rest z) k == 1) weight ≡ total
+share-next totals next rest z k value weight total few below one put is before = elim (cases_eq k z) [
   | inl same ↦ omega (
     arith,
-    get_or-set_at totals z k (value + weight) 0 same lt,
+    rw (eq-eqb k z same) at (put k),
     ap (λ n. share (n == 1) weight) (ap (bit_at (cleared rest z)) same ∙ bit_at_clear_same w64 rest z few),
     ap (λ n. share (n == 1) weight) (ap (bit_at rest) same ∙ one),
     ap (λ i. get_or totals i 0) same,
@@ -147,7 +149,7 @@ share-next totals rest z k value weight total few below lt one is before = elim 
   )
   | inr other ↦ omega (
     arith,
-    get_or-set_other totals z k (value + weight) 0 other,
+    rw (ne_eqb k z other) at (put k),
     ap (λ n. share (n == 1) weight) (bit_at_clear_other w64 rest z few k below other),
     before,
   )

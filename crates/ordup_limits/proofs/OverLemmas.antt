@@ -1,5 +1,5 @@
 -- Which sites an update takes over a limit.
-use Rattle.std.proofs.Common.{◌≡◌, ℕ, zero, suc, ◌+◌, ◌-◌, ◌<◌, ◌≤◌, Bool, true, false, not, List, [], ◌∷◌, length, get_or, take}
+use Rattle.std.proofs.Common.{◌≡◌, ℕ, zero, suc, ◌-◌, ◌<◌, ◌≤◌, Bool, true, false, not, List, [], ◌∷◌, length, get_or, take}
 use Rattle.std.proofs.Common.{arith, refl, sym, ap, ◌∙◌, inl, inr}
 use Rattle.std.specs.Prelude.{◌==◌, ◌⊎◌, All}
 use Rattle.std.specs.Int.{bit_at}
@@ -17,7 +17,6 @@ use Rattle.ordup_objects.specs.Moves.{moves_of}
 use Rattle.ordup_objects.specs.Serial.{History, serial, IsLegalHistory, set_at, with_more}
 use Rattle.ordup_objects.specs.States.{State}
 use Rattle.ordup_objects.specs.Sizes.{most_groups, most_objects, most_updates}
-use Rattle.ordup_objects.specs.Sums.{sum_from}
 use Rattle.ordup_log.specs.Groups.{GroupList, IsGroup}
 use Rattle.ordup_log.specs.Spans.{span, IsScopeKnown}
 use Rattle.ordup_log.specs.declared.scope.Scope.{Scope}
@@ -26,16 +25,17 @@ use Rattle.ordup_log.proofs.SpanLemmas.{span-inner, span-longer}
 use Rattle.ordup_limits.specs.declared.limit.Limit.{Limit}
 use Rattle.ordup_limits.specs.Entries.{put}
 use Rattle.ordup_limits.specs.Limits.{Limits, are_on_one_scope, is_same_scope, keeps_limit, within}
-use Rattle.ordup_limits.specs.SiteLedgers.{allowed, amount_on, may_weigh, most_scopes, scope_index, AreOver, AreWeights, HasLimits}
-use Rattle.ordup_limits.specs.SiteLedgers.{LedgersState, SiteLedgerState, StandFor, WeightsAt}
+use Rattle.ordup_limits.specs.StoreLedgers.{allowed, amount_on, may_weigh, most_scopes, scope_index, AreOver, AreWeights, HasLimits}
+use Rattle.ordup_limits.specs.StoreLedgers.{StoreLedgerState, SiteLedgerState, StoreStandsFor, WeightsAt}
 use Rattle.ordup_limits.specs.Sizes.{greatest_amount}
-use Rattle.ordup_limits.specs.Totals.{counts_on, kept_amount, weight_of, weight_where}
+use Rattle.ordup_limits.specs.Masks.{counts_on}
+use Rattle.ordup_limits.specs.Totals.{kept_amount, weight_of, weight_where}
 use Rattle.ordup_limits.proofs.EntryLemmas.{same_scope, is_same_scope-refl}
 use Rattle.ordup_limits.proofs.LedgerLemmas.{span-difference}
 use Rattle.ordup_limits.proofs.PassedLemmas.{keeps-false}
 use Rattle.ordup_limits.proofs.PutLemmas.{repeats-put, All-put}
 use Rattle.ordup_limits.proofs.SiteLemmas.{span-few, AreWeights-longer, HaveAmounts-put}
-use Rattle.ordup_limits.proofs.TotalLemmas.{weighed-more}
+use Rattle.ordup_limits.proofs.TotalLemmas.{sum-one, weighed-more}
 
 -- ---- the amount on a scope
 
@@ -78,9 +78,6 @@ weight_of-untouched p v [] none = refl
 weight_of-untouched p v (c ∷ m) none =
     let parts = or_parts (p c.object) (list_any (λ e. p e.object) m) none in
     rw parts.0 (omega (arith, weight_of-untouched p v m parts.1))
-
-sum-one : (f : ℕ → ℕ) (j n : ℕ) → n ≡ suc zero → sum_from f j n ≡ f j
-sum-one f j n one = let same : j + 0 ≡ j = omega arith in rw one (omega (arith, ap f same))
 
 span-unmoved : (h : History) → IsLegalHistory h → (groups : GroupList) → All (λ g. IsGroup g.1) groups → (s : Scope)
     → IsScopeKnown (length h.start) groups s → (place : ℕ) → 0 < place → place ≤ length h.sets
@@ -175,16 +172,16 @@ over-exact h legal groups are place mask sites some last few over s d limits lt 
           rw (none, all) refl)
     ]
 
--- ---- the ledgers of all sites
+-- ---- the ledger of a store
 
 -- where one site changes, and no weight that all keep grows
-pub StandFor-with_site : (l : LedgersState) (h : History) (groups : GroupList) (s : ℕ) (site : SiteLedgerState) (kept : List ℕ)
-    → StandFor l h groups → s < length l.sites → AreWeights site.reported h groups
+pub StoreStandsFor-with_site : (l : StoreLedgerState) (h : History) (groups : GroupList) (s : ℕ) (site : SiteLedgerState) (kept : List ℕ)
+    → StoreStandsFor l h groups → s < length l.sites → AreWeights site.reported h groups
     → ((scope : Scope) → IsScopeKnown (length h.start) groups scope
     → (get_or kept (scope_index scope) 0 ≤ allowed h groups site scope)
     × (get_or kept (scope_index scope) 0 ≤ get_or l.kept (scope_index scope) 0))
-    → StandFor (record l { sites = set l.sites s site; kept = kept }) h groups
-StandFor-with_site l h groups s site kept stand lt weights less = record {
+    → StoreStandsFor (record l { sites = set l.sites s site; kept = kept }) h groups
+StoreStandsFor-with_site l h groups s site kept stand lt weights less = record {
   objects = stand.objects;
   masks = stand.masks;
   added = stand.added;
@@ -209,10 +206,10 @@ allowed-reported h groups old new scope same le =
       span-inner h groups scope 0 0 old.reported.place new.reported.place (omega arith) le,
     )
 
--- updates that are added later leave them as they were
-pub StandFor-longer : (l : LedgersState) (h : History) (groups : GroupList) (more : List (List Change)) → StandFor l h groups
-    → StandFor l (with_more h more) groups
-StandFor-longer l h groups more stand =
+-- updates that are added later leave it as it was
+pub StoreStandsFor-longer : (l : StoreLedgerState) (h : History) (groups : GroupList) (more : List (List Change)) → StoreStandsFor l h groups
+    → StoreStandsFor l (with_more h more) groups
+StoreStandsFor-longer l h groups more stand =
     record {
       objects = stand.objects;
       masks = stand.masks;

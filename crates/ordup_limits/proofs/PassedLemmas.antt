@@ -1,7 +1,7 @@
 -- Masks of limits, and which limits the span that a site lags passes.
 use Rattle.std.proofs.Common.{◌≡◌, ℕ, zero, suc, ◌+◌, ◌-◌, ◌*◌, ◌<◌, ◌≤◌, ◌^◌, Bool, true, false, not, List, [], ◌∷◌, length, get_or}
 use Rattle.std.proofs.Common.{arith, refl, sym, ap, ◌∙◌, ◌⊎◌, inl, inr, w64}
-use Rattle.std.specs.Prelude.{◌==◌, ◌||◌, if◌then◌else◌, fold, min, nat_lt}
+use Rattle.std.specs.Prelude.{◌==◌, ◌||◌, ◌↔◌, if◌then◌else◌, fold, min, nat_lt, IsTrue}
 use Rattle.std.specs.Int.{bit_at, trailing_zeros}
 use Rattle.std.specs.List.{list_all}
 use Rattle.std.proofs.lemmas.List.{get_or_default}
@@ -18,6 +18,7 @@ use Rattle.ordup_log.specs.declared.scope.Scope.{Scope}
 use Rattle.ordup_log.specs.declared.scope.Scope.TheVariants.{Object, Group, All as Everything, Count}
 use Rattle.ordup_log.proofs.SpanLemmas.{span-count}
 use Rattle.ordup_limits.specs.declared.limit.Limit.{Limit}
+use Rattle.ordup_limits.specs.LagWeights.{LagWeightsAt, HasPassed}
 use Rattle.ordup_limits.specs.Limits.{Limits, keeps_limit, within}
 use Rattle.ordup_limits.specs.Ledgers.{LedgerState, IsLedger, StandsFor}
 use Rattle.ordup_limits.specs.PassedLimits.{no_limit, least_with, least_count, ArePassed}
@@ -37,6 +38,17 @@ pub ArePassed-put : (over next z : ℕ) (added allowed more_added more_allowed :
 ArePassed-put over next z added allowed more_added more_allowed is are put looked same_added same_allowed i few = elim (cases_eq i z) [
   | inl here ↦ put i few ∙ rw (eq-eqb i z here) (rw here looked)
   | inr other ↦ put i few ∙ rw (ne_eqb i z other, same_added i other, same_allowed i other) (are i few)
+]
+
+-- nor where a weight grows and is still allowed
+pub ArePassed-kept : (over z : ℕ) (added allowed more_added : List ℕ) → ArePassed over added allowed
+    → ((i : ℕ) → (i ≡ z → ⊥) → get_or more_added i 0 ≡ get_or added i 0) → get_or added z 0 ≤ get_or more_added z 0
+    → get_or more_added z 0 ≤ get_or allowed z 0
+    → ArePassed over more_added allowed
+ArePassed-kept over z added allowed more_added are same grows let_in i few = elim (cases_eq i z) [
+  | inl here ↦ are i few ∙ rw here (le-ltb (get_or allowed z 0) (get_or added z 0) (omega (arith, grows, let_in))
+      ∙ sym (le-ltb (get_or allowed z 0) (get_or more_added z 0) let_in))
+  | inr other ↦ are i few ∙ ap (nat_lt (get_or allowed i 0)) (sym (same i other))
 ]
 
 -- with nothing added no weight is passed
@@ -143,18 +155,14 @@ span-left h groups s a b amount added allowed is up down =
     omega (arith, up, down, weighed-span h groups s a is, weighed-span h groups s b is, span-difference h groups s a b)
 
 -- the weight that a ledger has for a limit that is not on the count
-pub weight-kept : (l : LedgerState) (i : ℕ) (limit : Limit) (added allowed : ℕ) → IsLedger l → i < length l.limits
-    → limit ≡ get_or l.limits i limit → IsOfValues limit.scope → added ≡ get_or l.added i added → allowed ≡ get_or l.allowed i allowed
+pub weight-kept : (l : LedgerState) (i : ℕ) (limit : Limit) → i < length l.limits → limit ≡ get_or l.limits i limit
+    → IsOfValues limit.scope
     → (h : History) (groups : GroupList) (d : Limit) → StandsFor l h groups
-    → added - (allowed - kept_amount limit) ≡ span h groups (get_or l.limits i d).scope l.reported l.extended
-weight-kept l i limit added allowed is lt at values up down h groups d stands =
+    → get_or l.added i 0 - (get_or l.allowed i 0 - kept_amount limit) ≡ span h groups (get_or l.limits i d).scope l.reported l.extended
+weight-kept l i limit lt at values h groups d stands =
     let same : limit ≡ get_or l.limits i d = at ∙ get_or_default l.limits i limit d lt in
-    let raised : added ≡ weighed h groups (get_or l.limits i d).scope l.extended =
-    up ∙ get_or_default l.added i added 0 (omega (arith, lt, is.few, is.added)) ∙ stands.added.each i d lt in
-    let let_in : allowed ≡ kept_amount (get_or l.limits i d) + weighed h groups (get_or l.limits i d).scope l.reported =
-    down ∙ get_or_default l.allowed i allowed 0 (omega (arith, lt, is.few, is.allowed)) ∙ stands.allowed.each i d lt in
-    rw (← same) (span-left h groups limit.scope l.reported l.extended limit.amount added allowed values (rw (← same) at raised)
-    (rw (← same) at let_in))
+    rw (← same) (span-left h groups limit.scope l.reported l.extended limit.amount (get_or l.added i 0) (get_or l.allowed i 0) values
+    (rw (← same) at (stands.added.each i d lt)) (rw (← same) at (stands.allowed.each i d lt)))
 
 -- and that for one on the count
 pub weight-count : (l : LedgerState) (i : ℕ) (limit : Limit) (n : ℕ) → i < length l.limits → limit ≡ get_or l.limits i limit
@@ -165,12 +173,33 @@ weight-count l i limit n lt at on is h groups d stands =
     let same : limit ≡ get_or l.limits i d = at ∙ get_or_default l.limits i limit d lt in
     rw (← same, on) (is ∙ sym (span-count h groups l.reported l.extended))
 
--- a span passes a limit where it is of more updates than the least amount on the count, or the mask of passed weights has a bit
-pub within-passed : (l : LedgerState) (passed count : ℕ) → IsLedger l → passed < 2 ^ 64 → count ≡ least_count l.limits
-    → ArePassed passed l.added l.allowed → (h : History) (groups : GroupList) → StandsFor l h groups
-    → (not (passed == 0) || nat_lt count (l.extended - l.reported)) ≡ not (within h groups l.limits l.reported l.extended)
-within-passed l passed count is fits least are h groups stands = elim (cases_eq passed 0) [
-  | inl none ↦ elim (cases_lt count (l.extended - l.reported)) [
+-- a mask of passed weights has a bit where there is one
+pub ArePassed-some : (w : LagWeightsAt) (passed : ℕ) → passed < 2 ^ 64 → ArePassed passed w.added w.allowed
+    → IsTrue (not (passed == 0)) ↔ HasPassed w
+ArePassed-some w passed fits are = (
+  λ some. (let low = bit_at-trailing_zeros w64 passed (nonzero passed some) fits in
+      let z = trailing_zeros w64 passed in
+      (z, (low.0, ltb-true (get_or w.allowed z 0) (get_or w.added z 0) (sym (are z low.0) ∙ eq-eqb (bit_at passed z) 1 low.1)))),
+  λ has. elim (cases_eq passed 0) [
+    | inl none ↦ absurd (true≢false (sym (are has.0 has.1.0
+        ∙ lt-ltb (get_or w.allowed has.0 0) (get_or w.added has.0 0) has.1.1) ∙ rw (none, bit_at-zero has.0) refl))
+    | inr some ↦ rw (ne_eqb passed 0 some) refl
+  ],
+)
+  where
+    nonzero : (passed : ℕ) → not (passed == 0) ≡ true → 0 < passed
+    nonzero passed some = elim (cases_eq passed 0) [
+      | inl none ↦ absurd (true≢false (sym some ∙ rw (eq-eqb passed 0 none) refl))
+      | inr more ↦ omega (arith, more)
+    ]
+
+-- a span passes a limit where it is of more updates than the least amount on the count, or some weight is passed
+pub within-passed : (l : LedgerState) (passed : Bool) (count : ℕ) → IsLedger l → count ≡ least_count l.limits
+    → (IsTrue passed ↔ HasPassed (record { reported = l.reported; extended = l.extended; added = l.added; allowed = l.allowed }))
+    → (h : History) (groups : GroupList) → StandsFor l h groups
+    → (passed || nat_lt count (l.extended - l.reported)) ≡ not (within h groups l.limits l.reported l.extended)
+within-passed l passed count is least tells h groups stands = elim (cases_Bool passed) [
+  | inr none ↦ elim (cases_lt count (l.extended - l.reported)) [
     | inl lt ↦ (let over : within h groups l.limits l.reported l.extended ≡ false =
         least-passed (keeps_limit h groups l.reported l.extended) (l.extended - l.reported) most_updates l.limits
         (λ m on less. keeps-false h groups l.reported l.extended m
@@ -181,8 +210,7 @@ within-passed l passed count is fits least are h groups stands = elim (cases_eq 
         (λ i d lt. (let m = get_or l.limits i no_limit in
         let kept : get_or l.added i 0 ≤ get_or l.allowed i 0 =
         elim (cases_lt (get_or l.allowed i 0) (get_or l.added i 0)) [
-          | inl more ↦ absurd (true≢false (sym (are i (omega (arith, lt, is.few))
-              ∙ lt-ltb (get_or l.allowed i 0) (get_or l.added i 0) more) ∙ rw (none, bit_at-zero i) refl))
+          | inl more ↦ absurd (true≢false (sym (tells.1 (i, (omega (arith, lt, is.few), more))) ∙ none))
           | inr less ↦ less
         ] in
         let weight : span h groups m.scope l.reported l.extended ≤ m.amount =
@@ -193,10 +221,9 @@ within-passed l passed count is fits least are h groups stands = elim (cases_eq 
         ∙ le-leb (span h groups m.scope l.reported l.extended) m.amount weight)) in
         rw (none, le-ltb count (l.extended - l.reported) le, all) refl)
   ]
-  | inr some ↦ (let low = bit_at-trailing_zeros w64 passed (omega arith) fits in
-      let z = trailing_zeros w64 passed in
-      let more : get_or l.allowed z 0 < get_or l.added z 0 =
-      ltb-true (get_or l.allowed z 0) (get_or l.added z 0) (sym (are z low.0) ∙ eq-eqb (bit_at passed z) 1 low.1) in
+  | inl some ↦ (let found = tells.0 some in
+      let z = found.0 in
+      let more : get_or l.allowed z 0 < get_or l.added z 0 = found.1.1 in
       let lt : z < length l.limits =
       elim (cases_lt z (length l.limits)) [
         | inl lt ↦ lt
@@ -208,5 +235,5 @@ within-passed l passed count is fits least are h groups stands = elim (cases_eq 
       (keeps-false h groups l.reported l.extended m
       (span-passed h groups m.scope l.reported l.extended m.amount (get_or l.added z 0) (get_or l.allowed z 0)
       (stands.added.each z no_limit lt) (stands.allowed.each z no_limit lt) (stands.added.few z) is.last more)) in
-      rw (ne_eqb passed 0 some, over) refl)
+      rw (some, over) refl)
 ]

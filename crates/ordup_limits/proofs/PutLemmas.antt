@@ -144,26 +144,26 @@ pub put-last : {X : Type 0} (same : X → X → Bool) (xs : List X) (x : X) → 
     → put same xs x ≡ xs ++ x ∷ []
 put-last same xs x is = put-new same xs x (omega (arith, position-none (λ y. same y x) xs is))
 
--- an element that is there has room
-pub room-found : {X : Type 0} (same : X → X → Bool) (xs : List X) (x : X) (i most : ℕ) → Some i ≡ position (λ y. same y x) xs
+-- an element that is there is not one too many
+pub spare-found : {X : Type 0} (same : X → X → Bool) (xs : List X) (x : X) (i most : ℕ) → Some i ≡ position (λ y. same y x) xs
     → length xs ≤ most → true ≡ nat_le (length (put same xs x)) most
-room-found same xs x i most is few =
+spare-found same xs x i most is few =
     sym (le-leb (length (put same xs x)) most (omega (arith, ap length (put-at same xs x i is), length-set xs i x, few)))
 
 -- one that is not has it where there are fewer than the most
-pub room-new : {X : Type 0} (same : X → X → Bool) (xs : List X) (x : X) (n most : ℕ) → None ≡ position (λ y. same y x) xs
+pub spare-new : {X : Type 0} (same : X → X → Bool) (xs : List X) (x : X) (n most : ℕ) → None ≡ position (λ y. same y x) xs
     → n ≡ length xs → nat_lt n most ≡ nat_le (length (put same xs x)) most
-room-new same xs x n most is here =
+spare-new same xs x n most is here =
     let more : length (put same xs x) ≡ n + 1 = omega (arith, ap length (put-last same xs x is), length_push xs x, here) in
     rw more (elim (cases_lt n most) [
       | inl lt ↦ rw (lt-ltb n most lt, le-leb (n + 1) most (omega arith)) refl
       | inr le ↦ rw (le-ltb n most le, lt-leb (n + 1) most (omega arith)) refl
     ])
 
--- where there is room, its place is among the most
+-- where there are few enough, its place is among the most
 pub place-below : {X : Type 0} (same : X → X → Bool) (xs : List X) (x : X) (most : ℕ) → length (put same xs x) ≤ most
     → length xs ≤ most → position_or_len (λ y. same y x) xs < most
-place-below same xs x most room few = elim (cases_lt (position_or_len (λ y. same y x) xs) (length xs)) [
+place-below same xs x most spare few = elim (cases_lt (position_or_len (λ y. same y x) xs) (length xs)) [
   | inl lt ↦ omega arith
   | inr le ↦ omega (
     arith,

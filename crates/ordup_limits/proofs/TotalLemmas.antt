@@ -1,18 +1,17 @@
 -- What changes weigh on the scopes of limits.
-use Rattle.std.proofs.Common.{◌≡◌, ℕ, zero, suc, ◌+◌, ◌-◌, ◌*◌, ◌<◌, ◌≤◌, Bool, true, false, nat_eq, List, [], ◌∷◌}
+use Rattle.std.proofs.Common.{◌≡◌, ℕ, zero, suc, ◌+◌, ◌-◌, ◌<◌, ◌≤◌, Bool, true, false, nat_eq, List, [], ◌∷◌}
 use Rattle.std.proofs.Common.{length, get_or, replicate, sum, sum_by, drop, drop-cons, add-one, arith, refl, sym, ap, ◌∙◌, inl, inr}
 use Rattle.std.specs.Prelude.{◌==◌, All}
 use Rattle.std.specs.List.{list_any}
-use Rattle.std.proofs.lemmas.Bool.{cases_Bool, cases_eq, cases_lt, or_parts, eq-eqb, ne_eqb, eqb-true, lt-ltb, le-ltb}
+use Rattle.std.proofs.lemmas.Bool.{cases_Bool, cases_eq, cases_lt, or_parts, eq-eqb, ne_eqb, eqb-true}
 use Rattle.std.proofs.Math.Nat.{min-le_right}
-use Rattle.std.proofs.lemmas.List.{get_or_past}
 use Rattle.std.proofs.lemmas.List.Sums.{sum_by-cons}
 use Rattle.ordup_objects.specs.declared.change.Change.{Change}
 use Rattle.ordup_objects.specs.declared.moved.Moved.{Moved}
 use Rattle.ordup_objects.specs.Repeats.{repeats}
 use Rattle.ordup_objects.specs.Sets.{are_of_one_object}
 use Rattle.ordup_objects.specs.Serial.{History, serial, IsLegalHistory}
-use Rattle.ordup_objects.specs.Sizes.{most_objects, greatest_distance, greatest_weight}
+use Rattle.ordup_objects.specs.Sizes.{greatest_distance, greatest_weight}
 use Rattle.ordup_objects.specs.States.{State}
 use Rattle.ordup_objects.specs.Sums.{sum_from}
 use Rattle.ordup_objects.specs.Weights.{object_weight, distance_by, distances_of}
@@ -29,9 +28,10 @@ use Rattle.ordup_log.proofs.MovingLemmas.{known-moves}
 use Rattle.ordup_log.proofs.SpanLemmas.{span-count}
 use Rattle.ordup_log.proofs.WeightLemmas.{distance_beside-at, distances-few, sum-at, sum-few}
 use Rattle.ordup_limits.specs.declared.limit.Limit.{Limit}
-use Rattle.ordup_limits.specs.Limits.{Limits, is_same_scope, AreScopesKnown}
+use Rattle.ordup_limits.specs.Limits.{Limits, is_same_scope}
 use Rattle.ordup_limits.specs.Sizes.{most_limits, greatest_amount}
-use Rattle.ordup_limits.specs.Totals.{counts_on, weighed, kept_amount, AreTotals, AreAllowed, has_bit, AreMasks, share, weight_of, weight_where}
+use Rattle.ordup_limits.specs.Masks.{counts_on}
+use Rattle.ordup_limits.specs.Totals.{weighed, kept_amount, share, weight_of, weight_where, AreAllowed, AreTotals}
 
 -- ---- changes that pass a test
 
@@ -42,7 +42,7 @@ eqb-sym a b = elim (cases_eq a b) [
 ]
 
 -- tests that agree on the objects of moves
-weight_of-same : (p q : ℕ → Bool) (ds : List Moved)
+pub weight_of-same : (p q : ℕ → Bool) (ds : List Moved)
     → ((k : ℕ) (d : Moved) → k < length ds → p (get_or ds k d).object ≡ q (get_or ds k d).object)
     → weight_of p ds ≡ weight_of q ds
 weight_of-same p q [] same = refl
@@ -54,7 +54,7 @@ weight_of-same p q (d ∷ ds) same =
     )
 
 -- a test that none passes
-weight_of-none : (ds : List Moved) → weight_of (λ z. false) ds ≡ 0
+pub weight_of-none : (ds : List Moved) → weight_of (λ z. false) ds ≡ 0
 weight_of-none [] = refl
 weight_of-none (d ∷ ds) = omega (arith, weight_of-none ds)
 
@@ -171,7 +171,7 @@ few-moves v (c ∷ m) few =
     (few-moves v m (λ k d lt. few (suc k) d (omega arith)))
 
 -- the moves of an update are on objects that are there
-moves-known : (h : History) → IsLegalHistory h → (j : ℕ) → j < length h.sets
+pub moves-known : (h : History) → IsLegalHistory h → (j : ℕ) → j < length h.sets
     → All (λ (d : Moved). d.object < length h.start) (moves_of (serial h j) (get_or h.sets j []))
 moves-known h legal j lt =
     known-moves (serial h j) (get_or h.sets j []) (length h.start) (λ k c few. (legal.known j [] lt k c few).0)
@@ -252,112 +252,27 @@ weighed-more h legal groups are Count known a b le last =
       sum_from-constant 0 a (b - a),
     )
 
--- those of one update, with the update itself
+-- one update
+pub sum-one : (f : ℕ → ℕ) (j n : ℕ) → n ≡ suc zero → sum_from f j n ≡ f j
+sum-one f j n one = let same : j + 0 ≡ j = omega arith in rw one (omega (arith, ap f same))
+
+-- what one update more weighs: its changes, and itself
 pub span-one : (h : History) → IsLegalHistory h → (groups : GroupList) → All (λ g. IsGroup g.1) groups → (s : Scope)
-    → IsScopeKnown (length h.start) groups s → (place : ℕ) → 0 < place → place ≤ length h.sets
-    → span h groups s 0 (place - 1) + share (is_same_scope Count s) 1 + weight_where (counts_on groups s) h (place - 1)
-    ≡ span h groups s 0 place
-span-one h legal groups are s known place some last =
+    → IsScopeKnown (length h.start) groups s → (j : ℕ) → j < length h.sets
+    → span h groups s 0 j + share (is_same_scope Count s) 1 + weight_where (counts_on groups s) h j ≡ span h groups s 0 (j + 1)
+span-one h legal groups are s known j last =
     let f = weight_where (counts_on groups s) h in
-    let one : place - (place - 1) ≡ suc zero = omega (arith, some) in
-    let same : place - 1 + 0 ≡ place - 1 = omega arith in
-    let sum : sum_from f (place - 1) (place - (place - 1)) ≡ f (place - 1) = rw one (omega (arith, ap f same)) in
-    span-one-of h groups s place some
-    (omega (arith, weighed-more h legal groups are s known (place - 1) place (omega arith) last, sum))
+    let one : j + 1 - j ≡ suc zero = omega arith in
+    span-one-of h groups s j
+    (omega (arith, weighed-more h legal groups are s known j (j + 1) (omega arith) (omega (arith, last)), sum-one f j (j + 1 - j) one))
   where
-    span-one-of : (h : History) (groups : GroupList) (s : Scope) (place : ℕ) → 0 < place
-        → weighed h groups s (place - 1) + weight_where (counts_on groups s) h (place - 1) ≡ weighed h groups s place
-        → span h groups s 0 (place - 1) + share (is_same_scope Count s) 1 + weight_where (counts_on groups s) h (place - 1)
-        ≡ span h groups s 0 place
-    span-one-of h groups (Object x) place some e = omega (arith, e)
-    span-one-of h groups (Group g) place some e = omega (arith, e)
-    span-one-of h groups Everything place some e = omega (arith, e)
-    span-one-of h groups Count place some e =
-        omega (arith, e, some, span-count h groups 0 (place - 1), span-count h groups 0 place)
-
--- a mask tells whether an object's changes count on a limit
-counts_at : (groups : GroupList) (limits : Limits) (masks : List ℕ) → length limits ≤ most_limits → AreMasks groups limits masks
-    → (x i : ℕ) (d : Limit) → x < most_objects → i < length limits
-    → has_bit masks i x ≡ counts_on groups (get_or limits i d).scope x
-counts_at groups limits masks few masked x i d below lt =
-    masked x i d below (omega arith) ∙ rw (lt-ltb i (length limits) lt) refl
-
--- what the changes that have the bits of a limit weigh is what the updates weigh on its scope
-raised-weight : (h : History) (groups : GroupList) (limits : Limits) (masks : List ℕ) (a b : ℕ)
-    → IsLegalHistory h → All (λ g. IsGroup g.1) groups → AreScopesKnown (length h.start) groups limits
-    → length h.start ≤ most_objects → length limits ≤ most_limits → AreMasks groups limits masks → a ≤ b → b ≤ length h.sets
-    → (i : ℕ) (d : Limit) → i < length limits
-    → weighed h groups (get_or limits i d).scope a + sum_from (weight_where (has_bit masks i) h) a (b - a)
-    ≡ weighed h groups (get_or limits i d).scope b
-raised-weight h groups limits masks a b legal are known objects most masked le last i d lt =
-    let s = (get_or limits i d).scope in
-    let same : sum_from (weight_where (has_bit masks i) h) a (b - a) ≡ sum_from (weight_where (counts_on groups s) h) a (b - a) =
-    sum_from-same _ _ a (b - a)
-    (λ j below. let moves = moves_of (serial h j) (get_or h.sets j []) in
-    weight_of-same (has_bit masks i) (counts_on groups s) moves
-    (λ k e at. counts_at groups limits masks most masked (get_or moves k e).object i d
-    (let there = moves-known h legal j (omega arith) k e at in omega (arith, there)) lt)) in
-    let more = weighed-more h legal groups are s (known i d lt) a b le last in
-    omega (arith, more, same)
-
--- and nothing where there is no limit
-raised-none : (h : History) (groups : GroupList) (limits : Limits) (masks : List ℕ) (a b : ℕ)
-    → IsLegalHistory h → length h.start ≤ most_objects → AreMasks groups limits masks → a ≤ b → b ≤ length h.sets
-    → (i : ℕ) → length limits ≤ i → i < most_limits → sum_from (weight_where (has_bit masks i) h) a (b - a) ≡ 0
-raised-none h groups limits masks a b legal objects masked le last i past few =
-    let no : (x : ℕ) → x < most_objects → has_bit masks i x ≡ false =
-    λ x below. masked x i (record { scope = Count; amount = 0 }) below few ∙ rw (le-ltb i (length limits) past) refl in
-    omega (
-      arith,
-      sum_from-same (weight_where (has_bit masks i) h) (λ j. 0) a (b - a)
-          (λ j below. let moves = moves_of (serial h j) (get_or h.sets j []) in
-          weight_of-same (has_bit masks i) (λ z. false) moves
-          (λ k e at. no (get_or moves k e).object (let there = moves-known h legal j (omega arith) k e at in omega (arith, there)))
-          ∙ weight_of-none moves),
-      sum_from-constant 0 a (b - a),
-    )
-
--- totals that are raised by the changes that have the bits of the masks
-pub AreTotals-raised : {h : History} {groups : GroupList} {limits : Limits} (masks : List ℕ) {old new : List ℕ} {a b : ℕ}
-    → IsLegalHistory h → All (λ g. IsGroup g.1) groups → AreScopesKnown (length h.start) groups limits
-    → length h.start ≤ most_objects → length limits ≤ most_limits → AreMasks groups limits masks → a ≤ b → b ≤ length h.sets
-    → AreTotals h groups limits a old → length new ≡ most_limits
-    → ((i : ℕ) → get_or new i 0 ≤ greatest_weight * b)
-    → ((i : ℕ) → i < most_limits → get_or new i 0 ≡ get_or old i 0 + sum_from (weight_where (has_bit masks i) h) a (b - a))
-    → AreTotals h groups limits b new
-AreTotals-raised {h} {groups} {limits} masks {new = new} {a = a} {b = b} legal are known objects most masked le last before count few raised =
-    record {
-      few = few;
-      none = λ i past. elim (cases_lt i most_limits) [
-        | inl small ↦ omega (
-          arith,
-          raised i small,
-          before.none i past,
-          raised-none h groups limits masks a b legal objects masked le last i past small,
-        )
-        | inr beyond ↦ get_or_past new i 0 (omega arith)
-      ];
-      each = λ i d lt. (let first = before.each i d lt in
-          let more = raised-weight h groups limits masks a b legal are known objects most masked le last i d lt in
-          let now = raised i (omega arith) in
-          omega (arith, now, first, more));
-    }
-
--- and what is allowed that is raised so
-pub AreAllowed-raised : {h : History} {groups : GroupList} {limits : Limits} (masks : List ℕ) {old new : List ℕ} {a b : ℕ}
-    → IsLegalHistory h → All (λ g. IsGroup g.1) groups → AreScopesKnown (length h.start) groups limits
-    → length h.start ≤ most_objects → length limits ≤ most_limits → AreMasks groups limits masks → a ≤ b → b ≤ length h.sets
-    → AreAllowed h groups limits a old
-    → ((i : ℕ) → get_or new i 0 ≤ greatest_amount + greatest_weight * b)
-    → ((i : ℕ) → i < most_limits → get_or new i 0 ≡ get_or old i 0 + sum_from (weight_where (has_bit masks i) h) a (b - a))
-    → AreAllowed h groups limits b new
-AreAllowed-raised {h} {groups} {limits} masks {a = a} {b = b} legal are known objects most masked le last before few raised = record {
-  few = few;
-  each = λ i d lt. (let first = before.each i d lt in
-      let more = raised-weight h groups limits masks a b legal are known objects most masked le last i d lt in
-      let now = raised i (omega arith) in
-      omega (arith, now, first, more));
-}
+    span-one-of : (h : History) (groups : GroupList) (s : Scope) (j : ℕ)
+        → weighed h groups s j + weight_where (counts_on groups s) h j ≡ weighed h groups s (j + 1)
+        → span h groups s 0 j + share (is_same_scope Count s) 1 + weight_where (counts_on groups s) h j ≡ span h groups s 0 (j + 1)
+    span-one-of h groups (Object x) j e = omega (arith, e)
+    span-one-of h groups (Group g) j e = omega (arith, e)
+    span-one-of h groups Everything j e = omega (arith, e)
+    span-one-of h groups Count j e = omega (arith, e, span-count h groups 0 j, span-count h groups 0 (j + 1))
 
 -- totals with the amounts of the limits
 pub AreAllowed-amounts : (h : History) (groups : GroupList) (limits : Limits) (place : ℕ) (old new : List ℕ)

@@ -38,8 +38,8 @@ abbrev pub in_force : Entries → ℕ → Limits
 in_force entries k = latest (filter (λ e. nat_le e.place k) entries)
 
 -- the limits that are in force at the end of a span are a test of spans, as the law of the fewest rounds asks for it
-abbrev pub LimitsInForceAreTests : Type 0
-LimitsInForceAreTests =
+abbrev pub LimitsInForceAreALimitTest : Type 0
+LimitsInForceAreALimitTest =
     (h : History) (groups : GroupList) (entries : Entries) → IsLimitTest (λ a b. within h groups (in_force entries b) a b)
 
 -- the limits in force at a place are on the first of the scopes that have a limit now, in the same order: so a number among them is

@@ -5,8 +5,9 @@ use Rattle.ordup_objects.specs.Serial.{History, with_more}
 use Rattle.ordup_objects.specs.Sizes.{most_objects, most_updates}
 use Rattle.ordup_log.specs.Groups.{GroupList}
 use Rattle.ordup_limits.specs.Limits.{Limits, AreScopesKnown}
+use Rattle.ordup_limits.specs.Masks.{AreMasks}
 use Rattle.ordup_limits.specs.Sizes.{most_limits}
-use Rattle.ordup_limits.specs.Totals.{AreTotals, AreAllowed, AreMasks}
+use Rattle.ordup_limits.specs.Totals.{AreTotals, AreAllowed}
 
 -- the last limit of a site on each scope, two places of a log, for each limit what the updates up to the second place weigh and
 -- which weight is allowed, and for each object the mask of the limits that its changes count on, once a call has seen the groups
@@ -23,9 +24,6 @@ pub record LedgerState : Type 0 where
 pub record IsLedger (l : LedgerState) : Type 0 where
   pub few : length l.limits ≤ most_limits
   pub last : l.extended ≤ most_updates
-  pub added : length l.added ≡ most_limits
-  pub allowed : length l.allowed ≡ most_limits
-  pub masks : length l.masks ≡ most_objects
   pub empty : l.has_masks ≡ false → (x : ℕ) → slice_index l.masks x ≡ 0
 
 -- a ledger is of this history and these groups: both of its places are there, and its weights are those of its places

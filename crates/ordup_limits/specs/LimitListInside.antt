@@ -7,7 +7,7 @@ use Rattle.ordup_limits.specs.declared.limit_list.LimitList.TheInside.{Inside}
 abbrev pub limits_of : Inside → Limits
 limits_of l = take l.count l.limits
 
--- there is room for each scope of a site
+-- the array is as long as a site may have limits, and no more of them count
 pub record HasFewLimits (l : Inside) : Type 0 where
-  pub room : length l.limits ≡ most_limits
+  pub size : length l.limits ≡ most_limits
   pub few : l.count ≤ most_limits

@@ -1,6 +1,6 @@
 -- A site in the fields of a `SiteLedger`.
 use Rattle.std.specs.Prelude.{◌≡◌, ℕ, ◌≤◌, length, slice_index}
-use Rattle.ordup_limits.specs.SiteLedgers.{SiteLedgerState, most_scopes}
+use Rattle.ordup_limits.specs.StoreLedgers.{SiteLedgerState, most_scopes}
 use Rattle.ordup_limits.specs.Sizes.{greatest_amount}
 use Rattle.ordup_limits.specs.declared.site_ledger.SiteLedger.TheInside.{Inside}
 

@@ -1,6 +1,6 @@
 -- Weights in the fields of a `Weights`.
 use Rattle.std.specs.Prelude.{◌≡◌, length}
-use Rattle.ordup_limits.specs.SiteLedgers.{WeightsAt, most_scopes}
+use Rattle.ordup_limits.specs.StoreLedgers.{WeightsAt, most_scopes}
 use Rattle.ordup_limits.specs.declared.weights.Weights.TheInside.{Inside}
 
 module _ {A : Type 0} where

@@ -41,19 +41,19 @@ pub(crate) fn in_force(entries: &[LimitEntry], place: u64) -> LimitList
     limits
 }
 
-/// Whether there is room for an entry among these, whose scopes have the limits.
-pub(crate) fn has_room(entries: &[LimitEntry], limits: &LimitList, entry: &LimitEntry) -> bool
+/// Whether this entry may be put among these, whose scopes have the limits.
+pub(crate) fn has_spare(entries: &[LimitEntry], limits: &LimitList, entry: &LimitEntry) -> bool
     requires few { length entries.now ≤ most_entries }
     requires rising { IsNonDecreasingBy (λ e. e.place) entries.now }
     requires limits { limits.now ≡ latest entries.now }
     requires changed { latest (changed entries.now entry.now) ≡ put are_on_one_scope limits.now entry.now.limit }
     ensures { result ≡ has_few (changed entries.now entry.now) }
 {
-    has_scope_room(limits, &entry.limit) && has_entry_room(entries, entry)
+    has_spare_scope(limits, &entry.limit) && has_spare_entry(entries, entry)
 }
 
 /// Whether the scope is among those of the limits, or there are fewer than 64.
-fn has_scope_room(limits: &LimitList, limit: &Limit) -> bool
+fn has_spare_scope(limits: &LimitList, limit: &Limit) -> bool
     ensures { result ≡ nat_le (length (put are_on_one_scope limits.now limit.now)) most_limits }
 {
     let count = limits.len();
@@ -64,7 +64,7 @@ fn has_scope_room(limits: &LimitList, limit: &Limit) -> bool
 }
 
 /// Whether the entry would take the place of one of these, or there are fewer than 1,088.
-fn has_entry_room(entries: &[LimitEntry], entry: &LimitEntry) -> bool
+fn has_spare_entry(entries: &[LimitEntry], entry: &LimitEntry) -> bool
     requires few { length entries.now ≤ most_entries }
     requires rising { IsNonDecreasingBy (λ e. e.place) entries.now }
     ensures { result ≡ nat_le (length (changed entries.now entry.now)) most_entries }

@@ -7,14 +7,11 @@ ghost use Rattle.ordup_limits.specs.Limits.{within, are_on_one_scope, AreScopesK
 ghost use Rattle.ordup_limits.specs.Entries.{latest, put, AreEntriesKnown};
 ghost use Rattle.ordup_limits.specs.Sizes.{most_limits};
 
+use crate::lag_weights::LagWeights;
 use crate::limit::Limit;
 use crate::limit_list::LimitList;
 use crate::limit_table::LimitTable;
-use crate::masks::{fill, no_masks, put_scope};
-use crate::passed::{least_count, passed_among, passed_of, with_bit};
-use crate::totals::{
-    add_amounts, extend_to, kept_amount, move_added, move_allowed, no_totals, raise_to, weighed,
-};
+use crate::masks::Masks;
 use ordup_log::{Groups, Log, Scope};
 use ordup_objects::Refusal;
 use std::alloc::{Allocator, Global};
@@ -33,24 +30,18 @@ use std::marker::Model;
 pub struct LagLedger<A: Allocator + Copy = Global> {
     /// The last limit on each scope.
     limits: LimitList,
-    reported: u64,
-    extended: u64,
-    /// For each limit what the updates up to the extended place weigh on its scope; nothing is kept on the count of updates.
-    added: Vec<u64, A>,
-    /// For each limit its amount with what the updates up to the reported place weigh. It is kept up to this weight of `added`.
-    allowed: Vec<u64, A>,
-    /// For each object the limits on whose scopes its changes count, a bit for each, once a call has seen the groups.
-    masks: Vec<u64, A>,
+    /// For each limit what the updates weigh up to the places.
+    weights: LagWeights<A>,
+    /// For each object the limits on whose scopes its changes count, once a call has seen the groups.
+    masks: Masks<A>,
     has_masks: bool,
     /// The amount of the limit on the count of updates; without one the most updates of a log.
     count: u64,
-    /// The other limits that the span between the places passes, a bit for each.
-    passed: u64,
 }
 
 impl<A: Allocator + Copy> Model for LagLedger<A> {
     ghost use Rattle.ordup_limits.specs.Ledgers.{LedgerState};
-    ghost use Rattle.ordup_limits.specs.LedgerInside.{ledger_of, KeepsLedger};
+    ghost use Rattle.ordup_limits.specs.LagLedgerInside.{ledger_of, KeepsLedger};
 
     ghost Value = { LedgerState };
 
@@ -61,7 +52,7 @@ impl<A: Allocator + Copy> Model for LagLedger<A> {
 
 impl<A: Allocator + Copy> LagLedger<A> {
     ghost use Rattle.ordup_limits.specs.Ledgers.{StandsFor};
-    ghost use Rattle.ordup_limits.specs.Totals.{AreMasks};
+    ghost use Rattle.ordup_limits.specs.Masks.{AreMasks};
 
     /// A ledger of these limits that stands at the places 0 and 0 of each log over at most 256 objects.
     ///
@@ -73,22 +64,16 @@ impl<A: Allocator + Copy> LagLedger<A> {
             AreEntriesKnown (length h.start) groups limits.now → StandsFor ledger h groups) }
         ensures refused { IfErr result (λ e. e ≡ Refusal.NoMemory) }
     {
-        let added = no_totals(alloc)?;
-        let mut allowed = no_totals(alloc)?;
-        let masks = no_masks(alloc)?;
         let limits = limits.latest().copy();
-        add_amounts(&mut allowed, limits.as_slice());
-        let count = least_count(limits.as_slice());
+        let weights = LagWeights::new(alloc, &limits)?;
+        let masks = Masks::new(alloc)?;
+        let count = limits.least_count();
         Ok(LagLedger {
             limits,
-            reported: 0,
-            extended: 0,
-            added,
-            allowed,
+            weights,
             masks,
             has_masks: false,
             count,
-            passed: 0,
         })
     }
 
@@ -104,16 +89,7 @@ impl<A: Allocator + Copy> LagLedger<A> {
         log.keeps();
         groups.keeps();
         self.prepare(groups);
-        self.passed = extend_to(
-            &mut self.added,
-            self.allowed.as_slice(),
-            self.passed,
-            log,
-            self.masks.as_slice(),
-            self.extended,
-            to,
-        );
-        self.extended = to;
+        self.weights.extend(log, &self.masks, to);
     }
 
     /// Takes off the updates up to a place that the site has reported. It takes no memory.
@@ -126,22 +102,18 @@ impl<A: Allocator + Copy> LagLedger<A> {
         ensures stands { StandsFor self.new log.now groups.now }
     {
         // A turn between threads reports for each site, also where there is nothing new.
-        if to == self.reported {
+        if to == self.weights.reported() {
             return;
         }
         log.keeps();
         groups.keeps();
         self.prepare(groups);
-        let masks = self.masks.as_slice();
-        raise_to(&mut self.allowed, log, masks, self.reported, to);
-        self.reported = to;
-        let (added, allowed) = (self.added.as_slice(), self.allowed.as_slice());
-        self.passed = passed_among(added, allowed, self.passed);
+        self.weights.report(log, &self.masks, to);
     }
 
     /// Changes the amount of the limit on a scope, or begins a limit there, with an amount from 0 to 10^18. It takes no memory.
     pub fn change(&mut self, log: &Log<A>, groups: &Groups<A>, scope: Scope, amount: u64)
-        requires room { length (put are_on_one_scope self.old.limits (record { scope = scope; amount = amount })) ≤ most_limits }
+        requires spare { length (put are_on_one_scope self.old.limits (record { scope = scope; amount = amount })) ≤ most_limits }
         requires known { IsScopeKnown (length log.now.start) groups.now scope }
         requires stands { StandsFor self.old log.now groups.now }
         ensures limits { self.new.limits ≡ put are_on_one_scope self.old.limits (record { scope = scope; amount = amount }) }
@@ -151,22 +123,13 @@ impl<A: Allocator + Copy> LagLedger<A> {
         log.keeps();
         groups.keeps();
         self.prepare(groups);
-        // The prover joins branches over a borrowed scope, not over a copied one.
-        let scope = &scope;
+        let limit = Limit { scope, amount };
         // What is kept for the scope is put down again, also where it stays the same.
-        let index = self.limits.index_for(scope);
-        put_scope(&mut self.masks, groups, *scope, index);
-        let limit = Limit {
-            scope: *scope,
-            amount,
-        };
-        let total = weighed(log, groups, *scope, self.extended);
-        let allowed = kept_amount(&limit) + weighed(log, groups, *scope, self.reported);
-        self.added[index] = total;
-        self.allowed[index] = allowed;
+        let index = self.limits.index_for(&limit.scope);
+        self.masks.put_scope(groups, &limit.scope, index);
+        self.weights.put(index, &limit, log, groups);
         self.limits.put(&limit);
-        self.count = least_count(self.limits.as_slice());
-        self.passed = with_bit(self.passed, index, total > allowed);
+        self.count = self.limits.least_count();
     }
 
     /// Puts the ledger at two places of the log, wherever it stood. It takes no memory.
@@ -181,13 +144,8 @@ impl<A: Allocator + Copy> LagLedger<A> {
         ensures stands { StandsFor self.new log.now groups.now }
     {
         log.keeps();
-        let limits = self.limits.as_slice();
-        let (from, until) = (self.reported, self.extended);
-        move_allowed(&mut self.allowed, limits, log, groups, from, reported);
-        move_added(&mut self.added, limits, log, groups, until, extended);
-        self.reported = reported;
-        self.extended = extended;
-        self.passed = passed_of(self.added.as_slice(), self.allowed.as_slice());
+        self.weights
+            .stand_at(&self.limits, log, groups, reported, extended);
     }
 
     /// Whether the span from the reported place to the extended one passes a limit. Equal is not over.
@@ -195,7 +153,7 @@ impl<A: Allocator + Copy> LagLedger<A> {
         ensures { (h : History) (groups : GroupList) → StandsFor self.now h groups →
             result ≡ not (within h groups self.now.limits self.now.reported self.now.extended) }
     {
-        self.passed != 0 || self.extended.saturating_sub(self.reported) > self.count
+        self.weights.has_passed() || self.weights.lag() > self.count
     }
 
     /// The last limit on each scope, in the order in which the scopes came.
@@ -213,11 +171,8 @@ impl<A: Allocator + Copy> LagLedger<A> {
     {
         let limit = &self.limits.as_slice()[index];
         match limit.scope {
-            Scope::Count => self.extended.saturating_sub(self.reported),
-            Scope::Object(_) | Scope::Group(_) | Scope::All => {
-                let reported = self.allowed[index].saturating_sub(kept_amount(limit));
-                self.added[index].saturating_sub(reported)
-            }
+            Scope::Count => self.weights.lag(),
+            Scope::Object(_) | Scope::Group(_) | Scope::All => self.weights.lag_on(index, limit),
         }
     }
 
@@ -233,7 +188,7 @@ impl<A: Allocator + Copy> LagLedger<A> {
         if self.has_masks {
             return;
         }
-        fill(&mut self.masks, self.limits.as_slice(), groups);
+        self.masks.fill(&self.limits, groups);
         self.has_masks = true;
     }
 }

@@ -1,5 +1,6 @@
 ghost use Rattle.ordup_limits.specs.Limits.{LongerHistoriesKeepLimits, LaterSpansKeepLimits, EmptySpansKeepLimits};
-ghost use Rattle.ordup_limits.specs.Entries.{LimitsInForceAreTests, LimitsInForceKeepTheirNumbers};
+ghost use Rattle.ordup_limits.specs.Entries.{LimitsInForceAreALimitTest, LimitsInForceKeepTheirNumbers};
+ghost use Rattle.ordup_limits.specs.Joins.{LimitsByPlaceAreTests, TestsJoin};
 ghost use Rattle.ordup_limits.specs.Ledgers.{LongerHistoriesKeepLedgers};
 
 /// A law: updates that are added later leave it as it was whether a span passes a limit.
@@ -18,8 +19,20 @@ pub fn empty_spans_keep_limits()
 {}
 
 /// A law: the limits that are in force at the end of a span are a test of spans, as the law of the fewest rounds asks for it.
-pub fn limits_in_force_are_tests()
-    ensures { LimitsInForceAreTests }
+pub fn limits_in_force_are_a_limit_test()
+    ensures { LimitsInForceAreALimitTest }
+{}
+
+/// A law: limits that are others at each place are a test of spans too, by those of the place where a span ends.
+pub fn limits_by_place_are_tests()
+    ensures { LimitsByPlaceAreTests }
+{}
+
+/// A law: the test of a history that goes on in a next one is that of each on its part, whatever limits each has at its places.
+///
+/// So the rounds of a store and of one that goes on from it are the fewest of both together (`fewest_rounds_join`).
+pub fn tests_join()
+    ensures { TestsJoin }
 {}
 
 /// A law: the number of a limit that is in force at a place, which `LimitTable::over` answers, is that of the same scope in

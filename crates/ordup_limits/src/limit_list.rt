@@ -2,11 +2,13 @@ ghost use Rattle.std.specs.Prelude.{◌≡◌, ◌≤◌, ◌<◌, ◌++◌, ◌
 ghost use Rattle.std.specs.List.{position, position_or_len};
 ghost use Rattle.ordup_limits.specs.Entries.{put};
 ghost use Rattle.ordup_limits.specs.Limits.{is_same_scope, are_on_one_scope};
+ghost use Rattle.ordup_limits.specs.PassedLimits.{least_count, least_with};
 ghost use Rattle.ordup_limits.specs.Sizes.{most_limits};
 
 use crate::limit::Limit;
 use crate::sizes::MOST_LIMITS;
 use ordup_log::Scope;
+use ordup_objects::sizes::MOST_UPDATES;
 use std::marker::Model;
 
 /// At most 64 limits, each on a scope of its own. It takes no memory.
@@ -92,6 +94,18 @@ impl LimitList {
         }
     }
 
+    /// The least amount of the limits on the count of updates. Without one it is the most updates of a log, which none passes.
+    pub(crate) fn least_count(&self) -> u64
+        ensures least { result ≡ least_count self.now }
+        ensures few { length self.now ≤ most_limits }
+    {
+        let mut least = MOST_UPDATES as u64;
+        for limit in self.as_slice() {
+            least = least_with(least, limit);
+        }
+        least
+    }
+
     /// How many limits there are.
     pub(crate) fn len(&self) -> usize
         ensures len { result ≡ length self.now }
@@ -106,5 +120,15 @@ impl LimitList {
         ensures few { length self.now ≤ most_limits }
     {
         &self.limits[..self.count]
+    }
+}
+
+/// The lesser of a number and the limit's amount, where it is on the count of updates.
+fn least_with(least: u64, limit: &Limit) -> u64
+    ensures { result ≡ least_with least limit.now.scope limit.now.amount }
+{
+    match limit.scope {
+        Scope::Count => least.min(limit.amount),
+        Scope::Object(_) | Scope::Group(_) | Scope::All => least,
     }
 }

@@ -5,7 +5,7 @@ ghost use Rattle.ordup_log.specs.Spans.{span, IsScopeKnown};
 ghost use Rattle.ordup_limits.specs.Limits.{scope_refusal, limit_refusal, is_same_scope, keeps_limit, within, first_passed, AreScopesKnown};
 ghost use Rattle.ordup_limits.specs.Entries.{entry_of, changed, change_refusal, from_start, in_force, latest, HoldFrom, AreEntries, AreEntriesKnown};
 
-use crate::entries::{has_room, hold_from, in_force, put_entry};
+use crate::entries::{has_spare, hold_from, in_force, put_entry};
 use crate::limit::Limit;
 use crate::limit_entry::LimitEntry;
 use crate::limit_list::LimitList;
@@ -172,7 +172,7 @@ impl<A: Allocator + Copy> LimitTable<A> {
             scope: *scope,
             amount,
         };
-        if !has_room(
+        if !has_spare(
             self.entries.as_slice(),
             &self.limits,
             &LimitEntry { limit, place },

@@ -2,11 +2,12 @@ ghost use Rattle.std.specs.Prelude.{◌≡◌, ◌≤◌, ◌<◌, ℕ, IfOk, If
 ghost use Rattle.ordup_objects.specs.Sizes.{most_objects};
 ghost use Rattle.ordup_log.specs.Spans.{IsScopeKnown};
 ghost use Rattle.ordup_limits.specs.Entries.{AreEntriesKnown};
-ghost use Rattle.ordup_limits.specs.SiteLedgers.{allowed, group_limits, most_scopes, scope_index, AreWeights, IsFirstSite};
+ghost use Rattle.ordup_limits.specs.Masks.{AreGroupMasks};
+ghost use Rattle.ordup_limits.specs.StoreLedgers.{allowed, most_scopes, scope_index, AreWeights, IsFirstSite};
 ghost use Rattle.ordup_limits.specs.Sizes.{greatest_amount};
-ghost use Rattle.ordup_limits.specs.Totals.{AreMasks};
 
 use crate::limit_table::LimitTable;
+use crate::masks::Masks;
 use crate::sizes::GREATEST_AMOUNT;
 use crate::weights::Weights;
 use ordup_log::{Groups, Log, Scope};
@@ -18,7 +19,7 @@ use std::marker::Model;
 /// The scopes that there may be: each object, each group, all objects and the count of updates.
 const MOST_SCOPES: usize = MOST_OBJECTS + MOST_GROUPS + 2;
 
-/// What is kept of a site: what the updates weigh that it has reported, and its limits.
+/// What a store ledger keeps of one site: what the updates weigh that it has reported, and its limits.
 #[derive(Drop)]
 pub(crate) struct SiteLedger<A: Allocator + Copy = Global> {
     reported: Weights<A>,
@@ -27,7 +28,7 @@ pub(crate) struct SiteLedger<A: Allocator + Copy = Global> {
 }
 
 impl<A: Allocator + Copy> Model for SiteLedger<A> {
-    ghost use Rattle.ordup_limits.specs.SiteLedgers.{SiteLedgerState};
+    ghost use Rattle.ordup_limits.specs.StoreLedgers.{SiteLedgerState};
     ghost use Rattle.ordup_limits.specs.SiteLedgerInside.{site_of, KeepsAmounts};
 
     ghost Value = { SiteLedgerState };
@@ -50,27 +51,26 @@ impl<A: Allocator + Copy> SiteLedger<A> {
             amounts: for_each_scope(alloc, GREATEST_AMOUNT)?,
         };
         for entry in limits.entries() {
-            site.put(entry.limit.scope, entry.limit.amount);
+            site.put(&entry.limit.scope, entry.limit.amount);
         }
         Ok(site)
     }
 
     /// Puts down the amount of the limit on a scope.
-    pub(crate) fn put(&mut self, scope: Scope, amount: u64)
-        requires { scope_index scope < most_scopes }
-        ensures put { self.new ≡ record self.old { amounts = slice_set self.old.amounts (scope_index scope) (min amount greatest_amount) } }
+    pub(crate) fn put(&mut self, scope: &Scope, amount: u64)
+        requires { scope_index scope.now < most_scopes }
+        ensures put { self.new ≡ record self.old { amounts = slice_set self.old.amounts (scope_index scope.now) (min amount greatest_amount) } }
         ensures count { length self.old.amounts ≡ most_scopes }
     {
-        self.amounts[scope_index(scope)] = amount.min(GREATEST_AMOUNT);
+        self.amounts[scope_index(*scope)] = amount.min(GREATEST_AMOUNT);
     }
 
-    /// Notes that the site has reported the updates up to a place. A mask has the groups of each object, a bit for each.
-    pub(crate) fn report(&mut self, log: &Log<A>, groups: &Groups<A>, masks: &[u64], to: u64)
+    /// Notes that the site has reported the updates up to a place.
+    pub(crate) fn report(&mut self, log: &Log<A>, groups: &Groups<A>, masks: &Masks<A>, to: u64)
         requires forward { self.old.reported.place ≤ to }
         requires last { to ≤ length log.now.sets }
         requires objects { length log.now.start ≤ most_objects }
-        requires count { length masks.now ≡ most_objects }
-        requires masks { AreMasks groups.now (group_limits (length groups.now)) masks.now }
+        requires masks { AreGroupMasks groups.now masks.now }
         requires weights { AreWeights self.old.reported log.now groups.now }
         ensures place { self.new.reported.place ≡ to }
         ensures weights { AreWeights self.new.reported log.now groups.now }
@@ -80,14 +80,13 @@ impl<A: Allocator + Copy> SiteLedger<A> {
     }
 
     /// Up to which weight of the log the site keeps its limit on a scope.
-    pub(crate) fn allowed(&self, log: &Log<A>, groups: &Groups<A>, scope: Scope) -> u64
+    pub(crate) fn allowed(&self, log: &Log<A>, groups: &Groups<A>, scope: &Scope) -> u64
         requires weights { AreWeights self.now.reported log.now groups.now }
-        requires index { scope_index scope < most_scopes }
-        requires known { IsScopeKnown (length log.now.start) groups.now scope }
-        ensures { result ≡ allowed log.now groups.now self.now scope }
+        requires index { scope_index scope.now < most_scopes }
+        requires known { IsScopeKnown (length log.now.start) groups.now scope.now }
+        ensures { result ≡ allowed log.now groups.now self.now scope.now }
     {
-        let scope = &scope;
-        self.amounts[scope_index(*scope)] + self.reported.on(log, groups, *scope)
+        self.amounts[scope_index(*scope)] + self.reported.on(log, groups, scope)
     }
 }
 

@@ -1,16 +1,15 @@
-ghost use Rattle.std.specs.Prelude.{◌≡◌, ◌==◌, ◌≤◌, ◌<◌, ◌+◌, ◌-◌, ◌*◌, ◌&&◌, ℕ, IfOk, IfErr, length, nat_lt, slice_index, take};
-ghost use Rattle.std.specs.Int.{bit_at};
+ghost use Rattle.std.specs.Prelude.{◌≡◌, ◌≤◌, ◌<◌, ◌+◌, ◌*◌, ◌^◌, IfOk, IfErr, length, slice_index, take};
 ghost use Rattle.ordup_objects.specs.Serial.{History};
 ghost use Rattle.ordup_objects.specs.Sizes.{greatest_distance, greatest_weight, most_objects, most_updates};
 ghost use Rattle.ordup_log.specs.Groups.{GroupList};
 ghost use Rattle.ordup_log.specs.Spans.{span, IsScopeKnown};
-ghost use Rattle.ordup_limits.specs.Limits.{is_same_scope};
-ghost use Rattle.ordup_limits.specs.SiteLedgers.{counts_within, group_limits, most_scopes, scope_index, AreWeights};
-ghost use Rattle.ordup_limits.specs.Totals.{counts_on, share, AreMasks};
+ghost use Rattle.ordup_limits.specs.Masks.{AreGroupMasks};
+ghost use Rattle.ordup_limits.specs.StoreLedgers.{most_scopes, raised_on, scope_index, AreFew, AreWeights, GainMove};
 
+use crate::masks::Masks;
 use crate::site_ledger::{for_each_scope, scope_index};
 use ordup_log::{GroupId, Groups, Log, Scope};
-use ordup_objects::{ObjectId, Refusal};
+use ordup_objects::{Moved, Refusal};
 use std::alloc::{Allocator, Global};
 use std::marker::Model;
 
@@ -23,7 +22,7 @@ pub(crate) struct Weights<A: Allocator + Copy = Global> {
 }
 
 impl<A: Allocator + Copy> Model for Weights<A> {
-    ghost use Rattle.ordup_limits.specs.SiteLedgers.{WeightsAt};
+    ghost use Rattle.ordup_limits.specs.StoreLedgers.{WeightsAt};
     ghost use Rattle.ordup_limits.specs.WeightsInside.{weights_of, HasTotals};
 
     ghost Value = { WeightsAt };
@@ -46,19 +45,73 @@ impl<A: Allocator + Copy> Weights<A> {
         })
     }
 
-    /// Adds the updates after the place, up to a later one. A mask has the groups of each object, a bit for each.
-    pub(crate) fn extend(&mut self, log: &Log<A>, groups: &Groups<A>, masks: &[u64], to: u64)
+    /// Adds the updates after the place, up to a later one.
+    pub(crate) fn extend(&mut self, log: &Log<A>, groups: &Groups<A>, masks: &Masks<A>, to: u64)
         requires forward { self.old.place ≤ to }
         requires last { to ≤ length log.now.sets }
         requires objects { length log.now.start ≤ most_objects }
-        requires count { length masks.now ≡ most_objects }
-        requires masks { AreMasks groups.now (group_limits (length groups.now)) masks.now }
+        requires masks { AreGroupMasks groups.now masks.now }
         requires weights { AreWeights self.old log.now groups.now }
         ensures place { self.new.place ≡ to }
         ensures weights { AreWeights self.new log.now groups.now }
     {
-        raise_to(&mut self.totals, log, groups, masks, self.place, to);
-        self.place = to;
+        while self.place() < to {
+            self.add_update(log, groups, masks);
+        }
+    }
+
+    /// Adds the update after the place.
+    fn add_update(&mut self, log: &Log<A>, groups: &Groups<A>, masks: &Masks<A>)
+        requires last { self.old.place < length log.now.sets }
+        requires objects { length log.now.start ≤ most_objects }
+        requires masks { AreGroupMasks groups.now masks.now }
+        requires weights { AreWeights self.old log.now groups.now }
+        ensures place { self.new.place ≡ self.old.place + 1 }
+        ensures weights { AreWeights self.new log.now groups.now }
+    {
+        log.keeps();
+        groups.keeps();
+        self.place += 1;
+        let moves = log.moves(self.place);
+        self.add(&Scope::Count, 1);
+        for moved in moves {
+            self.add_move(log, groups, masks, moved);
+        }
+    }
+
+    /// Adds how far a change moved its object: to the totals on the object, on all objects, and on the groups of the object.
+    fn add_move(&mut self, log: &Log<A>, groups: &Groups<A>, masks: &Masks<A>, moved: &Moved)
+        requires objects { length log.now.start ≤ most_objects }
+        requires masks { AreGroupMasks groups.now masks.now }
+        requires known { moved.now.object < length log.now.start }
+        requires distance { moved.now.distance ≤ greatest_distance }
+        requires few { AreFew self.old log.now groups.now }
+        ensures place { self.new.place ≡ self.old.place }
+        ensures raised { GainMove log.now groups.now moved.now self.old self.new }
+    {
+        groups.keeps();
+        let object = moved.object;
+        let weight = u64::from(moved.distance);
+        self.add(&Scope::Object(object), weight);
+        self.add(&Scope::All, weight);
+        let mut rest = masks.of(object);
+        while rest != 0 {
+            let bit = rest.trailing_zeros();
+            let group = GroupId::new(bit as u8);
+            self.add(&Scope::Group(group), weight);
+            rest &= !(1 << bit);
+        }
+    }
+
+    /// Adds a weight to the total on a scope.
+    #[inline(always)]
+    fn add(&mut self, scope: &Scope, weight: u64)
+        requires index { scope_index scope.now < most_scopes }
+        requires fits { slice_index self.old.totals (scope_index scope.now) + weight < 2 ^ 64 }
+        ensures raised { self.new ≡ record self.old { totals = raised_on scope.now weight self.old.totals } }
+        ensures count { length self.old.totals ≡ most_scopes }
+    {
+        self.totals[scope_index(*scope)] += weight;
     }
 
     /// The place.
@@ -71,16 +124,16 @@ impl<A: Allocator + Copy> Weights<A> {
     /// What the updates up to the place weigh on a scope.
     // Inlined, since each settlement asks for each scope of its update.
     #[inline(always)]
-    pub(crate) fn on(&self, log: &Log<A>, groups: &Groups<A>, scope: Scope) -> u64
+    pub(crate) fn on(&self, log: &Log<A>, groups: &Groups<A>, scope: &Scope) -> u64
         requires weights { AreWeights self.now log.now groups.now }
-        requires index { scope_index scope < most_scopes }
-        requires known { IsScopeKnown (length log.now.start) groups.now scope }
-        ensures weight { result ≡ span log.now groups.now scope 0 self.now.place }
+        requires index { scope_index scope.now < most_scopes }
+        requires known { IsScopeKnown (length log.now.start) groups.now scope.now }
+        ensures weight { result ≡ span log.now groups.now scope.now 0 self.now.place }
         ensures few { result ≤ greatest_weight * most_updates }
     {
         log.keeps();
         groups.keeps();
-        self.totals[scope_index(scope)]
+        self.totals[scope_index(*scope)]
     }
 
     /// What the updates up to the place weigh on each of the first objects, as many as that.
@@ -91,112 +144,4 @@ impl<A: Allocator + Copy> Weights<A> {
     {
         &self.totals.as_slice()[..count]
     }
-}
-
-/// Adds the updates after a place, up to a later one, to the totals.
-fn raise_to<A: Allocator + Copy>(
-    totals: &mut Vec<u64, A>,
-    log: &Log<A>,
-    groups: &Groups<A>,
-    masks: &[u64],
-    from: u64,
-    to: u64,
-)
-    requires forward { from ≤ to }
-    requires last { to ≤ length log.now.sets }
-    requires objects { length log.now.start ≤ most_objects }
-    requires count { length masks.now ≡ most_objects }
-    requires masks { AreMasks groups.now (group_limits (length groups.now)) masks.now }
-    requires totals { length totals.old.items ≡ most_scopes }
-    requires weights { AreWeights (record { place = from; totals = totals.old.items }) log.now groups.now }
-    ensures totals { length totals.new.items ≡ most_scopes }
-    ensures weights { AreWeights (record { place = to; totals = totals.new.items }) log.now groups.now }
-{
-    for place in from..to {
-        raise(totals, log, groups, masks, place + 1);
-    }
-}
-
-/// Adds the update at a place to the totals of the updates before it.
-fn raise<A: Allocator + Copy>(
-    totals: &mut Vec<u64, A>,
-    log: &Log<A>,
-    groups: &Groups<A>,
-    masks: &[u64],
-    place: u64,
-)
-    requires first { 0 < place }
-    requires last { place ≤ length log.now.sets }
-    requires objects { length log.now.start ≤ most_objects }
-    requires count { length masks.now ≡ most_objects }
-    requires masks { AreMasks groups.now (group_limits (length groups.now)) masks.now }
-    requires totals { length totals.old.items ≡ most_scopes }
-    requires weights { AreWeights (record { place = place - 1; totals = totals.old.items }) log.now groups.now }
-    ensures totals { length totals.new.items ≡ most_scopes }
-    ensures weights { AreWeights (record { place = place; totals = totals.new.items }) log.now groups.now }
-{
-    log.keeps();
-    groups.keeps();
-    add(totals, log, groups, Scope::Count, 1);
-    let moves = log.moves(place);
-    for moved in moves {
-        let object = moved.object;
-        let mask = masks[object.index()];
-        let distance = u64::from(moved.distance);
-        raise_by(totals, log, groups, object, mask, distance);
-    }
-}
-
-/// Adds a weight to the totals on an object, on all objects, and on the groups of the object, for which the mask has bits.
-fn raise_by<A: Allocator + Copy>(
-    totals: &mut Vec<u64, A>,
-    log: &Log<A>,
-    groups: &Groups<A>,
-    object: ObjectId,
-    mask: u64,
-    weight: u64,
-)
-    requires objects { length log.now.start ≤ most_objects }
-    requires object { object < length log.now.start }
-    requires mask { (g : ℕ) → g < 64 → (bit_at mask g == 1) ≡ (nat_lt g (length groups.now) && counts_within groups.now object (Scope.Group g)) }
-    requires totals { length totals.old.items ≡ most_scopes }
-    requires weight { weight ≤ greatest_distance }
-    requires few { (s : Scope) → IsScopeKnown (length log.now.start) groups.now s →
-        slice_index totals.old.items (scope_index s) ≤ greatest_weight * most_updates }
-    ensures totals { length totals.new.items ≡ most_scopes }
-    ensures raised { (s : Scope) → IsScopeKnown (length log.now.start) groups.now s →
-        slice_index totals.new.items (scope_index s) ≡ slice_index totals.old.items (scope_index s) + share (counts_on groups.now s object) weight }
-{
-    groups.keeps();
-    add(totals, log, groups, Scope::Object(object), weight);
-    add(totals, log, groups, Scope::All, weight);
-    let mut rest = mask;
-    while rest != 0 {
-        let bit = rest.trailing_zeros();
-        let group = GroupId::new(bit as u8);
-        add(totals, log, groups, Scope::Group(group), weight);
-        rest &= !(1 << bit);
-    }
-}
-
-/// Adds a weight to the total on a scope.
-#[inline(always)]
-fn add<A: Allocator + Copy>(
-    totals: &mut Vec<u64, A>,
-    log: &Log<A>,
-    groups: &Groups<A>,
-    scope: Scope,
-    weight: u64,
-)
-    requires objects { length log.now.start ≤ most_objects }
-    requires known { IsScopeKnown (length log.now.start) groups.now scope }
-    requires totals { length totals.old.items ≡ most_scopes }
-    requires weight { weight ≤ greatest_distance }
-    requires few { slice_index totals.old.items (scope_index scope) ≤ greatest_weight * most_updates + greatest_distance }
-    ensures totals { length totals.new.items ≡ most_scopes }
-    ensures raised { (s : Scope) → IsScopeKnown (length log.now.start) groups.now s →
-        slice_index totals.new.items (scope_index s) ≡ slice_index totals.old.items (scope_index s) + share (is_same_scope scope s) weight }
-{
-    groups.keeps();
-    totals[scope_index(scope)] += weight;
 }

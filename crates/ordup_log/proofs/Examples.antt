@@ -10,7 +10,7 @@ use Rattle.ordup_objects.specs.declared.moved.Moved.{Moved}
 use Rattle.ordup_objects.specs.States.{is_legal}
 use Rattle.ordup_objects.specs.Serial.{History, serial}
 use Rattle.ordup_objects.specs.Weights.{object_weight}
-use Rattle.ordup_objects.specs.Joins.{GoesOnIn, joined}
+use Rattle.ordup_objects.specs.Joins.{BeginsAtEnd, joined}
 use Rattle.ordup_log.specs.Groups.{GroupList, group_refusal, member_refusal, last_members, with_member}
 use Rattle.ordup_log.specs.Spans.{weight, span}
 use Rattle.ordup_log.specs.Appending.{append_refusal}
@@ -59,7 +59,7 @@ take_and_add = record {
 }
 
 -- within the next one 8 and 1; across the join 7 and 9, of which 3 and 8 on x and y, and 4 and 1 on z
-joins : GoesOnIn swap_and_add take_and_add
+joins : BeginsAtEnd swap_and_add take_and_add
     × (span (joined swap_and_add take_and_add) two_groups Everything 2 3 ≡ 8)
     × (span (joined swap_and_add take_and_add) two_groups Everything 2 4 ≡ 9)
     × (span (joined swap_and_add take_and_add) two_groups Everything 1 4 ≡ 16)

@@ -94,7 +94,7 @@ pub record MayBeDeclared (n : ℕ) (groups : GroupList) (name members : List ℕ
   pub free : index_of name groups ≡ None
   pub known : AreMembersKnown n members
   pub group : IsGroup members
-  pub room : length groups < most_groups
+  pub spare : length groups < most_groups
 
 pub group_allowed : (n : ℕ) (groups : GroupList) (name members : List ℕ) → length groups ≤ most_groups
     → group_refusal n groups name members ≡ None → MayBeDeclared n groups name members
@@ -108,15 +108,15 @@ group_allowed n groups name members few allowed =
         few = grind (arith, nat_tests);
         distinct = grind (arith, nat_tests);
       };
-      room = grind (arith, nat_tests);
+      spare = grind (arith, nat_tests);
     }
 
--- groups are kept with one more, if there is room
+-- groups are kept with one more, where there are few enough
 pub are_groups-push : {Z : Type 0} (groups put : List (List ℕ × Vec ℕ Z)) (view : List (List ℕ × List ℕ)) (name : List ℕ)
     (members : Vec ℕ Z) → (length groups ≤ most_groups) × All (λ g. IsGroup g.1.items) groups → groups_of groups ≡ view
     → length view < most_groups → IsGroup members.items → put ≡ groups ++ (name, members) ∷ []
     → (length put ≤ most_groups) × All (λ g. IsGroup g.1.items) put
-are_groups-push {Z} groups put view name members are e room is added =
+are_groups-push {Z} groups put view name members are e spare is added =
     let seen : List ℕ × Vec ℕ Z → List ℕ × List ℕ = λ g. (g.0, g.1.items) in
     rw added (
       omega (arith, ap length e, length-map groups seen, length_push groups (name, members)),
@@ -249,7 +249,7 @@ are_groups-put {Z} groups taken put last none members are out back is =
 -- a group with a member more that is not refused is a group
 pub IsGroup-push : (members : List ℕ) (member : ℕ) → IsGroup members → (length members ≡ most_members → ⊥)
     → list_any (nat_eq member) members ≡ false → IsGroup (members ++ member ∷ [])
-IsGroup-push members member is room none =
+IsGroup-push members member is spare none =
     let count : length (members ++ member ∷ []) ≡ length members + 1 = length_push members member in
     let few : length members ≤ most_members = is.few in
     record {

@@ -110,7 +110,7 @@ module _ {A : Type 0} (l : Inside A) (is : IsLog l) where
         l.sets.ok.0,
       )
 
-  -- a log keeps its invariant where its lists only get room
+  -- a log keeps its invariant where its lists only get spare capacity
   pub IsLog-same : {results : List ℤ} (sets : Vec (List Change) A) (moves : Vec Moved A) (begins marks : Vec ℕ A)
       → sets.items ≡ l.sets.items → moves.items ≡ l.moves.items → begins.items ≡ l.begins.items → marks.items ≡ l.marks.items
       → IsLog (record {
@@ -248,9 +248,9 @@ pub append_refusal-prefix : (h log : History) (m : List Change) (k : ℕ) → Is
     → k < length h.sets → log ≡ prefix_of h k → m ≡ set_at h (k + 1) → append_refusal log m ≡ None
 append_refusal-prefix h log m k legal few lt prefix set =
     let count : length (take k h.sets) ≡ k = length-take-le k h.sets (omega arith) in
-    let room : (k == most_updates) ≡ false = ne_eqb k most_updates (λ e. omega arith) in
+    let spare : (k == most_updates) ≡ false = ne_eqb k most_updates (λ e. omega arith) in
     let place : k + 1 - 1 ≡ k = omega arith in
-    rw (prefix, set, place, count, room, take-take k k h.sets (omega arith), legal.legal k lt) refl
+    rw (prefix, set, place, count, spare, take-take k k h.sets (omega arith), legal.legal k lt) refl
 
 -- and is the longer prefix then
 pub prefix-longer : (h log : History) (m : List Change) (k : ℕ) → k < length h.sets → log ≡ prefix_of h k → m ≡ set_at h (k + 1)

@@ -1,7 +1,7 @@
 -- Rows of marks: after each so many updates what all updates so far weigh on each object.
 use Rattle.std.specs.Prelude.{ℕ, ◌%◌, ◌==◌, if◌then◌else◌, List, []}
 
--- the updates from a row to the next, as `log.rt` has them
+-- the updates from a row to the next, as `marks.rt` has them
 abbrev pub updates_a_row : ℕ
 updates_a_row = 256
 

@@ -23,10 +23,10 @@ pub(crate) fn reserve_update<A: Allocator + Copy>(
     ensures moves { moves.new.items ≡ moves.old.items }
     ensures begins { begins.new.items ≡ begins.old.items }
     ensures marks { marks.new.items ≡ marks.old.items }
-    ensures set_room { OnOk result (vec_len sets.new < vec_capacity sets.new) }
-    ensures move_room { OnOk result (vec_len moves.new + length changes.now ≤ vec_capacity moves.new) }
-    ensures begin_room { OnOk result (vec_len begins.new < vec_capacity begins.new) }
-    ensures mark_room { OnOk result (vec_len marks.new + marks_due number objects ≤ vec_capacity marks.new) }
+    ensures set_spare { OnOk result (vec_len sets.new < vec_capacity sets.new) }
+    ensures move_spare { OnOk result (vec_len moves.new + length changes.now ≤ vec_capacity moves.new) }
+    ensures begin_spare { OnOk result (vec_len begins.new < vec_capacity begins.new) }
+    ensures mark_spare { OnOk result (vec_len marks.new + marks_due number objects ≤ vec_capacity marks.new) }
 {
     sets.reserve(1)?;
     moves.reserve(changes.len())?;
@@ -48,8 +48,8 @@ pub(crate) fn note_update<A: Allocator + Copy>(
     requires short { begin < 2 ^ 32 }
     requires known { All (λ m. m.object < length travelled.old.items) (drop begin moves.now) }
     requires few { (x : ℕ) → x < length travelled.old.items → mark_at travelled.old.items x + sum_by (distance_on x) (drop begin moves.now) < 2 ^ 64 }
-    requires begin_room { vec_len begins.old < vec_capacity begins.old }
-    requires mark_room { vec_len marks.old + marks_due number (length travelled.old.items) ≤ vec_capacity marks.old }
+    requires begin_spare { vec_len begins.old < vec_capacity begins.old }
+    requires mark_spare { vec_len marks.old + marks_due number (length travelled.old.items) ≤ vec_capacity marks.old }
     ensures begins { begins.new.items ≡ begins.old.items ++ begin ∷ [] }
     ensures count { length travelled.new.items ≡ length travelled.old.items }
     ensures travelled { (x : ℕ) → x < length travelled.old.items →

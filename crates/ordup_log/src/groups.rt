@@ -8,7 +8,7 @@ ghost use Rattle.ordup_log.specs.Groups.{group_refusal, member_refusal, members_
 
 use crate::ids::GroupId;
 use ordup_objects::sizes::{MOST_GROUPS, MOST_MEMBERS};
-use ordup_objects::{Name, NameTable, ObjectId, ObjectTable, Refusal};
+use ordup_objects::{Name, NameTable, ObjectId, ObjectTable, Refusal, or_give_up};
 use std::alloc::{AllocError, Allocator, Global};
 use std::marker::Model;
 
@@ -46,13 +46,8 @@ impl<A: Allocator + Copy> Groups<A> {
         ensures refused { IfErr result (λ e. e ≡ Refusal.NoMemory) }
     {
         let mut groups = NameTable::new(alloc);
-        match copy_all(alloc, &self.groups, &mut groups) {
-            Ok(()) => Ok(Groups { groups }),
-            Err(error) => {
-                drop(groups);
-                Err(error.into())
-            }
-        }
+        or_give_up!(copy_all(alloc, &self.groups, &mut groups), groups);
+        Ok(Groups { groups })
     }
 
     /// Declares a group of objects.

@@ -16,8 +16,8 @@ pub fn values_move_by_spans()
     ensures { ValuesMoveBySpans }
 {}
 
-/// A law: what spans weigh joins, on every scope, where a history goes on in one that begins with the values of its end. Within that
-/// one they weigh the same there, and a span across the join weighs what its two parts weigh.
+/// A law: what spans weigh joins, on every scope, where the next history begins with the values in which the first one ends. Within
+/// the next one they weigh the same there, and a span across the join weighs what its two parts weigh.
 pub fn spans_join()
     ensures { SpansJoin }
 {}

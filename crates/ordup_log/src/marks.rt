@@ -15,7 +15,7 @@ pub(crate) fn reserve_row<A: Allocator + Copy>(
     objects: usize,
 ) -> Result<(), AllocError>
     ensures marks { marks.new.items ≡ marks.old.items }
-    ensures room { OnOk result (vec_len marks.new + marks_due number objects ≤ vec_capacity marks.new) }
+    ensures spare { OnOk result (vec_len marks.new + marks_due number objects ≤ vec_capacity marks.new) }
 {
     if number % UPDATES_A_ROW == 0 {
         marks.reserve(objects)

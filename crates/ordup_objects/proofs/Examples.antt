@@ -11,7 +11,7 @@ use Rattle.ordup_objects.specs.Sets.{are_of_one_object, set_refusal}
 use Rattle.ordup_objects.specs.Repeats.{repeats}
 use Rattle.ordup_objects.specs.Tables.{with_entry}
 use Rattle.ordup_objects.specs.Serial.{History, serial, prefix_of}
-use Rattle.ordup_objects.specs.Joins.{GoesOnIn, joined}
+use Rattle.ordup_objects.specs.Joins.{BeginsAtEnd, joined}
 use Rattle.ordup_objects.specs.Weights.{object_weight, object_span}
 
 -- a call that is refused answers that refusal, and NoMemory where none applies; nothing else
@@ -95,25 +95,25 @@ spans : (object_span up_and_down 0 0 2 ≡ 6) × (object_span up_and_down 0 1 2 
     × (object_span up_and_down 0 2 2 ≡ 0) × (object_span up_and_down 0 2 0 ≡ 0)
 spans = (refl, refl, refl, refl)
 
--- ---- a history that goes on in a next one: x ends at 2, begins there again, and goes down by 5
+-- ---- a history that begins at the end of another: x ends at 2, begins there again, and goes down by 5
 
-abbrev going_on : History
-going_on = record { start = pos 2 ∷ []; sets = (change 0 (Add (neg_ℤ (pos 5))) ∷ []) ∷ [] }
+abbrev successor : History
+successor = record { start = pos 2 ∷ []; sets = (change 0 (Add (neg_ℤ (pos 5))) ∷ []) ∷ [] }
 
 abbrev ended : History
 ended = record { start = pos 0 ∷ []; sets = (change 0 (Add (pos 3)) ∷ []) ∷ (change 0 (Add (neg_ℤ (pos 1))) ∷ []) ∷ [] }
 
-goes_on : GoesOnIn ended going_on
-goes_on = refl
+begins_at_end : BeginsAtEnd ended successor
+begins_at_end = refl
 
--- one that begins at the initial values is not the next one, nor is one that begins before the last update
-goes_back : GoesOnIn ended (record { start = pos 0 ∷ []; sets = [] }) → ⊥
-goes_back goes = absurd cc
+-- one that begins at the initial values does not begin at the end, nor does one that begins before the last update
+begins_at_start : BeginsAtEnd ended (record { start = pos 0 ∷ []; sets = [] }) → ⊥
+begins_at_start begins = absurd cc
 
-goes_on_late : GoesOnIn ended (record { start = pos 3 ∷ []; sets = [] }) → ⊥
-goes_on_late goes = absurd cc
+begins_too_early : BeginsAtEnd ended (record { start = pos 3 ∷ []; sets = [] }) → ⊥
+begins_too_early begins = absurd cc
 
 -- places 1 and 2 weigh 3 and 1, place 3 weighs 5
-joined-spans : (serial (joined ended going_on) 3 ≡ neg_ℤ (pos 3) ∷ []) × (object_span (joined ended going_on) 0 2 3 ≡ 5)
-    × (object_span (joined ended going_on) 0 1 3 ≡ 6)
+joined-spans : (serial (joined ended successor) 3 ≡ neg_ℤ (pos 3) ∷ []) × (object_span (joined ended successor) 0 2 3 ≡ 5)
+    × (object_span (joined ended successor) 0 1 3 ≡ 6)
 joined-spans = (refl, refl, refl)

@@ -22,7 +22,7 @@ IsPadded-over bytes h =
     let few : length bytes ≤ most_name_bytes = length-name bytes h in
     record {
       few = few;
-      room = simp (length-append, length-drop) (omega arith);
+      size = simp (length-append, length-drop) (omega arith);
       zeros = rw drop-append_seam (drop-replicate (length bytes) most_name_bytes 0);
       name = rw take-append_seam h;
     }

@@ -55,11 +55,11 @@ set_refusal-last n m c known is =
     (list_all-from (λ d. is_none_or (number_of d.op) in_range) (λ d. IfSome (number_of d.op) IsInRange) has_number-true m is.numbers) in
     let count : length (m ++ c ∷ []) ≡ length m + 1 = length_push m c in
     let few : length m ≤ most_changes = is.few in
-    let room : nat_lt most_changes (length (m ++ c ∷ [])) ≡ (length m == most_changes) = grind (arith, nat_tests) in
+    let spare : nat_lt most_changes (length (m ++ c ∷ [])) ≡ (length m == most_changes) = grind (arith, nat_tests) in
     let some : (length (m ++ c ∷ []) == 0) ≡ false = grind (arith, nat_tests) in
     let distinct : repeats are_of_one_object (m ++ c ∷ []) ≡ list_any (λ d. d.object == c.object) m =
     repeats-last are_of_one_object m c is.distinct ∙ is_changed-flip m c in
-    rw (objects, numbers, room, some, distinct) refl
+    rw (objects, numbers, spare, some, distinct) refl
 
 has_number-fact : (c : Change) → is_none_or (number_of c.op) in_range ≡ true → IfSome (number_of c.op) IsInRange
 has_number-fact c number = grind (arith, nat_tests)
@@ -67,7 +67,7 @@ has_number-fact c number = grind (arith, nat_tests)
 -- a message set stays one by a change that is not refused
 pub IsSet-push : (m : List Change) (c : Change) → IsSet m → is_none_or (number_of c.op) in_range ≡ true
     → (length m == most_changes) ≡ false → list_any (λ d. d.object == c.object) m ≡ false → IsSet (m ++ c ∷ [])
-IsSet-push m c is number room none =
+IsSet-push m c is number spare none =
     let count : length (m ++ c ∷ []) ≡ length m + 1 = length_push m c in
     let few : length m ≤ most_changes = is.few in
     record {

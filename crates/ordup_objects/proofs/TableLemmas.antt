@@ -128,11 +128,11 @@ pub AreNames-with_entry : {V : Type 0} (table : List (List ℕ × V)) (i : ℕ) 
 AreNames-with_entry {V} table i entry lt are =
     All-set (λ (e : List ℕ × V). is_name e.0 ≡ true) table i ((get_or table i ([], entry)).0, entry) (are i ([], entry) lt) are
 
--- objects stay few and with values in range by one more that there is room for
+-- objects stay few and with values in range by one more, where they are few enough
 pub objects-longer : (objects more : Objects) (name : List ℕ) (initial : ℤ) → more ≡ objects ++ (name, initial) ∷ []
     → length objects < most_objects → IsInRange initial → IsState (initial_state objects)
     → (length more ≤ most_objects) × IsState (initial_state more)
-objects-longer objects more name initial e room range state =
+objects-longer objects more name initial e spare range state =
     let count : length more ≡ length objects + 1 = ap length e ∙ length_push objects (name, initial) in (
       omega arith,
       rw (e, map-append (λ (o : List ℕ × ℤ). o.1) objects ((name, initial) ∷ []))

@@ -12,7 +12,7 @@ bytes_of a = take a.len a.bytes
 -- the bytes of a name, and then zeros
 pub record IsPadded (a : Inside) : Type 0 where
   pub few : a.len ≤ most_name_bytes
-  pub room : length a.bytes ≡ most_name_bytes
+  pub size : length a.bytes ≡ most_name_bytes
   pub zeros : drop a.len a.bytes ≡ replicate (most_name_bytes - a.len) 0
   pub name : is_name (take a.len a.bytes) ≡ true
 
@@ -27,7 +27,7 @@ same_inside a xs n e f =
 
 pub inside_of-bytes_of : (a : Inside) → IsPadded a → inside_of (bytes_of a) ≡ a
 inside_of-bytes_of a is =
-    let len : length (take a.len a.bytes) ≡ a.len = simp length-take (omega (arith, is.room, is.few)) in
+    let len : length (take a.len a.bytes) ≡ a.len = simp length-take (omega (arith, is.size, is.few)) in
     let bytes : take a.len a.bytes ++ replicate (most_name_bytes - length (take a.len a.bytes)) 0 ≡ a.bytes =
     rw (len, ← is.zeros) (take-append-drop a.len a.bytes) in
     same_inside a _ _ bytes len

@@ -108,35 +108,37 @@ impl Hints {
     }
 }
 
-/// The slot that the bytes of a name pick.
+/// The slot, of 256, that the bytes of a short text pick.
+///
+/// No clause speaks of it, since whoever keeps something in a slot compares what is there.
 #[inline(always)]
-fn slot_of(name: &[u8]) -> u8 {
-    let (first, last) = ends_of(name);
+pub fn slot_of(text: &[u8]) -> u8 {
+    let (first, last) = ends_of(text);
     let mixed = first
         .wrapping_add(last.rotate_left(7))
         .wrapping_mul(0x9e37_79b9_7f4a_7c15);
     (mixed >> 56) as u8
 }
 
-/// The first and the last bytes of a name as two numbers, which hold all bytes of one of up to 16.
+/// The first and the last bytes of a text as two numbers, which hold all bytes of one of up to 16.
 #[inline(always)]
-fn ends_of(name: &[u8]) -> (u64, u64) {
-    if let (Some(first), Some(last)) = (name.first_chunk::<8>(), name.last_chunk::<8>()) {
+fn ends_of(text: &[u8]) -> (u64, u64) {
+    if let (Some(first), Some(last)) = (text.first_chunk::<8>(), text.last_chunk::<8>()) {
         return (u64::from_le_bytes(*first), u64::from_le_bytes(*last));
     }
-    if let (Some(first), Some(last)) = (name.first_chunk::<4>(), name.last_chunk::<4>()) {
+    if let (Some(first), Some(last)) = (text.first_chunk::<4>(), text.last_chunk::<4>()) {
         return (
             u32::from_le_bytes(*first) as u64,
             u32::from_le_bytes(*last) as u64,
         );
     }
-    if let (Some(first), Some(last)) = (name.first_chunk::<2>(), name.last_chunk::<2>()) {
+    if let (Some(first), Some(last)) = (text.first_chunk::<2>(), text.last_chunk::<2>()) {
         return (
             u16::from_le_bytes(*first) as u64,
             u16::from_le_bytes(*last) as u64,
         );
     }
-    match name {
+    match text {
         [only] => (*only as u64, 0),
         _ => (0, 0),
     }

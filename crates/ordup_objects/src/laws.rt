@@ -38,7 +38,7 @@ pub fn longer_histories_keep_marks()
 
 /// A law: a legal history that begins with the values in which another one ended, put after it, makes a legal history.
 ///
-/// So a store may go on in a next one, which begins where it ended.
+/// So the log of a store and that of its successor make one legal log.
 pub fn legal_histories_join()
     ensures { LegalHistoriesJoin }
 {}

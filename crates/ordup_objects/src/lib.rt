@@ -16,12 +16,13 @@ mod moved;
 mod name;
 mod name_table;
 mod object_table;
+mod or_give_up;
 mod refusal;
 mod results;
 pub mod sizes;
 mod values;
 
-pub use bytes::{Hints, copy_short};
+pub use bytes::{Hints, copy_short, slot_of};
 pub use change::{Change, NumberOp, Op};
 pub use ids::{ObjectId, SiteId};
 pub use laws::{

@@ -7,6 +7,7 @@ ghost use Rattle.ordup_objects.specs.States.{value_at, IsInRange, IsState};
 use crate::ids::ObjectId;
 use crate::name::Name;
 use crate::name_table::NameTable;
+use crate::or_give_up;
 use crate::refusal::Refusal;
 use crate::sizes::MOST_OBJECTS;
 use crate::values::{Values, is_in_range};
@@ -54,13 +55,8 @@ impl<A: Allocator + Copy> ObjectTable<A> {
     {
         self.keeps();
         let mut objects = NameTable::new(alloc);
-        match self.copy_to(&mut objects) {
-            Ok(()) => Ok(ObjectTable { objects }),
-            Err(error) => {
-                drop(objects);
-                Err(error.into())
-            }
-        }
+        or_give_up!(self.copy_to(&mut objects), objects);
+        Ok(ObjectTable { objects })
     }
 
     /// Adds all objects, in their order, to a table without names.

@@ -24,7 +24,7 @@ impl Model for Results {
 }
 
 impl Results {
-    /// Room for the results of a message set.
+    /// Memory for the results of a message set.
     pub fn new() -> Self {
         Results {
             results: [0; MOST_CHANGES],
@@ -34,7 +34,7 @@ impl Results {
     /// The results, in the order of the changes. What stands after them has no meaning.
     pub fn as_slice(&self) -> &[i64]
         ensures results { result.now ≡ self.now }
-        ensures room { length result.now ≡ most_changes }
+        ensures spare { length result.now ≡ most_changes }
     {
         &self.results
     }

@@ -135,7 +135,7 @@ impl<A: Allocator + Copy> Values<A> {
         requires known { AreKnown (length self.now) set.now }
         requires legal { IsTrue (is_legal set.now self.now) }
         requires results { AreResults self.now set.now results.now }
-        requires room { vec_len moves.old + length set.now ≤ vec_capacity moves.old }
+        requires spare { vec_len moves.old + length set.now ≤ vec_capacity moves.old }
         ensures { moves.new.items ≡ moves.old.items ++ moves_of self.now set.now }
     {
         let values = self.values.as_slice();
@@ -215,7 +215,7 @@ fn results_of(values: &[i64], changes: &[Change], results: &mut [i64]) -> Result
     requires state { IsState values.now }
     requires known { AreKnown (length values.now) changes.now }
     requires numbers { AreInRange changes.now }
-    requires room { length changes.now ≤ length results.old }
+    requires spare { length changes.now ≤ length results.old }
     ensures legal { is_ok result ≡ is_legal changes.now values.now }
     ensures results { OnOk result (AreResults values.now changes.now results.new) }
     ensures err { IfErr result (λ e. e ≡ Refusal.OutOfRange) }
@@ -234,7 +234,7 @@ fn results_of(values: &[i64], changes: &[Change], results: &mut [i64]) -> Result
 fn put_results(values: &mut [i64], changes: &[Change], results: &[i64])
     requires objects { All (λ c. c.object < length values.old) changes.now }
     requires results { AreResults values.old changes.now results.now }
-    requires room { length changes.now ≤ length results.now }
+    requires spare { length changes.now ≤ length results.now }
     requires state { IsState values.old }
     requires legal { IsTrue (is_legal changes.now values.old) }
     ensures after { values.new ≡ after changes.now values.old }
@@ -257,7 +257,7 @@ fn put_moves<A: Allocator + Copy>(
     requires legal { IsTrue (is_legal changes.now values.now) }
     requires results { AreResults values.now changes.now results.now }
     requires length { length changes.now ≤ length results.now }
-    requires room { vec_len moves.old + length changes.now ≤ vec_capacity moves.old }
+    requires spare { vec_len moves.old + length changes.now ≤ vec_capacity moves.old }
     ensures { moves.new.items ≡ moves.old.items ++ moves_of values.now changes.now }
 {
     for (i, change) in changes.iter().enumerate() {

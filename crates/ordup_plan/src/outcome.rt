@@ -5,7 +5,7 @@ ghost use Rattle.ordup_plan.specs.Outcomes.{outcome_text, site_text, certified_t
 
 use crate::tally::Tally;
 use ordup_cluster::Closed;
-use ordup_objects::SiteId;
+use ordup_objects::{SiteId, or_give_up};
 use ordup_primary::Primary;
 use ordup_site::Site;
 use ordup_text::{TextBuffer, push_done, push_numbered, push_values, push_with_number};
@@ -20,14 +20,8 @@ pub(crate) fn outcome_of(
     ensures { IfOk result (λ out. out.text ≡ outcome_text closed.now tally.refused tally.pending) }
 {
     let mut out = TextBuffer::new(alloc);
-    match push_outcome(&mut out, closed, tally) {
-        Ok(()) => Ok(out),
-        Err(error) => {
-            // By a call: where it goes out of scope, the proof takes it apart.
-            drop(out);
-            Err(error)
-        }
-    }
+    or_give_up!(push_outcome(&mut out, closed, tally), out);
+    Ok(out)
 }
 
 /// Adds the outcome to a text that is empty.

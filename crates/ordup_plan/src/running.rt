@@ -9,7 +9,7 @@ use crate::dealing::deal;
 use crate::outcome::outcome_of;
 use crate::tally::{Tally, added_up};
 use ordup_cluster::{Cluster, OpenGate};
-use ordup_objects::{MessageSet, Refusal, SiteId};
+use ordup_objects::{MessageSet, Refusal, SiteId, or_give_up};
 use ordup_primary::Setup;
 use ordup_text::TextBuffer;
 use std::alloc::Global;
@@ -51,10 +51,7 @@ pub fn run_threads<R: Threads + Wait + Sync>(
 {
     setup.keeps();
     let cluster = Cluster::new(alloc, setup)?;
-    let Ok(hands) = deal(alloc, sets, callers.get()) else {
-        cluster.discard();
-        return Err(Refusal::NoMemory);
-    };
+    let hands = or_give_up!(deal(alloc, sets, callers.get()), cluster);
     let Some(tally) = with_appliers(rt, alloc, &cluster, hands) else {
         cluster.discard();
         return Err(Refusal::NoMemory);

@@ -144,73 +144,73 @@ forced-listed p mask n all bits =
     rw all (where_below-same (λ s. bit_at mask s == 1) (λ s. not (is_within p s (progress_at p s).reported (p.acked + 1))) (length p.sites) bits)
 
 module _ {A : Type 0} where
-  -- the sites once the decision is put down, without the room that was reserved
-  pub kept-each : (roomed new : List (Progress A)) (sites : List KeptSite) (mask head : ℕ) → map kept_of roomed ≡ sites
-      → length new ≡ length roomed
-      → ((s : ℕ) (d : Progress A) → s < length roomed
-      → kept_of (get_or new s d) ≡ kept_at (not (bit_at mask s == 1)) head (kept_of (get_or roomed s d)))
+  -- the sites once the decision is put down, without the spare capacity that was reserved
+  pub kept-each : (reserved new : List (Progress A)) (sites : List KeptSite) (mask head : ℕ) → map kept_of reserved ≡ sites
+      → length new ≡ length reserved
+      → ((s : ℕ) (d : Progress A) → s < length reserved
+      → kept_of (get_or new s d) ≡ kept_at (not (bit_at mask s == 1)) head (kept_of (get_or reserved s d)))
       → (s : ℕ) (d : KeptSite) → s < length sites
       → get_or (map kept_of new) s d ≡ kept_at (not (bit_at mask s == 1)) head (get_or sites s d)
-  kept-each roomed new sites mask head same count each s d lt =
-      map-related kept_of (λ t site. kept_at (not (bit_at mask t == 1)) head site) roomed new count each s d
-      (omega (arith, lt, ap length same, length-map roomed (kept_of {A = A})))
+  kept-each reserved new sites mask head same count each s d lt =
+      map-related kept_of (λ t site. kept_at (not (bit_at mask t == 1)) head site) reserved new count each s d
+      (omega (arith, lt, ap length same, length-map reserved (kept_of {A = A})))
       ∙ ap (λ xs. kept_at (not (bit_at mask s == 1)) head (get_or xs s d)) same
 
-  pub kept-count : (roomed new : List (Progress A)) (sites : List KeptSite) → map kept_of roomed ≡ sites → length new ≡ length roomed
+  pub kept-count : (reserved new : List (Progress A)) (sites : List KeptSite) → map kept_of reserved ≡ sites → length new ≡ length reserved
       → length (map kept_of new) ≡ length sites
-  kept-count roomed new sites same count =
-      length-map new (kept_of {A = A}) ∙ count ∙ sym (length-map roomed (kept_of {A = A})) ∙ ap length same
+  kept-count reserved new sites same count =
+      length-map new (kept_of {A = A}) ∙ count ∙ sym (length-map reserved (kept_of {A = A})) ∙ ap length same
 
   -- and by them the decision
-  pub Decides-at : (l : Inside A) (roomed new : List (Progress A)) (over acked head : ℕ) (forced : List ℕ)
-      → AreKept l.decided l.moved (map kept_of l.sites.items) → map kept_of roomed ≡ map kept_of l.sites.items
-      → length new ≡ length roomed
-      → ((s : ℕ) (d : Progress A) → s < length roomed
-      → kept_of (get_or new s d) ≡ kept_at (not (bit_at over s == 1)) head (kept_of (get_or roomed s d)))
+  pub Decides-at : (l : Inside A) (reserved new : List (Progress A)) (over acked head : ℕ) (forced : List ℕ)
+      → AreKept l.decided l.moved (map kept_of l.sites.items) → map kept_of reserved ≡ map kept_of l.sites.items
+      → length new ≡ length reserved
+      → ((s : ℕ) (d : Progress A) → s < length reserved
+      → kept_of (get_or new s d) ≡ kept_at (not (bit_at over s == 1)) head (kept_of (get_or reserved s d)))
       → l.acked ≡ l.decided → head ≡ l.acked + 1
       → ((s : ℕ) → s < length (state_of l).sites
       → (bit_at over s == 1) ≡ not (is_within (state_of l) s (progress_at (state_of l) s).reported (l.acked + 1)))
       → forced ≡ forced_now (state_of l) → acked ≡ acked_after l.acked forced
       → Decides (state_of l) (record (state_of l) { acked = acked; decided = head; sites = map (progress_upto head) (map kept_of new) })
-  Decides-at l roomed new over acked head forced are same count each first here bits listed e =
+  Decides-at l reserved new over acked head forced are same count each first here bits listed e =
       Decides-kept (state_of l) (map kept_of l.sites.items) (map kept_of new) l.moved over acked head forced refl are first here
-      (kept-count roomed new (map kept_of l.sites.items) same count) (kept-each roomed new (map kept_of l.sites.items) over head same count each)
+      (kept-count reserved new (map kept_of l.sites.items) same count) (kept-each reserved new (map kept_of l.sites.items) over head same count each)
       bits listed e
 
   -- they are kept, and no site reported since
-  pub AreKept-at : (l : Inside A) (roomed new : List (Progress A)) (over head : ℕ)
-      → AreKept l.decided l.moved (map kept_of l.sites.items) → map kept_of roomed ≡ map kept_of l.sites.items
-      → length new ≡ length roomed
-      → ((s : ℕ) (d : Progress A) → s < length roomed
-      → kept_of (get_or new s d) ≡ kept_at (not (bit_at over s == 1)) head (kept_of (get_or roomed s d)))
+  pub AreKept-at : (l : Inside A) (reserved new : List (Progress A)) (over head : ℕ)
+      → AreKept l.decided l.moved (map kept_of l.sites.items) → map kept_of reserved ≡ map kept_of l.sites.items
+      → length new ≡ length reserved
+      → ((s : ℕ) (d : Progress A) → s < length reserved
+      → kept_of (get_or new s d) ≡ kept_at (not (bit_at over s == 1)) head (kept_of (get_or reserved s d)))
       → l.acked ≡ l.decided → head ≡ l.acked + 1 → AreKept head 0 (map kept_of new)
-  AreKept-at l roomed new over head are same count each first here =
+  AreKept-at l reserved new over head are same count each first here =
       AreKept-decided l.decided head l.moved (map kept_of l.sites.items) (map kept_of new) (λ s. not (bit_at over s == 1)) are
-      (omega (arith, first, here)) (kept-count roomed new (map kept_of l.sites.items) same count)
-      (kept-each roomed new (map kept_of l.sites.items) over head same count each)
+      (omega (arith, first, here)) (kept-count reserved new (map kept_of l.sites.items) same count)
+      (kept-each reserved new (map kept_of l.sites.items) over head same count each)
 
   -- the sites that reported or are forced are there
-  pub mask-there : (roomed : List (Progress A)) (sites : List KeptSite) (decided moved over n : ℕ) → map kept_of roomed ≡ sites
+  pub mask-there : (reserved : List (Progress A)) (sites : List KeptSite) (decided moved over n : ℕ) → map kept_of reserved ≡ sites
       → AreKept decided moved sites → n ≡ length sites → ((s : ℕ) → (bit_at over s == 1) ≡ true → s < n)
-      → (s : ℕ) → (bit_at (bit_or moved over) s == 1) ≡ true → s < length roomed
-  mask-there roomed sites decided moved over n same are all there s bit =
-      let count : length roomed ≡ length sites = sym (length-map roomed (kept_of {A = A})) ∙ ap length same in
+      → (s : ℕ) → (bit_at (bit_or moved over) s == 1) ≡ true → s < length reserved
+  mask-there reserved sites decided moved over n same are all there s bit =
+      let count : length reserved ≡ length sites = sym (length-map reserved (kept_of {A = A})) ∙ ap length same in
       elim (one-bit moved over s bit) [
         | inl here ↦ omega (arith, are.there s here, count)
         | inr forced ↦ omega (arith, there s forced, all, count)
       ]
 
   -- where the mask has no bit of a site, nothing is put down: the site did not report, and is not forced
-  pub kept-others : (roomed : List (Progress A)) (sites : List KeptSite) (decided moved over head : ℕ) → map kept_of roomed ≡ sites
-      → AreKept decided moved sites → (s : ℕ) (d : Progress A) → s < length roomed → (bit_at (bit_or moved over) s == 1) ≡ false
-      → kept_of (get_or roomed s d) ≡ kept_at (not (bit_at over s == 1)) head (kept_of (get_or roomed s d))
-  kept-others roomed sites decided moved over head same are s d lt none =
-      let there : s < length sites = omega (arith, lt, ap length same, length-map roomed (kept_of {A = A})) in
-      let at : get_or sites s (kept_of d) ≡ kept_of (get_or roomed s d) =
-      ap (λ xs. get_or xs s (kept_of d)) (sym same) ∙ get_or-map kept_of roomed s d (kept_of d) lt in
+  pub kept-others : (reserved : List (Progress A)) (sites : List KeptSite) (decided moved over head : ℕ) → map kept_of reserved ≡ sites
+      → AreKept decided moved sites → (s : ℕ) (d : Progress A) → s < length reserved → (bit_at (bit_or moved over) s == 1) ≡ false
+      → kept_of (get_or reserved s d) ≡ kept_at (not (bit_at over s == 1)) head (kept_of (get_or reserved s d))
+  kept-others reserved sites decided moved over head same are s d lt none =
+      let there : s < length sites = omega (arith, lt, ap length same, length-map reserved (kept_of {A = A})) in
+      let at : get_or sites s (kept_of d) ≡ kept_of (get_or reserved s d) =
+      ap (λ xs. get_or xs s (kept_of d)) (sym same) ∙ get_or-map kept_of reserved s d (kept_of d) lt in
       let clear = no-bits moved over s none in
       let still = rw at at (are.still s (kept_of d) there clear.0) in
-      rw (clear.1, with_report-same (get_or roomed s d).reports.changes head (get_or roomed s d).reported still) refl
+      rw (clear.1, with_report-same (get_or reserved s d).reports.changes head (get_or reserved s d).reported still) refl
 
   -- a site that changes, with the same changes of its reports: it has its bit, or has reported what it had
   pub AreKept-set : (l : Inside A) (more i s : ℕ) (x y : Progress A) → AreKept l.decided l.moved (map kept_of l.sites.items) → i ≡ s

@@ -1,4 +1,4 @@
--- The ledgers of the sites.
+-- The ledger of the store.
 use Rattle.std.proofs.Common.{◌≡◌, ℕ, zero, suc, ◌+◌, ◌-◌, ◌<◌, ◌≤◌, Bool, true, false, not, List, [], ◌∷◌, length, get_or}
 use Rattle.std.proofs.Common.{arith, refl, sym, ap, ◌∙◌, inl, inr}
 use Rattle.std.specs.Prelude.{◌==◌, All}
@@ -13,13 +13,13 @@ use Rattle.ordup_objects.specs.Sizes.{most_objects}
 use Rattle.ordup_objects.specs.Tables.{initial_state}
 use Rattle.ordup_limits.specs.Limits.{within, Limits}
 use Rattle.ordup_limits.specs.Entries.{latest, AreEntriesKnown}
-use Rattle.ordup_limits.specs.SiteLedgers.{HasLimits, IsFirstSite, LedgersState, SiteLedgerState, StandFor, WeightsAt}
-use Rattle.ordup_limits.proofs.OverLemmas.{StandFor-longer}
+use Rattle.ordup_limits.specs.StoreLedgers.{HasLimits, IsFirstSite, StoreLedgerState, SiteLedgerState, StoreStandsFor, WeightsAt}
+use Rattle.ordup_limits.proofs.OverLemmas.{StoreStandsFor-longer}
 use Rattle.ordup_primary.specs.Declarations.{Declared}
 use Rattle.ordup_primary.specs.Settling.{where_below}
 use Rattle.ordup_primary.specs.Primaries.{SiteProgress, PrimaryState, first_progress, progress_at, limits_at, is_within, Decides}
 use Rattle.ordup_primary.specs.Primaries.{IsPrimary}
-use Rattle.ordup_primary.specs.PrimaryInside.{AreLedgers, first_state}
+use Rattle.ordup_primary.specs.PrimaryInside.{HasLedger, first_state}
 use Rattle.ordup_primary.proofs.PrimaryLemmas.{is_within-now}
 
 -- ---- lists
@@ -31,13 +31,13 @@ where_below-empty test (suc n) none = rw (none n) (where_below-empty test n none
 
 -- ---- at the start
 
--- new ledgers are those of a primary at its start
-pub AreLedgers-first : (d : Declared) (l : LedgersState) → length d.limits ≡ length d.sites → length d.objects ≤ most_objects
+-- a new ledger is that of a primary at its start
+pub HasLedger-first : (d : Declared) (l : StoreLedgerState) → length d.limits ≡ length d.sites → length d.objects ≤ most_objects
     → All (AreEntriesKnown (length d.objects) d.groups) d.limits → length l.sites ≡ length d.limits → l.added.place ≡ 0
-    → ((h : History) → length h.start ≤ most_objects → StandFor l h d.groups)
+    → ((h : History) → length h.start ≤ most_objects → StoreStandsFor l h d.groups)
     → ((s : ℕ) (x : SiteLedgerState) → s < length d.limits → IsFirstSite d.groups (get_or d.limits s []) (get_or l.sites s x))
-    → AreLedgers (first_state d) l
-AreLedgers-first d l tables few known count place stand first =
+    → HasLedger (first_state d) l
+HasLedger-first d l tables few known count place stand first =
     let objects : length (initial_state d.objects) ≡ length d.objects = length-map d.objects _ in
     let sites = length-replicate (length d.sites) first_progress in
     record {
@@ -55,11 +55,11 @@ AreLedgers-first d l tables few known count place stand first =
 -- ---- what a call leaves to them
 
 -- a state in which the same is declared and reported, with the same log
-pub AreLedgers-kept : (p q : PrimaryState) (l : LedgersState) → AreLedgers p l → q.setup ≡ p.setup → q.log ≡ p.log
+pub HasLedger-kept : (p q : PrimaryState) (l : StoreLedgerState) → HasLedger p l → q.setup ≡ p.setup → q.log ≡ p.log
     → q.limits ≡ p.limits → p.acked ≤ q.acked → q.decided ≤ l.added.place → length q.sites ≡ length p.sites
     → ((s : ℕ) → s < length p.sites → (progress_at q s).reported ≡ (progress_at p s).reported)
-    → AreLedgers q l
-AreLedgers-kept p q l are setup log limits acked decided count reported = record {
+    → HasLedger q l
+HasLedger-kept p q l are setup log limits acked decided count reported = record {
   count = are.count ∙ sym count;
   stand = rw (setup, log) are.stand;
   decided = decided;
@@ -69,11 +69,11 @@ AreLedgers-kept p q l are setup log limits acked decided count reported = record
 }
 
 -- a site that changes and has reported what it had
-pub AreLedgers-with_site : (p : PrimaryState) (l : LedgersState) (s : ℕ) (site : SiteProgress) (sites : List SiteProgress)
-    → AreLedgers p l → s < length p.sites → site.reported ≡ (progress_at p s).reported → sites ≡ set p.sites s site
-    → AreLedgers (record p { sites = sites }) l
-AreLedgers-with_site p l s site sites are lt same e =
-    AreLedgers-kept p (record p { sites = sites }) l are refl refl refl (omega arith) are.decided
+pub HasLedger-with_site : (p : PrimaryState) (l : StoreLedgerState) (s : ℕ) (site : SiteProgress) (sites : List SiteProgress)
+    → HasLedger p l → s < length p.sites → site.reported ≡ (progress_at p s).reported → sites ≡ set p.sites s site
+    → HasLedger (record p { sites = sites }) l
+HasLedger-with_site p l s site sites are lt same e =
+    HasLedger-kept p (record p { sites = sites }) l are refl refl refl (omega arith) are.decided
     (ap length e ∙ length-set p.sites s site)
     (λ t below. ap (λ (xs : List SiteProgress). (get_or xs t first_progress).reported) e ∙ elim (cases_eq t s) [
       | inl here ↦
@@ -83,18 +83,18 @@ AreLedgers-with_site p l s site sites are lt same e =
     ])
 
 -- the head is decided
-pub AreLedgers-decided : (p q : PrimaryState) (l : LedgersState) → AreLedgers p l → l.added.place ≡ p.acked + 1 → p.acked ≤ q.acked
-    → Decides p q → AreLedgers q l
-AreLedgers-decided p q l are place acked decides =
-    AreLedgers-kept p q l are decides.setup decides.log decides.limits acked (omega (arith, decides.decided, place)) decides.count
+pub HasLedger-decided : (p q : PrimaryState) (l : StoreLedgerState) → HasLedger p l → l.added.place ≡ p.acked + 1 → p.acked ≤ q.acked
+    → Decides p q → HasLedger q l
+HasLedger-decided p q l are place acked decides =
+    HasLedger-kept p q l are decides.setup decides.log decides.limits acked (omega (arith, decides.decided, place)) decides.count
     (λ s lt. ap (λ (k : SiteProgress). k.reported) (decides.sites s first_progress lt))
 
 -- one update more
-pub AreLedgers-proposed : (p : PrimaryState) (m : List Change) (l : LedgersState) → AreLedgers p l
-    → AreLedgers (record p { log = with_update p.log m }) l
-AreLedgers-proposed p m l are = record {
+pub HasLedger-proposed : (p : PrimaryState) (m : List Change) (l : StoreLedgerState) → HasLedger p l
+    → HasLedger (record p { log = with_update p.log m }) l
+HasLedger-proposed p m l are = record {
   count = are.count;
-  stand = StandFor-longer l p.log p.setup.groups (m ∷ []) are.stand;
+  stand = StoreStandsFor-longer l p.log p.setup.groups (m ∷ []) are.stand;
   decided = are.decided;
   added = are.added;
   limits = are.limits;
@@ -102,15 +102,15 @@ AreLedgers-proposed p m l are = record {
 }
 
 -- a site that reported
-pub AreLedgers-reported : (p : PrimaryState) (old new : LedgersState) (s place : ℕ) (site : SiteProgress) (sites : List SiteProgress)
-    → sites ≡ set p.sites s site → AreLedgers p old → s < length p.sites → StandFor new p.log p.setup.groups → new.added ≡ old.added
+pub HasLedger-reported : (p : PrimaryState) (old new : StoreLedgerState) (s place : ℕ) (site : SiteProgress) (sites : List SiteProgress)
+    → sites ≡ set p.sites s site → HasLedger p old → s < length p.sites → StoreStandsFor new p.log p.setup.groups → new.added ≡ old.added
     → length new.sites ≡ length old.sites
     → ((t : ℕ) (d : SiteLedgerState) → (t ≡ s → ⊥) → get_or new.sites t d ≡ get_or old.sites t d)
     → ((d : SiteLedgerState) → (get_or new.sites s d).reported.place ≡ place)
     → ((d : SiteLedgerState) → (get_or new.sites s d).amounts ≡ (get_or old.sites s d).amounts)
     → site.reported ≡ place
-    → AreLedgers (record p { sites = sites }) new
-AreLedgers-reported p old new s place site sites e are lt stand added count others reported amounts is = rw e (record {
+    → HasLedger (record p { sites = sites }) new
+HasLedger-reported p old new s place site sites e are lt stand added count others reported amounts is = rw e (record {
   count = count ∙ are.count ∙ sym (length-set p.sites s site);
   stand = stand;
   decided = omega (arith, ap (λ (w : WeightsAt). w.place) added, are.decided);
@@ -132,10 +132,10 @@ AreLedgers-reported p old new s place site sites e are lt stand added count othe
 })
 
 -- with the updates up to the head
-pub AreLedgers-extended : (p : PrimaryState) (old new : LedgersState) (head : ℕ) → AreLedgers p old → p.decided ≤ p.acked + 1
-    → head ≡ p.acked + 1 → new.added.place ≡ head → new.sites ≡ old.sites → StandFor new p.log p.setup.groups
-    → AreLedgers p new
-AreLedgers-extended p old new head are next here place sites stand = record {
+pub HasLedger-extended : (p : PrimaryState) (old new : StoreLedgerState) (head : ℕ) → HasLedger p old → p.decided ≤ p.acked + 1
+    → head ≡ p.acked + 1 → new.added.place ≡ head → new.sites ≡ old.sites → StoreStandsFor new p.log p.setup.groups
+    → HasLedger p new
+HasLedger-extended p old new head are next here place sites stand = record {
   count = ap length sites ∙ are.count;
   stand = stand;
   decided = omega (arith, next, here, place);
@@ -145,13 +145,13 @@ AreLedgers-extended p old new head are next here place sites stand = record {
 }
 
 -- then the sites that are over a limit are those that the head forces
-pub forced-by_ledgers : (p : PrimaryState) (l : LedgersState) (head mask : ℕ) → IsPrimary p → AreLedgers p l → head ≡ p.acked + 1
+pub forced-by_ledger : (p : PrimaryState) (l : StoreLedgerState) (head mask : ℕ) → IsPrimary p → HasLedger p l → head ≡ p.acked + 1
     → ((s : ℕ) (d : SiteLedgerState) (limits : Limits) → s < length l.sites
     → HasLimits (length p.log.start) p.setup.groups limits (get_or l.sites s d)
     → within p.log p.setup.groups limits (get_or l.sites s d).reported.place (head - 1) ≡ true
     → (bit_at mask s == 1) ≡ not (within p.log p.setup.groups limits (get_or l.sites s d).reported.place head))
     → (s : ℕ) → s < length p.sites → (bit_at mask s == 1) ≡ not (is_within p s (progress_at p s).reported (p.acked + 1))
-forced-by_ledgers p l head mask sound are here over s lt =
+forced-by_ledger p l head mask sound are here over s lt =
     (let d : SiteLedgerState = record { reported = record { place = 0; totals = [] }; amounts = [] } in
     let limits = latest (limits_at p s) in
     let acked : head - 1 ≡ p.acked = omega (arith, here) in

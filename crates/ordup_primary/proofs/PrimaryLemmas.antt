@@ -106,18 +106,18 @@ pub legal-from_allowed : (log : History) (m : List Change) → append_refusal lo
     → is_legal m (serial log (length log.sets)) ≡ true
 legal-from_allowed log m allowed = elim (cases_Bool (length log.sets == 1000000)) [
   | inl full ↦ absurd (let refused : append_refusal log m ≡ Some LogFull = rw full refl in cc)
-  | inr room ↦ elim (cases_Bool (is_legal m (serial log (length log.sets)))) [
+  | inr spare ↦ elim (cases_Bool (is_legal m (serial log (length log.sets)))) [
     | inl legal ↦ legal
-    | inr illegal ↦ absurd (let refused : append_refusal log m ≡ Some OutOfRange = rw (room, illegal) refl in cc)
+    | inr illegal ↦ absurd (let refused : append_refusal log m ≡ Some OutOfRange = rw (spare, illegal) refl in cc)
   ]
 ]
 
--- and there is room for it
-room-from_allowed : (log : History) (m : List Change) → length log.sets ≤ 1000000 → append_refusal log m ≡ None
+-- and the log does not become too long
+spare-from_allowed : (log : History) (m : List Change) → length log.sets ≤ 1000000 → append_refusal log m ≡ None
     → length log.sets < 1000000
-room-from_allowed log m few allowed = elim (cases_eq (length log.sets) 1000000) [
+spare-from_allowed log m few allowed = elim (cases_eq (length log.sets) 1000000) [
   | inl full ↦ absurd (let refused : append_refusal log m ≡ Some LogFull = rw (eq-eqb (length log.sets) 1000000 full) refl in cc)
-  | inr room ↦ omega (arith, room)
+  | inr spare ↦ omega (arith, spare)
 ]
 
 -- with one update more the same spans pass the same limits
@@ -140,7 +140,7 @@ IsPrimary-proposed p m is set known allowed = record {
   ready = is.ready;
   start = is.start;
   legal = IsLegalHistory-longer p.log m is.legal set known (legal-from_allowed p.log m allowed);
-  few = omega (arith, length_push p.log.sets m, room-from_allowed p.log m is.few allowed);
+  few = omega (arith, length_push p.log.sets m, spare-from_allowed p.log m is.few allowed);
   count = is.count;
   tables = is.tables;
   acked = is.acked;
@@ -528,14 +528,14 @@ module _ {A : Type 0} where
       rw here at (are.changes i (kept_of x) (omega (arith, there, length-map l.sites.items (kept_of {A = A}))))
 
   -- it has reported no more than a log has
-  pub reports-few : (l : Inside A) (roomed : List (Progress A)) → IsPrimary (state_of l)
-      → map kept_of roomed ≡ map kept_of l.sites.items
-      → All (λ (site : Progress A). site.reported ≤ most_updates) roomed
-  reports-few l roomed is same i d lt =
-      let all : map (progress_upto l.decided) (map kept_of roomed) ≡ (state_of l).sites = ap (map (progress_upto l.decided)) same in
-      let there : i < length (state_of l).sites = omega (arith, lt, ap length all, seen-count l.decided roomed) in
-      let at : get_or (state_of l).sites i first_progress ≡ progress_upto l.decided (kept_of (get_or roomed i d)) =
-      ap (λ sites. get_or sites i first_progress) (sym all) ∙ seen l.decided roomed i d first_progress lt in
+  pub reports-few : (l : Inside A) (reserved : List (Progress A)) → IsPrimary (state_of l)
+      → map kept_of reserved ≡ map kept_of l.sites.items
+      → All (λ (site : Progress A). site.reported ≤ most_updates) reserved
+  reports-few l reserved is same i d lt =
+      let all : map (progress_upto l.decided) (map kept_of reserved) ≡ (state_of l).sites = ap (map (progress_upto l.decided)) same in
+      let there : i < length (state_of l).sites = omega (arith, lt, ap length all, seen-count l.decided reserved) in
+      let at : get_or (state_of l).sites i first_progress ≡ progress_upto l.decided (kept_of (get_or reserved i d)) =
+      ap (λ sites. get_or sites i first_progress) (sym all) ∙ seen l.decided reserved i d first_progress lt in
       let sound = is.sites i first_progress there in
       omega (arith, ap (λ (site : SiteProgress). site.reported) at, sound.reported, sound.sent, is.few)
 

@@ -17,12 +17,12 @@ use Rattle.ordup_limits.specs.declared.limit_entry.LimitEntry.{LimitEntry}
 use Rattle.ordup_limits.specs.Limits.{Limits, within, are_on_one_scope}
 use Rattle.ordup_limits.specs.Entries.{entry_of, put, latest, in_force, are_one_entry, changed, change_refusal, HoldFrom, AreEntries}
 use Rattle.ordup_limits.specs.Entries.{AreEntriesKnown}
-use Rattle.ordup_limits.specs.SiteLedgers.{HasLimits, LedgersState, SiteLedgerState, StandFor, WeightsAt}
+use Rattle.ordup_limits.specs.StoreLedgers.{HasLimits, StoreLedgerState, SiteLedgerState, StoreStandsFor, WeightsAt}
 use Rattle.ordup_limits.proofs.PutLemmas.{All-put}
 use Rattle.ordup_limits.proofs.EntryLemmas.{in_force-before, latest-changed, within-put}
 use Rattle.ordup_primary.specs.Primaries.{SiteProgress, PrimaryState, progress_at, limits_at, reported_at, is_within}
 use Rattle.ordup_primary.specs.Primaries.{relimit_refusal, relimited, IsSiteSound, IsPrimary}
-use Rattle.ordup_primary.specs.PrimaryInside.{AreLedgers}
+use Rattle.ordup_primary.specs.PrimaryInside.{HasLedger}
 
 -- ---- what an allowed change is
 
@@ -148,19 +148,19 @@ IsPrimary-relimited p s scope amount is there are known allowed =
           is.acked (λ a k le. is_within-relimited p s t a k scope amount lt (omega (arith, le, may.1))) (is.sites t d below);
     }
 
--- ---- the ledgers
+-- ---- the ledger
 
 -- the ledger of the site has the limit too
-pub AreLedgers-relimited : (p : PrimaryState) (s : ℕ) (scope : Scope) (amount : ℕ) (old new : LedgersState)
-    → IsPrimary p → AreLedgers p old → s < length p.sites → AreEntries (limits_at p s) → StandFor new p.log p.setup.groups
+pub HasLedger-relimited : (p : PrimaryState) (s : ℕ) (scope : Scope) (amount : ℕ) (old new : StoreLedgerState)
+    → IsPrimary p → HasLedger p old → s < length p.sites → AreEntries (limits_at p s) → StoreStandsFor new p.log p.setup.groups
     → new.added ≡ old.added → length new.sites ≡ length old.sites
     → ((t : ℕ) (d : SiteLedgerState) → (t ≡ s → ⊥) → get_or new.sites t d ≡ get_or old.sites t d)
     → ((d : SiteLedgerState) → (get_or new.sites s d).reported ≡ (get_or old.sites s d).reported)
     → ((limits : Limits) (d : SiteLedgerState) → HasLimits (length p.log.start) p.setup.groups limits (get_or old.sites s d)
     → HasLimits (length p.log.start) p.setup.groups (put are_on_one_scope limits (record { scope = scope; amount = amount }))
     (get_or new.sites s d))
-    → AreLedgers (relimited p s scope amount) new
-AreLedgers-relimited p s scope amount old new is are there keep stand added count others reported limits =
+    → HasLedger (relimited p s scope amount) new
+HasLedger-relimited p s scope amount old new is are there keep stand added count others reported limits =
     let e = entry_of scope amount (p.acked + 1) in
     let lt : s < length p.limits = omega (arith, there, is.tables) in
     let now : latest (changed (limits_at p s) e) ≡ put are_on_one_scope (latest (limits_at p s)) e.limit =

@@ -11,7 +11,7 @@ use Rattle.std.proofs.lemmas.List.Elements.{All-map, All-push, All-nil, All-set,
 use Rattle.ordup_objects.specs.declared.refusal.Refusal.TheVariants.{NameTaken, OutOfRange, TooMany}
 use Rattle.ordup_objects.specs.Names.{is_name}
 use Rattle.ordup_objects.specs.Sizes.{most_sites, greatest_capacity}
-use Rattle.ordup_objects.specs.Tables.{Objects, index_of, names_of}
+use Rattle.ordup_objects.specs.Tables.{index_of, names_of}
 use Rattle.ordup_log.specs.Spans.{IsScopeKnown}
 use Rattle.ordup_log.specs.Groups.{GroupList, AreMembersKnown}
 use Rattle.ordup_log.specs.declared.scope.Scope.{Scope}
@@ -43,8 +43,8 @@ many-refused sites name capacity named free fits full =
 pub none-refused : (sites : List (List ℕ × ℕ)) (name : List ℕ) (capacity : ℕ) → is_name name ≡ true → false ≡ is_some (index_of name sites)
     → true ≡ not (capacity == 0 || nat_lt greatest_capacity capacity) → (length sites ≡ most_sites → ⊥)
     → None ≡ site_refusal sites name capacity
-none-refused sites name capacity named free fits room =
-    rw (named, ← free, not-true (capacity == 0 || nat_lt greatest_capacity capacity) (sym fits), ne_eqb (length sites) most_sites room) refl
+none-refused sites name capacity named free fits spare =
+    rw (named, ← free, not-true (capacity == 0 || nat_lt greatest_capacity capacity) (sym fits), ne_eqb (length sites) most_sites spare) refl
 
 -- what holds of a site that is not refused
 pub site_allowed : (sites : List (List ℕ × ℕ)) (name : List ℕ) (capacity : ℕ) → site_refusal sites name capacity ≡ None
@@ -64,7 +64,7 @@ pub AreDeclared-site : (d : Declared) (name : List ℕ) (capacity : ℕ) (sites 
     → AreDeclared d → length d.sites < most_sites → (1 ≤ capacity) × (capacity ≤ greatest_capacity)
     → sites ≡ d.sites ++ (name, capacity) ∷ [] → limits ≡ d.limits ++ [] ∷ []
     → AreDeclared (record { objects = d.objects; groups = d.groups; sites = sites; limits = limits })
-AreDeclared-site d name capacity sites limits is room some e f = record {
+AreDeclared-site d name capacity sites limits is spare some e f = record {
   few = omega (arith, ap length e, length_push d.sites (name, capacity));
   capacities =
       rw e (All-push (λ (s : List ℕ × ℕ). (1 ≤ s.1) × (s.1 ≤ greatest_capacity)) d.sites (name, capacity) is.capacities some);
@@ -146,18 +146,18 @@ AreDeclared-group d (Ok u) groups group is members more same =
     }
 AreDeclared-group d (Err x) groups group is members more same = rw same is
 
--- ---- a store that goes on
+-- ---- a successor
 
 length-names : {V W : Type 0} (xs : List (List ℕ × V)) (ys : List (List ℕ × W)) → names_of xs ≡ names_of ys → length xs ≡ length ys
 length-names xs ys same = sym (length-map xs (λ e. e.0)) ∙ ap length same ∙ length-map ys (λ e. e.0)
 
-pub AreDeclared-going_on : (d : Declared) (objects : Objects) (tables : List Entries) → AreDeclared d
-    → names_of objects ≡ names_of d.objects → length tables ≡ length d.sites
-    → All (AreEntriesKnown (length d.objects) d.groups) tables
-    → AreDeclared (record { objects = objects; groups = d.groups; sites = d.sites; limits = limits_from_start tables })
-AreDeclared-going_on d objects tables are names count known =
-    let many : length objects ≡ length d.objects = length-names objects d.objects names in
-    record {
+pub AreDeclared-successor : (d next : Declared) (tables : List Entries) → AreDeclared d
+    → names_of next.objects ≡ names_of d.objects → next.groups ≡ d.groups → next.sites ≡ d.sites
+    → next.limits ≡ limits_from_start tables → length tables ≡ length d.sites
+    → All (AreEntriesKnown (length d.objects) d.groups) tables → AreDeclared next
+AreDeclared-successor d next tables are names groups sites limits count known =
+    let many : length next.objects ≡ length d.objects = length-names next.objects d.objects names in
+    rw (groups, sites, limits) (record {
       few = are.few;
       capacities = are.capacities;
       count = length-map tables (λ entries. from_start (latest entries)) ∙ count;
@@ -165,13 +165,13 @@ AreDeclared-going_on d objects tables are names count known =
       first = All-map (HoldFrom 1) (λ entries. from_start (latest entries)) tables (λ i e lt. HoldFrom-from_start (latest (get_or tables i e)));
       known = rw many (All-map (AreEntriesKnown (length d.objects) d.groups) (λ entries. from_start (latest entries)) tables
           (λ i e lt. known-from_start (length d.objects) d.groups (get_or tables i e) (known i e lt)));
-    }
+    })
 
 -- it is ready where the one before it was
-pub going_on-ready : (d : Declared) (r : Result Declared Refusal) → is_ready d ≡ true → IfOk r (λ e. names_of e.objects ≡ names_of d.objects)
+pub successor-ready : (d : Declared) (r : Result Declared Refusal) → is_ready d ≡ true → IfOk r (λ e. names_of e.objects ≡ names_of d.objects)
     → IfOk r (λ e. e.sites ≡ d.sites) → IfOk r (λ e. start_refusal e ≡ None)
-going_on-ready d (Err e) ready names sites = tt
-going_on-ready d (Ok e) ready names sites =
+successor-ready d (Err e) ready names sites = tt
+successor-ready d (Ok e) ready names sites =
     let same : is_ready e ≡ is_ready d = rw (length-names e.objects d.objects names, sites) refl in
     rw (same, ready) refl
 

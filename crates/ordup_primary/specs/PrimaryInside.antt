@@ -6,7 +6,7 @@ use Rattle.std.specs.List.{range_with_len}
 use Rattle.ordup_log.specs.Steps.{as_of}
 use Rattle.ordup_objects.specs.Tables.{initial_state}
 use Rattle.ordup_rounds.specs.declared.window.Window.{Window}
-use Rattle.ordup_limits.specs.SiteLedgers.{HasLimits, LedgersState, SiteLedgerState, StandFor}
+use Rattle.ordup_limits.specs.StoreLedgers.{HasLimits, StoreLedgerState, SiteLedgerState, StoreStandsFor}
 use Rattle.ordup_limits.specs.Entries.{latest}
 use Rattle.ordup_primary.specs.Declarations.{Declared}
 use Rattle.ordup_primary.specs.Primaries.{PrimaryState, SiteProgress, first_progress, progress_at, limits_at, IsPrimary}
@@ -14,13 +14,13 @@ use Rattle.ordup_primary.specs.Reports.{changes_of, last_report, with_report}
 use Rattle.ordup_primary.specs.declared.progress.Progress.{Progress}
 use Rattle.ordup_primary.specs.declared.primary.Primary.TheInside.{Inside}
 
--- ---- the ledgers of the sites
+-- ---- the ledger of the store
 
--- the ledgers are of the log and the groups, with the limits of each site, where it has reported; what is decided was added, and at
+-- the ledger is of the log and the groups, with the limits of each site, where it has reported; what is decided was added, and at
 -- most the head with it
-pub record AreLedgers (p : PrimaryState) (l : LedgersState) : Type 0 where
+pub record HasLedger (p : PrimaryState) (l : StoreLedgerState) : Type 0 where
   pub count : length l.sites ≡ length p.sites
-  pub stand : StandFor l p.log p.setup.groups
+  pub stand : StoreStandsFor l p.log p.setup.groups
   pub decided : p.decided ≤ l.added.place
   pub added : l.added.place ≤ p.acked + 1
   pub limits : (s : ℕ) (d : SiteLedgerState) → s < length p.sites
@@ -108,18 +108,18 @@ module _ {A : Type 0} where
   }
 
   -- spare capacity for one report, one round and one window more
-  abbrev pub HasRoom : Progress A → Type 0
-  HasRoom site =
-      (0 < site.reports.room)
+  abbrev pub HasSpare : Progress A → Type 0
+  HasSpare site =
+      (0 < site.reports.spare)
       × (vec_len site.rounds < vec_capacity site.rounds)
       × (vec_len site.windows < vec_capacity site.windows)
 
-  -- there is room for a decision at the sites of the mask
-  abbrev pub HaveRoom : ℕ → List (Progress A) → Type 0
-  HaveRoom mask sites = (s : ℕ) (d : Progress A) → (bit_at mask s == 1) ≡ true → HasRoom (slice_index_or sites s d)
+  -- spare capacity for a decision at the sites of the mask
+  abbrev pub HaveSpare : ℕ → List (Progress A) → Type 0
+  HaveSpare mask sites = (s : ℕ) (d : Progress A) → (bit_at mask s == 1) ≡ true → HasSpare (slice_index_or sites s d)
 
-  -- what the fields keep: they stand for a primary, with its ledgers
+  -- what the fields keep: they stand for a primary, with its ledger
   pub record KeepsPrimary (p : Inside A) : Type 0 where
     pub primary : IsPrimary (state_of p)
-    pub ledgers : AreLedgers (state_of p) p.ledgers
+    pub ledger : HasLedger (state_of p) p.ledger
     pub kept : AreKept p.decided p.moved (map kept_of p.sites.items)

@@ -6,7 +6,7 @@ use Rattle.ordup_log.specs.Steps.{steps_of}
 -- them the list can take before it grows
 pub record ReportList : Type 0 where
   pub changes : List (ℕ × ℕ)
-  pub room : ℕ
+  pub spare : ℕ
 
 -- what a site had reported at the decision of place k, and 0 before the first
 abbrev pub reported_from_start : List ℕ → ℕ → ℕ

@@ -5,4 +5,4 @@ use Rattle.ordup_primary.specs.declared.reports.Reports.TheInside.{Inside}
 
 module _ {A : Type 0} where
   abbrev pub reports_of : Inside A → ReportList
-  reports_of r = record { changes = r.changes.items; room = vec_capacity r.changes - vec_len r.changes }
+  reports_of r = record { changes = r.changes.items; spare = vec_capacity r.changes - vec_len r.changes }

@@ -6,7 +6,7 @@ use Rattle.ordup_primary.specs.declared.site_list.SiteList.TheInside.{Inside}
 abbrev pub sites_of : Inside → List ℕ
 sites_of l = take l.count l.sites
 
--- there is room for each site of a store
+-- the array is as long as a store may have sites, and no more of them count
 pub record HasFewSites (l : Inside) : Type 0 where
-  pub room : length l.sites ≡ most_sites
+  pub size : length l.sites ≡ most_sites
   pub few : l.count ≤ most_sites

@@ -1,7 +1,7 @@
 ghost use Rattle.std.specs.Prelude.{◌≡◌, ◌<◌, ◌≤◌, ◌==◌, ℕ, [], true, false, not, All, OnOk, IfErr, length, map, replicate, slice_index_or};
 ghost use Rattle.std.specs.Int.{bit_at};
 ghost use Rattle.ordup_objects.specs.Sizes.{most_updates};
-ghost use Rattle.ordup_primary.specs.PrimaryInside.{first_kept, kept_at, kept_of, HasRoom, HaveRoom};
+ghost use Rattle.ordup_primary.specs.PrimaryInside.{first_kept, kept_at, kept_of, HasSpare, HaveSpare};
 ghost use Rattle.ordup_primary.specs.Settling.{last_place};
 ghost use Rattle.ordup_primary.specs.declared.progress.Progress.{Progress};
 
@@ -43,7 +43,7 @@ pub(crate) fn reserve_decision<A: Allocator + Copy>(
 ) -> Result<(), Refusal>
     requires { (s : ℕ) → (bit_at mask s == 1) ≡ true → s < length sites.old.items }
     ensures same { map kept_of sites.new.items ≡ map kept_of sites.old.items }
-    ensures room { OnOk result (HaveRoom mask sites.new.items) }
+    ensures spare { OnOk result (HaveSpare mask sites.new.items) }
     ensures refused { IfErr result (λ e. e ≡ Refusal.NoMemory) }
 {
     let mut rest = mask;
@@ -57,7 +57,7 @@ pub(crate) fn reserve_decision<A: Allocator + Copy>(
 
 fn reserve_decision_at<A: Allocator + Copy>(site: &mut Progress<A>) -> Result<(), Refusal>
     ensures same { kept_of site.new ≡ kept_of site.old }
-    ensures room { OnOk result (HasRoom site.new) }
+    ensures spare { OnOk result (HasSpare site.new) }
     ensures refused { IfErr result (λ e. e ≡ Refusal.NoMemory) }
 {
     site.reports.reserve()?;
@@ -78,7 +78,7 @@ pub(crate) fn put_down<A: Allocator + Copy>(
     requires there { (s : ℕ) → (bit_at mask s == 1) ≡ true → s < length sites.old.items }
     requires others { (s : ℕ) (d : Progress A) → s < length sites.old.items → (bit_at mask s == 1) ≡ false →
         kept_of (slice_index_or sites.old.items s d) ≡ kept_at (not (bit_at forced s == 1)) number (kept_of (slice_index_or sites.old.items s d)) }
-    requires room { HaveRoom mask sites.old.items }
+    requires spare { HaveSpare mask sites.old.items }
     requires few { number ≤ most_updates }
     requires reported { All (λ site. site.reported ≤ most_updates) sites.old.items }
     ensures count { length sites.new.items ≡ length sites.old.items }
@@ -96,7 +96,7 @@ pub(crate) fn put_down<A: Allocator + Copy>(
 
 /// Puts down the decision of an update at one site: what the site had reported, and its round and window where it is forced.
 fn put_down_at<A: Allocator + Copy>(site: &mut Progress<A>, is_forced: bool, number: u64)
-    requires room { HasRoom site.old }
+    requires spare { HasSpare site.old }
     requires few { number ≤ most_updates }
     requires reported { site.old.reported ≤ most_updates }
     ensures { kept_of site.new ≡ kept_at (not is_forced) number (kept_of site.old) }

@@ -7,9 +7,9 @@
 //! The primary owns the setup, the log, and the limits of each site, which begin as a copy of those that were declared. So a setup
 //! stays as it was declared. Of each site it keeps how many updates were sent to it, how many it last reported, what it had
 //! reported at the decision of each place (`Reports`, as the changes of that number), its rounds, and a window for each round. It
-//! keeps the ledgers of all sites too, which no contract sees. It knows the values of no site.
+//! keeps the ledger of the store too, which no contract sees. It knows the values of no site.
 //!
-//! A settlement adds the head to the ledgers, finds the forced sites, takes the memory for one more entry in the lists of these and of
+//! A settlement adds the head to the ledger, finds the forced sites, takes the memory for one more entry in the lists of these and of
 //! the sites that reported since the last decision, and then puts the decision down. At the other sites it writes nothing: they
 //! reported what they had reported at the decision before. The first two steps take no memory and change nothing that is seen, and
 //! adding the head again adds nothing. So want of memory leaves all as it was. A later settlement of the same head only looks for the

@@ -3,7 +3,7 @@ ghost use Rattle.std.specs.Prelude.{◌≡◌, ◌↔◌, IfErr, IfOk, IsTrue, O
 ghost use Rattle.ordup_primary.specs.Successors.{limits_from_start};
 
 use ordup_limits::LimitTable;
-use ordup_objects::Refusal;
+use ordup_objects::{Refusal, or_give_up};
 use std::alloc::Allocator;
 
 /// Whether these are the same tables of limits, in the same order.
@@ -30,16 +30,12 @@ pub(crate) fn copy_limits<A: Allocator + Copy>(
     alloc: A,
     tables: &[LimitTable<A>],
 ) -> Result<Vec<LimitTable<A>, A>, Refusal>
-    ensures { IfOk result (λ limits. limits.items ≡ tables.now) }
+    ensures copied { IfOk result (λ limits. limits.items ≡ tables.now) }
+    ensures refused { IfErr result (λ e. e ≡ Refusal.NoMemory) }
 {
     let mut limits = Vec::new(alloc);
-    match add_limits(alloc, tables, &mut limits) {
-        Ok(()) => Ok(limits),
-        Err(refusal) => {
-            drop(limits);
-            Err(refusal)
-        }
-    }
+    or_give_up!(add_limits(alloc, tables, &mut limits), limits);
+    Ok(limits)
 }
 
 /// Adds a copy of each of these tables of limits to a list without limits.
@@ -49,7 +45,8 @@ fn add_limits<A: Allocator + Copy>(
     limits: &mut Vec<LimitTable<A>, A>,
 ) -> Result<(), Refusal>
     requires { limits.old.items ≡ [] }
-    ensures { OnOk result (limits.new.items ≡ tables.now) }
+    ensures copied { OnOk result (limits.new.items ≡ tables.now) }
+    ensures refused { IfErr result (λ e. e ≡ Refusal.NoMemory) }
 {
     for table in tables {
         limits.push(table.copy(alloc)?)?;
@@ -66,13 +63,8 @@ pub(crate) fn copy_latest<A: Allocator + Copy>(
     ensures refused { IfErr result (λ e. e ≡ Refusal.NoMemory) }
 {
     let mut limits = Vec::new(alloc);
-    match add_latest(alloc, tables, &mut limits) {
-        Ok(()) => Ok(limits),
-        Err(refusal) => {
-            drop(limits);
-            Err(refusal)
-        }
-    }
+    or_give_up!(add_latest(alloc, tables, &mut limits), limits);
+    Ok(limits)
 }
 
 /// Adds the last limits of each of these tables, in force from the start, to a list without limits.

@@ -1,20 +1,18 @@
-ghost use Rattle.std.specs.Prelude.{◌≡◌, ◌≤◌, ◌+◌, ◌-◌, ℕ, ◌<◌, None, Some, List, [], ◌∷◌, ◌++◌, length, map, replicate, slice_set, slice_index, slice_index_or, IfOk, OnOk, IfErr, not, nat_lt, ◌&&◌, ◌⊎◌};
+ghost use Rattle.std.specs.Prelude.{◌≡◌, ◌≤◌, ◌<◌, ◌+◌, None, [], length, replicate, slice_set, IfOk, IfErr};
 ghost use Rattle.ordup_objects.specs.Refusals.{IsRefusal};
-ghost use Rattle.ordup_objects.specs.Sizes.{most_sites};
-ghost use Rattle.ordup_primary.specs.Declarations.{Declared, start_refusal};
+ghost use Rattle.ordup_primary.specs.Declarations.{start_refusal};
 ghost use Rattle.ordup_primary.specs.Primaries.{first_progress};
 
-use crate::decisions::{last_place, put_down, reserve_decision};
+mod relimiting;
+mod settling;
+
 use crate::parcel::Parcel;
 use crate::progress::Progress;
-use crate::settled::Settled;
 use crate::setup::Setup;
-use crate::site_list::SiteList;
-use crate::site_mask::sites_among;
 use crate::starting::begin;
-use ordup_limits::{LagLedgers, LimitTable, Scope};
+use ordup_limits::{LimitTable, StoreLedger};
 use ordup_log::Log;
-use ordup_objects::{MessageSet, Refusal, SiteId};
+use ordup_objects::{MessageSet, Refusal, SiteId, or_give_up};
 use ordup_rounds::Window;
 use std::alloc::{Allocator, Global};
 use std::marker::Model;
@@ -34,7 +32,7 @@ pub struct Primary<A: Allocator + Copy = Global> {
     /// The limits of each site, which begin as those that were declared.
     limits: Vec<LimitTable<A>, A>,
     /// The weights of the updates up to the head that the sites have not reported.
-    ledgers: LagLedgers<A>,
+    ledger: StoreLedger<A>,
 }
 
 impl<A: Allocator + Copy> Model for Primary<A> {
@@ -50,14 +48,13 @@ impl<A: Allocator + Copy> Model for Primary<A> {
 }
 
 impl<A: Allocator + Copy> Primary<A> {
-    ghost use Rattle.ordup_objects.specs.Serial.{serial, set_at, with_update, History};
+    ghost use Rattle.ordup_objects.specs.Serial.{serial, set_at, with_update};
     ghost use Rattle.ordup_objects.specs.Sets.{AreKnown};
     ghost use Rattle.ordup_objects.specs.Tables.{initial_state, names_of};
     ghost use Rattle.ordup_objects.specs.Marks.{AreMarks};
     ghost use Rattle.ordup_log.specs.Appending.{append_refusal};
-    ghost use Rattle.ordup_log.specs.Spans.{span, IsScopeKnown};
     ghost use Rattle.ordup_limits.specs.Entries.{AreEntriesKnown};
-    ghost use Rattle.ordup_primary.specs.Primaries.{PrimaryState, IsPrimary, progress_at, limits_at, reported_at, send_refusal, settle_refusal, forced_now, waiting_now, waits_for, settled_as, acked_or_round, acked_or_waiting, acked_after, Decides, relimit_refusal, relimited, HasFewestRounds};
+    ghost use Rattle.ordup_primary.specs.Primaries.{IsPrimary, progress_at, limits_at, reported_at, send_refusal, HasFewestRounds};
     ghost use Rattle.ordup_primary.specs.Reports.{changes_of};
     ghost use Rattle.ordup_primary.specs.Successors.{limits_from_start, successor_refusal};
 
@@ -77,24 +74,18 @@ impl<A: Allocator + Copy> Primary<A> {
         setup.keeps();
         let mut sites = Vec::new(alloc);
         let mut limits = Vec::new(alloc);
-        match begin(alloc, &setup, &mut sites, &mut limits) {
-            Ok((log, ledgers)) => Ok(Primary {
-                setup,
-                log,
-                acked: 0,
-                decided: 0,
-                sites,
-                moved: 0,
-                limits,
-                ledgers,
-            }),
-            Err(refusal) => {
-                setup.discard();
-                drop(sites);
-                drop(limits);
-                Err(refusal)
-            }
-        }
+        let begun = begin(alloc, &setup, &mut sites, &mut limits);
+        let (log, ledger) = or_give_up!(begun, setup, sites, limits);
+        Ok(Primary {
+            setup,
+            log,
+            acked: 0,
+            decided: 0,
+            sites,
+            moved: 0,
+            limits,
+            ledger,
+        })
     }
 
     /// Numbers a message set as the next update.
@@ -158,57 +149,9 @@ impl<A: Allocator + Copy> Primary<A> {
         self.setup.keeps();
         self.moved |= 1 << site.index();
         self.sites[site.index()].reported = place;
-        self.ledgers
+        self.ledger
             .reported(&self.log, self.setup.groups(), site, place);
         self.keeps();
-    }
-
-    /// Settles the head, the update after the last acknowledged one.
-    ///
-    /// The first settlement of the head decides it. A site for which the span from what it has reported to the head passes a
-    /// limit is forced: the update waits for it. Where no site is forced, the head is acknowledged at once, and else by the
-    /// first later settlement at which each forced site has reported it.
-    ///
-    /// It is refused `NothingToSettle` where all updates are acknowledged, and `NoMemory`. A later settlement is never refused.
-    pub fn settle(&mut self) -> Result<Settled, Refusal>
-        ensures answer { IfOk result (λ settled. settled ≡ settled_as self.old) }
-        ensures first { IfOk result (λ _. self.old.acked ≡ self.old.decided → Decides self.old self.new) }
-        ensures later { IfOk result (λ _. self.old.acked < self.old.decided → self.new ≡ record self.old { acked = acked_after self.old.acked (waiting_now self.old) }) }
-        ensures allowed { IfOk result (λ _. settle_refusal self.old ≡ None) }
-        ensures refused { IfErr result (λ e. IsRefusal (settle_refusal self.old) e) }
-        ensures only_first { IfErr result (λ _. self.old.acked ≡ self.old.decided) }
-        ensures err { IfErr result (λ _. self.new ≡ self.old) }
-        ensures sound { IsPrimary self.new }
-        ensures fewest { HasFewestRounds self.new }
-    {
-        let settled = self.settle_head();
-        self.keeps();
-        settled
-    }
-
-    /// Changes the limit of a site on a scope from the head on, or begins one there. It returns the place of the head.
-    ///
-    /// The limits that were in force at a place when it was decided stay so. It is refused `UnknownObject`, `UnknownGroup`,
-    /// `OutOfRange` for the amount, `TooMany` for a 65th scope or a 1,089th entry of the site, `HeadPending` where the head is
-    /// decided and not acknowledged, `LagOver` where the acknowledged updates that the site has not reported weigh more than
-    /// the amount, and `NoMemory`.
-    pub fn relimit(&mut self, site: SiteId, scope: Scope, amount: u64) -> Result<u64, Refusal>
-        requires { site < length self.old.sites }
-        ensures place { IfOk result (λ k. k ≡ self.old.acked + 1) }
-        ensures changed { IfOk result (λ _. self.new ≡ relimited self.old site scope amount) }
-        ensures allowed { IfOk result (λ _. relimit_refusal self.old site scope amount ≡ None) }
-        ensures refused { IfErr result (λ e. IsRefusal (relimit_refusal self.old site scope amount) e) }
-        ensures err { IfErr result (λ _. self.new ≡ self.old) }
-        ensures sound { IsPrimary self.new }
-    {
-        // The prover joins branches over a borrowed scope, not over a copied one.
-        let scope = &scope;
-        self.keeps();
-        self.check_relimit(site, *scope, amount)?;
-        let put = self.put_limit(site, *scope, amount);
-        self.keeps();
-        put?;
-        Ok(self.acked + 1)
     }
 
     /// What was declared.
@@ -275,8 +218,8 @@ impl<A: Allocator + Copy> Primary<A> {
         self.sites[site.index()].reports.at(place)
     }
 
-    /// Each decided place at which the site's report was another number than at the place before, with that number, in order. The
-    /// number before the first place is 0.
+    /// The decided places at which the report of the site changed, in order, each with the new number. Before the first place it is
+    /// 0.
     pub fn report_changes(&self, site: SiteId) -> &[(u32, u32)]
         requires { site < length self.now.sites }
         ensures changes { result.now ≡ changes_of (progress_at self.now site).reports }
@@ -305,20 +248,6 @@ impl<A: Allocator + Copy> Primary<A> {
         self.sites[site.index()].windows.as_slice()
     }
 
-    /// Whether the head waits for a site: it is decided and not acknowledged, it forced the site, and the site has not reported it.
-    ///
-    /// The rounds of a site end with the head exactly where the head forced it, so nothing is weighed again.
-    pub fn waits_for(&self, site: SiteId) -> bool
-        requires { site < length self.now.sites }
-        ensures { result ≡ waits_for self.now site }
-    {
-        let head = self.acked + 1;
-        if self.acked == self.decided || self.reported(site) >= head {
-            return false;
-        }
-        last_place(self.rounds(site)) == head
-    }
-
     /// What each primary keeps, for the proofs of its users. It does nothing.
     #[inline(always)]
     pub fn keeps(&self)
@@ -328,7 +257,7 @@ impl<A: Allocator + Copy> Primary<A> {
         let _ = &self.acked;
     }
 
-    /// The setup of the store that goes on from this one, in which each site begins with all that is in the log.
+    /// The setup of the successor of this store, in which each site begins with all that is in the log.
     ///
     /// - The same objects, each beginning at its value after the whole log.
     /// - The same groups, and the same sites with their capacities.
@@ -336,12 +265,12 @@ impl<A: Allocator + Copy> Primary<A> {
     /// - It is ready to start.
     /// - It is refused `NotYet` with the number of the last update while one is not acknowledged, and `NoMemory`.
     pub fn successor(&self, alloc: A) -> Result<Setup<A>, Refusal>
-        ensures objects { IfOk result (λ next. names_of next.objects ≡ names_of self.now.setup.objects) }
-        ensures values { IfOk result (λ next. initial_state next.objects ≡ serial self.now.log (length self.now.log.sets)) }
-        ensures groups { IfOk result (λ next. next.groups ≡ self.now.setup.groups) }
-        ensures sites { IfOk result (λ next. next.sites ≡ self.now.setup.sites) }
-        ensures limits { IfOk result (λ next. next.limits ≡ limits_from_start self.now.limits) }
-        ensures ready { IfOk result (λ next. start_refusal next ≡ None) }
+        ensures objects { IfOk result (λ successor. names_of successor.objects ≡ names_of self.now.setup.objects) }
+        ensures values { IfOk result (λ successor. initial_state successor.objects ≡ serial self.now.log (length self.now.log.sets)) }
+        ensures groups { IfOk result (λ successor. successor.groups ≡ self.now.setup.groups) }
+        ensures sites { IfOk result (λ successor. successor.sites ≡ self.now.setup.sites) }
+        ensures limits { IfOk result (λ successor. successor.limits ≡ limits_from_start self.now.limits) }
+        ensures ready { IfOk result (λ successor. start_refusal successor ≡ None) }
         ensures allowed { IfOk result (λ _. successor_refusal self.now ≡ None) }
         ensures refused { IfErr result (λ e. IsRefusal (successor_refusal self.now) e) }
     {
@@ -351,7 +280,7 @@ impl<A: Allocator + Copy> Primary<A> {
         }
         self.keeps();
         self.setup
-            .going_on(alloc, self.log.end(), self.limits.as_slice())
+            .successor_with(alloc, self.log.end(), self.limits.as_slice())
     }
 
     /// For each object, in order of declaration, how much the acknowledged updates weigh on it.
@@ -364,156 +293,8 @@ impl<A: Allocator + Copy> Primary<A> {
         ensures refused { IfErr result (λ e. e ≡ Refusal.NoMemory) }
     {
         let alloc = *self.sites.allocator();
-        self.ledgers
+        self.ledger
             .marks(alloc, &self.log, self.setup.groups(), self.acked)
-    }
-
-    /// Tests whether a change of a limit is allowed.
-    fn check_relimit(&self, site: SiteId, scope: Scope, amount: u64) -> Result<(), Refusal>
-        requires { site < length self.now.sites }
-        ensures known { OnOk result (IsScopeKnown (length self.now.setup.objects) self.now.setup.groups scope) }
-        ensures allowed { OnOk result (relimit_refusal self.now site scope amount ≡ None) }
-        ensures refused { IfErr result (λ e. relimit_refusal self.now site scope amount ≡ Some e) }
-    {
-        // The prover joins branches over a borrowed scope, not over a copied one.
-        let scope = &scope;
-        let setup = &self.setup;
-        let limits = &self.limits[site.index()];
-        let head = self.acked + 1;
-        limits.check_change(setup.objects(), setup.groups(), *scope, amount, head)?;
-        if self.acked != self.decided {
-            return Err(Refusal::HeadPending);
-        }
-        if self.lag_on(site, *scope) > amount {
-            return Err(Refusal::LagOver);
-        }
-        Ok(())
-    }
-
-    /// The weight on a scope of the acknowledged updates that a site has not reported.
-    fn lag_on(&self, site: SiteId, scope: Scope) -> u64
-        requires site { site < length self.now.sites }
-        requires known { IsScopeKnown (length self.now.setup.objects) self.now.setup.groups scope }
-        ensures { result ≡ span self.now.log self.now.setup.groups scope (progress_at self.now site).reported self.now.acked }
-    {
-        let reported = self.reported(site);
-        if reported >= self.acked {
-            return 0;
-        }
-        self.log
-            .span(scope, self.setup.groups(), reported, self.acked)
-    }
-
-    /// Changes the limit of a site on a scope from the head on, where that is allowed. The only refusal is `NoMemory`.
-    fn put_limit(&mut self, site: SiteId, scope: Scope, amount: u64) -> Result<(), Refusal>
-        requires site { site < length self.old.sites }
-        requires known { IsScopeKnown (length self.old.setup.objects) self.old.setup.groups scope }
-        requires allowed { relimit_refusal self.old site scope amount ≡ None }
-        ensures changed { OnOk result (self.new ≡ relimited self.old site scope amount) }
-        ensures refused { IfErr result (λ e. e ≡ Refusal.NoMemory) }
-        ensures err { IfErr result (λ _. self.new ≡ self.old) }
-    {
-        // The prover joins branches over a borrowed scope, not over a copied one.
-        let scope = &scope;
-        let head = self.acked + 1;
-        let index = site.index();
-        self.limits[index].keeps();
-        let (objects, groups) = (self.setup.objects(), self.setup.groups());
-        let Ok(()) = self.limits[index].change(objects, groups, *scope, amount, head) else {
-            return Err(Refusal::NoMemory);
-        };
-        self.ledgers.change(&self.log, groups, site, *scope, amount);
-        Ok(())
-    }
-
-    /// Settles the head, if there is one.
-    fn settle_head(&mut self) -> Result<Settled, Refusal>
-        ensures answer { IfOk result (λ settled. settled ≡ settled_as self.old) }
-        ensures first { IfOk result (λ _. self.old.acked ≡ self.old.decided → Decides self.old self.new) }
-        ensures later { IfOk result (λ _. self.old.acked < self.old.decided → self.new ≡ record self.old { acked = acked_after self.old.acked (waiting_now self.old) }) }
-        ensures allowed { IfOk result (λ _. settle_refusal self.old ≡ None) }
-        ensures refused { IfErr result (λ e. IsRefusal (settle_refusal self.old) e) }
-        ensures only_first { IfErr result (λ _. self.old.acked ≡ self.old.decided) }
-        ensures err { IfErr result (λ _. self.new ≡ self.old) }
-    {
-        if self.acked == self.log.len() {
-            return Err(Refusal::NothingToSettle);
-        }
-        let head = self.acked + 1;
-        if self.acked == self.decided {
-            self.decide(head)
-        } else {
-            Ok(self.wait(head))
-        }
-    }
-
-    /// The first settlement of the head, which decides it.
-    fn decide(&mut self, head: u64) -> Result<Settled, Refusal>
-        requires first { self.old.acked ≡ self.old.decided }
-        requires head { head ≡ self.old.acked + 1 }
-        requires some { head ≤ length self.old.log.sets }
-        ensures answer { IfOk result (λ settled. settled ≡ acked_or_round (self.old.acked + 1) (forced_now self.old)) }
-        ensures decides { IfOk result (λ _. Decides self.old self.new) }
-        ensures refused { IfErr result (λ e. e ≡ Refusal.NoMemory) }
-        ensures err { IfErr result (λ _. self.new ≡ self.old) }
-    {
-        let over = self.ledgers.extend(&self.log, self.setup.groups(), head);
-        let forced = sites_among(over, self.setup.sites());
-        let mask = self.moved | over;
-        reserve_decision(&mut self.sites, mask)?;
-        put_down(&mut self.sites, mask, over, head);
-        self.moved = 0;
-        self.decided = head;
-        if forced.as_slice().is_empty() {
-            self.acked = head;
-            return Ok(Settled::Acked(head));
-        }
-        Ok(Settled::Round {
-            k: head,
-            sites: forced,
-        })
-    }
-
-    /// A later settlement of the head.
-    fn wait(&mut self, head: u64) -> Settled
-        requires later { self.old.acked < self.old.decided }
-        requires head { head ≡ self.old.acked + 1 }
-        requires some { head ≤ length self.old.log.sets }
-        ensures answer { result ≡ acked_or_waiting (self.old.acked + 1) (waiting_now self.old) }
-        ensures later { self.new ≡ record self.old { acked = acked_after self.old.acked (waiting_now self.old) } }
-    {
-        let waiting = self.waiting_now();
-        if waiting.as_slice().is_empty() {
-            self.acked = head;
-            return Settled::Acked(head);
-        }
-        Settled::Waiting {
-            k: head,
-            sites: waiting,
-        }
-    }
-
-    /// How many sites there are, at most 16.
-    fn count(&self) -> usize
-        ensures count { result ≡ length self.now.sites }
-        ensures few { length self.now.sites ≤ most_sites }
-    {
-        self.setup.sites()
-    }
-
-    /// The sites that the head, which is decided, waits for.
-    fn waiting_now(&self) -> SiteList
-        requires { self.now.acked < self.now.decided }
-        ensures { result ≡ waiting_now self.now }
-    {
-        let mut waiting = SiteList::new();
-        for index in 0..self.count() {
-            let site = SiteId::new(index as u8);
-            if self.waits_for(site) {
-                waiting.push(site);
-            }
-        }
-        waiting
     }
 
     /// Drops it, by one call, and gives its memory back.

@@ -10,7 +10,7 @@ use std::marker::Model;
 /// What a site had reported at the decision of each place, kept as the changes of it.
 #[derive(Drop)]
 pub(crate) struct Reports<A: Allocator + Copy = Global> {
-    /// The places at which it had reported another number than at the decision before, each with it, in order.
+    /// The places at which it changed, in order, each with the new number.
     changes: Vec<(u32, u32), A>,
 }
 
@@ -36,7 +36,7 @@ impl<A: Allocator + Copy> Reports<A> {
     /// Reserves memory for the report at one decision more.
     pub(crate) fn reserve(&mut self) -> Result<(), AllocError>
         ensures same { self.new.changes ≡ self.old.changes }
-        ensures room { OnOk result (0 < self.new.room) }
+        ensures spare { OnOk result (0 < self.new.spare) }
     {
         self.changes.reserve(1)?;
         Ok(())
@@ -44,7 +44,7 @@ impl<A: Allocator + Copy> Reports<A> {
 
     /// Puts down the report at the decision of a place, later than those before.
     pub(crate) fn push_reserved(&mut self, place: u64, report: u64)
-        requires room { 0 < self.old.room }
+        requires spare { 0 < self.old.spare }
         requires few { (place ≤ most_updates) × (report ≤ most_updates) }
         ensures { self.new.changes ≡ with_report self.old.changes place report }
     {
@@ -62,7 +62,7 @@ impl<A: Allocator + Copy> Reports<A> {
         u64::from(as_of(self.changes.as_slice(), place as u32))
     }
 
-    /// The decisions at which the site had reported another number than at the one before, each with it.
+    /// The places at which the report changed, in order, each with the new number.
     pub(crate) fn changes(&self) -> &[(u32, u32)]
         ensures { result.now ≡ self.now.changes }
     {

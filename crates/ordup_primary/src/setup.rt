@@ -11,7 +11,7 @@ ghost use Rattle.ordup_log.specs.Groups.{AreGroupsKnown};
 use crate::limit_tables::{are_same_limits, copy_latest, copy_limits};
 use ordup_limits::{GroupId, Groups, LimitTable, Scope, check_scope};
 use ordup_objects::sizes::{GREATEST_CAPACITY, MOST_SITES};
-use ordup_objects::{Name, NameTable, ObjectId, ObjectTable, Refusal, SiteId, Values};
+use ordup_objects::{Name, NameTable, ObjectId, ObjectTable, Refusal, SiteId, Values, or_give_up};
 use std::alloc::{AllocError, Allocator, Global};
 use std::marker::Model;
 
@@ -54,22 +54,10 @@ impl<A: Allocator + Copy> Setup<A> {
         ensures refused { IfErr result (λ e. e ≡ Refusal.NoMemory) }
     {
         let objects = self.objects.copy(alloc)?;
-        // Tables and lists are dropped by a call: where one goes out of scope, the proof takes it apart.
-        let Ok(groups) = Groups::copy(&self.groups, alloc) else {
-            drop(objects);
-            return Err(Refusal::NoMemory);
-        };
-        let Ok(capacities) = copy_capacities(alloc, &self.capacities) else {
-            drop(objects);
-            drop(groups);
-            return Err(Refusal::NoMemory);
-        };
-        let Ok(limits) = copy_limits(alloc, self.limits.as_slice()) else {
-            drop(objects);
-            drop(groups);
-            drop(capacities);
-            return Err(Refusal::NoMemory);
-        };
+        let groups = or_give_up!(Groups::copy(&self.groups, alloc), objects);
+        let capacities = or_give_up!(copy_capacities(alloc, &self.capacities), objects, groups);
+        let copied = copy_limits(alloc, self.limits.as_slice());
+        let limits = or_give_up!(copied, objects, groups, capacities);
         Ok(Setup {
             objects,
             groups,
@@ -78,9 +66,9 @@ impl<A: Allocator + Copy> Setup<A> {
         })
     }
 
-    /// The declarations of a store that goes on: the same objects, each beginning at its value among these; the same groups and
-    /// sites; and the last limits of these tables, one for each site, in force from the start. The only refusal is `NoMemory`.
-    pub(crate) fn going_on(
+    /// The declarations of a successor: the same objects, each beginning at its value among these; the same groups and sites; and
+    /// the last limits of these tables, one for each site, in force from the start. The only refusal is `NoMemory`.
+    pub(crate) fn successor_with(
         &self,
         alloc: A,
         values: &Values<A>,
@@ -89,30 +77,17 @@ impl<A: Allocator + Copy> Setup<A> {
         requires values { length values.now ≡ length self.now.objects }
         requires count { length tables.now ≡ length self.now.sites }
         requires known { All (AreEntriesKnown (length self.now.objects) self.now.groups) tables.now }
-        ensures objects { IfOk result (λ next. names_of next.objects ≡ names_of self.now.objects) }
-        ensures values { IfOk result (λ next. initial_state next.objects ≡ values.now) }
-        ensures groups { IfOk result (λ next. next.groups ≡ self.now.groups) }
-        ensures sites { IfOk result (λ next. next.sites ≡ self.now.sites) }
-        ensures limits { IfOk result (λ next. next.limits ≡ limits_from_start tables.now) }
+        ensures objects { IfOk result (λ successor. names_of successor.objects ≡ names_of self.now.objects) }
+        ensures values { IfOk result (λ successor. initial_state successor.objects ≡ values.now) }
+        ensures groups { IfOk result (λ successor. successor.groups ≡ self.now.groups) }
+        ensures sites { IfOk result (λ successor. successor.sites ≡ self.now.sites) }
+        ensures limits { IfOk result (λ successor. successor.limits ≡ limits_from_start tables.now) }
         ensures refused { IfErr result (λ e. e ≡ Refusal.NoMemory) }
     {
         let objects = self.objects.copy_with(alloc, values)?;
-        // Tables and lists are dropped by a call: where one goes out of scope, the proof takes it apart.
-        let Ok(groups) = self.groups.copy(alloc) else {
-            drop(objects);
-            return Err(Refusal::NoMemory);
-        };
-        let Ok(capacities) = copy_capacities(alloc, &self.capacities) else {
-            drop(objects);
-            drop(groups);
-            return Err(Refusal::NoMemory);
-        };
-        let Ok(limits) = copy_latest(alloc, tables) else {
-            drop(objects);
-            drop(groups);
-            drop(capacities);
-            return Err(Refusal::NoMemory);
-        };
+        let groups = or_give_up!(self.groups.copy(alloc), objects);
+        let capacities = or_give_up!(copy_capacities(alloc, &self.capacities), objects, groups);
+        let limits = or_give_up!(copy_latest(alloc, tables), objects, groups, capacities);
         Ok(Setup {
             objects,
             groups,
@@ -332,13 +307,8 @@ fn copy_capacities<A: Allocator + Copy>(
     ensures { IfOk result (λ copied. copied ≡ capacities.now) }
 {
     let mut copied = NameTable::new(alloc);
-    match add_capacities(&mut copied, capacities) {
-        Ok(()) => Ok(copied),
-        Err(error) => {
-            drop(copied);
-            Err(error)
-        }
-    }
+    or_give_up!(add_capacities(&mut copied, capacities), copied);
+    Ok(copied)
 }
 
 /// Adds the names of sites, with the capacities of their feeds, to a table without names.

@@ -4,6 +4,7 @@ use Rattle.std.specs.Prelude.{Option, Some, None, List, [], ◌∷◌, length, m
 use Rattle.ordup_objects.specs.declared.refusal.Refusal.{Refusal}
 use Rattle.ordup_objects.specs.declared.refusal.Refusal.TheVariants.{OutOfRange, TooMany, OverImport}
 use Rattle.ordup_site.specs.Sites.{SiteState}
+use Rattle.ordup_query.specs.declared.answer.QueryAnswer.{QueryAnswer}
 use Rattle.ordup_query.specs.declared.answer.ReadAnswer.{ReadAnswer}
 use Rattle.ordup_query.specs.Sizes.{most_reads, greatest_import_limit}
 use Rattle.ordup_query.specs.Imports.{charge}
@@ -40,6 +41,15 @@ value_sum (value ∷ values) = value_sum values +ℤ value
 abbrev pub import_sum : List ℕ → ℕ
 import_sum [] = 0
 import_sum (import ∷ imports) = import_sum imports + import
+
+-- what reads with these answers come to, at a reference
+abbrev pub summed_up : ℕ → List ReadAnswer → QueryAnswer
+summed_up place answers = record {
+  place = place;
+  sum = value_sum (map (λ a. a.value) answers);
+  total = import_sum (map (λ a. a.import) answers);
+  reads = length answers;
+}
 
 -- the accepted reads had these answers, newest first, and there were no others
 pub record HasRead (q : QueryState) (answers : List ReadAnswer) : Type 0 where

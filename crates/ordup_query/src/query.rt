@@ -1,4 +1,4 @@
-ghost use Rattle.std.specs.Prelude.{◌≡◌, ◌≤◌, ◌<◌, ◌+◌, ◌+ℤ◌, ℕ, ℤ, pos, None, Some, List, ◌∷◌, IfOk, IfErr, OnOk, OnErr, length, map};
+ghost use Rattle.std.specs.Prelude.{◌≡◌, ◌≤◌, ◌<◌, ◌+◌, ◌+ℤ◌, ℕ, ℤ, pos, None, Some, List, ◌∷◌, IfOk, IfErr, OnOk, OnErr, length};
 ghost use Rattle.ordup_objects.specs.States.{value_at};
 ghost use Rattle.ordup_objects.specs.Serial.{History, serial};
 ghost use Rattle.ordup_objects.specs.Weights.{distance};
@@ -7,7 +7,7 @@ ghost use Rattle.ordup_query.specs.declared.answer.ReadAnswer.{ReadAnswer};
 ghost use Rattle.ordup_query.specs.Sizes.{most_reads};
 ghost use Rattle.ordup_query.specs.Imports.{import_of, charge};
 ghost use Rattle.ordup_objects.specs.Marks.{mark_at, AreMarks};
-ghost use Rattle.ordup_query.specs.Queries.{begin_refusal, refusal_at, value_sum, import_sum, HasRead};
+ghost use Rattle.ordup_query.specs.Queries.{begin_refusal, refusal_at, summed_up, HasRead};
 
 use crate::answer::{QueryAnswer, ReadAnswer};
 use crate::sizes::{GREATEST_IMPORT_LIMIT, MOST_READS};
@@ -114,7 +114,7 @@ impl<A: Allocator + Copy> Query<A> {
     /// Ends the query, and returns what its accepted reads added up to.
     pub fn end(self) -> QueryAnswer
         ensures answer { result ≡ record { place = self.place; sum = self.sum; total = self.total; reads = self.reads } }
-        ensures reads { (answers : List ReadAnswer) → HasRead self answers → result ≡ record { place = self.place; sum = value_sum (map (λ a. a.value) answers); total = import_sum (map (λ a. a.import) answers); reads = length answers } }
+        ensures reads { (answers : List ReadAnswer) → HasRead self answers → result ≡ summed_up self.place answers }
         ensures within { result.total ≤ self.limit }
         ensures few { result.reads ≤ most_reads }
     {

@@ -9,7 +9,7 @@ ghost use Rattle.ordup_record.specs.RecordsOf.{record_of, record_refusal};
 use crate::viewing::lent_by;
 use ordup_audit::{Record, RecordParts, RecordView, ReportChange, ReportChanges};
 use ordup_limits::{Groups, LimitTable};
-use ordup_objects::{ObjectTable, Refusal, SiteId};
+use ordup_objects::{ObjectTable, Refusal, SiteId, or_give_up};
 use ordup_primary::Primary;
 use std::alloc::Allocator;
 
@@ -35,13 +35,11 @@ pub fn record_of<A: Allocator + Copy>(
         return Err(Refusal::UnknownSite);
     }
     let mut parts = first_parts(alloc, primary, site)?;
-    match copy_parts(alloc, &lent_by(primary, site), &mut parts) {
-        Ok(()) => Ok(Record::from_parts(parts)),
-        Err(refusal) => {
-            parts.discard();
-            Err(refusal)
-        }
-    }
+    or_give_up!(
+        copy_parts(alloc, &lent_by(primary, site), &mut parts),
+        parts
+    );
+    Ok(Record::from_parts(parts))
 }
 
 /// The site's name and the decided updates, and nothing else of the record of a site. It is refused `NoMemory` alone.

@@ -16,7 +16,7 @@ use Rattle.ordup_rounds.specs.Windows.{IsWindow, AreDisjointWindows}
 use Rattle.ordup_rounds.specs.Rounds.{AreRoundPlaces, count_upto, full_rounds}
 use Rattle.ordup_rounds.specs.Fewest.{IsCertificate}
 use Rattle.ordup_rounds.specs.Joins.{JoinsTests, joined_reports, moved_places, moved_windows, CertificatesJoin, FewestRoundsJoin}
-use Rattle.ordup_rounds.proofs.PlaceLemmas.{has_place, count_upto-all, count_upto-none, round_count-places, places_are_full_rounds}
+use Rattle.ordup_rounds.proofs.PlaceLemmas.{has_place, count_upto-all, count_upto-none, round_count-places, round_places_are_a_schedule}
 use Rattle.ordup_rounds.proofs.ScheduleLemmas.{awaited_place-le}
 use Rattle.ordup_rounds.proofs.WindowLemmas.{no_fewer_rounds_than_windows}
 
@@ -130,7 +130,7 @@ awaited-next n xs ys (suc k) =
     let last : awaited_place whole (n + suc k) ≡ max (awaited_place whole (n + k)) (unwrap_or (whole (n + suc k)) 0) = rw step refl in
     omega (arith, awaited-next n xs ys k, own, last)
 
--- ---- a schedule of the whole, from the join on
+-- ---- a schedule of the whole, from the next epoch on
 
 abbrev later_part : ℕ → Schedule → Schedule
 later_part n p k = option_map (λ m. m - n) (p (n + k))
@@ -296,7 +296,7 @@ certificates_join n decided within first next f g test joins rounds more windows
 module _ (n decided : ℕ) (within first next : ℕ → ℕ → Bool) (f g : ℕ → ℕ) (test : IsLimitTest within)
     (joins : JoinsTests n within first next) (p : Schedule) (is : IsSchedule (n + decided) p)
     (keeps : StaysWithin within (joined_reports n f g) (n + decided) p) where
-  -- up to the join a schedule of the whole is one of the first epoch
+  -- up to the end of the first epoch a schedule of the whole is one of that epoch
   keeps-first : StaysWithin first f n p
   keeps-first k some le =
       sym (joins.before (base f p k) k le)
@@ -322,7 +322,7 @@ fewest_rounds_join n decided within first next f g test joins rounds more window
           omega (
             arith,
             no_fewer_rounds_than_windows within reports (n + decided) test (full_rounds (rounds ++ moved_places n more))
-                (places_are_full_rounds (n + decided) (rounds ++ moved_places n more) whole.places).0 whole.keeps ws are,
+                (round_places_are_a_schedule (n + decided) (rounds ++ moved_places n more) whole.places).0 whole.keeps ws are,
             round_count-places (n + decided) (rounds ++ moved_places n more) whole.places,
           );
       fewest = λ p is keeps e le. elim (cases_lt n e) [

@@ -9,7 +9,7 @@ use Rattle.std.proofs.lemmas.List.Kept.{AllPairs-from_increasing}
 use Rattle.std.proofs.lemmas.List.Sums.{sum_by-cons, sum_by_push}
 use Rattle.ordup_rounds.specs.Schedules.{round_count, awaited_place}
 use Rattle.ordup_rounds.specs.Rounds.{AreRoundPlaces, count_upto, full_rounds}
-use Rattle.ordup_rounds.specs.Fewest.{PlacesAreFullRounds}
+use Rattle.ordup_rounds.specs.Fewest.{RoundPlacesAreASchedule}
 
 -- whether k is one of the places
 abbrev pub has_place : ℕ → List ℕ → Bool
@@ -116,8 +116,8 @@ module _ (decided : ℕ) (places : List ℕ) (are : AreRoundPlaces decided place
       ∙ count_upto-all decided places
       (All-weaker (λ k. (0 < k) × (k ≤ decided)) (λ k. k ≤ decided) (λ k is. is.1) places are.each)
 
-pub places_are_full_rounds : PlacesAreFullRounds
-places_are_full_rounds decided places are =
+pub round_places_are_a_schedule : RoundPlacesAreASchedule
+round_places_are_a_schedule decided places are =
     (λ k m some le awaits. full-own (has_place k places) k m awaits, round_count-full decided places are)
 
 -- up to one of them, its round waits for it

@@ -13,7 +13,7 @@ use Rattle.ordup_rounds.specs.Windows.{IsWindow, AreDisjointWindows}
 use Rattle.ordup_rounds.specs.Rounds.{AreRoundPlaces, count_upto, full_rounds, rounds_upto, windows_upto, AreRoundsReported}
 use Rattle.ordup_rounds.specs.Fewest.{IsCertificate, CertifiedRoundsAreFewest, ForcedRoundsAreFewest}
 use Rattle.ordup_rounds.proofs.PlaceLemmas.{has_place, count_upto-all, count_upto-push}
-use Rattle.ordup_rounds.proofs.PlaceLemmas.{round_count-places, places_are_full_rounds, awaited_place-full}
+use Rattle.ordup_rounds.proofs.PlaceLemmas.{round_count-places, round_places_are_a_schedule, awaited_place-full}
 use Rattle.ordup_rounds.proofs.WindowLemmas.{no_fewer_rounds_than_windows}
 
 pub certified_rounds_are_fewest : CertifiedRoundsAreFewest
@@ -210,7 +210,7 @@ forced_rounds_are_fewest within reported_at decided test reported =
           omega (
             arith,
             no_fewer_rounds_than_windows within reported_at decided test (full_rounds rounds)
-                (places_are_full_rounds decided rounds places).0 (rounds_upto-keep within reported_at test decided) ws are,
+                (round_places_are_a_schedule decided rounds places).0 (rounds_upto-keep within reported_at test decided) ws are,
             round_count-places decided rounds places,
           );
       fewest = λ p is keeps e le.

@@ -37,8 +37,8 @@ NoFewerRoundsThanWindows =
     (windows : List Window) → AreDisjointWindows within reported_at decided windows → length windows ≤ round_count p decided
 
 -- a list of round places is a schedule, which has just these rounds
-abbrev pub PlacesAreFullRounds : Type 0
-PlacesAreFullRounds =
+abbrev pub RoundPlacesAreASchedule : Type 0
+RoundPlacesAreASchedule =
     (decided : ℕ) (places : List ℕ) → AreRoundPlaces decided places →
     IsSchedule decided (full_rounds places) × ((e : ℕ) → round_count (full_rounds places) e ≡ count_upto e places)
 

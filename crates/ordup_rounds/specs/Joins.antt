@@ -11,7 +11,7 @@ abbrev pub joined_reports : ℕ → (ℕ → ℕ) → (ℕ → ℕ) → ℕ → 
 joined_reports n first next k = if nat_le k n then first k else n + next (k - n)
 
 -- A test of limits of the whole is that of the first epoch on spans that end in it, and that of the next one on spans within that.
--- Nothing is said of spans across the join: no base lies before it.
+-- Nothing is said of spans from the first epoch into the next: no base is so early.
 pub record JoinsTests (n : ℕ) (within first next : ℕ → ℕ → Bool) : Type 0 where
   pub before : (a b : ℕ) → b ≤ n → within a b ≡ first a b
   pub after : (a b : ℕ) → within (n + a) (n + b) ≡ next a b

@@ -1,5 +1,5 @@
 ghost use Rattle.ordup_rounds.specs.Joins.{CertificatesJoin, FewestRoundsJoin};
-ghost use Rattle.ordup_rounds.specs.Fewest.{EachWindowHasARound, NoFewerRoundsThanWindows, PlacesAreFullRounds, CertifiedRoundsAreFewest, ForcedRoundsAreFewest};
+ghost use Rattle.ordup_rounds.specs.Fewest.{EachWindowHasARound, NoFewerRoundsThanWindows, RoundPlacesAreASchedule, CertifiedRoundsAreFewest, ForcedRoundsAreFewest};
 
 /// A law: a schedule that keeps the limits has a round at a place of each window.
 pub fn each_window_has_a_round()
@@ -12,8 +12,8 @@ pub fn no_fewer_rounds_than_windows()
 {}
 
 /// A law: an ascending list of decided places is a schedule, which has just these rounds, all of them full.
-pub fn places_are_full_rounds()
-    ensures { PlacesAreFullRounds }
+pub fn round_places_are_a_schedule()
+    ensures { RoundPlacesAreASchedule }
 {}
 
 /// A law: no schedule that keeps the limits has fewer rounds than a certificate shows.
@@ -39,7 +39,7 @@ pub fn certificates_join()
 /// A law: where the rounds of two epochs are the fewest, so are those of both, one after the other, where the test of the whole is that
 /// of each epoch (`JoinsTests`), and the site has reported all of the first.
 ///
-/// So they stay the fewest, however many epochs a store goes on for.
+/// So they stay the fewest over any number of epochs.
 pub fn fewest_rounds_join()
     ensures { FewestRoundsJoin }
 {}

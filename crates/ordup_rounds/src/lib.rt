@@ -14,6 +14,6 @@ mod window;
 
 pub use laws::{
     certificates_join, certified_rounds_are_fewest, each_window_has_a_round, fewest_rounds_join,
-    forced_rounds_are_fewest, no_fewer_rounds_than_windows, places_are_full_rounds,
+    forced_rounds_are_fewest, no_fewer_rounds_than_windows, round_places_are_a_schedule,
 };
 pub use window::Window;

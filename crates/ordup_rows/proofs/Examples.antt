@@ -10,7 +10,7 @@ use Rattle.ordup_rows.specs.Telling.{Tells}
 use Rattle.ordup_rows.specs.Versions.{version_of, version_text}
 use Rattle.ordup_rows.specs.declared.version.Version.{Version}
 use Rattle.ordup_rows.specs.declared.version.Version.TheVariants.{First, Second}
-use Rattle.ordup_rows.proofs.Running.{what_is_read_is_told}
+use Rattle.ordup_rows.proofs.Running.{reading_is_sound}
 use Rattle.ordup_rows.proofs.Versions.{version_of-text}
 
 -- a row, and rows with a semicolon between each two, as text
@@ -54,7 +54,7 @@ forced_read = refl
 
 -- and its rows are these
 forced_written : forced ≡ rows_of forced_record
-forced_written = in_version First forced forced_record refl (what_is_read_is_told forced forced_record refl)
+forced_written = in_version First forced forced_record refl (reading_is_sound forced forced_record refl)
 
 forced_line : rows_text
     (rows "ordup,1,a,2;round,1,2,-")
@@ -153,7 +153,7 @@ lowered_read = refl
 
 -- its rows are of the second version
 lowered_written : lowered ≡ rows_of lowered_record
-lowered_written = in_version Second lowered lowered_record refl (what_is_read_is_told lowered lowered_record refl)
+lowered_written = in_version Second lowered lowered_record refl (reading_is_sound lowered lowered_record refl)
 
 -- which limits may come third: from place 2 to 4 on, and on x from 3; an amount and a place have one spelling
 next_limits : map (λ r. is_taken (take 5 lowered ++ r ∷ []))

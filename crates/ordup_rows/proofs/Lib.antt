@@ -8,7 +8,7 @@ pub mod RecordsSoFar
 pub mod Taking
 pub mod Running
 pub mod ReadingBack
-pub mod GoingOn
+pub mod Beginnings
 pub mod BadRows
 pub mod FormLemmas
 pub mod PlainLemmas

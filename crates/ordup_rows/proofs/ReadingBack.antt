@@ -22,7 +22,7 @@ use Rattle.ordup_audit.specs.declared.report_change.ReportChange.{ReportChange}
 use Rattle.ordup_audit.specs.Records.{AreObjects}
 use Rattle.ordup_audit.specs.Rows.{member_count}
 use Rattle.ordup_rows.specs.Columns.{change_by, writes}
-use Rattle.ordup_rows.specs.Laws.{RowsOfEachVersionAreRead, RowsTellOneRecord, WhatIsToldIsRead}
+use Rattle.ordup_rows.specs.Laws.{RowsOfEachVersionAreRead, RowsTellOneRecord, ReadingIsComplete}
 use Rattle.ordup_rows.specs.Rows.{Row, change_row, change_rows, change_text, counted, first_row, limit_row, member_row, member_rows, name_at}
 use Rattle.ordup_rows.specs.Rows.{object_row, report_row, round_row, rows_in, window_row}
 use Rattle.ordup_rows.specs.Stages.{last_number, Stage, closed, is_last_group, last_name, record_at, run, step, reading, record_read}
@@ -93,7 +93,7 @@ new_object xs o more are = record {
   is_a_name = all_at (λ (e : List ℕ × ℤ). is_name e.0 ≡ true) xs o more are.names;
   new = absent_before xs o more are.distinct;
   range = all_at IsInRange (initial_state xs) o.1 (initial_state more) (rw map-append at are.values);
-  room = let few = are.few in omega (arith, length-append xs (o ∷ more));
+  spare = let few = are.few in omega (arith, length-append xs (o ∷ more));
 }
 
 objects_run : (v : Version) (d : ℕ) (r : RecordState) → IsRecord r → run (at_objects v d r []) (counted object_row 1 r.objects)
@@ -103,7 +103,7 @@ objects_run v d r is =
     let new = new_object xs o more (subst AreObjects e is.objects) in
     let n : 1 + length xs ≡ length xs + 1 = omega arith in
     let range = new.range in
-    let room = new.room in
+    let spare = new.spare in
     rw (n, number_of-signed_decimal o.1 (omega arith), writes-decimal (length xs + 1) (omega arith), object_allowed xs o.0 o.1 new) refl)
     r.objects [] 1 refl refl
 
@@ -169,7 +169,7 @@ module _ (v : Version) (d : ℕ) (r : RecordState) (is : IsRecord r) where
     new = absent_before done (name, x ∷ ms) more are.distinct;
     known = All-cons (λ x. x < length r.objects) x []
         (all_at (HasKnown (length r.objects)) done (name, x ∷ ms) more are.known 0 x (omega arith)) (All-nil _);
-    room = let few = are.few in omega (arith, length-append done ((name, x ∷ ms) ∷ more));
+    spare = let few = are.few in omega (arith, length-append done ((name, x ∷ ms) ∷ more));
     group = record { some = omega arith; few = omega arith; distinct = refl };
   }
 
@@ -178,7 +178,7 @@ module _ (v : Version) (d : ℕ) (r : RecordState) (is : IsRecord r) where
       → IsNewMember (length r.objects) members x
   new_member members x more group known = record {
     known = all_at (λ x. x < length r.objects) members x more known;
-    room = let few = group.few in omega (arith, length-append members (x ∷ more));
+    spare = let few = group.few in omega (arith, length-append members (x ∷ more));
     new = repeats_new nat_eq members x more group.distinct;
   }
 
@@ -232,7 +232,7 @@ new_entry n d groups xs e more are known begun =
     let scopes = latest-take all (length (xs ++ e ∷ [])) in
     let few = are.few in
     let most = are.scopes in
-    let room : has_few (xs ++ e ∷ []) ≡ true = and_from _ _
+    let spare : has_few (xs ++ e ∷ []) ≡ true = and_from _ _
     (le-leb (length (latest (xs ++ e ∷ []))) most_limits (omega (arith, scopes, ap (λ (l : Entries). length (latest l)) front, most)))
     (le-leb (length (xs ++ e ∷ [])) most_entries (omega (arith, few, length_push xs e, length-append xs (e ∷ more)))) in
     record {
@@ -242,7 +242,7 @@ new_entry n d groups xs e more are known begun =
       within = all_at (λ (f : LimitEntry). f.place ≤ d + 1) xs e more begun;
       later = last_before xs e more are.rising;
       new = new;
-      room = ap has_few (changed-last xs e new) ∙ room;
+      spare = ap has_few (changed-last xs e new) ∙ spare;
     }
 
 limits_run : (v : Version) (d : ℕ) (r : RecordState) → IsRecord r → length r.sets ≡ d → CanTell v r.limits
@@ -275,9 +275,9 @@ step_first : (v : Version) (d : ℕ) (r : RecordState) (sets : List (List Change
     ≡ Some c
     → k ≡ length sets + 1 → length sets < d → k < 10 ^ 19 → set_refusal (length r.objects) (c ∷ []) ≡ None
     → step (at_sets v d r sets) (change_row r.objects k 1 c) ≡ Some (at_sets v d r (sets ++ (c ∷ []) ∷ []))
-step_first v d r sets c k spelled count room small free =
+step_first v d r sets c k spelled count spare small free =
     let reads : writes (decimal k) (length sets + 1) ≡ true = rw (← count) (writes-decimal k small) in
-    rw (spelled, writes-decimal 1 (omega arith), lt-ltb (length sets) d room, reads, free) refl
+    rw (spelled, writes-decimal 1 (omega arith), lt-ltb (length sets) d spare, reads, free) refl
 
 not_first : (n : ℕ) → 0 < n → n + 1 < 10 ^ 19 → writes (decimal (n + 1)) 1 ≡ false
 not_first n some small =
@@ -475,15 +475,15 @@ run-rows v r is tells =
     (rounds_run v d r is refl)
     (windows_run v d r is refl))
 
-pub what_is_told_is_read : WhatIsToldIsRead
-what_is_told_is_read rows r tells =
+pub reading_is_complete : ReadingIsComplete
+reading_is_complete rows r tells =
     let all = is_updated tells.version (length r.sets) r tells.valid refl in
     ap record_read tells.same ∙ ap (option_and_then closed) (run-rows tells.version r tells.valid tells.limits) ∙ rw (all.0, all.1) refl
 
 pub rows_of_each_version_are_read : RowsOfEachVersionAreRead
 rows_of_each_version_are_read version r is tells =
-    what_is_told_is_read (rows_in version r) r (record { valid = is; version = version; limits = tells; same = refl })
+    reading_is_complete (rows_in version r) r (record { valid = is; version = version; limits = tells; same = refl })
 
 pub rows_tell_one_record : RowsTellOneRecord
 rows_tell_one_record rows r q first second =
-    same_Some r q (sym (what_is_told_is_read rows r first) ∙ what_is_told_is_read rows q second)
+    same_Some r q (sym (reading_is_complete rows r first) ∙ reading_is_complete rows q second)

@@ -122,7 +122,7 @@ above_last (y ∷ xs) x ys up above =
 pub AreObjects-push : (objects : Objects) (name : List ℕ) (value : ℤ) → AreObjectsSoFar objects → IsNewObject objects name value
     → AreObjectsSoFar (objects ++ (name, value) ∷ [])
 AreObjects-push objects name value are new = record {
-  few = let room = new.room in omega (arith, length_push objects (name, value));
+  few = let spare = new.spare in omega (arith, length_push objects (name, value));
   values = rw map-append (All-push IsInRange (initial_state objects) value are.values new.range);
   names = All-push (λ (e : List ℕ × ℤ). is_name e.0 ≡ true) objects (name, value) are.names new.is_a_name;
   distinct = AreDistinct-push objects (name, value) are.distinct new.new;
@@ -189,7 +189,7 @@ AreLimits-push version decided n groups limits e are new tells =
     let hold = hold_last limits e.place are.entries.rising new.later in
     record {
       entries = subst AreEntries (changed-last limits e new.new)
-          (AreEntries-changed limits e are.entries hold new.begun new.few new.room);
+          (AreEntries-changed limits e are.entries hold new.begun new.few new.spare);
       known = All-push (λ (f : LimitEntry). IsScopeKnown n groups f.limit.scope) limits e are.known new.known;
       begun = All-push (λ (f : LimitEntry). f.place ≤ decided + 1) limits e are.begun new.within;
       tells = All-push (λ (f : LimitEntry). CanTellPlace version f.place) limits e are.tells tells;
@@ -218,7 +218,7 @@ AreGroups-none n groups e = rw e (record {
 pub AreGroups-push : (n : ℕ) (groups : GroupList) (name members : List ℕ) → AreGroups n groups → IsNewGroup n groups name members
     → AreGroups n (groups ++ (name, members) ∷ [])
 AreGroups-push n groups name members are new = record {
-  few = let room = new.room in omega (arith, length_push groups (name, members));
+  few = let spare = new.spare in omega (arith, length_push groups (name, members));
   each = All-push HasGroup groups (name, members) are.each new.group;
   known = All-push (HasKnown n) groups (name, members) are.known new.known;
   names = All-push HasName groups (name, members) are.names new.is_a_name;
@@ -228,7 +228,7 @@ AreGroups-push n groups name members are new = record {
 pub IsGroup-push : (n : ℕ) (members : List ℕ) (x : ℕ) → IsGroup members → IsNewMember n members x → IsGroup (members ++ x ∷ [])
 IsGroup-push n members x is new = record {
   some = omega (arith, length_push members x);
-  few = let room = new.room in omega (arith, length_push members x);
+  few = let spare = new.spare in omega (arith, length_push members x);
   distinct = repeats-push nat_eq members x is.distinct new.new;
 }
 

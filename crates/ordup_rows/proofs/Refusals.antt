@@ -53,7 +53,7 @@ pub record IsNewObject (objects : Objects) (name : List ℕ) (value : ℤ) : Typ
   pub is_a_name : is_name name ≡ true
   pub new : index_of name objects ≡ None
   pub range : IsInRange value
-  pub room : length objects < most_objects
+  pub spare : length objects < most_objects
 
 pub object_taken : (objects : Objects) (name : List ℕ) (value : ℤ) → length objects ≤ most_objects
     → object_refusal objects name value ≡ None
@@ -62,19 +62,19 @@ object_taken objects name value few h =
     let (name_is, h1) = passes (is_name name) _ _ h in
     let (free, h2) = avoids (is_some (index_of name objects)) _ _ h1 in
     let (range, h3) = passes (in_range value) _ _ h2 in
-    let (room, _) = avoids (length objects == most_objects) _ _ h3 in
+    let (spare, _) = avoids (length objects == most_objects) _ _ h3 in
     record {
       is_a_name = name_is;
       new = not_some (index_of name objects) free;
       range = leb-true _ _ range;
-      room = grind (arith, nat_tests);
+      spare = grind (arith, nat_tests);
     }
 
 pub object_allowed : (objects : Objects) (name : List ℕ) (value : ℤ) → IsNewObject objects name value
     → object_refusal objects name value ≡ None
 object_allowed objects name value is =
-    let room : (length objects == most_objects) ≡ false = let lt = is.room in grind (arith, nat_tests) in
-    rw (is.is_a_name, is.new, le-leb _ _ is.range, room) refl
+    let spare : (length objects == most_objects) ≡ false = let lt = is.spare in grind (arith, nat_tests) in
+    rw (is.is_a_name, is.new, le-leb _ _ is.range, spare) refl
 
 -- ---- groups
 
@@ -82,7 +82,7 @@ pub record IsNewGroup (n : ℕ) (groups : GroupList) (name : List ℕ) (members 
   pub is_a_name : is_name name ≡ true
   pub new : index_of name groups ≡ None
   pub known : AreMembersKnown n members
-  pub room : length groups < most_groups
+  pub spare : length groups < most_groups
   pub group : IsGroup members
 
 pub group_taken : (n : ℕ) (groups : GroupList) (name members : List ℕ) → length groups ≤ most_groups
@@ -92,15 +92,15 @@ group_taken n groups name members few h =
     let (name_is, h1) = passes (is_name name) _ _ h in
     let (free, h2) = avoids (is_some (index_of name groups)) _ _ h1 in
     let (known, h3) = passes (are_members_known n members) _ _ h2 in
-    let (room, h4) = avoids (length groups == most_groups || nat_lt most_members (length members)) _ _ h3 in
+    let (spare, h4) = avoids (length groups == most_groups || nat_lt most_members (length members)) _ _ h3 in
     let (some, h5) = avoids (length members == 0) _ _ h4 in
     let (distinct, _) = avoids (repeats nat_eq members) _ _ h5 in
-    let (place, size) = or_parts (length groups == most_groups) _ room in
+    let (place, size) = or_parts (length groups == most_groups) _ spare in
     record {
       is_a_name = name_is;
       new = not_some (index_of name groups) free;
       known = all_from (λ x. nat_lt x n) (λ x. x < n) (λ x. ltb-true x n) members known;
-      room = grind (arith, nat_tests);
+      spare = grind (arith, nat_tests);
       group = record {
         some = grind (arith, nat_tests);
         few = grind (arith, nat_tests);
@@ -111,17 +111,17 @@ group_taken n groups name members few h =
 pub group_allowed : (n : ℕ) (groups : GroupList) (name members : List ℕ) → IsNewGroup n groups name members
     → group_refusal n groups name members ≡ None
 group_allowed n groups name members is =
-    let lt = is.room in
+    let lt = is.spare in
     let some = is.group.some in
     let few = is.group.few in
-    let room : (length groups == most_groups) ≡ false = grind (arith, nat_tests) in
+    let spare : (length groups == most_groups) ≡ false = grind (arith, nat_tests) in
     let size : nat_lt most_members (length members) ≡ false = grind (arith, nat_tests) in
     let full : (length members == 0) ≡ false = grind (arith, nat_tests) in
     rw (
       is.is_a_name,
       is.new,
       all_back (λ x. nat_lt x n) (λ x. x < n) (λ x. lt-ltb x n) members is.known,
-      room,
+      spare,
       size,
       full,
       is.group.distinct,
@@ -129,7 +129,7 @@ group_allowed n groups name members is =
 
 pub record IsNewMember (n : ℕ) (members : List ℕ) (x : ℕ) : Type 0 where
   pub known : x < n
-  pub room : length members < most_members
+  pub spare : length members < most_members
   pub new : list_any (λ y. y == x) members ≡ false
 
 member_alike : (x : ℕ) (members : List ℕ) → list_any (nat_eq x) members ≡ list_any (λ y. y == x) members
@@ -139,18 +139,18 @@ pub member_taken : (n : ℕ) (members : List ℕ) (x : ℕ) → length members �
     → IsNewMember n members x
 member_taken n members x few h =
     let (known, h1) = passes (nat_lt x n) _ _ h in
-    let (room, h2) = avoids (length members == most_members) _ _ h1 in
+    let (spare, h2) = avoids (length members == most_members) _ _ h1 in
     let (new, _) = avoids (list_any (nat_eq x) members) _ _ h2 in
     record {
       known = ltb-true x n known;
-      room = grind (arith, nat_tests);
+      spare = grind (arith, nat_tests);
       new = sym (member_alike x members) ∙ new;
     }
 
 pub member_allowed : (n : ℕ) (members : List ℕ) (x : ℕ) → IsNewMember n members x → member_refusal n members x ≡ None
 member_allowed n members x is =
-    let room : (length members == most_members) ≡ false = let lt = is.room in grind (arith, nat_tests) in
-    rw (lt-ltb x n is.known, room, member_alike x members, is.new) refl
+    let spare : (length members == most_members) ≡ false = let lt = is.spare in grind (arith, nat_tests) in
+    rw (lt-ltb x n is.known, spare, member_alike x members, is.new) refl
 
 -- ---- limits
 
@@ -178,7 +178,7 @@ pub record IsNewEntry (n : ℕ) (groups : GroupList) (decided : ℕ) (entries : 
   pub within : e.place ≤ decided + 1
   pub later : last_place entries ≤ e.place
   pub new : list_any (λ f. are_one_entry f e) entries ≡ false
-  pub room : has_few (changed entries e) ≡ true
+  pub spare : has_few (changed entries e) ≡ true
 
 not_true : (b : Bool) → not b ≡ true → b ≡ false
 not_true true h = absurd cc
@@ -191,7 +191,7 @@ entry_taken n groups decided entries e may free =
     let (place, later) = and_parts _ (nat_le (last_place entries) e.place) places in
     let (begun, within) = and_parts (nat_lt 0 e.place) (nat_le e.place (decided + 1)) place in
     let (known, _) = neither (scope_refusal n groups e.limit.scope) _ free in
-    let (few, room) = change-allowed n groups entries e free in
+    let (few, spare) = change-allowed n groups entries e free in
     record {
       known = scope_taken n groups e.limit.scope known;
       few = few;
@@ -199,7 +199,7 @@ entry_taken n groups decided entries e may free =
       within = leb-true e.place (decided + 1) within;
       later = leb-true (last_place entries) e.place later;
       new = not_true _ new;
-      room = room;
+      spare = spare;
     }
 
 pub entry_allowed : (n : ℕ) (groups : GroupList) (decided : ℕ) (entries : Entries) (e : LimitEntry) → IsNewEntry n groups decided entries e
@@ -212,7 +212,7 @@ entry_allowed n groups decided entries e is =
         le-leb (last_place entries) e.place is.later,
         is.new,
       ) refl,
-      rw (scope_allowed n groups e.limit.scope is.known, small, is.room) refl,
+      rw (scope_allowed n groups e.limit.scope is.known, small, is.spare) refl,
     )
 
 -- ---- sets

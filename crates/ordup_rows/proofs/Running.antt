@@ -5,7 +5,7 @@ use Rattle.ordup_audit.proofs.Common.{IsSet, leb-true, length, List, ltb-true, m
 use Rattle.ordup_audit.proofs.Common.{Some, subst, sym, true, Window, ℕ, ℤ}
 use Rattle.ordup_audit.specs.declared.report_change.ReportChange.{ReportChange}
 use Rattle.ordup_rows.specs.Columns.{Columns, columns_of, natural_of}
-use Rattle.ordup_rows.specs.Laws.{WhatIsReadIsTold}
+use Rattle.ordup_rows.specs.Laws.{ReadingIsSound}
 use Rattle.ordup_rows.specs.RowKinds.{kind_of}
 use Rattle.ordup_rows.specs.Rows.{Row, rows_so_far}
 use Rattle.ordup_rows.specs.Stages.{Stage, closed, has_objects, has_updates, head_of, record_at, run, step, reading, unread, with_row}
@@ -137,8 +137,8 @@ closed_tells (reading version decided q) r is h =
     subst (Tells (rows_so_far version decided q)) same
     (whole_tells version decided q is (ltb-true 0 (length q.objects) some) (eqb-true (length q.sets) decided all))
 
-pub what_is_read_is_told : WhatIsReadIsTold
-what_is_read_is_told rows r h =
+pub reading_is_sound : ReadingIsSound
+reading_is_sound rows r h =
     let (stage, ran, end) = bound closed (run unread rows) r h in
     let (is, same) = run_whole rows stage ran in
     subst (λ l. Tells l r) same (closed_tells stage r is end)

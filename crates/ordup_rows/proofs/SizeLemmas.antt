@@ -5,7 +5,7 @@ use Rattle.ordup_rows.specs.Rows.{Row, change_row, change_rows, counted, member_
 use Rattle.ordup_rows.specs.Rows.{row_line, rows_in, rows_of, rows_text}
 use Rattle.ordup_audit.specs.Rows.{member_count}
 use Rattle.ordup_audit.specs.Sizes.{most_rows_before_windows, most_windows}
-use Rattle.ordup_rows.specs.TextLaws.{WrittenRecordsAreShort}
+use Rattle.ordup_rows.specs.TextLaws.{WrittenTextsAreWithinTheLimit}
 use Rattle.ordup_rows.specs.Versions.{version_for}
 use Rattle.ordup_rows.specs.declared.version.Version.{Version}
 use Rattle.ordup_audit.proofs.AscendingLemmas.{reports-few, rounds-few}
@@ -63,7 +63,7 @@ rows_few version r is =
     simp (length-append, length-counted, length-member_rows, length-map)
     (omega (arith, members, changes, reports, rounds, is.objects.few, is.groups.few, is.limits.few, is.few, is.few_windows))
 
-pub written_records_are_short : WrittenRecordsAreShort
-written_records_are_short r is =
+pub written_texts_are_within_the_limit : WrittenTextsAreWithinTheLimit
+written_texts_are_within_the_limit r is =
     let version = version_for r.limits in
     omega (arith, text_short (rows_of r) (all_lines r is version), rows_few version r is)

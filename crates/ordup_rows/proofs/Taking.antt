@@ -94,7 +94,7 @@ record Changes (decided : ℕ) (objects : Objects) (old : List (List Change)) (r
 change_first : (decided : ℕ) (objects : Objects) (sets : List (List Change)) (c : Change) → AreSetsSoFar decided (length objects) sets
     → length sets < decided → set_refusal (length objects) (c ∷ []) ≡ None
     → Changes decided objects sets (change_row objects (length sets + 1) 1 c) (sets ++ (c ∷ []) ∷ [])
-change_first decided objects sets c are room free =
+change_first decided objects sets c are spare free =
     let (set, known) = set_taken (length objects) (c ∷ []) free in
     record {
       sets = record {
@@ -215,11 +215,11 @@ module _ (version : Version) (decided : ℕ) (r : RecordState) (is : IsRecordSoF
       → with_first_change decided r c change ≡ Some next → Takes version decided r (row_by c) next
   take_first_change change next kind position text h =
       let (tests, same) = kept _ _ next h in
-      let (before, room, count, free) = parts_4 tests in
+      let (before, spare, count, free) = parts_4 tests in
       let allowed = none_is _ free in
       let known = ((set_taken (length r.objects) (change ∷ []) allowed).1 0 change (omega arith)).0 in
       changed next _ _ _ _ _ kind (written c.first _ count) position text before (omega (arith, known))
-      (change_first decided r.objects r.sets change is.sets (ltb-true _ _ room) allowed) same
+      (change_first decided r.objects r.sets change is.sets (ltb-true _ _ spare) allowed) same
 
   take_next_change : (change : Change) (next : RecordState) → c.kind ≡ codes "change" → writes c.second 1 ≡ false
       → c.third ≡ change_text r.objects change
@@ -300,12 +300,12 @@ module _ (version : Version) (decided : ℕ) (r : RecordState) (is : IsRecordSoF
       let (to, read2, rest2) = bound _ (natural_of c.third) next rest in
       let (tests, same) = kept _ _ next rest2 in
       let (front, end) = and_parts _ _ tests in
-      let (all, count, room, start) = parts_4 front in
+      let (all, count, spare, start) = parts_4 front in
       let w : Window = record { from = from; to = to } in
       taken _ next _ _ _ _ refl same kind (written c.first _ count) (natural_spelled c.second from read).1
       (natural_spelled c.third to read2).1 (grow_window version decided r w)
       (last_parts r.reports r.rounds (r.windows ++ w ∷ []) (updated all) is.reports is.rounds (record {
-        few = omega (arith, ltb-true (length r.windows) most_windows room, length_push r.windows w);
+        few = omega (arith, ltb-true (length r.windows) most_windows spare, length_push r.windows w);
         each = All-push (λ (w : Window). (w.from ≤ decided) × (w.to ≤ decided)) r.windows w is.windows.each
             (leb-true from decided start, leb-true to decided end);
       }))

@@ -9,12 +9,12 @@ use Rattle.csv.specs.declared.parser.State.TheVariants as st
 use Rattle.csv.proofs.RoundTrip.{read-write}
 use Rattle.ordup_rows.specs.Forming.{csv_text}
 use Rattle.ordup_rows.specs.Rows.{Row, rows_of, rows_text}
-use Rattle.ordup_rows.specs.Telling.{CanGoOn, IsBadRow, IsFirstBadRow, Tells}
-use Rattle.ordup_rows.specs.TextLaws.{MalformedTextsAreOne, TextsHaveOneListOfRows, TextsTellOneRecord, ToldTextsAreNotMalformed}
-use Rattle.ordup_rows.specs.TextLaws.{WrittenRecordsAreTold, WrittenRowsAreRead}
+use Rattle.ordup_rows.specs.Telling.{BeginARecord, IsBadRow, IsFirstBadRow, Tells}
+use Rattle.ordup_rows.specs.TextLaws.{TextsAreMalformedAtOneRow, TextsHaveOneListOfRows, TextsTellOneRecord, TextsOfARecordAreNotMalformed}
+use Rattle.ordup_rows.specs.TextLaws.{WrittenTextsTellTheirRecord, WrittenTextsHaveTheirRows}
 use Rattle.ordup_rows.specs.Texts.{HasRows}
 use Rattle.ordup_rows.specs.Versions.{version_for}
-use Rattle.ordup_rows.proofs.BadRows.{bad_rows_are_one, told_rows_are_not_bad}
+use Rattle.ordup_rows.proofs.BadRows.{rows_have_one_first_bad_row, rows_of_a_record_have_no_bad_row}
 use Rattle.ordup_rows.proofs.PlainLemmas.{IsLine, all_lines, lines_of}
 use Rattle.ordup_rows.proofs.ReadingBack.{rows_tell_one_record}
 use Rattle.ordup_rows.proofs.Versions.{can_tell-for}
@@ -73,35 +73,35 @@ bad_before rows more all n e (some, within, before, bad) =
     subst (λ l. IsFirstBadRow l n) (sym e) (inl (
       some,
       omega (arith, within, length-append rows more),
-      subst CanGoOn (sym (take-append-le (n - 1) rows more (omega (arith, within)))) before,
-      λ on. bad (subst CanGoOn (take-append-le n rows more within) on),
+      subst BeginARecord (sym (take-append-le (n - 1) rows more (omega (arith, within)))) before,
+      λ on. bad (subst BeginARecord (take-append-le n rows more within) on),
     ))
 
 pub texts_tell_one_record : TextsTellOneRecord
 texts_tell_one_record text r q (rows, are, tells) (more, all, also) =
     rows_tell_one_record rows r q tells (subst (λ l. Tells l q) (texts_have_one_list_of_rows text more rows all are) also)
 
-pub told_texts_are_not_malformed : ToldTextsAreNotMalformed
-told_texts_are_not_malformed text r n (rows, are, tells) (inl (front, (s, x, h), bad)) =
+pub texts_of_a_record_are_not_malformed : TextsOfARecordAreNotMalformed
+texts_of_a_record_are_not_malformed text r n (rows, are, tells) (inl (front, (s, x, h), bad)) =
     let (more, e) = front_of_all st.StartRecord s text x front rows h are in
-    told_rows_are_not_bad rows r n tells (bad_before front more rows n e bad)
-told_texts_are_not_malformed text r n (rows, are, tells) (inr (more, all, missing)) =
-    told_rows_are_not_bad more r n (subst (λ l. Tells l r) (texts_have_one_list_of_rows text rows more are all) tells) (inr missing)
+    rows_of_a_record_have_no_bad_row rows r n tells (bad_before front more rows n e bad)
+texts_of_a_record_are_not_malformed text r n (rows, are, tells) (inr (more, all, missing)) =
+    rows_of_a_record_have_no_bad_row more r n (subst (λ l. Tells l r) (texts_have_one_list_of_rows text rows more are all) tells) (inr missing)
 
-pub malformed_texts_are_one : MalformedTextsAreOne
-malformed_texts_are_one text m n (inl (a, (s, x, h), bad)) (inl (b, (t, y, k), worse)) =
+pub texts_are_malformed_at_one_row : TextsAreMalformedAtOneRow
+texts_are_malformed_at_one_row text m n (inl (a, (s, x, h), bad)) (inl (b, (t, y, k), worse)) =
     elim (fronts st.StartRecord s t text x y a b h k) [
-      | inl before ↦ bad_rows_are_one b m n (bad_before a before.0 b m before.1 bad) (inl worse)
-      | inr after ↦ bad_rows_are_one a m n (inl bad) (bad_before b after.0 a n after.1 worse)
+      | inl before ↦ rows_have_one_first_bad_row b m n (bad_before a before.0 b m before.1 bad) (inl worse)
+      | inr after ↦ rows_have_one_first_bad_row a m n (inl bad) (bad_before b after.0 a n after.1 worse)
     ]
-malformed_texts_are_one text m n (inl (a, (s, x, h), bad)) (inr (rows, are, missing)) =
+texts_are_malformed_at_one_row text m n (inl (a, (s, x, h), bad)) (inr (rows, are, missing)) =
     let (more, e) = front_of_all st.StartRecord s text x a rows h are in
-    bad_rows_are_one rows m n (bad_before a more rows m e bad) (inr missing)
-malformed_texts_are_one text m n (inr (rows, are, missing)) (inl (a, (s, x, h), bad)) =
+    rows_have_one_first_bad_row rows m n (bad_before a more rows m e bad) (inr missing)
+texts_are_malformed_at_one_row text m n (inr (rows, are, missing)) (inl (a, (s, x, h), bad)) =
     let (more, e) = front_of_all st.StartRecord s text x a rows h are in
-    bad_rows_are_one rows m n (inr missing) (bad_before a more rows n e bad)
-malformed_texts_are_one text m n (inr (rows, are, missing)) (inr (more, all, lacking)) =
-    bad_rows_are_one rows m n (inr missing)
+    rows_have_one_first_bad_row rows m n (inr missing) (bad_before a more rows n e bad)
+texts_are_malformed_at_one_row text m n (inr (rows, are, missing)) (inr (more, all, lacking)) =
+    rows_have_one_first_bad_row rows m n (inr missing)
     (subst (λ l. IsFirstBadRow l n) (texts_have_one_list_of_rows text more rows all are) (inr lacking))
 
 -- ---- the text of a record
@@ -131,14 +131,14 @@ no_mark : (r : RecordState) → strip_bom (rows_text (rows_of r)) ≡ rows_text 
 unfolding strip_bom
 no_mark r = refl
 
-pub written_rows_are_read : WrittenRowsAreRead
-written_rows_are_read r is =
+pub written_texts_have_their_rows : WrittenTextsHaveTheirRows
+written_texts_have_their_rows r is =
     rw (no_mark r) (subst (λ text. HasRows text (rows_of r)) (lines_of r is (version_for r.limits))
     (st.StartRecord, [], reaches (rows_of r) (all_lines r is (version_for r.limits)), no_more))
 
-pub written_records_are_told : WrittenRecordsAreTold
-written_records_are_told r is = (
+pub written_texts_tell_their_record : WrittenTextsTellTheirRecord
+written_texts_tell_their_record r is = (
   rows_of r,
-  written_rows_are_read r is,
+  written_texts_have_their_rows r is,
   record { valid = is; version = version_for r.limits; limits = can_tell-for r.limits; same = refl },
 )

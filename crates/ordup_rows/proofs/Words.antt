@@ -14,8 +14,8 @@ use Rattle.ordup_grammar.specs.Numbers.{number_of}
 use Rattle.ordup_grammar.specs.Operations.{number_op_of, operation_of}
 use Rattle.ordup_grammar.specs.declared.change_words.ChangeWord.{ChangeWord}
 use Rattle.ordup_objects.specs.declared.change.NumberOp.TheVariants as kind
-use Rattle.ordup_grammar.specs.declared.operation.Operation.{Operation}
-use Rattle.ordup_grammar.specs.declared.operation.Operation.TheVariants as word
+use Rattle.ordup_grammar.specs.declared.change_words.Operation.{Operation}
+use Rattle.ordup_grammar.specs.declared.change_words.Operation.TheVariants as word
 use Rattle.ordup_grammar.proofs.Decimals.{numerals, number_of-signed_decimal, signed_decimal-number_of}
 use Rattle.ordup_rows.specs.Columns.{after_prefix, change_by, change_in, has_prefix, op_in, scope_of}
 use Rattle.ordup_rows.specs.Rows.{change_text, change_word, name_at, operation_text, scope_text}

@@ -3,17 +3,17 @@ use Rattle.std.specs.Prelude.{◌≡◌, ◌⊎◌, ℕ, ◌+◌, List, ◌∷�
 use Rattle.ordup_audit.specs.Records.{IsRecord, RecordState}
 use Rattle.ordup_rows.specs.Rows.{Row, rows_in}
 use Rattle.ordup_rows.specs.Stages.{Stage, step, run, closed, record_read, unread}
-use Rattle.ordup_rows.specs.Telling.{CanGoOn, IsFirstBadRow, Tells}
+use Rattle.ordup_rows.specs.Telling.{BeginARecord, IsFirstBadRow, Tells}
 use Rattle.ordup_rows.specs.Versions.{CanTell}
 use Rattle.ordup_rows.specs.declared.version.Version.{Version}
 
--- rows that are read to the end tell what was read
-abbrev pub WhatIsReadIsTold : Type 0
-WhatIsReadIsTold = (rows : List Row) (r : RecordState) → record_read rows ≡ Some r → Tells rows r
+-- reading is sound: rows that are read to the end tell what was read
+abbrev pub ReadingIsSound : Type 0
+ReadingIsSound = (rows : List Row) (r : RecordState) → record_read rows ≡ Some r → Tells rows r
 
--- and rows that tell a record are read to the end as it
-abbrev pub WhatIsToldIsRead : Type 0
-WhatIsToldIsRead = (rows : List Row) (r : RecordState) → Tells rows r → record_read rows ≡ Some r
+-- and complete: rows that tell a record are read to the end as it
+abbrev pub ReadingIsComplete : Type 0
+ReadingIsComplete = (rows : List Row) (r : RecordState) → Tells rows r → record_read rows ≡ Some r
 
 -- The rows of a record are read as it in each version that can tell its limits. So rows of both versions are read as the same
 -- record where all its limits hold from place 1 on.
@@ -25,29 +25,29 @@ RowsOfEachVersionAreRead =
 abbrev pub RowsTellOneRecord : Type 0
 RowsTellOneRecord = (rows : List Row) (r q : RecordState) → Tells rows r → Tells rows q → r ≡ q
 
--- rows that were taken can go on
-abbrev pub WhatIsTakenCanGoOn : Type 0
-WhatIsTakenCanGoOn = (rows : List Row) (stage : Stage) → run unread rows ≡ Some stage → CanGoOn rows
+-- rows that were taken begin a record
+abbrev pub TakenRowsBeginARecord : Type 0
+TakenRowsBeginARecord = (rows : List Row) (stage : Stage) → run unread rows ≡ Some stage → BeginARecord rows
 
 -- a row that is not taken is the first bad one, whatever comes after it
-abbrev pub WhatIsNotTakenIsBad : Type 0
-WhatIsNotTakenIsBad =
+abbrev pub FirstRowNotTakenIsBad : Type 0
+FirstRowNotTakenIsBad =
     (rows : List Row) (row : Row) (more : List Row) (stage : Stage) → run unread rows ≡ Some stage → step stage row ≡ None →
     IsFirstBadRow (rows ++ row ∷ more) (length rows + 1)
 
 -- rows that are taken, and are no record, miss a row
-abbrev pub WhatIsNotClosedIsMissing : Type 0
-WhatIsNotClosedIsMissing =
+abbrev pub IncompleteRecordsMissARow : Type 0
+IncompleteRecordsMissARow =
     (rows : List Row) (stage : Stage) → run unread rows ≡ Some stage → closed stage ≡ None → IsFirstBadRow rows (length rows + 1)
 
 -- rows tell a record, or have a first bad row
-abbrev pub RowsTellOrAreBad : Type 0
-RowsTellOrAreBad = (rows : List Row) → ((r : RecordState) × Tells rows r) ⊎ ((n : ℕ) × IsFirstBadRow rows n)
+abbrev pub RowsTellARecordOrHaveABadRow : Type 0
+RowsTellARecordOrHaveABadRow = (rows : List Row) → ((r : RecordState) × Tells rows r) ⊎ ((n : ℕ) × IsFirstBadRow rows n)
 
 -- never both
-abbrev pub ToldRowsAreNotBad : Type 0
-ToldRowsAreNotBad = (rows : List Row) (r : RecordState) (n : ℕ) → Tells rows r → IsFirstBadRow rows n → ⊥
+abbrev pub RowsOfARecordHaveNoBadRow : Type 0
+RowsOfARecordHaveNoBadRow = (rows : List Row) (r : RecordState) (n : ℕ) → Tells rows r → IsFirstBadRow rows n → ⊥
 
 -- and no two first bad rows
-abbrev pub BadRowsAreOne : Type 0
-BadRowsAreOne = (rows : List Row) (m n : ℕ) → IsFirstBadRow rows m → IsFirstBadRow rows n → m ≡ n
+abbrev pub RowsHaveOneFirstBadRow : Type 0
+RowsHaveOneFirstBadRow = (rows : List Row) (m n : ℕ) → IsFirstBadRow rows m → IsFirstBadRow rows n → m ≡ n

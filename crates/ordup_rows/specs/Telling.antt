@@ -13,17 +13,17 @@ pub record Tells (rows : List Row) (r : RecordState) : Type 0 where
   pub limits : CanTell version r.limits
   pub same : rows ≡ rows_in version r
 
--- the rows break no rule: with some more rows they tell a record
-abbrev pub CanGoOn : List Row → Type 0
-CanGoOn rows = (r : RecordState) × (more : List Row) × Tells (rows ++ more) r
+-- the rows begin a record, and so break no rule: with some more rows they tell one
+abbrev pub BeginARecord : List Row → Type 0
+BeginARecord rows = (r : RecordState) × (more : List Row) × Tells (rows ++ more) r
 
--- row n, counted from 1, is the first that breaks a rule: all before it can go on, and with it they cannot
+-- row n, counted from 1, is the first that breaks a rule: all before it begin a record, and with it they do not
 abbrev pub IsBadRow : List Row → ℕ → Type 0
-IsBadRow rows n = (0 < n) × (n ≤ length rows) × CanGoOn (take (n - 1) rows) × (CanGoOn (take n rows) → ⊥)
+IsBadRow rows n = (0 < n) × (n ≤ length rows) × BeginARecord (take (n - 1) rows) × (BeginARecord (take n rows) → ⊥)
 
--- n is the number after the last row, and rows are missing: all can go on, and by themselves they tell no record
+-- n is the number after the last row, and rows are missing: all begin a record, and by themselves they tell none
 abbrev pub IsMissingRow : List Row → ℕ → Type 0
-IsMissingRow rows n = (n ≡ length rows + 1) × CanGoOn rows × ((r : RecordState) → Tells rows r → ⊥)
+IsMissingRow rows n = (n ≡ length rows + 1) × BeginARecord rows × ((r : RecordState) → Tells rows r → ⊥)
 
 -- the row at which rows are found to tell no record
 abbrev pub IsFirstBadRow : List Row → ℕ → Type 0

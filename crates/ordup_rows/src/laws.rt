@@ -1,33 +1,34 @@
 ghost use Rattle.ordup_rows.specs.Laws.{
-  BadRowsAreOne,
+  RowsHaveOneFirstBadRow,
   RowsOfEachVersionAreRead,
   RowsTellOneRecord,
-  RowsTellOrAreBad,
-  ToldRowsAreNotBad,
-  WhatIsNotClosedIsMissing,
-  WhatIsNotTakenIsBad,
-  WhatIsReadIsTold,
-  WhatIsTakenCanGoOn,
-  WhatIsToldIsRead,
+  RowsTellARecordOrHaveABadRow,
+  RowsOfARecordHaveNoBadRow,
+  IncompleteRecordsMissARow,
+  FirstRowNotTakenIsBad,
+  ReadingIsSound,
+  TakenRowsBeginARecord,
+  ReadingIsComplete,
 };
 ghost use Rattle.ordup_rows.specs.TextLaws.{
-  MalformedTextsAreOne,
+  TextsAreMalformedAtOneRow,
   TextsHaveOneListOfRows,
   TextsTellOneRecord,
-  ToldTextsAreNotMalformed,
-  WrittenRecordsAreShort,
-  WrittenRecordsAreTold,
-  WrittenRowsAreRead,
+  TextsOfARecordAreNotMalformed,
+  WrittenTextsAreWithinTheLimit,
+  WrittenTextsTellTheirRecord,
+  WrittenTextsHaveTheirRows,
 };
 
-/// A law: rows that are read to the end tell the record that was read.
-pub fn what_is_read_is_told()
-    ensures { WhatIsReadIsTold }
+/// A law: reading is sound. Rows that are read to the end tell the record that was read.
+pub fn reading_is_sound()
+    ensures { ReadingIsSound }
 {}
 
-/// A law: rows that tell a record are read to the end as that record. So the rows of a record are read back as it.
-pub fn what_is_told_is_read()
-    ensures { WhatIsToldIsRead }
+/// A law: reading is complete. Rows that tell a record are read to the end as that record. So the rows of a record are read back as
+/// it.
+pub fn reading_is_complete()
+    ensures { ReadingIsComplete }
 {}
 
 /// A law: the rows of a record, in each version that can tell its limits, are read as that record.
@@ -40,34 +41,34 @@ pub fn rows_tell_one_record()
     ensures { RowsTellOneRecord }
 {}
 
-/// A law: rows that were taken can go on.
-pub fn what_is_taken_can_go_on()
-    ensures { WhatIsTakenCanGoOn }
+/// A law: rows that were taken begin a record: with some more rows they tell one.
+pub fn taken_rows_begin_a_record()
+    ensures { TakenRowsBeginARecord }
 {}
 
 /// A law: a row that is not taken is the first bad one, whatever comes after it.
-pub fn what_is_not_taken_is_bad()
-    ensures { WhatIsNotTakenIsBad }
+pub fn first_row_not_taken_is_bad()
+    ensures { FirstRowNotTakenIsBad }
 {}
 
 /// A law: where all rows were taken and they are no record, a row is missing after the last.
-pub fn what_is_not_closed_is_missing()
-    ensures { WhatIsNotClosedIsMissing }
+pub fn incomplete_records_miss_a_row()
+    ensures { IncompleteRecordsMissARow }
 {}
 
 /// A law: rows tell a record, or have a first bad row.
-pub fn rows_tell_or_are_bad()
-    ensures { RowsTellOrAreBad }
+pub fn rows_tell_a_record_or_have_a_bad_row()
+    ensures { RowsTellARecordOrHaveABadRow }
 {}
 
 /// A law: rows that tell a record have no bad row.
-pub fn told_rows_are_not_bad()
-    ensures { ToldRowsAreNotBad }
+pub fn rows_of_a_record_have_no_bad_row()
+    ensures { RowsOfARecordHaveNoBadRow }
 {}
 
 /// A law: rows have no two first bad rows.
-pub fn bad_rows_are_one()
-    ensures { BadRowsAreOne }
+pub fn rows_have_one_first_bad_row()
+    ensures { RowsHaveOneFirstBadRow }
 {}
 
 /// A law: a text is read as one list of rows.
@@ -76,18 +77,18 @@ pub fn texts_have_one_list_of_rows()
 {}
 
 /// A law: what is written of a record is read as its rows.
-pub fn written_rows_are_read()
-    ensures { WrittenRowsAreRead }
+pub fn written_texts_have_their_rows()
+    ensures { WrittenTextsHaveTheirRows }
 {}
 
 /// A law: what is written of a record tells it.
-pub fn written_records_are_told()
-    ensures { WrittenRecordsAreTold }
+pub fn written_texts_tell_their_record()
+    ensures { WrittenTextsTellTheirRecord }
 {}
 
 /// A law: what is written of a record is no longer than what may be read.
-pub fn written_records_are_short()
-    ensures { WrittenRecordsAreShort }
+pub fn written_texts_are_within_the_limit()
+    ensures { WrittenTextsAreWithinTheLimit }
 {}
 
 /// A law: a text tells no two records.
@@ -96,11 +97,11 @@ pub fn texts_tell_one_record()
 {}
 
 /// A law: a text that tells a record is not malformed.
-pub fn told_texts_are_not_malformed()
-    ensures { ToldTextsAreNotMalformed }
+pub fn texts_of_a_record_are_not_malformed()
+    ensures { TextsOfARecordAreNotMalformed }
 {}
 
 /// A law: a text is malformed at one row at most.
-pub fn malformed_texts_are_one()
-    ensures { MalformedTextsAreOne }
+pub fn texts_are_malformed_at_one_row()
+    ensures { TextsAreMalformedAtOneRow }
 {}

@@ -20,11 +20,12 @@ mod version;
 mod writing;
 
 pub use laws::{
-    bad_rows_are_one, malformed_texts_are_one, rows_of_each_version_are_read, rows_tell_one_record,
-    rows_tell_or_are_bad, texts_have_one_list_of_rows, texts_tell_one_record,
-    told_rows_are_not_bad, told_texts_are_not_malformed, what_is_not_closed_is_missing,
-    what_is_not_taken_is_bad, what_is_read_is_told, what_is_taken_can_go_on, what_is_told_is_read,
-    written_records_are_short, written_records_are_told, written_rows_are_read,
+    first_row_not_taken_is_bad, incomplete_records_miss_a_row, reading_is_complete,
+    reading_is_sound, rows_have_one_first_bad_row, rows_of_a_record_have_no_bad_row,
+    rows_of_each_version_are_read, rows_tell_a_record_or_have_a_bad_row, rows_tell_one_record,
+    taken_rows_begin_a_record, texts_are_malformed_at_one_row, texts_have_one_list_of_rows,
+    texts_of_a_record_are_not_malformed, texts_tell_one_record, written_texts_are_within_the_limit,
+    written_texts_have_their_rows, written_texts_tell_their_record,
 };
 pub use row_kind::RowKind;
 pub use version::Version;

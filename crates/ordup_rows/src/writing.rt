@@ -58,7 +58,6 @@ pub fn write_view<A: Allocator + Copy, W: Write>(
     let mut column = Vec::new(alloc);
     let mut rows = WriterBuilder::new().from_writer(Vec::new(alloc));
     let written = write_rows(&mut rows, &mut column, audited, output);
-    // By calls: where they go out of scope, the proof takes them apart.
     drop(rows);
     drop(column);
     written

@@ -10,14 +10,14 @@ use Rattle.ordup_script.specs.Runs.{Runs}
 use Rattle.ordup_script.specs.Streams.{Bytes, Streams}
 use Rattle.ordup_script.specs.declared.sizes.TheConstants.{MOST_SCRIPT_BYTES}
 use Rattle.ordup_faults.specs.Faults.{Outcome}
-use Rattle.ordup_faults.specs.Printing.{PrintsIfRoom}
+use Rattle.ordup_faults.specs.Printing.{PrintsIfMemory}
 use Rattle.ordup_faults.specs.declared.fault.Fault.TheVariants as fault
 use Rattle.ordup_runs.specs.Faults.{fault_of_script}
 use Rattle.ordup_runs.specs.Answers.{RunEnd}
 
 -- the rows of a record were printed, or nothing for want of memory
 abbrev pub PrintsRecord : RecordState → Bytes → Bytes → Outcome → Type 0
-PrintsRecord r = PrintsIfRoom 0 (rows_text (rows_of r))
+PrintsRecord r = PrintsIfMemory 0 (rows_text (rows_of r))
 
 -- the record of what the primary has of this site was printed, or nothing where it has no such site
 abbrev pub PrintsSite : PrimaryState → Option ℕ → Bytes → Bytes → Outcome → Type 0

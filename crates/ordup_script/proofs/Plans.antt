@@ -15,7 +15,7 @@ use Rattle.ordup_grammar.specs.Commands.{Command, Declare, Start, Certify, Act}
 use Rattle.ordup_grammar.specs.Requests.{Request, request_of}
 use Rattle.ordup_grammar.specs.Requests as request
 use Rattle.ordup_answers.specs.Changes.{changes_in}
-use Rattle.ordup_answers.specs.Declarations.{with_declaration}
+use Rattle.ordup_answers.specs.Declaring.{with_declaration}
 use Rattle.ordup_answers.specs.Refusals.{unless}
 use Rattle.ordup_script.specs.Plans.{IsPlan, PlanState, belongs_as, command_in, first_plan}
 use Rattle.ordup_script.specs.Plans.{malformed, plan_result, planned, planning, request_in}

@@ -1,5 +1,6 @@
 -- Where the code stands in a plan.
-use Rattle.std.specs.Prelude.{◌≡◌, ℕ, List, Result, Ok, Err}
+use Rattle.std.specs.Prelude.{◌≡◌, ℕ, List, Option, Result, Ok, Err}
+use Rattle.ordup_grammar.specs.Commands.{Command}
 use Rattle.ordup_grammar.specs.Lines.{Line}
 use Rattle.ordup_objects.specs.declared.change.Change.{Change}
 use Rattle.ordup_primary.specs.Declarations.{Declared}
@@ -7,12 +8,16 @@ use Rattle.ordup_script.specs.declared.plan.Plan.{Plan}
 use Rattle.ordup_script.specs.declared.plan.Planning.{Planning}
 use Rattle.ordup_script.specs.declared.plan.PlanFault.{PlanFault}
 use Rattle.ordup_script.specs.declared.plan.PlanFault.TheVariants as fault
-use Rattle.ordup_script.specs.Plans.{PlanState, planning, malformed, planned, first_plan}
+use Rattle.ordup_script.specs.Plans.{PlanState, planning, malformed, planned, first_plan, words_in}
 use Rattle.ordup_answers.specs.Scripts.{after_lines}
 
 -- the state of a plan by the fields that stand for it
 abbrev pub plan_state : {A : Type 0} → Planning A → PlanState
 plan_state p = planning p.plan.setup p.is_started p.plan.sets.items p.lines
+
+-- where it stands once it follows the command that the words of its last line spell, if they spell one
+abbrev pub follows : {A : Type 0} → Planning A → Option Command → PlanState
+follows p command = words_in p.plan.setup p.is_started p.plan.sets.items p.lines command
 
 -- these lines of a plan, its first, were taken
 abbrev pub HasPlanned : {A : Type 0} → Planning A → List Line → Type 0

@@ -12,7 +12,7 @@ use Rattle.ordup_grammar.specs.Commands.{Command, Declare, Start, Act}
 use Rattle.ordup_grammar.specs.Requests.{Request, request_of}
 use Rattle.ordup_grammar.specs.Requests as request
 use Rattle.ordup_answers.specs.Changes.{set_in}
-use Rattle.ordup_answers.specs.Declarations.{with_declaration}
+use Rattle.ordup_answers.specs.Declaring.{with_declaration}
 use Rattle.ordup_answers.specs.Refusals.{unless}
 
 -- where a plan stands after some lines: what is declared, whether it is started, the sets, and how many lines there were;

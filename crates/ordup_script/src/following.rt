@@ -9,6 +9,7 @@ use crate::sizes::MOST_SCRIPT_BYTES;
 use crate::stream::ScriptFault;
 use ordup_answers::{Answering, ScriptEnd, Unanswered};
 use ordup_grammar::LinePart;
+use ordup_objects::or_give_up;
 use std::alloc::{AllocError, Allocator, Global};
 use std::io::Read;
 
@@ -30,7 +31,7 @@ impl<A: Allocator + Copy> LineTaker for Follower<A> {
     ghost is_clear = { λ follower. Unit {0} };
 
     // One more than any limit.
-    ghost room = { λ _. most_counted + 1 };
+    ghost lines_left = { λ _. most_counted + 1 };
 
     #[inline(always)]
     fn take(&mut self, line: &LinePart<'_>) -> Result<(), AllocError> {
@@ -86,11 +87,6 @@ pub fn follow_script<A: Allocator + Copy, R: Read>(
     };
     let followed = follow_lines(&mut follower, input, MOST_SCRIPT_BYTES);
     let end = follower.script.into_end();
-    match followed {
-        Ok(()) => Ok(end),
-        Err(fault) => {
-            end.discard();
-            Err(fault)
-        }
-    }
+    or_give_up!(followed, end);
+    Ok(end)
 }

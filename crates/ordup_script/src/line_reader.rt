@@ -7,8 +7,8 @@
 //! - **A line is taken where it lies.** `split_line` cuts it off the front of the piece, and copies nothing. One pass over the
 //!   line, sixteen bytes at a time, finds its end and tells whether all of its bytes are printed. `memchr` looks for the end only
 //!   where one of them is not.
-//! - **Only what a piece leaves unended is held.** It is copied into a `LineBuffer`, which has room for the 4,096 bytes that a line
-//!   may have. So a line that is too long takes no memory either.
+//! - **Only what a piece leaves unended is held.** It is copied into a `LineBuffer`, which holds the 4,096 bytes that a line may
+//!   have. So a line that is too long takes no memory either.
 //! - **A taker is given the line where it lies**, and may know it by its bytes. The taking is inlined into the loop, so that words
 //!   are not moved.
 //! - **A taker hands out once for each piece**, and before that where it has as many bytes to write as a piece has. So there is
@@ -36,16 +36,16 @@ pub(crate) trait LineTaker {
     ghost is_clear: { Self → Type 0 };
 
     // How many more lines it can take.
-    ghost room: { Self → ℕ };
+    ghost lines_left: { Self → ℕ };
 
     /// Takes the next line, of these bytes.
     ///
     /// After whatever lines were taken before, this line was taken too, or the taker stopped at it. It can take at most one line
     /// fewer than before.
     fn take(&mut self, line: &LinePart<'_>) -> Result<(), Self::Fault>
-        requires { 0 < room self.old }
+        requires { 0 < lines_left self.old }
         ensures lines { Takes took stopped self.old self.new (cut line.now ∷ []) result }
-        ensures room { OnOk result (room self.old ≤ room self.new + 1) };
+        ensures lines_left { OnOk result (lines_left self.old ≤ lines_left self.new + 1) };
 
     /// Hands out what the lines gave so far.
     ///
@@ -54,7 +54,7 @@ pub(crate) trait LineTaker {
     fn hand_out(&mut self) -> Result<(), Self::Fault>
         ensures lines { Takes took stopped self.old self.new [] result }
         ensures clear { OnOk result (is_clear self.new) }
-        ensures room { OnOk result (room self.old ≤ room self.new) };
+        ensures lines_left { OnOk result (lines_left self.old ≤ lines_left self.new) };
 }
 
 /// How much of a script was read.
@@ -71,9 +71,9 @@ pub(crate) enum Extent {
 ///
 /// After whatever was read before, a line feed was read, or the taker stopped. It can take at most one line fewer.
 fn take_held<T: LineTaker>(held: &mut LineBuffer, taker: &mut T) -> Result<(), T::Fault>
-    requires { 0 < T.room taker.old }
+    requires { 0 < T.lines_left taker.old }
     ensures lines { ReadsOn T.took T.stopped taker.old held.old taker.new held.new (10 ∷ []) result }
-    ensures room { OnOk result (T.room taker.old ≤ T.room taker.new + 1) }
+    ensures lines_left { OnOk result (T.lines_left taker.old ≤ T.lines_left taker.new + 1) }
 {
     taker.take(&held.line())?;
     held.clear();
@@ -90,9 +90,9 @@ fn end_line<T: LineTaker>(
     part: &LinePart<'_>,
 ) -> Result<(), T::Fault>
     requires part { IsPart part.now }
-    requires room { 0 < T.room taker.old }
+    requires lines_left { 0 < T.lines_left taker.old }
     ensures lines { ReadsOn T.took T.stopped taker.old held.old taker.new held.new (part.now ++ 10 ∷ []) result }
-    ensures room { OnOk result (T.room taker.old ≤ T.room taker.new + 1) }
+    ensures lines_left { OnOk result (T.lines_left taker.old ≤ T.lines_left taker.new + 1) }
 {
     if held.is_empty() {
         return taker.take(part);
@@ -110,10 +110,10 @@ fn read_piece<T: LineTaker>(
     taker: &mut T,
     piece: &[u8],
 ) -> Result<(), T::Fault>
-    requires { length piece.now ≤ T.room taker.old }
+    requires { length piece.now ≤ T.lines_left taker.old }
     ensures lines { ReadsOn T.took T.stopped taker.old held.old taker.new held.new piece.now result }
     ensures clear { OnOk result (T.is_clear taker.new) }
-    ensures room { OnOk result (T.room taker.old ≤ T.room taker.new + length piece.now) }
+    ensures lines_left { OnOk result (T.lines_left taker.old ≤ T.lines_left taker.new + length piece.now) }
 {
     let mut rest = piece;
     while let Some((part, more)) = split_line(rest) {
@@ -130,10 +130,10 @@ fn read_piece<T: LineTaker>(
 /// can take at most one line fewer.
 fn read_last_line<T: LineTaker>(held: &mut LineBuffer, taker: &mut T) -> Result<(), T::Fault>
     requires clear { T.is_clear taker.old }
-    requires room { 0 < T.room taker.old }
+    requires lines_left { 0 < T.lines_left taker.old }
     ensures lines { EndsIn T.took T.stopped taker.old held.old taker.new result }
     ensures clear { OnOk result (T.is_clear taker.new) }
-    ensures room { OnOk result (T.room taker.old ≤ T.room taker.new + 1) }
+    ensures lines_left { OnOk result (T.lines_left taker.old ≤ T.lines_left taker.new + 1) }
 {
     if held.is_empty() {
         return Ok(());
@@ -153,14 +153,14 @@ pub(crate) fn read_lines<T: LineTaker, R: Read>(
 ) -> Result<Extent, T::Fault>
     requires start { T.took taker.old taker.old [] }
     requires clear { T.is_clear taker.old }
-    requires room { limit < T.room taker.old }
+    requires lines_left { limit < T.lines_left taker.old }
     ensures lines { Reads (record {
       had = R.remaining input.old;
       has = R.remaining input.new;
       limit = limit;
     }) (T.took taker.old taker.new) (T.stopped taker.old taker.new) result }
     ensures clear { OnOk result (T.is_clear taker.new) }
-    ensures room { OnOk result (T.room taker.old ≤ T.room taker.new + limit + 1) }
+    ensures lines_left { OnOk result (T.lines_left taker.old ≤ T.lines_left taker.new + limit + 1) }
 {
     let mut held = LineBuffer::new();
     let mut piece = [0u8; PIECE];
@@ -174,8 +174,8 @@ pub(crate) fn read_lines<T: LineTaker, R: Read>(
             return Ok(Extent::Whole);
         }
         if count as u64 > limit - taken {
-            let room = (limit - taken) as usize;
-            read_piece(&mut held, taker, &piece[..room])?;
+            let within = (limit - taken) as usize;
+            read_piece(&mut held, taker, &piece[..within])?;
             return Ok(Extent::UpToLimit);
         }
         read_piece(&mut held, taker, &piece[..count])?;

@@ -3,8 +3,8 @@ ghost use Rattle.ordup_grammar.specs.Commands.{Declare, command_by, command_of};
 ghost use Rattle.ordup_grammar.specs.Declarations.{declaration_of};
 ghost use Rattle.ordup_grammar.specs.Requests.{asked};
 ghost use Rattle.ordup_grammar.specs.declared.keyword.Keyword.{Keyword};
-ghost use Rattle.ordup_script.specs.Plans.{request_in, words_in, plan_result, planning, malformed};
-ghost use Rattle.ordup_script.specs.Plannings.{Tells, HasPlanned, HasRefused, LeadsTo, plan_state};
+ghost use Rattle.ordup_script.specs.Plans.{request_in, plan_result, planning, malformed};
+ghost use Rattle.ordup_script.specs.Plannings.{Tells, HasPlanned, HasRefused, LeadsTo, follows, plan_state};
 ghost use Rattle.ordup_script.specs.Streams.{most_counted};
 
 use crate::line_reader::LineTaker;
@@ -56,7 +56,7 @@ impl<A: Allocator + Copy> LineTaker for Planning<A> {
 
     ghost is_clear = { λ planning. Unit {0} };
 
-    ghost room = { λ planning. most_counted - planning.lines };
+    ghost lines_left = { λ planning. most_counted - planning.lines };
 
     fn take(&mut self, line: &LinePart<'_>) -> Result<(), PlanFault> {
         self.take_line(&ScriptLine::of(line))
@@ -123,7 +123,7 @@ impl<A: Allocator + Copy> Planning<A> {
 
     /// Follows the command that a first word and the words after it spell, where it belongs.
     fn follow(&mut self, first: &Word<'_>, rest: &Words<'_>) -> Result<(), PlanFault>
-        ensures plan { LeadsTo self.new (words_in self.old.plan.setup self.old.is_started self.old.plan.sets.items self.old.lines (command_of first.now rest.now)) result }
+        ensures plan { LeadsTo self.new (follows self.old (command_of first.now rest.now)) result }
         ensures lines { self.new.lines ≡ self.old.lines }
     {
         match Keyword::of(first) {
@@ -136,7 +136,7 @@ impl<A: Allocator + Copy> Planning<A> {
 
     /// Follows a declaration, before the start.
     fn declare(&mut self, first: &Word<'_>, rest: &Words<'_>) -> Result<(), PlanFault>
-        ensures plan { LeadsTo self.new (words_in self.old.plan.setup self.old.is_started self.old.plan.sets.items self.old.lines (option_map (λ d. Declare d) (declaration_of first.now rest.now))) result }
+        ensures plan { LeadsTo self.new (follows self.old (option_map (λ d. Declare d) (declaration_of first.now rest.now))) result }
         ensures lines { self.new.lines ≡ self.old.lines }
     {
         let Some(declaration) = Declaration::parse(first, rest) else {
@@ -154,7 +154,7 @@ impl<A: Allocator + Copy> Planning<A> {
 
     /// Follows the start, where there is none yet.
     fn start(&mut self, rest: &Words<'_>) -> Result<(), PlanFault>
-        ensures plan { LeadsTo self.new (words_in self.old.plan.setup self.old.is_started self.old.plan.sets.items self.old.lines (command_by Keyword.Start rest.now)) result }
+        ensures plan { LeadsTo self.new (follows self.old (command_by Keyword.Start rest.now)) result }
         ensures lines { self.new.lines ≡ self.old.lines }
     {
         if !rest.is_empty() || self.is_started || !self.plan.setup.is_ready() {
@@ -166,7 +166,7 @@ impl<A: Allocator + Copy> Planning<A> {
 
     /// Follows a proposal, after the start.
     fn propose(&mut self, words: &Words<'_>) -> Result<(), PlanFault>
-        ensures plan { LeadsTo self.new (words_in self.old.plan.setup self.old.is_started self.old.plan.sets.items self.old.lines (command_by Keyword.Propose words.now)) result }
+        ensures plan { LeadsTo self.new (follows self.old (command_by Keyword.Propose words.now)) result }
         ensures lines { self.new.lines ≡ self.old.lines }
     {
         if !self.is_started {

@@ -7,6 +7,7 @@ ghost use Rattle.ordup_script.specs.PlanReadings.{ReadsInto, ReadsPlan};
 use crate::line_reader::{Extent, read_lines};
 use crate::plan::{Plan, PlanFault, Planning};
 use crate::sizes::MOST_SCRIPT_BYTES;
+use ordup_objects::or_give_up;
 use std::alloc::Allocator;
 use std::io::Read;
 
@@ -54,15 +55,8 @@ pub fn read_plan_within<A: Allocator + Copy, R: Read>(
     }) result }
 {
     let mut planning = Planning::new(alloc);
-    match read_into(&mut planning, input, limit) {
-        Ok(()) => Ok(planning.plan),
-        Err(fault) => {
-            let Plan { setup, sets } = planning.plan;
-            setup.discard();
-            drop(sets);
-            Err(fault)
-        }
-    }
+    or_give_up!(read_into(&mut planning, input, limit), planning.plan);
+    Ok(planning.plan)
 }
 
 /// Reads a plan: declarations, `start`, and then proposals alone. It answers as `read_plan_within` does with the limit

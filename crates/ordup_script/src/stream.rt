@@ -10,6 +10,7 @@ use crate::line_reader::{Extent, LineTaker, read_lines};
 use crate::sizes::{MOST_SCRIPT_BYTES, PIECE};
 use ordup_answers::{Answering, ScriptEnd};
 use ordup_grammar::LinePart;
+use ordup_objects::or_give_up;
 use ordup_text::{TextBuffer, send};
 use std::alloc::{Allocator, Global};
 use std::io::{Read, Write};
@@ -46,7 +47,7 @@ impl<W: Write, A: Allocator + Copy> LineTaker for Answerer<'_, W, A> {
     ghost is_clear = { λ answerer. answerer.answers.now.text ≡ [] };
 
     // One more than any limit.
-    ghost room = { λ _. most_counted + 1 };
+    ghost lines_left = { λ _. most_counted + 1 };
 
     #[inline(always)]
     fn take(&mut self, line: &LinePart<'_>) -> Result<(), ScriptFault> {
@@ -140,13 +141,8 @@ pub fn run_script_within<A: Allocator + Copy, R: Read, W: Write>(
     let ran = run_in(&mut script, &mut answers, input, output, limit);
     drop(answers);
     let end = script.into_end();
-    match ran {
-        Ok(()) => Ok(end),
-        Err(fault) => {
-            end.discard();
-            Err(fault)
-        }
-    }
+    or_give_up!(ran, end);
+    Ok(end)
 }
 
 /// Runs a script. It answers as `run_script_within` does with the limit `MOST_SCRIPT_BYTES`.

@@ -1,16 +1,20 @@
 -- What the moves of a set make of the values and of what these travelled.
-use Rattle.std.proofs.Common.{◌≡◌, ℕ, ℤ, zero, suc, ◌+◌, ◌<◌, ◌≤◌, true, List, [], ◌∷◌, length, get_or, drop, drop-cons, add-one}
-use Rattle.std.proofs.Common.{arith, refl, sym, ap, ◌∙◌}
-use Rattle.std.proofs.lemmas.Bool.{and_parts, leb-true}
+use Rattle.std.proofs.Common.{◌≡◌, ℕ, ℤ, zero, suc, ◌+◌, ◌<◌, ◌≤◌, Bool, true, List, [], ◌∷◌, ◌++◌, length, get_or, take, drop, drop-cons}
+use Rattle.std.proofs.Common.{add-one, arith, refl, sym, ap, pos, ◌∙◌}
+use Rattle.std.specs.Prelude.{Result, Ok, Err, OnOk, is_ok}
+use Rattle.std.proofs.lemmas.Bool.{and_parts, leb-true, false≢true}
+use Rattle.std.proofs.lemmas.List.{take_more_set}
 use Rattle.std.proofs.lemmas.List.Folds.{fold-map}
 use Rattle.std.specs.List.{fold, slice_set}
 use Rattle.ordup_objects.specs.Sizes.{greatest_distance}
 use Rattle.ordup_objects.specs.declared.change.Change.{Change}
 use Rattle.ordup_objects.specs.declared.moved.Moved.{Moved}
-use Rattle.ordup_objects.specs.States.{State, after, is_legal, IsState, IsInRange}
+use Rattle.ordup_objects.specs.States.{State, value_at, after, is_legal, AreResults, IsState, IsInRange}
 use Rattle.ordup_objects.specs.Sets.{AreKnown}
 use Rattle.ordup_objects.specs.Moves.{moved_by, moves_of}
+use Rattle.ordup_objects.specs.Weights.{distance}
 use Rattle.ordup_objects.proofs.SetLemmas.{distances_of-few}
+use Rattle.ordup_objects.proofs.MoveLemmas.{moves_of-more}
 use Rattle.ordup_site.specs.Travelling.{Moves, travelled_on}
 use Rattle.ordup_site.specs.Sites.{AreMovesOf}
 use Rattle.ordup_site.proofs.TravelLemmas.{Moves-applied}
@@ -74,3 +78,17 @@ Moves-put v w ts us m ds are state same objects values travelled =
     Moves-applied m v w ts us are.set are.known are.legal state same
     (values ∙ ap (λ x. moved_to x v) are.moves ∙ moved_to-after v m) objects
     (travelled ∙ ap (λ x. travelled_by x ts) are.moves ∙ travelled_by-on v m ts)
+
+-- the results of a set are those of a legal one
+pub results-legal : {T E P : Type 0} {legal : Bool} (r : Result T E) → is_ok r ≡ legal → legal ≡ true → OnOk r P → P
+results-legal (Ok done) is legal are = are
+results-legal (Err e) is legal are = absurd (false≢true (is ∙ legal))
+
+-- one move more in the place of the first of a list, by the result of its change
+pub moves_of-computed : (v : State) (m : List Change) (results : List ℤ) (ds : List Moved) (i n : ℕ) (r : ℤ) (c : Change)
+    → i < length m → i < length ds → AreResults v m results → c ≡ get_or m i c → r ≡ get_or results i (pos 0)
+    → n ≡ distance r (value_at v c.object) → take i ds ≡ moves_of v (take i m)
+    → take (i + 1) (slice_set ds i (record { object = c.object; value = r; distance = n })) ≡ moves_of v (take (i + 1) m)
+moves_of-computed v m results ds i n r c lt spare are same at is so_far =
+    take_more_set ds i _ spare ∙ ap (λ xs. xs ++ record { object = c.object; value = r; distance = n } ∷ []) so_far
+    ∙ moves_of-more v m results i n r c lt are same at is

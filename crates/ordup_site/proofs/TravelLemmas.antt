@@ -1,11 +1,11 @@
 -- What values travel by a set.
 use Rattle.std.proofs.Common.{◌≡◌, ℕ, suc, ◌+◌, ◌*◌, ◌<◌, ◌≤◌, true, false}
-use Rattle.std.proofs.Common.{List, [], ◌∷◌, length, get_or, drop, drop-cons, add-one, arith, refl, sym, ap, ◌∙◌, inl, inr}
+use Rattle.std.proofs.Common.{List, [], ◌∷◌, length, get_or, arith, refl, sym, ap, ◌∙◌, inl, inr}
 use Rattle.std.specs.Prelude.{All, ◌==◌}
 use Rattle.std.specs.List.{list_any, slice_set}
 use Rattle.std.proofs.Math.ListN.{length-set}
 use Rattle.std.proofs.lemmas.Bool.{or_parts, eqb-false, eqb-true, cases_Bool, cases_lt}
-use Rattle.std.proofs.lemmas.List.{get_or-set_other, get_or_past, get_or-map, length-map}
+use Rattle.std.proofs.lemmas.List.{get_or-set_other, get_or_past}
 use Rattle.std.proofs.lemmas.Grind.{get_or-set_at}
 use Rattle.std.proofs.lemmas.List.Elements.{All-set, All-weaker}
 use Rattle.ordup_objects.specs.Sizes.{greatest_distance, most_updates}
@@ -13,17 +13,9 @@ use Rattle.ordup_objects.specs.declared.change.Change.{Change}
 use Rattle.ordup_objects.specs.States.{State, value_at, after, is_legal, IsState}
 use Rattle.ordup_objects.specs.Repeats.{repeats}
 use Rattle.ordup_objects.specs.Sets.{are_of_one_object, IsSet, AreKnown}
-use Rattle.ordup_objects.specs.Weights.{distance, distance_by, distances_of}
+use Rattle.ordup_objects.specs.Weights.{distance, distances_of}
 use Rattle.ordup_objects.proofs.SetLemmas.{moved_by, distance-after, distance_beside-distances_of, distance_beside-few, distances_of-few}
 use Rattle.ordup_site.specs.Travelling.{Moves, travelled_on}
-
--- one change further on
-pub travelled_on_more : (v : State) (m : List Change) (ts : List ℕ) (i x moved : ℕ) (c : Change) → i < length m
-    → c ≡ get_or m i c → x ≡ c.object → moved ≡ distance_by v c
-    → travelled_on v (drop (i + 1) m) (slice_set ts x (get_or ts x 0 + moved)) ≡ travelled_on v (drop i m) ts
-travelled_on_more v m ts i x moved c lt is at e =
-    let f : drop i m ≡ c ∷ drop (i + 1) m = rw (add-one) (drop-cons m i c lt) ∙ ap (λ d. d ∷ drop (i + 1) m) (sym is) in
-    rw (f, at, e) refl
 
 -- a number of a list of small numbers is small, past its end too
 pub bounded_at : (ts : List ℕ) (x most : ℕ) → All (λ t. t ≤ most) ts → get_or ts x 0 ≤ most
@@ -76,13 +68,6 @@ travelled_on-after v m ts x distinct known same =
 length-travelled_on : (v : State) (m : List Change) (ts : List ℕ) → length (travelled_on v m ts) ≡ length ts
 length-travelled_on v [] ts = refl
 length-travelled_on v (c ∷ m) ts = length-travelled_on v m _ ∙ length-set ts c.object _
-
--- a change of a legal set moves its value by no more than the range is wide
-pub distance_by-few : (v : State) (m : List Change) (i : ℕ) (c : Change) → IsState v → is_legal m v ≡ true → i < length m
-    → c ≡ get_or m i c → distance_by v c ≤ greatest_distance
-distance_by-few v m i c state legal lt is =
-    rw (ap (distance_by v) is ∙ sym (get_or-map (distance_by v) m i c 0 lt))
-    (distances_of-few v m state legal i 0 (rw length-map lt))
 
 -- a legal set moves a value by no more than the range is wide
 distance-few : (v : State) (m : List Change) (x : ℕ) → IsSet m → AreKnown (length v) m → IsState v → is_legal m v ≡ true

@@ -1,13 +1,14 @@
 ghost use Rattle.std.specs.Prelude.{◌≡◌, ◌≤◌, ◌<◌, ◌+◌, ◌*◌, ℕ, ℤ, List, [], IsTrue, IfOk, IfErr, All, length, map, take, replicate, slice_index_or};
 ghost use Rattle.ordup_objects.specs.Sizes.{most_changes, most_updates, greatest_distance};
 ghost use Rattle.ordup_objects.specs.Tables.{initial_state};
-ghost use Rattle.ordup_objects.specs.States.{value_at, is_legal, after, AreResults, IsInRange, IsState};
+ghost use Rattle.ordup_objects.specs.States.{value_at, is_legal, after, IsInRange, IsState};
 ghost use Rattle.ordup_objects.specs.Sets.{AreKnown};
 ghost use Rattle.ordup_objects.specs.Serial.{History, set_at, with_update};
 ghost use Rattle.ordup_objects.specs.Weights.{distance};
 ghost use Rattle.ordup_site.specs.Sites.{HasApplied, AreMovesOf, travelled_at};
-ghost use Rattle.ordup_site.specs.Travelling.{Moves, travelled_on};
+ghost use Rattle.ordup_site.specs.Travelling.{Moves};
 
+use ordup_objects::sizes::MOST_CHANGES;
 use ordup_objects::{Change, MessageSet, Moved, ObjectId, ObjectTable, Refusal, Results, Values};
 use std::alloc::{AllocError, Allocator, Global};
 use std::marker::Model;
@@ -23,6 +24,7 @@ pub struct Site<A: Allocator + Copy = Global> {
     travelled: Vec<u64, A>,
     // Kept from one application to the next, since new memory is zeroed, which took as long as to apply a set of one change.
     results: Results,
+    moves: [Moved; MOST_CHANGES],
 }
 
 impl<A: Allocator + Copy> Model for Site<A> {
@@ -46,11 +48,17 @@ impl<A: Allocator + Copy> Site<A> {
     {
         let values = Values::initial(alloc, objects)?;
         let travelled = vec![in alloc; 0; objects.len()]?;
+        let none = Moved {
+            object: ObjectId::new(0),
+            value: 0,
+            distance: 0,
+        };
         Ok(Site {
             applied: 0,
             values,
             travelled,
             results: Results::new(),
+            moves: [none; MOST_CHANGES],
         })
     }
 
@@ -61,7 +69,7 @@ impl<A: Allocator + Copy> Site<A> {
     pub fn apply(&mut self, set: &MessageSet<A>)
         requires known { AreKnown (length self.old.values) set.now }
         requires legal { IsTrue (is_legal set.now self.old.values) }
-        requires room { self.old.applied < most_updates }
+        requires spare { self.old.applied < most_updates }
         ensures applied { self.new.applied ≡ self.old.applied + 1 }
         ensures values { self.new.values ≡ after set.now self.old.values }
         ensures travelled { (x : ℕ) → travelled_at self.new x ≡ travelled_at self.old x + distance (value_at self.new.values x) (value_at self.old.values x) }
@@ -70,12 +78,9 @@ impl<A: Allocator + Copy> Site<A> {
         // Where it is the next of a log, the site applied one update more of that log.
         ensures next { (h : History) (j : ℕ) → HasApplied self.old h j → j < length h.sets → set.now ≡ set_at h (j + 1) → HasApplied self.new h (j + 1) }
     {
-        move_values(
-            &mut self.values,
-            &mut self.travelled,
-            &mut self.results,
-            set,
-        );
+        compute_moves(&self.values, set, &mut self.results, &mut self.moves);
+        let moves = &self.moves[..set.changes().len()];
+        put_moves(&mut self.values, &mut self.travelled, moves);
         self.applied += 1;
     }
 
@@ -86,7 +91,7 @@ impl<A: Allocator + Copy> Site<A> {
     /// 1,000,000 updates.
     pub fn apply_moves(&mut self, moves: &[Moved])
         requires moves { (m : List Change) × AreMovesOf self.old.values m moves.now }
-        requires room { self.old.applied < most_updates }
+        requires spare { self.old.applied < most_updates }
         ensures applied { self.new.applied ≡ self.old.applied + 1 }
         ensures values { (m : List Change) → AreMovesOf self.old.values m moves.now → self.new.values ≡ after m self.old.values }
         ensures travelled { (x : ℕ) → travelled_at self.new x ≡ travelled_at self.old x + distance (value_at self.new.values x) (value_at self.old.values x) }
@@ -146,46 +151,31 @@ impl<A: Allocator + Copy> Site<A> {
     }
 }
 
-/// Applies a legal set to the values, and adds to what each of them travelled how far it moves.
-fn move_values<A: Allocator + Copy>(
-    values: &mut Values<A>,
-    travelled: &mut [u64],
-    results: &mut Results,
-    set: &MessageSet<A>,
-)
-    requires known { AreKnown (length values.old) set.now }
-    requires legal { IsTrue (is_legal set.now values.old) }
-    requires same { length travelled.old ≡ length values.old }
-    requires bounded { All (λ t. t ≤ greatest_distance * most_updates) travelled.old }
-    ensures { Moves set.now values.old travelled.old values.new travelled.new }
-{
-    values.keeps();
-    let changes = set.changes();
-    let _ = values.results(set, results);
-    travel_on(values, changes, results.as_slice(), travelled);
-    values.put(set, results);
-}
-
-/// Adds how far each change moves its object's value, from the one that it has to its result.
-fn travel_on<A: Allocator + Copy>(
+/// Computes the moves of a legal set, in place of the first of these moves.
+fn compute_moves<A: Allocator + Copy>(
     values: &Values<A>,
-    changes: &[Change],
-    results: &[i64],
-    travelled: &mut [u64],
+    set: &MessageSet<A>,
+    results: &mut Results,
+    moves: &mut [Moved],
 )
-    requires known { AreKnown (length values.now) changes.now }
-    requires same { length travelled.old ≡ length values.now }
-    requires few { length changes.now ≤ most_changes }
-    requires room { length changes.now ≤ length results.now }
-    requires results { AreResults values.now changes.now results.now }
-    requires legal { IsTrue (is_legal changes.now values.now) }
-    requires bounded { All (λ t. t ≤ greatest_distance * most_updates) travelled.old }
-    ensures { travelled.new ≡ travelled_on values.now changes.now travelled.old }
+    requires known { AreKnown (length values.now) set.now }
+    requires legal { IsTrue (is_legal set.now values.now) }
+    requires spare { length moves.old ≡ most_changes }
+    ensures moves { AreMovesOf values.now set.now (take (length set.now) moves.new) }
+    ensures spare { length moves.new ≡ most_changes }
 {
     values.keeps();
+    let _ = values.results(set, results);
+    let results = results.as_slice();
+    let changes = set.changes();
     for (i, change) in changes.iter().enumerate() {
-        let moved = results[i].abs_diff(values.get(change.object));
-        travelled[change.object.index()] += moved;
+        let value = results[i];
+        let distance = value.abs_diff(values.get(change.object));
+        moves[i] = Moved {
+            object: change.object,
+            value: value as i32,
+            distance: distance as u32,
+        };
     }
 }
 

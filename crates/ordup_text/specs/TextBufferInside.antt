@@ -6,7 +6,7 @@ use Rattle.ordup_text.specs.declared.text_buffer.TextBuffer.TheInside.{Inside}
 module _ {A : Type 0} where
   -- the text, and the spare capacity behind it
   abbrev pub buffered : Inside A → BufferedText
-  buffered b = record { text = take b.len b.bytes.items; room = length b.bytes.items - b.len }
+  buffered b = record { text = take b.len b.bytes.items; spare = length b.bytes.items - b.len }
 
   -- the text lies within what there is
   abbrev pub IsTextBuffer : Inside A → Type 0

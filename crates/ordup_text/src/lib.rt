@@ -11,7 +11,7 @@ mod output;
 mod text_buffer;
 
 pub use lines::{
-    VALUE_ROOM, push_done, push_numbered, push_values, push_with_number, put_done, put_named,
+    MOST_VALUE_BYTES, push_done, push_numbered, push_values, push_with_number, put_done, put_named,
     put_numbered, put_values, put_with_number, put_with_value,
 };
 pub use output::{WriteFault, send};

@@ -1,26 +1,26 @@
 //! Lines of text: a text that says what was done, and then names, numbers and values.
 //!
-//! What puts takes the room that it needs as given. What pushes makes the room first.
+//! What puts takes the spare capacity that it needs as given. What pushes reserves it first.
 ghost use Rattle.std.specs.Prelude.{◌≡◌, ◌+◌, ◌*◌, ◌≤◌, ◌++◌, OnOk, length};
 ghost use Rattle.std.specs.Fmt.{decimal, signed_decimal};
 ghost use Rattle.ordup_text.specs.Lines.{named_text, done_text, numbered_text, value_text, values_text};
 ghost use Rattle.ordup_text.specs.declared.text_buffer.TheConstants.{MOST_DIGITS};
-ghost use Rattle.ordup_text.specs.declared.lines.TheConstants.{VALUE_ROOM};
+ghost use Rattle.ordup_text.specs.declared.lines.TheConstants.{MOST_VALUE_BYTES};
 
 use crate::text_buffer::{MOST_DIGITS, TextBuffer};
 use ordup_objects::{Name, ObjectId, ObjectTable};
 use std::alloc::{AllocError, Allocator};
 
 /// The most bytes of ` X=V`.
-pub const VALUE_ROOM: usize = 39;
+pub const MOST_VALUE_BYTES: usize = 39;
 
 /// Puts a text and a number. They must fit into the spare capacity.
 // Inlined, so that the length of the text is known where it is copied.
 #[inline(always)]
 pub fn put_with_number<A: Allocator + Copy>(out: &mut TextBuffer<A>, text: &[u8], number: u64)
-    requires { length text.now + MOST_DIGITS ≤ out.old.room }
+    requires { length text.now + MOST_DIGITS ≤ out.old.spare }
     ensures text { out.new.text ≡ out.old.text ++ (text.now ++ decimal number) }
-    ensures room { out.old.room ≤ out.new.room + length text.now + MOST_DIGITS }
+    ensures spare { out.old.spare ≤ out.new.spare + length text.now + MOST_DIGITS }
 {
     out.put(text);
     out.put_number(number);
@@ -44,9 +44,9 @@ pub fn push_with_number<A: Allocator + Copy>(
 // Inlined, so that the length of the text is known where it is copied.
 #[inline(always)]
 pub fn put_with_value<A: Allocator + Copy>(out: &mut TextBuffer<A>, text: &[u8], value: i64)
-    requires { length text.now + MOST_DIGITS + 1 ≤ out.old.room }
+    requires { length text.now + MOST_DIGITS + 1 ≤ out.old.spare }
     ensures text { out.new.text ≡ out.old.text ++ (text.now ++ signed_decimal value) }
-    ensures room { out.old.room ≤ out.new.room + length text.now + MOST_DIGITS + 1 }
+    ensures spare { out.old.spare ≤ out.new.spare + length text.now + MOST_DIGITS + 1 }
 {
     out.put(text);
     out.put_value(value);
@@ -54,7 +54,7 @@ pub fn put_with_value<A: Allocator + Copy>(out: &mut TextBuffer<A>, text: &[u8],
 
 /// Puts a line: what was done, and a name. It must fit into the spare capacity.
 pub fn put_named<A: Allocator + Copy>(out: &mut TextBuffer<A>, done: &[u8], name: &[u8])
-    requires { length done.now + length name.now + 1 ≤ out.old.room }
+    requires { length done.now + length name.now + 1 ≤ out.old.spare }
     ensures { out.new.text ≡ out.old.text ++ named_text done.now name.now }
 {
     out.put(done);
@@ -69,7 +69,7 @@ pub fn put_done<A: Allocator + Copy, const N: usize>(
     done: &[u8; N],
     number: u64,
 )
-    requires { N + MOST_DIGITS + 1 ≤ out.old.room }
+    requires { N + MOST_DIGITS + 1 ≤ out.old.spare }
     ensures { out.new.text ≡ out.old.text ++ done_text done.now number }
 {
     out.put(done);
@@ -100,7 +100,7 @@ pub fn put_numbered<A: Allocator + Copy, const N: usize>(
     name: &[u8],
     number: u64,
 )
-    requires { N + length name.now + MOST_DIGITS + 2 ≤ out.old.room }
+    requires { N + length name.now + MOST_DIGITS + 2 ≤ out.old.spare }
     ensures { out.new.text ≡ out.old.text ++ numbered_text done.now name.now number }
 {
     out.put(done);
@@ -126,9 +126,9 @@ pub fn push_numbered<A: Allocator + Copy, const N: usize>(
 
 /// Puts ` X=V`: an object's name and value. The most bytes of it must fit into the spare capacity.
 fn put_named_value<A: Allocator + Copy>(out: &mut TextBuffer<A>, name: &Name, value: i64)
-    requires { VALUE_ROOM ≤ out.old.room }
+    requires { MOST_VALUE_BYTES ≤ out.old.spare }
     ensures text { out.new.text ≡ out.old.text ++ value_text name.now value }
-    ensures room { out.old.room ≤ out.new.room + VALUE_ROOM }
+    ensures spare { out.old.spare ≤ out.new.spare + MOST_VALUE_BYTES }
 {
     out.put(b" ");
     out.put_name(name.as_bytes());
@@ -142,9 +142,9 @@ pub fn put_values<A: Allocator + Copy>(
     objects: &ObjectTable<A>,
     values: &[i64],
 )
-    requires { length objects.now * VALUE_ROOM ≤ out.old.room }
+    requires { length objects.now * MOST_VALUE_BYTES ≤ out.old.spare }
     ensures text { out.new.text ≡ out.old.text ++ values_text objects.now values.now }
-    ensures room { out.old.room ≤ out.new.room + length objects.now * VALUE_ROOM }
+    ensures spare { out.old.spare ≤ out.new.spare + length objects.now * MOST_VALUE_BYTES }
 {
     for index in 0..objects.len().min(values.len()) {
         let name = objects.name(ObjectId::new(index as u16));
@@ -160,7 +160,7 @@ pub fn push_values<A: Allocator + Copy>(
 ) -> Result<(), AllocError>
     ensures { OnOk result (out.new.text ≡ out.old.text ++ values_text objects.now values.now) }
 {
-    out.reserve(objects.len() * VALUE_ROOM)?;
+    out.reserve(objects.len() * MOST_VALUE_BYTES)?;
     put_values(out, objects, values);
     Ok(())
 }

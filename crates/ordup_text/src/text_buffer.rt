@@ -70,28 +70,28 @@ impl<A: Allocator + Copy> TextBuffer<A> {
         self.len = 0;
     }
 
-    /// Reserves at least `room` bytes behind the text.
+    /// Reserves at least `spare` bytes behind the text.
     #[inline(always)]
-    pub fn reserve(&mut self, room: usize) -> Result<(), AllocError>
+    pub fn reserve(&mut self, spare: usize) -> Result<(), AllocError>
         ensures text { self.new.text ≡ self.old.text }
-        ensures room { OnOk result (room ≤ self.new.room) }
+        ensures spare { OnOk result (spare ≤ self.new.spare) }
         // No list has more bytes.
-        ensures most { OnOk result (self.new.room ≤ 9223372036854775807) }
+        ensures most { OnOk result (self.new.spare ≤ 9223372036854775807) }
     {
-        if room <= self.bytes.len() - self.len {
+        if spare <= self.bytes.len() - self.len {
             return Ok(());
         }
-        self.grow(room)
+        self.grow(spare)
     }
 
-    /// Reserves `room` bytes, or as many as the text has where that is more.
+    /// Reserves `spare` bytes, or as many as the text has where that is more.
     #[inline(never)]
-    fn grow(&mut self, room: usize) -> Result<(), AllocError>
+    fn grow(&mut self, spare: usize) -> Result<(), AllocError>
         ensures text { self.new.text ≡ self.old.text }
-        ensures room { OnOk result (room ≤ self.new.room) }
-        ensures most { OnOk result (self.new.room ≤ 9223372036854775807) }
+        ensures spare { OnOk result (spare ≤ self.new.spare) }
+        ensures most { OnOk result (self.new.spare ≤ 9223372036854775807) }
     {
-        let more = room.max(self.len);
+        let more = spare.max(self.len);
         self.bytes.resize(self.len.saturating_add(more), 0)?;
         // For the proof: a list has few bytes.
         let _len = self.bytes.len();
@@ -101,9 +101,9 @@ impl<A: Allocator + Copy> TextBuffer<A> {
     /// Adds a text. It must fit into the spare capacity.
     #[inline(always)]
     pub fn put(&mut self, text: &[u8])
-        requires { length text.now ≤ self.old.room }
+        requires { length text.now ≤ self.old.spare }
         ensures text { self.new.text ≡ self.old.text ++ text.now }
-        ensures room { self.new.room + length text.now ≡ self.old.room }
+        ensures spare { self.new.spare + length text.now ≡ self.old.spare }
     {
         let end = self.len + text.len();
         self.bytes[self.len..end].copy_from_slice(text);
@@ -114,9 +114,9 @@ impl<A: Allocator + Copy> TextBuffer<A> {
     // Its bytes are one value, which is stored as it is: of a slice the compiler would ask first whether it lies in the buffer.
     #[inline(always)]
     pub fn put_array<const N: usize>(&mut self, text: &[u8; N])
-        requires { N ≤ self.old.room }
+        requires { N ≤ self.old.spare }
         ensures text { self.new.text ≡ self.old.text ++ text.now }
-        ensures room { self.new.room + N ≡ self.old.room }
+        ensures spare { self.new.spare + N ≡ self.old.spare }
     {
         let end = self.len + N;
         store(&mut self.bytes[self.len..end], text);
@@ -127,9 +127,9 @@ impl<A: Allocator + Copy> TextBuffer<A> {
     // All are stored, so that nothing depends on how many of them count.
     #[inline(always)]
     pub fn put_prefix<const N: usize>(&mut self, text: &[u8; N], len: usize)
-        requires { (len ≤ N) × (N ≤ self.old.room) }
+        requires { (len ≤ N) × (N ≤ self.old.spare) }
         ensures text { self.new.text ≡ self.old.text ++ take len text.now }
-        ensures room { self.new.room + len ≡ self.old.room }
+        ensures spare { self.new.spare + len ≡ self.old.spare }
     {
         self.put_array(text);
         self.len -= N - len;
@@ -138,9 +138,9 @@ impl<A: Allocator + Copy> TextBuffer<A> {
     /// Adds a name, or another text that is short as a rule. It must fit into the spare capacity.
     #[inline(always)]
     pub fn put_name(&mut self, name: &[u8])
-        requires { length name.now ≤ self.old.room }
+        requires { length name.now ≤ self.old.spare }
         ensures text { self.new.text ≡ self.old.text ++ name.now }
-        ensures room { self.new.room + length name.now ≡ self.old.room }
+        ensures spare { self.new.spare + length name.now ≡ self.old.spare }
     {
         let end = self.len + name.len();
         copy_short(&mut self.bytes[self.len..end], name);
@@ -150,9 +150,9 @@ impl<A: Allocator + Copy> TextBuffer<A> {
     /// Adds a number in digits. The most digits of a number must fit into the spare capacity.
     #[inline(always)]
     pub fn put_number(&mut self, number: u64)
-        requires { MOST_DIGITS ≤ self.old.room }
+        requires { MOST_DIGITS ≤ self.old.spare }
         ensures text { self.new.text ≡ self.old.text ++ decimal number }
-        ensures room { self.old.room ≤ self.new.room + MOST_DIGITS }
+        ensures spare { self.old.spare ≤ self.new.spare + MOST_DIGITS }
     {
         let end = self.len + digit_count(number);
         write_digits(number, &mut self.bytes, end);
@@ -163,9 +163,9 @@ impl<A: Allocator + Copy> TextBuffer<A> {
     /// capacity.
     #[inline(always)]
     pub fn put_value(&mut self, value: i64)
-        requires { MOST_DIGITS + 1 ≤ self.old.room }
+        requires { MOST_DIGITS + 1 ≤ self.old.spare }
         ensures text { self.new.text ≡ self.old.text ++ signed_decimal value }
-        ensures room { self.old.room ≤ self.new.room + MOST_DIGITS + 1 }
+        ensures spare { self.old.spare ≤ self.new.spare + MOST_DIGITS + 1 }
     {
         if value < 0 {
             self.put(b"-");

@@ -9,7 +9,7 @@ use Rattle.ordup_lag.specs.Texts.{series_text}
 use Rattle.ordup_faults.specs.Faults.{Outcome}
 use Rattle.ordup_verdicts.specs.Verdicts.{Checks, Judges, PrintsJudged, PrintsVerdict, ReadsRecord, verdict_status, verdict_text}
 use Rattle.ordup_verdicts.specs.Lags.{Lags, PrintsLag}
-use Rattle.ordup_faults.specs.Printing.{PrintsIfRoom}
+use Rattle.ordup_faults.specs.Printing.{PrintsIfMemory}
 use Rattle.ordup_faults.specs.declared.fault.Fault.{Fault}
 use Rattle.ordup_faults.specs.declared.fault.Fault.TheVariants as fault
 
@@ -33,25 +33,25 @@ LeavesAfter old new fault.Write = Unit {0}
 LeavesAfter old new fault.NoMemory = new ≡ old
 LeavesAfter old new e = ⊥
 
-room_leaves : (status : ℕ) (text : List ℕ) (old new : Option (List ℕ)) (f : Fault) → PrintsIfRoom status text old new (Err f)
+print_leaves : (status : ℕ) (text : List ℕ) (old new : Option (List ℕ)) (f : Fault) → PrintsIfMemory status text old new (Err f)
     → LeavesAfter old new f
-room_leaves status text old new fault.Write told = tt
-room_leaves status text old new fault.NoMemory told = told
-room_leaves status text old new fault.Read told = told
-room_leaves status text old new fault.TooLong told = told
-room_leaves status text old new (fault.Malformed row) told = told
-room_leaves status text old new fault.NotStarted told = told
-room_leaves status text old new fault.UnknownSite told = told
-room_leaves status text old new (fault.NotYet number) told = told
-room_leaves status text old new fault.Mixed told = told
+print_leaves status text old new fault.Write told = tt
+print_leaves status text old new fault.NoMemory told = told
+print_leaves status text old new fault.Read told = told
+print_leaves status text old new fault.TooLong told = told
+print_leaves status text old new (fault.Malformed row) told = told
+print_leaves status text old new fault.NotStarted told = told
+print_leaves status text old new fault.UnknownSite told = told
+print_leaves status text old new (fault.NotYet number) told = told
+print_leaves status text old new fault.Mixed told = told
 
 pub verdict_leaves : (r : RecordState) (verdict : Verdict) (old new : Option (List ℕ)) (f : Fault)
     → PrintsVerdict verdict old new (Err f) → LeavesAfter old new f
-verdict_leaves r verdict old new f = room_leaves (verdict_status verdict) (verdict_text verdict) old new f
+verdict_leaves r verdict old new f = print_leaves (verdict_status verdict) (verdict_text verdict) old new f
 
 lag_leaves : (r : RecordState) (verdict : Verdict) (old new : Option (List ℕ)) (f : Fault)
     → PrintsLag r verdict old new (Err f) → LeavesAfter old new f
-lag_leaves r (Fewest n) old new f = room_leaves 0 (series_text r) old new f
+lag_leaves r (Fewest n) old new f = print_leaves 0 (series_text r) old new f
 lag_leaves r (No row reason) old new f = verdict_leaves r (No row reason) old new f
 
 module _ (PrintsOf : RecordState → Verdict → Option (List ℕ) → Option (List ℕ) → Outcome → Type 0)

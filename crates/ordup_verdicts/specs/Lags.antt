@@ -5,12 +5,12 @@ use Rattle.ordup_audit.specs.declared.verdict.Verdict.{Verdict}
 use Rattle.ordup_audit.specs.declared.verdict.Verdict.TheVariants.{Fewest, No}
 use Rattle.ordup_lag.specs.Texts.{series_text}
 use Rattle.ordup_faults.specs.Faults.{Outcome}
-use Rattle.ordup_faults.specs.Printing.{PrintsIfRoom}
+use Rattle.ordup_faults.specs.Printing.{PrintsIfMemory}
 use Rattle.ordup_verdicts.specs.Verdicts.{PrintsVerdict, ReadsRecord}
 
 -- the series of a record was printed, or nothing for want of memory
 abbrev pub PrintsSeries : RecordState → Option (List ℕ) → Option (List ℕ) → Outcome → Type 0
-PrintsSeries r = PrintsIfRoom 0 (series_text r)
+PrintsSeries r = PrintsIfMemory 0 (series_text r)
 
 -- of a record that was judged so the series was printed, or the line of the verdict where it is not valid
 abbrev pub PrintsLag : RecordState → Verdict → Option (List ℕ) → Option (List ℕ) → Outcome → Type 0

@@ -12,7 +12,7 @@ use Rattle.ordup_rows.specs.Sizes.{most_record_bytes}
 use Rattle.ordup_rows.specs.Texts.{TextTells}
 use Rattle.ordup_check.specs.Limits.{IsMalformedWithin}
 use Rattle.ordup_faults.specs.Faults.{Outcome}
-use Rattle.ordup_faults.specs.Printing.{PrintsIfRoom}
+use Rattle.ordup_faults.specs.Printing.{PrintsIfMemory}
 use Rattle.ordup_faults.specs.declared.fault.Fault.TheVariants as fault
 
 -- the line that shows a verdict
@@ -27,7 +27,7 @@ verdict_status (No row reason) = 1
 
 -- the line of a verdict was printed, or nothing for want of memory
 abbrev pub PrintsVerdict : Verdict → Option (List ℕ) → Option (List ℕ) → Outcome → Type 0
-PrintsVerdict verdict = PrintsIfRoom (verdict_status verdict) (verdict_text verdict)
+PrintsVerdict verdict = PrintsIfMemory (verdict_status verdict) (verdict_text verdict)
 
 -- the verdict on a record: the number of its rounds where it is valid, and else the first reason against it and its row
 abbrev pub Judges : RecordState → Verdict → Type 0

@@ -9,7 +9,12 @@ use Rattle.ordup_site.specs.Sites.{SiteState}
 use Rattle.ordup_world.specs.Events.{Past}
 use Rattle.ordup_world.specs.Along.{KeepSites, HaveFewest}
 use Rattle.ordup_world.specs.Worlds.{WorldState, store_of, IsSound, KeepsLimits, StandsFor}
+use Rattle.ordup_world.specs.Steps.{StepsWorld, TakesEvent}
+use Rattle.ordup_world.specs.declared.event.Event.{Event}
+use Rattle.ordup_world.specs.declared.event.Answer.{Answer}
 use Rattle.ordup_world.proofs.AfterLemmas.{updates-are}
+use Rattle.ordup_world.proofs.ImportLemmas.{KeepImports-later}
+use Rattle.ordup_world.proofs.StoreLemmas.{KeepsLimits-sound}
 
 module _ {A : Type 0} where
   KeepSites-own : (w : WorldState) (past : Past A) → IsSound w → KeepsLimits w → StandsFor w.primary.setup w past
@@ -48,3 +53,17 @@ module _ {A : Type 0} where
       → HaveFewest setup past
   HaveFewest-stands setup w past sound stands =
       rw (← stands.store.declared) (HaveFewest-own w past sound (rw (← stands.store.declared) at stands))
+
+  -- a world that took an event and answered it keeps all that it promises of one
+  pub TakesEvent-steps : (old : WorldState) (e : Event A) (a : Answer A) (new : WorldState) → StepsWorld old e a new
+      → TakesEvent old e a new
+  TakesEvent-steps old e a new is = record {
+    answer = is.answer;
+    state = is.state;
+    setup = is.setup;
+    refused = is.refused;
+    sound = is.sound;
+    limits = KeepsLimits-sound new is.sound.store;
+    fewest = HasFewestRounds-sound new.primary is.sound.store.primary;
+    imports = λ setup past stands are. KeepImports-later setup past e a are (is.answer setup past stands);
+  }

@@ -18,7 +18,7 @@ use Rattle.ordup_primary.specs.Declarations.{Declared}
 use Rattle.ordup_primary.specs.LimitChanges.{limit_change_refusal}
 use Rattle.ordup_primary.specs.Settling.{report_at}
 use Rattle.ordup_world.specs.Events.{Past, log_of, decisions, reported, is_within_after, view_after, reply, is_refused}
-use Rattle.ordup_world.specs.Changes.{ChangesLeaveDecidedPlaces, ChangesLeaveRounds}
+use Rattle.ordup_world.specs.LimitChanges.{LimitChangesLeaveDecidedPlaces, LimitChangesLeaveRounds}
 use Rattle.ordup_world.specs.declared.event.Event.TheVariants.{Relimit}
 use Rattle.ordup_world.specs.declared.event.Answer.TheVariants.{Relimited}
 use Rattle.ordup_world.proofs.ImportLemmas.{unrefused}
@@ -69,12 +69,12 @@ module _ {A : Type 0} (setup : Declared) (past : Past A) where
 
 -- ---- the laws
 
-pub limits-decided : (A : Type 0) → ChangesLeaveDecidedPlaces A
+pub limits-decided : (A : Type 0) → LimitChangesLeaveDecidedPlaces A
 limits-decided A setup past s t k scope amount fine le =
     let ds = decisions setup past in
     changed-later ds.limits s t k (ds.acked + 1) scope amount (omega (arith, le, settled-first setup past s scope amount fine))
 
-pub rounds-decided : (A : Type 0) → ChangesLeaveRounds A
+pub rounds-decided : (A : Type 0) → LimitChangesLeaveRounds A
 rounds-decided A setup past s t scope amount fine =
     let ds = decisions setup past in
     let before = is_within_after setup past t in

@@ -110,7 +110,7 @@ relimits : IsTold (Settle ∷ add_to_x 6 ∷ Settle ∷ add_to_x 5 ∷ []) (
     (Relimit 0 Everything 1000000000000000001, Refused OutOfRange) ∷ (Relimit 0 Everything 0, Refused HeadPending) ∷ [])
 relimits = refl
 
--- 65 objects, and a site with a limit on each of the first 64: there is no room for the last one, also while the head is pending
+-- 65 objects, and a site with a limit on each of the first 64: the last one would be one too many, also while the head is pending
 abbrev full : Declared
 full = record {
   objects = replicate 65 (codes "x", pos 0);
@@ -119,11 +119,11 @@ full = record {
   limits = map (λ x. entry_of (Object x) 5 1) (range_with_len 0 64) ∷ [];
 }
 
-no_room : (reply full (Settle ∷ add_to_x 6 ∷ []) (Relimit 0 (Object 64) 1000000000000000001) ≡ Refused OutOfRange)
+one_too_many : (reply full (Settle ∷ add_to_x 6 ∷ []) (Relimit 0 (Object 64) 1000000000000000001) ≡ Refused OutOfRange)
     × (reply full (Settle ∷ add_to_x 6 ∷ []) (Relimit 0 (Object 64) 0) ≡ Refused TooMany)
     × (reply full (Settle ∷ add_to_x 6 ∷ []) (Relimit 0 (Object 63) 0) ≡ Refused HeadPending)
     × (reply {A = ℕ} full [] (Relimit 0 (Object 63) 0) ≡ Relimited 0 1)
-no_room = (refl, refl, refl, refl)
+one_too_many = (refl, refl, refl, refl)
 
 -- a query that may import 4, of a site behind its reference, at it and ahead of it
 imports : IsTold [] (

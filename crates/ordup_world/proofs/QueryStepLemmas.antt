@@ -98,7 +98,7 @@ module _ {A : Type 0} {w : WorldState} (sound : IsSound w) where
       stays (λ past is. inl (rw no refl))
 
   few : (past : Past A) → StandsFor w.primary.setup w past → (length w.queries ≡ 64 → ⊥) → (open_count past == 64) ≡ false
-  few past is room = ne_eqb (open_count past) 64 (λ e. room (is.count ∙ e))
+  few past is spare = ne_eqb (open_count past) 64 (λ e. spare (is.count ∙ e))
 
   module _ {name : List ℕ} {s limit : ℕ} (lt : s < length w.sites) where
     pub limit_out_of_range : 1000000000000000000 < limit → StepsWorld {A = A} w (Begin name s limit) (Refused OutOfRange) w
@@ -115,10 +115,10 @@ module _ {A : Type 0} {w : WorldState} (sound : IsSound w) where
 
       pub already_open : (length w.queries ≡ 64 → ⊥) → is_some (find_query name w.queries) ≡ true
           → StepsWorld {A = A} w (Begin name s limit) (Refused QueryOpen) w
-      already_open room taken = stays (λ past is. inl (rw (
+      already_open spare taken = stays (λ past is. inl (rw (
         there (store_of w) s sound.store lt,
         le-ltb 1000000000000000000 limit le,
-        few past is room,
+        few past is spare,
         is_open past name is ∙ taken,
       ) refl))
 
@@ -127,7 +127,7 @@ module _ {A : Type 0} {w : WorldState} (sound : IsSound w) where
           → ((q : List ℕ) → find_query q queries ≡ cond (is_same name q) (Some o) (find_query q w.queries))
           → length queries ≡ length w.queries + 1 → place ≡ w.primary.acked
           → StepsWorld {A = A} w (Begin name s limit) (Begun name place) (with_queries (store_of w) queries)
-      begun {queries = queries} {o = o} room none b found count at =
+      begun {queries = queries} {o = o} spare none b found count at =
           let sane : IsOpenSound (store_of w) o = record {
             site = rw b.site lt;
             place = omega (arith, b.place);
@@ -135,12 +135,12 @@ module _ {A : Type 0} {w : WorldState} (sound : IsSound w) where
             marks = rw b.place b.marks;
             within = omega (arith, b.total);
           } in
-          accepted refl (IsSound-named w name queries (Some o) found sound (omega (arith, sound.few, room, count))
+          accepted refl (IsSound-named w name queries (Some o) found sound (omega (arith, sound.few, spare, count))
           (λ p e. rw (← same_Some o p e) sane)) (λ past is. (
             inl (rw (
               there (store_of w) s sound.store lt,
               le-ltb 1000000000000000000 limit le,
-              few past is room,
+              few past is spare,
               is_open past name is ∙ none,
               at,
               is.store.acked,

@@ -208,11 +208,11 @@ module _ {A : Type 0} {w : StoreState} (sound : IsStore w) where
               sites = set w.primary.sites s (record (progress_at w.primary s) { sent = (progress_at w.primary s).sent + 1 });
             }
             → StepsStore {A = A} w (Send s) (Sent s number) (record w { primary = p })
-        sent_next room e primary marked =
-            let new = IsStore-sent w sound s site lt at (rw marked at primary) more room in
+        sent_next spare e primary marked =
+            let new = IsStore-sent w sound s site lt at (rw marked at primary) more spare in
             rw (marked, e) (accepted refl new (Grows-kept _ _ refl refl (omega arith) refl) (λ past is.
             let feed : (sent s past - applied s past == capacity_of w.primary.setup s) ≡ false =
-            ne_eqb _ _ (λ f. room (omega (arith, (here past is).sent, (here past is).applied, f))) in (
+            ne_eqb _ _ (λ f. spare (omega (arith, (here past is).sent, (here past is).applied, f))) in (
               inl (rw (there w s sound lt, unsent past is, feed, (here past is).sent) refl),
               IsStoreAfter-sent w past sound is s site lt at new,
             )))

@@ -118,14 +118,14 @@ module _ (w : StoreState) (is : IsStore w) where
         → ((progress_at w.primary s).sent ≡ length w.primary.log.sets → ⊥)
         → ((progress_at w.primary s).sent - site.applied ≡ capacity_of w.primary.setup s → ⊥)
         → IsStore (with_progress w s (one_sent w s))
-    IsStore-sent primary unsent room = IsStore-known (one_sent w s) primary (record {
+    IsStore-sent primary unsent spare = IsStore-known (one_sent w s) primary (record {
       holds = record {
         reported = holds-at.holds.reported;
         applied = omega (arith, holds-at.holds.applied);
         sent = omega (arith, holds-at.holds.sent, unsent);
         prefix = holds-at.holds.prefix;
       };
-      feed = omega (arith, holds-at.feed, holds-at.holds.applied, room);
+      feed = omega (arith, holds-at.feed, holds-at.holds.applied, spare);
     })
 
     -- it reported what it applied

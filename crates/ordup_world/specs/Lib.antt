@@ -1,7 +1,7 @@
 pub mod Sizes
 pub mod Queries
 pub mod Events
-pub mod Changes
+pub mod LimitChanges
 pub mod Worlds
 pub mod OpenQueries
 pub mod Steps

@@ -3,8 +3,10 @@ use Rattle.std.specs.Prelude.{◌≡◌, ◌≤◌, List, length}
 use Rattle.ordup_objects.specs.declared.change.Change.{Change}
 use Rattle.ordup_objects.specs.Serial.{with_more}
 use Rattle.ordup_primary.specs.Declarations.{Declared}
+use Rattle.ordup_primary.specs.Primaries.{HasFewestRounds}
 use Rattle.ordup_world.specs.Events.{Past, later, IsAnswer, OnRefused}
-use Rattle.ordup_world.specs.Worlds.{StoreState, WorldState, IsStore, IsSound, IsStoreAfter, StandsFor}
+use Rattle.ordup_world.specs.Imports.{AreAccepted, KeepImports}
+use Rattle.ordup_world.specs.Worlds.{StoreState, WorldState, IsStore, IsSound, IsStoreAfter, StandsFor, KeepsLimits}
 use Rattle.ordup_world.specs.declared.event.Event.{Event}
 use Rattle.ordup_world.specs.declared.event.Answer.{Answer}
 
@@ -33,3 +35,16 @@ module _ {A : Type 0} where
     pub refused : OnRefused a (new ≡ old)
     pub sound : IsSound new
     pub setup : new.primary.setup ≡ old.primary.setup
+
+  -- What a world promises of each event: it took the event and answered it, as above. It is sound, each site keeps its limits and has
+  -- the fewest rounds, and where the past was accepted, each open query keeps its import limit.
+  pub record TakesEvent (old : WorldState) (e : Event A) (a : Answer A) (new : WorldState) : Type 0 where
+    pub answer : (setup : Declared) (past : Past A) → StandsFor setup old past → IsAnswer setup past e a
+    pub state : (setup : Declared) (past : Past A) → StandsFor setup old past → StandsFor setup new (later past e a)
+    pub setup : new.primary.setup ≡ old.primary.setup
+    pub refused : OnRefused a (new ≡ old)
+    pub sound : IsSound new
+    pub limits : KeepsLimits new
+    pub fewest : HasFewestRounds new.primary
+    pub imports : (setup : Declared) (past : Past A) → StandsFor setup old past → AreAccepted setup past
+        → KeepImports setup (later past e a)

@@ -10,7 +10,7 @@ ghost use Rattle.ordup_world.specs.Along.{Along, KeepSites, HaveFewest};
 use crate::event::{Answer, Event};
 use crate::outcome::Run;
 use crate::world::World;
-use ordup_objects::Refusal;
+use ordup_objects::{Refusal, or_give_up};
 use ordup_primary::Setup;
 use std::alloc::{Allocator, Global};
 
@@ -54,14 +54,14 @@ pub fn run<A: Allocator + Copy>(
     Ok(Run { world, answers })
 }
 
-/// A started store, and no answers yet, with room for `count` of them.
+/// A started store, and no answers yet, with spare capacity for `count` of them.
 fn start<A: Allocator + Copy>(
     alloc: A,
     setup: Setup<A>,
     count: usize,
 ) -> Result<(World<A>, Vec<Answer<A>, A>), Refusal>
     ensures answers { IfOk result (λ started. started.1.items ≡ []) }
-    ensures room { IfOk result (λ started. count ≤ vec_capacity started.1) }
+    ensures spare { IfOk result (λ started. count ≤ vec_capacity started.1) }
     ensures state { IfOk result (λ started. StandsFor {A = A} setup started.0 []) }
     ensures setup { IfOk result (λ started. started.0.primary.setup ≡ setup) }
     ensures sound { IfOk result (λ started. IsSound started.0) }
@@ -70,11 +70,6 @@ fn start<A: Allocator + Copy>(
     ensures refused { IfErr result (λ e. IsRefusal (start_refusal setup) e) }
 {
     let world = World::start(alloc, setup)?;
-    match Vec::with_capacity(alloc, count) {
-        Ok(answers) => Ok((world, answers)),
-        Err(_) => {
-            world.discard();
-            Err(Refusal::NoMemory)
-        }
-    }
+    let answers = or_give_up!(Vec::with_capacity(alloc, count), world.discard());
+    Ok((world, answers))
 }

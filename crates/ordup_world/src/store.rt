@@ -4,7 +4,7 @@ ghost use Rattle.ordup_world.specs.Worlds.{first_site};
 
 use crate::event::Answer;
 use ordup_limits::{Scope, check_scope};
-use ordup_objects::{MessageSet, Refusal, SiteId};
+use ordup_objects::{MessageSet, Refusal, SiteId, or_give_up};
 use ordup_primary::{Primary, Setup};
 use ordup_site::Site;
 use std::alloc::{Allocator, Global};
@@ -30,13 +30,8 @@ impl<A: Allocator + Copy> Store<A> {
         ensures refused { IfErr result (λ e. e ≡ Refusal.NoMemory) }
     {
         let primary = Primary::new(alloc, setup)?;
-        match first_sites(alloc, primary.setup()) {
-            Ok(sites) => Ok(Store { primary, sites }),
-            Err(refusal) => {
-                primary.discard();
-                Err(refusal)
-            }
-        }
+        let sites = or_give_up!(first_sites(alloc, primary.setup()), primary.discard());
+        Ok(Store { primary, sites })
     }
 
     /// Drops it, by one call, and gives its memory back.
@@ -177,13 +172,8 @@ fn first_sites<A: Allocator + Copy>(alloc: A, setup: &Setup<A>) -> Result<Vec<Si
     ensures refused { IfErr result (λ e. e ≡ Refusal.NoMemory) }
 {
     let mut sites = Vec::with_capacity(alloc, setup.sites())?;
-    match add_first_sites(alloc, setup, &mut sites) {
-        Ok(()) => Ok(sites),
-        Err(refusal) => {
-            drop(sites);
-            Err(refusal)
-        }
-    }
+    or_give_up!(add_first_sites(alloc, setup, &mut sites), sites);
+    Ok(sites)
 }
 
 /// Adds the sites at the start to a list that has none.

@@ -29,12 +29,9 @@ impl<A: Allocator + Copy> Model for World<A> {
 }
 
 impl<A: Allocator + Copy> World<A> {
-    ghost use Rattle.ordup_world.specs.Events.{Past, later, IsAnswer, OnRefused};
     ghost use Rattle.ordup_world.specs.Worlds.{StandsFor, IsSound, KeepsLimits};
-    ghost use Rattle.ordup_world.specs.Steps.{StepsWorld};
+    ghost use Rattle.ordup_world.specs.Steps.{StepsWorld, TakesEvent};
     ghost use Rattle.ordup_world.specs.declared.event.Event.{Event};
-    ghost use Rattle.ordup_world.specs.Imports.{AreAccepted, KeepImports};
-    ghost use Rattle.ordup_primary.specs.Declarations.{Declared};
     ghost use Rattle.ordup_primary.specs.Primaries.{HasFewestRounds};
 
     /// A started store, in which nothing has happened.
@@ -64,14 +61,7 @@ impl<A: Allocator + Copy> World<A> {
     // Inlined, and with it each step: a caller that knows the event moves neither it nor its answer.
     #[inline(always)]
     pub fn step(&mut self, event: Event<A>) -> Answer<A>
-        ensures answer { (setup : Declared) (past : Past A) → StandsFor setup self.old past → IsAnswer setup past event result }
-        ensures state { (setup : Declared) (past : Past A) → StandsFor setup self.old past → StandsFor setup self.new (later past event result) }
-        ensures setup { self.new.primary.setup ≡ self.old.primary.setup }
-        ensures refused { OnRefused result (self.new ≡ self.old) }
-        ensures sound { IsSound self.new }
-        ensures limits { KeepsLimits self.new }
-        ensures fewest { HasFewestRounds self.new.primary }
-        ensures imports { (setup : Declared) (past : Past A) → StandsFor setup self.old past → AreAccepted setup past → KeepImports setup (later past event result) }
+        ensures { TakesEvent self.old event result self.new }
     {
         self.take(event)
     }
@@ -80,14 +70,7 @@ impl<A: Allocator + Copy> World<A> {
     // So a caller that has bytes need not make a name of them first.
     #[inline(always)]
     pub fn read(&mut self, query: &[u8], object: ObjectId) -> Answer<A>
-        ensures answer { (setup : Declared) (past : Past A) → StandsFor setup self.old past → IsAnswer setup past (Event.Read query.now object) result }
-        ensures state { (setup : Declared) (past : Past A) → StandsFor setup self.old past → StandsFor setup self.new (later past (Event.Read query.now object) result) }
-        ensures setup { self.new.primary.setup ≡ self.old.primary.setup }
-        ensures refused { OnRefused result (self.new ≡ self.old) }
-        ensures sound { IsSound self.new }
-        ensures limits { KeepsLimits self.new }
-        ensures fewest { HasFewestRounds self.new.primary }
-        ensures imports { (setup : Declared) (past : Past A) → StandsFor setup self.old past → AreAccepted setup past → KeepImports setup (later past (Event.Read query.now object) result) }
+        ensures { TakesEvent self.old (Event.Read query.now object) result self.new }
     {
         self.take_read(query, object)
     }

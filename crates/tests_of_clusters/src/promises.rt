@@ -1,11 +1,11 @@
 //! Public calls whose clauses no proof above them cites, as in `promises.rt` of `test_cluster_fixtures`.
-ghost use Rattle.std.specs.Prelude.{◌≡◌, ◌<◌, ◌≤◌, ◌+◌, ◌+ℤ◌, List, ◌∷◌, [], None, length, map, IfOk, IfErr, OnErr};
+ghost use Rattle.std.specs.Prelude.{◌≡◌, ◌<◌, ◌≤◌, ◌+◌, ◌+ℤ◌, List, ◌∷◌, [], None, length, IfOk, IfErr, OnErr};
 ghost use Rattle.ordup_objects.specs.Refusals.{IsRefusal};
 ghost use Rattle.ordup_objects.specs.Tables.{initial_state};
 ghost use Rattle.ordup_feed.specs.Parcels.{feed_refusal};
 ghost use Rattle.ordup_primary.specs.LimitChanges.{limit_change_refusal};
 ghost use Rattle.ordup_primary.specs.Primaries.{IsPrimary, site_view};
-ghost use Rattle.ordup_query.specs.Queries.{HasRead, import_sum, read_refusal, value_sum};
+ghost use Rattle.ordup_query.specs.Queries.{HasRead, read_refusal, summed_up};
 ghost use Rattle.ordup_query.specs.declared.answer.ReadAnswer.{ReadAnswer};
 ghost use Rattle.ordup_cluster.specs.Refusals.{IsQueryRefusal};
 ghost use Rattle.ordup_cluster.specs.Relimiting.{with_changed_limit};
@@ -27,7 +27,7 @@ pub fn new_feed(
 ) -> Result<(SendEnd, TakeEnd), Refusal>
     ensures sender { IfOk result (λ ends. ends.0 ≡ record { feed = ends.0.feed; start = initial_state objects.now; pushed = []; known = 0 }) }
     ensures taker { IfOk result (λ ends. ends.1 ≡ record { feed = ends.0.feed; start = initial_state objects.now; taken = []; told = 0 }) }
-    ensures room { IfOk result (λ ends. ends.0.feed.capacity ≡ capacity) }
+    ensures holds { IfOk result (λ ends. ends.0.feed.capacity ≡ capacity) }
     ensures allowed { IfOk result (λ _. feed_refusal capacity ≡ None) }
     ensures refused { IfErr result (λ e. IsRefusal (feed_refusal capacity) e) }
 {
@@ -71,7 +71,7 @@ pub fn read<R: Wait>(
 /// `SiteQuery::end`.
 pub fn end(query: SiteQuery<'_>) -> QueryAnswer
     ensures answer { result ≡ record { place = query.entry.place; sum = query.entry.sum; total = query.entry.total; reads = query.entry.reads } }
-    ensures reads { (answers : List ReadAnswer) → HasRead query.entry answers → result ≡ record { place = query.entry.place; sum = value_sum (map (λ a. a.value) answers); total = import_sum (map (λ a. a.import) answers); reads = length answers } }
+    ensures reads { (answers : List ReadAnswer) → HasRead query.entry answers → result ≡ summed_up query.entry.place answers }
     ensures within { result.total ≤ query.entry.limit }
 {
     query.end()

@@ -1,7 +1,7 @@
-//! A store that goes on from another one by the calls that a join is made of: `Cluster::after`, `Closed::successor` and the calls of
-//! a `Stage`. Each update adds 1 to x, so x is the number of updates since the store began.
+//! A successor by the calls that start it: `Cluster::after`, `Closed::successor` and the calls of a `Stage`. Each update adds 1 to
+//! x, so x is the number of updates since the store began.
 use super::fixtures::propose;
-use super::promises::{go_on, into_ended, successor};
+use super::promises::{into_ended, start_successor, successor};
 use crate::expect::made;
 use ordup_cluster::{Closed, Cluster, MOST_BEFORE, OpenGate, Session};
 use ordup_epochs::Stage;
@@ -52,9 +52,9 @@ fn expect_after_six<R: Wait + Abort>(rt: &R, next: &Cluster) {
     expect_eq!(rt; propose(rt, next, &mut Session::new(), 1), Ok(7));
 }
 
-// shows: Cluster::after cluster allowed refused; Closed::successor next
+// shows: Cluster::after cluster allowed refused; Closed::successor successor
 #[test]
-fn a_store_goes_on_from_a_closed_one(rt: HostRuntime) -> Result<(), Fail> {
+fn a_closed_store_has_a_successor(rt: HostRuntime) -> Result<(), Fail> {
     let alloc = rt.alloc();
     let cluster = opened_after_five(&rt, alloc, &FREE, Ok(6));
     expect!(&rt; a().index() < cluster.sites());
@@ -70,7 +70,7 @@ fn a_store_goes_on_from_a_closed_one(rt: HostRuntime) -> Result<(), Fail> {
 
 // shows: Cluster::after refused; Closed::successor refused
 #[test]
-fn no_store_goes_on_from_an_open_round_or_past_the_last_number(
+fn there_is_no_successor_at_an_open_round_or_past_the_last_number(
     rt: HostRuntime,
 ) -> Result<(), Fail> {
     let alloc = rt.alloc();
@@ -78,7 +78,7 @@ fn no_store_goes_on_from_an_open_round_or_past_the_last_number(
     let closed = closed(&rt, opened_after_five(&rt, alloc, &WAITED_FOR, waits));
     // The one update of this store: `successor` counts in it alone.
     match successor(alloc, &closed) {
-        Ok(_) => panic!(&rt; "a store goes on from an open round"),
+        Ok(_) => panic!(&rt; "a store has a successor at an open round"),
         Err(refusal) => expect_eq!(&rt; refusal, Refusal::NotYet { number: 1 }),
     }
     closed.discard();
@@ -92,14 +92,14 @@ fn no_store_goes_on_from_an_open_round_or_past_the_last_number(
     Ok(())
 }
 
-/// The join of a store after five updates that has a sixth, and the end of the next one.
-fn join_and_end<R: Wait + Abort>(rt: &R, alloc: Global, mut stage: Stage) {
-    match go_on(&mut stage, alloc, 1) {
+/// The successor of a store after five updates that has a sixth, and its end.
+fn start_and_end<R: Wait + Abort>(rt: &R, alloc: Global, mut stage: Stage) {
+    match start_successor(&mut stage, alloc, 1) {
         Ok(ended) => {
             expect_eq!(rt; ended.before(), 5);
             ended.discard();
         }
-        Err(refusal) => panic!(rt; "a join is refused: {refusal}"),
+        Err(refusal) => panic!(rt; "a successor is refused: {refusal}"),
     }
     match &stage {
         Stage::Open(next) => expect_after_six(rt, next),
@@ -114,21 +114,21 @@ fn join_and_end<R: Wait + Abort>(rt: &R, alloc: Global, mut stage: Stage) {
     }
 }
 
-// shows: Stage::go_on open ended; Stage::into_ended ended
+// shows: Stage::start_successor open ended; Stage::into_ended ended
 #[test]
-fn a_join_hands_out_what_was_open_and_opens_the_next(rt: HostRuntime) -> Result<(), Fail> {
+fn what_was_open_is_handed_out_and_its_successor_opened(rt: HostRuntime) -> Result<(), Fail> {
     let alloc = rt.alloc();
     let cluster = opened_after_five(&rt, alloc, &FREE, Ok(6));
-    join_and_end(&rt, alloc, Stage::Open(cluster));
+    start_and_end(&rt, alloc, Stage::Open(cluster));
     Ok(())
 }
 
-/// Nothing is left where the log lacks an update that was numbered, and a later join says so again.
+/// Nothing is left where the log lacks an update that was numbered, and a later call says so again.
 fn lose<R: Wait + Abort>(rt: &R, alloc: Global, mut stage: Stage) {
     let mixed = Refusal::Mixed { site: a() };
     for _ in 0..2 {
-        match go_on(&mut stage, alloc, 2) {
-            Ok(_) => panic!(rt; "a join goes on from a store that lacks an update"),
+        match start_successor(&mut stage, alloc, 2) {
+            Ok(_) => panic!(rt; "a store that lacks an update has a successor"),
             Err(refusal) => expect_eq!(rt; refusal, mixed),
         }
     }
@@ -138,9 +138,9 @@ fn lose<R: Wait + Abort>(rt: &R, alloc: Global, mut stage: Stage) {
     }
 }
 
-// shows: Stage::go_on left; Stage::into_ended lost
+// shows: Stage::start_successor left; Stage::into_ended lost
 #[test]
-fn no_store_goes_on_from_one_that_lacks_an_update(rt: HostRuntime) -> Result<(), Fail> {
+fn a_store_that_lacks_an_update_has_no_successor(rt: HostRuntime) -> Result<(), Fail> {
     let alloc = rt.alloc();
     let cluster = opened_after_five(&rt, alloc, &FREE, Ok(6));
     lose(&rt, alloc, Stage::Open(cluster));

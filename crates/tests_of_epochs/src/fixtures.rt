@@ -68,8 +68,8 @@ fn counts(rt: &impl Abort, ended: &Closed) -> (u64, u64) {
     (ended.before(), log.len())
 }
 
-/// Goes on to the next epoch: how many updates came before the one that has ended, and how many it had.
-pub fn go_on<R: Wait + Abort>(
+/// Starts the successor: how many updates came before the one that has ended, and how many it had.
+pub fn start_successor<R: Wait + Abort>(
     rt: &R,
     alloc: Global,
     epochs: &Epochs,
@@ -77,7 +77,7 @@ pub fn go_on<R: Wait + Abort>(
 ) -> Result<(u64, u64), Refusal>
     requires { 1 ≤ turns }
 {
-    let ended = epochs.go_on(rt, alloc, turns)?;
+    let ended = epochs.start_successor(rt, alloc, turns)?;
     let counts = counts(rt, &ended);
     ended.discard();
     Ok(counts)

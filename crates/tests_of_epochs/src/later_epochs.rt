@@ -1,5 +1,6 @@
-//! The second epoch, on one thread: how many updates came before changes nothing of when a call makes a turn, or a join is refused.
-use super::fixtures::{close, enter, go_on, opened, propose};
+//! The second epoch, on one thread: how many updates came before changes nothing of when a call makes a turn, or a successor is
+//! refused.
+use super::fixtures::{close, enter, opened, propose, start_successor};
 use super::promises::applier;
 use ordup_cluster::{OpenGate, Session};
 use ordup_epochs::Epochs;
@@ -13,7 +14,7 @@ use test_cluster_fixtures::promises::{read_at, settle};
 use test_cluster_fixtures::seen;
 use test_fixtures::{Site, a, expect_eq, x};
 
-/// The feed of a has room for one update, and no update waits for it.
+/// The feed of a can hold one update, and no update waits for it.
 const FULL: [Site; 1] = [("a", 1, None)];
 
 /// The site a may lag by one update.
@@ -34,7 +35,7 @@ fn opened_after_one<R: Wait + Abort>(
 ) -> Result<Epochs, Refusal> {
     let epochs = opened(alloc, sites, 8)?;
     expect_proposed(rt, &epochs, Ok(1));
-    expect_eq!(rt; go_on(rt, alloc, &epochs, 1), Ok((0, 1)));
+    expect_eq!(rt; start_successor(rt, alloc, &epochs, 1), Ok((0, 1)));
     Ok(epochs)
 }
 
@@ -63,15 +64,15 @@ fn an_acknowledged_update_of_a_later_epoch_takes_no_turn(rt: HostRuntime) -> Res
     Ok(())
 }
 
-/// A join is refused where the last update is not acknowledged. The epoch goes on.
-// shows: refused joins; the calls of an epoch
+/// A successor is refused where the last update is not acknowledged. The epoch goes on.
+// shows: refused successors; the calls of an epoch
 #[test]
-fn a_later_epoch_goes_on_after_a_refused_join(rt: HostRuntime) -> Result<(), Fail> {
+fn a_later_epoch_goes_on_after_a_refused_successor(rt: HostRuntime) -> Result<(), Fail> {
     let epochs = opened_after_one(&rt, rt.alloc(), &WAITED_FOR)?;
     expect_proposed(&rt, &epochs, Ok(2));
     expect_proposed(&rt, &epochs, Err(Refusal::NotYet { number: 3 }));
     let waits = Err(Refusal::NotYet { number: 3 });
-    expect_eq!(&rt; go_on(&rt, rt.alloc(), &epochs, 1), waits);
+    expect_eq!(&rt; start_successor(&rt, rt.alloc(), &epochs, 1), waits);
     expect_proposed(&rt, &epochs, Err(Refusal::NotYet { number: 4 }));
     expect_eq!(&rt; close(&rt, epochs), Ok((1, 3)));
     Ok(())

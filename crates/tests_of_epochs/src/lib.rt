@@ -1,5 +1,5 @@
-//! Tests by calls, of a service that goes on from store to store: on one thread, and shared by several (`threads`). `promises.rt`
-//! repeats clauses of calls that no proof above cites.
+//! Tests by calls, of a service in which each store has a successor: on one thread, and shared by several (`threads`).
+//! `promises.rt` repeats clauses of calls that no proof above cites.
 #![tactic(auto)]
 
 #[cfg(test)]

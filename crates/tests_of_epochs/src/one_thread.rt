@@ -1,5 +1,5 @@
-//! Joins on one thread. No site applies: each may lag by what its limit allows, and an epoch begins with all updates applied.
-use super::fixtures::{close, enter, go_on, opened, propose};
+//! Successors on one thread. No site applies: each may lag by what its limit allows, and an epoch begins with all updates applied.
+use super::fixtures::{close, enter, opened, propose, start_successor};
 use ordup_cluster::{Cluster, Session};
 use ordup_epochs::Epochs;
 use ordup_limits::Scope;
@@ -44,14 +44,14 @@ fn expect_four<R: Wait + Abort>(rt: &R, epochs: &Epochs) {
     drop(epoch);
 }
 
-/// A limit that changes keeps its last amount in the next epoch, from the start.
-// shows: Closed::successor next; Cluster::relimit place; the calls of an epoch; the declarations of an epoch
+/// A limit that changes keeps its last amount in the successor, from the start.
+// shows: Closed::successor successor; Cluster::relimit place; the calls of an epoch; the declarations of an epoch
 #[test]
-fn a_changed_limit_is_kept_across_a_join(rt: HostRuntime) -> Result<(), Fail> {
+fn a_changed_limit_is_kept_in_the_successor(rt: HostRuntime) -> Result<(), Fail> {
     let sites = [("a", 8, Some((Scope::Count, 1)))];
     let epochs = opened(rt.alloc(), &sites, 8)?;
     raise(&rt, &epochs);
-    expect_eq!(&rt; go_on(&rt, rt.alloc(), &epochs, 1), Ok((0, 2)));
+    expect_eq!(&rt; start_successor(&rt, rt.alloc(), &epochs, 1), Ok((0, 2)));
     expect_four(&rt, &epochs);
     expect_eq!(&rt; close(&rt, epochs), Ok((2, 5)));
     Ok(())

@@ -3,7 +3,7 @@ ghost use Rattle.std.specs.Prelude.{◌≡◌, ◌≤◌, None, IfOk, IfErr};
 ghost use Rattle.ordup_objects.specs.Refusals.{IsRefusal};
 ghost use Rattle.ordup_objects.specs.Sizes.{most_updates};
 ghost use Rattle.ordup_primary.specs.Declarations.{start_refusal};
-ghost use Rattle.ordup_cluster.specs.Clusters.{next_refusal, GoesOnFrom};
+ghost use Rattle.ordup_cluster.specs.Clusters.{closed_successor_refusal, IsSuccessor};
 ghost use Rattle.ordup_epochs.specs.Stages.{IsOpenAfter, IsEndOf, IsLeft, IsLost};
 
 use ordup_cluster::{Closed, Cluster, Gate};
@@ -46,20 +46,20 @@ pub fn applier<G: Gate, R: Wait>(
 
 /// `Closed::successor`.
 pub fn successor(alloc: Global, closed: &Closed) -> Result<Cluster, Refusal>
-    ensures next { IfOk result (λ next. GoesOnFrom closed.now next) }
-    ensures allowed { IfOk result (λ _. next_refusal closed.now ≡ None) }
-    ensures refused { IfErr result (λ e. IsRefusal (next_refusal closed.now) e) }
+    ensures successor { IfOk result (λ successor. IsSuccessor closed.now successor) }
+    ensures allowed { IfOk result (λ _. closed_successor_refusal closed.now ≡ None) }
+    ensures refused { IfErr result (λ e. IsRefusal (closed_successor_refusal closed.now) e) }
 {
     closed.successor(alloc)
 }
 
-/// `Stage::go_on`.
-pub fn go_on(stage: &mut Stage, alloc: Global, numbered: u64) -> Result<Closed, Refusal>
+/// `Stage::start_successor`.
+pub fn start_successor(stage: &mut Stage, alloc: Global, numbered: u64) -> Result<Closed, Refusal>
     ensures open { IfOk result (λ ended. IsOpenAfter ended stage.new) }
     ensures ended { IfOk result (IsEndOf stage.old numbered) }
     ensures left { IfErr result (λ e. IsLeft stage.old numbered e stage.new) }
 {
-    stage.go_on(alloc, numbered)
+    stage.start_successor(alloc, numbered)
 }
 
 /// `Stage::into_ended`.

@@ -1,11 +1,11 @@
 //! A service that threads share: appliers, callers and readers each have a thread of their own.
 //!
 //! Each wait is bounded, so a test that would hang fails.
-mod across_joins;
-mod amid_a_join;
-mod joined_by_hand;
+mod across_epochs;
 mod keeping;
-mod refused_join;
-mod sent_by_a_join;
+mod refused_successor;
+mod sent_before_a_successor;
 mod stopped_service;
+mod successor_by_hand;
 mod visits;
+mod while_a_successor_starts;

@@ -1,6 +1,6 @@
 //! Two sites and two objects on one thread: each call is about the site, the object and the scope that it names. A site applies what
 //! came to it once the service is stopped.
-use super::fixtures::{apply_at, close, enter, go_on, opened, propose};
+use super::fixtures::{apply_at, close, enter, opened, propose, start_successor};
 use super::promises::applier;
 use ordup_cluster::{Gate, OpenGate, Session};
 use ordup_epochs::Epochs;
@@ -72,7 +72,7 @@ fn look<R: Wait + Abort>(rt: &R, epochs: &Epochs) {
 fn each_call_is_of_its_site(rt: HostRuntime) -> Result<(), Fail> {
     let epochs = opened(rt.alloc(), &FREE, 8)?;
     propose_one(&rt, &epochs, 1);
-    expect_eq!(&rt; go_on(&rt, rt.alloc(), &epochs, 1), Ok((0, 1)));
+    expect_eq!(&rt; start_successor(&rt, rt.alloc(), &epochs, 1), Ok((0, 1)));
     propose_one(&rt, &epochs, 2);
     epochs.stop(&rt);
     let told = Told {
@@ -109,14 +109,14 @@ fn a_changed_limit_is_of_its_site_and_scope(rt: HostRuntime) -> Result<(), Fail>
     Ok(())
 }
 
-/// After `stop` a visit to an epoch that is full does not wait, and there is no join.
+/// After `stop` a visit to an epoch that is full does not wait, and no successor starts.
 // shows: stops of epochs
 #[test]
-fn nothing_waits_for_a_join_after_the_stop(rt: HostRuntime) -> Result<(), Fail> {
+fn nothing_waits_for_a_successor_after_the_stop(rt: HostRuntime) -> Result<(), Fail> {
     let epochs = opened(rt.alloc(), &FREE, 1)?;
     propose_one(&rt, &epochs, 1);
     epochs.stop(&rt);
-    expect_eq!(&rt; go_on(&rt, rt.alloc(), &epochs, 1), Err(Refusal::Stopped));
+    expect_eq!(&rt; start_successor(&rt, rt.alloc(), &epochs, 1), Err(Refusal::Stopped));
     apply_at(&rt, &epochs, 1, &OpenGate);
     let epoch = enter(&rt, &epochs);
     expect_eq!(&rt; read_at(&rt, &epoch, &mut Session::new(), b(), x()), Ok(seen(1, 1)));

@@ -13,12 +13,12 @@ use std::alloc::Allocator;
 
 /// `Primary::successor`.
 pub fn successor<A: Allocator + Copy>(alloc: A, primary: &Primary<A>) -> Result<Setup<A>, Refusal>
-    ensures objects { IfOk result (λ next. names_of next.objects ≡ names_of primary.now.setup.objects) }
-    ensures values { IfOk result (λ next. initial_state next.objects ≡ serial primary.now.log (length primary.now.log.sets)) }
-    ensures groups { IfOk result (λ next. next.groups ≡ primary.now.setup.groups) }
-    ensures sites { IfOk result (λ next. next.sites ≡ primary.now.setup.sites) }
-    ensures limits { IfOk result (λ next. next.limits ≡ limits_from_start primary.now.limits) }
-    ensures ready { IfOk result (λ next. start_refusal next ≡ None) }
+    ensures objects { IfOk result (λ successor. names_of successor.objects ≡ names_of primary.now.setup.objects) }
+    ensures values { IfOk result (λ successor. initial_state successor.objects ≡ serial primary.now.log (length primary.now.log.sets)) }
+    ensures groups { IfOk result (λ successor. successor.groups ≡ primary.now.setup.groups) }
+    ensures sites { IfOk result (λ successor. successor.sites ≡ primary.now.setup.sites) }
+    ensures limits { IfOk result (λ successor. successor.limits ≡ limits_from_start primary.now.limits) }
+    ensures ready { IfOk result (λ successor. start_refusal successor ≡ None) }
     ensures allowed { IfOk result (λ _. successor_refusal primary.now ≡ None) }
     ensures refused { IfErr result (λ e. IsRefusal (successor_refusal primary.now) e) }
 {

@@ -1,4 +1,4 @@
-//! The store that goes on from a primary: when there is one, what it begins with, and each growth of its setup refused in turn.
+//! The successor of a primary's store: when there is one, what it begins with, and each growth of its setup refused in turn.
 use crate::expect::made;
 use crate::promises::successor;
 use ordup_limits::{Limit, LimitEntry, Scope};
@@ -30,18 +30,18 @@ fn reach<'a>(rt: &impl Abort, primary: &mut Primary<Heap<'a>>) {
     made(rt, report_all(primary, a()));
 }
 
-/// Why no store goes on from a primary, if none does.
+/// Why the store of a primary has no successor, if it has none.
 fn refusal<'a>(heap: Heap<'a>, primary: &Primary<Heap<'a>>) -> Option<Refusal> {
     match successor(heap, primary) {
-        Ok(next) => {
-            next.discard();
+        Ok(successor_setup) => {
+            successor_setup.discard();
             None
         }
         Err(refusal) => Some(refusal),
     }
 }
 
-/// While an update waits no store goes on, also where it is decided. In the end x is 3 + 1.
+/// While an update waits there is no successor, also where it is decided. In the end x is 3 + 1.
 fn end<'a>(rt: &impl Abort, heap: Heap<'a>, primary: &mut Primary<Heap<'a>>) {
     expect_eq!(rt; refusal(heap, primary), None);
     expect_eq!(rt; propose_add(primary, 3), Ok(1));
@@ -58,20 +58,20 @@ fn end<'a>(rt: &impl Abort, heap: Heap<'a>, primary: &mut Primary<Heap<'a>>) {
 }
 
 /// x begins at 4, and y at 10. The site a has a feed of 4, and the limit of 3 on x is in force from the start.
-fn expect_next<'a>(rt: &impl Abort, next: &Setup<Heap<'a>>) {
-    let objects = next.objects();
+fn expect_successor<'a>(rt: &impl Abort, successor_setup: &Setup<Heap<'a>>) {
+    let objects = successor_setup.objects();
     expect!(rt; objects.len() == 2);
     expect_eq!(rt; (objects.initial(x()), objects.initial(y())), (4, 10));
     expect_eq!(rt; (objects.find(b"x"), objects.find(b"y")), (Some(x()), Some(y())));
-    expect_eq!(rt; next.find_site(b"a"), Some(a()));
-    expect!(rt; next.sites() == 1);
-    expect!(rt; next.capacity(a()) == 4);
+    expect_eq!(rt; successor_setup.find_site(b"a"), Some(a()));
+    expect!(rt; successor_setup.sites() == 1);
+    expect!(rt; successor_setup.capacity(a()) == 4);
     let limit = Limit {
         scope: Scope::Object(x()),
         amount: 3,
     };
     let wanted = [LimitEntry { limit, place: 1 }];
-    expect!(rt; next.limits(a()).entries() == wanted.as_slice());
+    expect!(rt; successor_setup.limits(a()).entries() == wanted.as_slice());
 }
 
 /// Makes the setup with this count of growths allowed: whether one was refused.
@@ -83,9 +83,9 @@ fn is_refused<'a>(
 ) -> bool {
     heap.allow(allowed);
     let refused = match successor(heap, primary) {
-        Ok(next) => {
-            expect_next(rt, &next);
-            next.discard();
+        Ok(successor_setup) => {
+            expect_successor(rt, &successor_setup);
+            successor_setup.discard();
             None
         }
         Err(refusal) => Some(refusal),
@@ -96,7 +96,7 @@ fn is_refused<'a>(
 
 // shows: Primary::successor values limits allowed refused; want of memory
 #[test]
-fn a_store_goes_on_once_all_is_acknowledged(rt: HostRuntime) {
+fn there_is_a_successor_once_all_is_acknowledged(rt: HostRuntime) {
     let scarce = Scarce::new(rt.alloc(), 0);
     let mut primary = made(&rt, started(&scarce));
     end(&rt, &scarce, &mut primary);

@@ -32,7 +32,7 @@ const SETS: u64 = 200_000;
 /// How many acknowledgements are compared with each limit, at least. Each of the four callers may have compared one just before.
 const COMPARED: u64 = 5;
 
-/// The site a with the high limit and room for more updates than that, and the site b without a limit.
+/// The site a with the high limit and a feed that can hold more updates than that, and the site b without a limit.
 const SITES: [Site; 2] = [("a", 128, Some((Scope::Count, HIGH))), ("b", 64, None)];
 
 /// What the threads tell each other.

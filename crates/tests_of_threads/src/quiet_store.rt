@@ -18,7 +18,7 @@ use test_fixtures::{Site, a, add, expect, expect_eq, x};
 /// How often a caller looks in vain.
 const LOOKS: u64 = 10_000;
 
-/// The feed of a has room for one update, and no update waits for it.
+/// The feed of a can hold one update, and no update waits for it.
 const FULL: [Site; 1] = [("a", 1, None)];
 
 /// The site a may not lag.

@@ -33,7 +33,7 @@ impl Book {
     /// A book of a primary, with the end of each site's feed and the initial values once for each site.
     pub fn new(primary: Primary, ends: Vec<SendEnd>, spare_values: Vec<Values>) -> Book
         requires ends { KeepsBook primary ends.items }
-        requires rooms { AreSpareValues primary spare_values.items }
+        requires spare { AreSpareValues primary spare_values.items }
         ensures { result ≡ record { primary = primary; ends = ends.items } }
     {
         Book {
@@ -62,7 +62,7 @@ impl Book {
     /// The primary, and the initial values of its objects once for each site.
     pub fn into_parts(self) -> (Primary, Vec<Values>)
         ensures primary { result.0 ≡ self.primary }
-        ensures rooms { AreSpareValues result.0 result.1.items }
+        ensures spare { AreSpareValues result.0 result.1.items }
         ensures sound { IsPrimary result.0 }
         ensures within { (s applied : ℕ) → s < length result.0.sites → (progress_at result.0 s).reported ≤ applied → is_lag_within result.0 s applied ≡ true }
     {
@@ -73,7 +73,6 @@ impl Book {
             ends,
             spare_values,
         } = self;
-        // By a call: where they go out of scope, the proof takes them apart.
         drop(ends);
         (primary, spare_values)
     }

@@ -7,7 +7,7 @@ ghost use Rattle.ordup_cluster.specs.Opening.{AreOpened, AreFirstFeeds};
 use crate::holds::book::Book;
 use crate::holds::site_cell::SiteCell;
 use ordup_feed::{Feed, SendEnd};
-use ordup_objects::{Refusal, SiteId, Values};
+use ordup_objects::{Refusal, SiteId, Values, or_give_up};
 use ordup_primary::{Primary, Setup};
 use ordup_site::Site;
 use std::alloc::Global;
@@ -20,21 +20,13 @@ pub fn open(alloc: Global, setup: Setup) -> Result<(Book, Vec<SiteCell>), Refusa
     ensures allowed { IfOk result (λ _. start_refusal setup ≡ None) }
     ensures refused { IfErr result (λ e. IsRefusal (start_refusal setup) e) }
 {
-    // What is large is dropped by a call: where it goes out of scope, the proof takes it apart.
     if !setup.is_ready() {
         setup.discard();
         return Err(Refusal::Empty);
     }
     let primary = Primary::new(alloc, setup)?;
-    let Ok(spare_values) = first_spare_values(alloc, primary.setup()) else {
-        primary.discard();
-        return Err(Refusal::NoMemory);
-    };
-    let Ok((ends, cells)) = first_feeds(alloc, primary.setup()) else {
-        drop(spare_values);
-        primary.discard();
-        return Err(Refusal::NoMemory);
-    };
+    let spare_values = or_give_up!(first_spare_values(alloc, primary.setup()), primary);
+    let (ends, cells) = or_give_up!(first_feeds(alloc, primary.setup()), spare_values, primary);
     Ok((Book::new(primary, ends, spare_values), cells))
 }
 
@@ -45,14 +37,8 @@ fn first_feeds(alloc: Global, setup: &Setup) -> Result<(Vec<SendEnd>, Vec<SiteCe
 {
     let mut ends = Vec::new(alloc);
     let mut cells = Vec::new(alloc);
-    match add_feeds(alloc, setup, &mut ends, &mut cells) {
-        Ok(()) => Ok((ends, cells)),
-        Err(refusal) => {
-            drop(ends);
-            drop(cells);
-            Err(refusal)
-        }
-    }
+    or_give_up!(add_feeds(alloc, setup, &mut ends, &mut cells), ends, cells);
+    Ok((ends, cells))
 }
 
 /// Adds the feed of each site.

@@ -1,8 +1,8 @@
-ghost use Rattle.std.specs.Prelude.{◌≡◌, ◌≤◌, ◌<◌, ◌+◌, [], ◌∷◌, ◌++◌, length, IfOk, IfErr, IfSome, IfNone};
+ghost use Rattle.std.specs.Prelude.{◌≡◌, ◌+◌, ◌≤◌, ◌<◌, length, IfOk, IfErr, IfSome, IfNone};
 ghost use Rattle.ordup_objects.specs.Serial.{serial};
 ghost use Rattle.ordup_objects.specs.States.{value_at};
-ghost use Rattle.ordup_feed.specs.Parcels.{PlainParcel, IsNext, history_of};
-ghost use Rattle.ordup_cluster.specs.Cells.{HoldsTaken};
+ghost use Rattle.ordup_feed.specs.Parcels.{history_of};
+ghost use Rattle.ordup_cluster.specs.Cells.{HoldsTaken, TakesNext};
 
 use ordup_feed::TakeEnd;
 use ordup_objects::{ObjectId, Refusal};
@@ -69,7 +69,6 @@ impl SiteCell {
         ensures held { HoldsTaken self }
     {
         let SiteCell { site, end } = self;
-        // By a call: where it goes out of scope, the proof takes it apart.
         drop(end);
         site
     }
@@ -78,7 +77,7 @@ impl SiteCell {
 /// Takes the next parcel of a cell's feed, if there is one: the site applies it, and tells how many it applied. It answers the
 /// number of the update.
 pub fn take<R: Wait>(rt: &R, cell: &mut SiteCell) -> Option<u64>
-    ensures taken { IfSome result (λ number. (p : PlainParcel) × (p.number ≡ number) × IsNext cell.old.end.start cell.old.end.taken p × (cell.new.end ≡ record cell.old.end { taken = cell.old.end.taken ++ p ∷ []; told = length cell.old.end.taken + 1 })) }
+    ensures taken { IfSome result (TakesNext cell.old cell.new) }
     ensures none { IfNone result (cell.new ≡ cell.old) }
     ensures held { HoldsTaken cell.new }
 {

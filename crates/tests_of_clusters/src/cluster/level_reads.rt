@@ -83,7 +83,7 @@ fn a_read_that_waits_in_vain_answers_as_one_that_does_not_wait(
     Ok(())
 }
 
-/// The feed of a had room for one of two updates. A pause makes a turn, which sends the other one, and no pause makes none.
+/// The feed of a could hold one of two updates. A pause makes a turn, which sends the other one, and no pause makes none.
 fn read_unsent<R: Wait + Abort>(rt: &R, cluster: &Cluster, first: MessageSet, second: MessageSet) {
     let mut session = Session::new();
     expect_proposed(rt, cluster, &mut session, first, 1, Ok(1));

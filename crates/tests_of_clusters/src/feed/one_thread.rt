@@ -18,7 +18,7 @@ fn pop(rt: &impl Wait, taker: &mut TakeEnd) -> Option<u64> {
 /// Makes feeds at the edges of their capacity.
 // shows: Feed::new ends allowed refused
 #[test]
-fn a_feed_has_room_for_1_to_1024_parcels(rt: HostRuntime) -> Result<(), Fail> {
+fn a_feed_holds_1_to_1024_parcels(rt: HostRuntime) -> Result<(), Fail> {
     let alloc = rt.alloc();
     let objects = x_y_and_z(alloc)?;
     for (capacity, refusal) in [
@@ -43,10 +43,10 @@ fn a_full_feed_hands_the_parcel_back(rt: HostRuntime) -> Result<(), Fail> {
     let objects = x_y_and_z(alloc)?;
     let (mut sender, mut taker) = Feed::new(alloc, &objects, 1)?;
     let Ok(()) = sender.push(&rt, parcel(&rt, &objects, 1)) else {
-        panic!(rt; "the feed has no room for a parcel")
+        panic!(rt; "the feed does not take a parcel")
     };
     let Err(back) = sender.push(&rt, parcel(&rt, &objects, 2)) else {
-        panic!(rt; "the feed has room for a second parcel")
+        panic!(rt; "the feed takes a second parcel")
     };
     expect_eq!(&rt; (back.refusal.number(), back.parcel.number), (15, 2));
     expect_eq!(&rt; pop(&rt, &mut taker), Some(1));

@@ -53,7 +53,7 @@ fn fill_and_empty<R: Wait + Abort>(rt: &R, book: &mut Book, cell: &mut SiteCell)
 /// Sends five updates through a feed with a capacity of two.
 // shows: turn turned; what a turn finds
 #[test]
-fn sends_stop_at_a_full_feed_and_go_on_once_there_is_room(rt: HostRuntime) -> Result<(), Fail> {
+fn sends_stop_at_a_full_feed_until_an_update_is_taken(rt: HostRuntime) -> Result<(), Fail> {
     let alloc = rt.alloc();
     let setup = declared(alloc, &[("a", 2, None)])?;
     let (mut book, mut cells) = open(alloc, setup)?;
@@ -81,7 +81,7 @@ fn take_one_by_one<R: Wait + Abort>(rt: &R, book: &mut Book, cell: &mut SiteCell
 /// Takes updates one by one from a full feed.
 // shows: turn turned; what a turn finds
 #[test]
-fn each_update_that_is_taken_makes_room_for_one(rt: HostRuntime) -> Result<(), Fail> {
+fn each_update_that_is_taken_lets_another_in(rt: HostRuntime) -> Result<(), Fail> {
     let alloc = rt.alloc();
     let setup = declared(alloc, &[("a", 3, None)])?;
     let (mut book, mut cells) = open(alloc, setup)?;
@@ -206,7 +206,7 @@ fn expect_round(rt: &impl Abort, book: &Book, place: u64) {
 /// Waits for four updates through a feed with a capacity of one.
 // shows: turn acked; what a turn finds
 #[test]
-fn a_round_ends_though_the_feed_has_room_for_one(rt: HostRuntime) -> Result<(), Fail> {
+fn a_round_ends_though_the_feed_holds_one_update(rt: HostRuntime) -> Result<(), Fail> {
     let alloc = rt.alloc();
     let setup = declared(alloc, &[("a", 1, Some((Scope::Count, 3)))])?;
     let (mut book, mut cells) = open(alloc, setup)?;

@@ -1,5 +1,6 @@
-//! `keep` goes on as soon as an epoch has its updates, not before and not later, and counts its joins. An applier counts what it
-//! applied in all epochs. Where joins are refused, an epoch has at most as many updates as it may have, and then visits wait.
+//! `keep` starts a successor as soon as an epoch has its updates, not before and not later, and counts them. An applier counts what
+//! it applied in all epochs. Where successors are refused, an epoch has at most as many updates as it may have, and then visits
+//! wait.
 use crate::fixtures::{close, enter, opened, opened_with_most, propose};
 use crate::promises::applier;
 use ordup_cluster::Session;
@@ -28,9 +29,9 @@ const PAUSE: u64 = 10_000;
 enum Calls {
     /// It proposes three updates, each in an epoch of its own.
     InTurn,
-    /// It opens the gate once the join after each of two updates was refused.
+    /// It opens the gate once a successor was refused after each of two updates.
     AfterRefusals,
-    /// It proposes two updates, and then waits for the next epoch.
+    /// It proposes two updates, and then waits for the successor.
     UntilFull,
 }
 
@@ -40,9 +41,9 @@ struct All<'a> {
     epochs: &'a Epochs,
     gate: &'a HoldingGate,
     calls: Calls,
-    /// How many joins `keep` makes.
-    joins: u64,
-    /// Raised as the caller comes to the wait for the next epoch.
+    /// How many successors `keep` starts.
+    successors: u64,
+    /// Raised as the caller comes to the wait for the successor.
     waits: &'a AtomicBool,
 }
 
@@ -67,7 +68,7 @@ fn expect_before<R: Wait + Abort>(rt: &R, epochs: &Epochs, before: u64) {
     drop(epoch);
 }
 
-/// Two updates that wait for a, the second after a refused join.
+/// Two updates that wait for a, the second after a refused successor.
 fn propose_two<R: Wait + Abort>(rt: &R, epochs: &Epochs, session: &mut Session) {
     for number in 1..=2u64 {
         let epoch = enter(rt, epochs);
@@ -77,7 +78,7 @@ fn propose_two<R: Wait + Abort>(rt: &R, epochs: &Epochs, session: &mut Session) 
     }
 }
 
-/// Two joins are refused. Once a goes on, a third update is of the same epoch.
+/// Two successors are refused. Once a goes on, a third update is of the same epoch.
 fn call_after_refusals<R: Wait + Abort>(rt: &R, epochs: &Epochs, gate: &HoldingGate) {
     let mut session = Session::new();
     propose_two(rt, epochs, &mut session);
@@ -91,7 +92,7 @@ fn call_after_refusals<R: Wait + Abort>(rt: &R, epochs: &Epochs, gate: &HoldingG
     epochs.stop(rt);
 }
 
-/// Two updates fill the epoch. The third one is of the next epoch, to which the service goes on once a does.
+/// Two updates fill the epoch. The third one is of the successor, which starts once a goes on.
 fn call_until_full<R: Wait + Abort>(rt: &R, epochs: &Epochs, waits: &AtomicBool) {
     let mut session = Session::new();
     propose_two(rt, epochs, &mut session);
@@ -109,7 +110,7 @@ impl<R: Wait + Clock + Abort> Parts<R> for All<'_> {
     fn part(&self, rt: &R, number: u8) {
         match number {
             0 => expect_eq!(rt; applier(rt, self.epochs, a(), self.gate), Ok(3)),
-            1 => expect_eq!(rt; self.epochs.keep(rt, self.alloc, 1), Ok(self.joins)),
+            1 => expect_eq!(rt; self.epochs.keep(rt, self.alloc, 1), Ok(self.successors)),
             2 => match self.calls {
                 Calls::InTurn => call_in_turn(rt, self.epochs),
                 Calls::AfterRefusals => call_after_refusals(rt, self.epochs, self.gate),
@@ -138,7 +139,7 @@ fn an_epoch_ends_with_its_last_update(rt: HostRuntime) -> Result<(), Fail> {
         epochs: &epochs,
         gate: &gate,
         calls: Calls::InTurn,
-        joins: 3,
+        successors: 3,
         waits: &AtomicBool::new(false),
     };
     do_four(&rt, &all, 0);
@@ -146,9 +147,9 @@ fn an_epoch_ends_with_its_last_update(rt: HostRuntime) -> Result<(), Fail> {
     Ok(())
 }
 
-// shows: the updates of an epoch; refused joins
+// shows: the updates of an epoch; refused successors
 #[test]
-fn a_join_that_is_refused_is_not_counted(rt: HostRuntime) -> Result<(), Fail> {
+fn a_refused_successor_is_not_counted(rt: HostRuntime) -> Result<(), Fail> {
     let gate = HoldingGate::new(Held::BeforeApply, TRIES);
     let epochs = opened(rt.alloc(), &SITES, 1)?;
     let all = All {
@@ -156,7 +157,7 @@ fn a_join_that_is_refused_is_not_counted(rt: HostRuntime) -> Result<(), Fail> {
         epochs: &epochs,
         gate: &gate,
         calls: Calls::AfterRefusals,
-        joins: 1,
+        successors: 1,
         waits: &AtomicBool::new(false),
     };
     do_four(&rt, &all, 0);
@@ -164,7 +165,7 @@ fn a_join_that_is_refused_is_not_counted(rt: HostRuntime) -> Result<(), Fail> {
     Ok(())
 }
 
-// shows: the updates of an epoch; refused joins
+// shows: the updates of an epoch; refused successors
 #[test]
 fn a_full_epoch_ends_once_its_site_goes_on(rt: HostRuntime) -> Result<(), Fail> {
     let gate = HoldingGate::new(Held::BeforeApply, TRIES);
@@ -174,7 +175,7 @@ fn a_full_epoch_ends_once_its_site_goes_on(rt: HostRuntime) -> Result<(), Fail> 
         epochs: &epochs,
         gate: &gate,
         calls: Calls::UntilFull,
-        joins: 2,
+        successors: 2,
         waits: &AtomicBool::new(false),
     };
     do_four(&rt, &all, 0);

@@ -1,5 +1,5 @@
-//! `stop` wakes all that sleep without a limit in time in a service that goes on from store to store: the appliers, `keep`, and the
-//! callers that wait for a next epoch.
+//! `stop` wakes all that sleep without a limit in time in a service in which each store has a successor: the appliers, `keep`, and
+//! the callers that wait for a successor.
 use crate::fixtures::{apply_at, close, enter, opened, propose};
 use ordup_cluster::{OpenGate, Session};
 use ordup_epochs::Epochs;
@@ -25,13 +25,13 @@ const FREE: [Site; 2] = [("a", 4, None), ("b", 4, None)];
 struct Service<'a> {
     alloc: Global,
     epochs: &'a Epochs,
-    /// `keep` runs. Else nobody makes a join, and callers wait for it.
+    /// `keep` runs. Else nobody starts a successor, and callers wait for it.
     is_kept: bool,
-    /// Each is raised as its caller comes to the wait for a next epoch.
+    /// Each is raised as its caller comes to the wait for a successor.
     came: (&'a AtomicBool, &'a AtomicBool),
 }
 
-/// Waits for a next epoch, which does not come: the visit is to the one that is stopped.
+/// Waits for a successor, which does not come: the visit is to the one that is stopped.
 fn enter_in_vain<R: Wait + Abort>(rt: &R, epochs: &Epochs, came: &AtomicBool) {
     came.store(true, Ordering::SeqCst);
     let epoch = enter(rt, epochs);
@@ -48,7 +48,7 @@ fn propose_one<R: Wait + Abort>(rt: &R, epochs: &Epochs) {
     drop(epoch);
 }
 
-/// Stops the service once the join is made, or once the callers wait for it.
+/// Stops the service once the successor is open, or once the callers wait for it.
 fn stop<R: Wait + Abort>(rt: &R, all: &Service<'_>) {
     if all.is_kept {
         let epoch = enter(rt, all.epochs);

@@ -1,5 +1,5 @@
-//! A join that is asked for while a caller waits in a visit, and while its query is open.
-use crate::fixtures::{apply_at, close, enter, go_on, opened, propose};
+//! A successor that is asked for while a caller waits in a visit, and while its query is open.
+use crate::fixtures::{apply_at, close, enter, opened, propose, start_successor};
 use ordup_cluster::{Cluster, Session, SiteQuery};
 use ordup_epochs::Epochs;
 use ordup_limits::Scope;
@@ -15,7 +15,7 @@ use test_cluster_fixtures::{
 };
 use test_fixtures::{a, expect, expect_eq, x};
 
-/// How often the threads yield, while the join is asked for.
+/// How often the threads yield, while the successor is asked for.
 const PAUSE: u64 = 1_000;
 
 /// What the threads share.
@@ -27,7 +27,7 @@ struct All<'a> {
     gate: &'a HoldingGate,
     /// Raised within the first visit.
     visited: &'a AtomicBool,
-    /// Raised as the join is asked for.
+    /// Raised as the successor is asked for.
     asked: &'a AtomicBool,
 }
 
@@ -55,7 +55,7 @@ fn expect_one<R: Wait + Abort>(rt: &R, mut query: SiteQuery<'_>, place: u64) {
     expect_eq!(rt; ended, QueryAnswer { place, sum: 1, total: 0, reads: 1 });
 }
 
-/// Waits in a visit until a has applied the update, and begins a query. The join that is asked for waits until that has ended.
+/// Waits in a visit until a has applied the update, and begins a query. The successor that is asked for waits until that has ended.
 fn visit<R: Wait + Abort>(rt: &R, all: &All<'_>) {
     let epoch = enter(rt, all.epochs);
     all.visited.store(true, Ordering::SeqCst);
@@ -66,7 +66,7 @@ fn visit<R: Wait + Abort>(rt: &R, all: &All<'_>) {
     drop(epoch);
 }
 
-/// In the next epoch a query begins at place 1, since the one update came before: there x is what it was at the end of the first.
+/// In the successor a query begins at place 1, since the one update came before: there x is what it was at the end of the first.
 fn visit_next<R: Wait + Abort>(rt: &R, epochs: &Epochs) {
     let epoch = enter(rt, epochs);
     expect_eq!(rt; epoch.before(), 1);
@@ -74,37 +74,37 @@ fn visit_next<R: Wait + Abort>(rt: &R, epochs: &Epochs) {
     drop(epoch);
 }
 
-/// Asks for a join within the first visit. It ends that epoch after its one update.
-fn join<R: Wait + Abort>(rt: &R, all: &All<'_>) {
+/// Asks for a successor within the first visit. It ends that epoch after its one update.
+fn start<R: Wait + Abort>(rt: &R, all: &All<'_>) {
     expect!(rt; is_raised_within(all.visited, TRIES));
     all.asked.store(true, Ordering::SeqCst);
-    expect_eq!(rt; go_on(rt, all.alloc, all.epochs, TURNS), Ok((0, 1)));
+    expect_eq!(rt; start_successor(rt, all.alloc, all.epochs, TURNS), Ok((0, 1)));
     visit_next(rt, all.epochs);
     all.epochs.stop(rt);
 }
 
-/// Lets a apply the update, once the join is asked for.
+/// Lets a apply the update, once the successor is asked for.
 fn release<R: Wait + Abort>(rt: &R, all: &All<'_>) {
     pause_after(rt, all.asked);
     all.gate.open();
 }
 
-/// The applier of a, the caller, and the threads that join and that open the gate.
+/// The applier of a, the caller, and the threads that start the successor and that open the gate.
 impl<R: Wait + Abort> Parts<R> for All<'_> {
     fn part(&self, rt: &R, number: u8) {
         match number {
             0 => apply_at(rt, self.epochs, 0, self.gate),
             1 => visit(rt, self),
-            2 => join(rt, self),
+            2 => start(rt, self),
             _ => release(rt, self),
         }
     }
 }
 
-/// Asks for a join while the caller waits for a.
-// shows: joins
+/// Asks for a successor while the caller waits for a.
+// shows: successors
 #[test]
-fn a_join_waits_until_a_visit_has_ended(rt: HostRuntime) -> Result<(), Fail> {
+fn a_successor_waits_until_a_visit_has_ended(rt: HostRuntime) -> Result<(), Fail> {
     let gate = HoldingGate::new(Held::BeforeApply, TRIES);
     let sites = [("a", 1, Some((Scope::All, 0)))];
     let epochs = opened(rt.alloc(), &sites, 100)?;

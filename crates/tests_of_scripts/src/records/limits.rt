@@ -15,10 +15,10 @@ fn verdict_within(
 ) -> Result<String, AllocError> {
     let mut input = PieceReader::new(text.as_bytes(), at_once, usize::MAX);
     match read_record_within(alloc, &mut input, limit) {
-        Ok(read) => {
-            let verdict = check(&read);
+        Ok(audited) => {
+            let verdict = check(&audited);
             // Dropped by a call, which is proved once for all tests: docs/DECISIONS.md, Tests.
-            drop(read);
+            drop(audited);
             match verdict {
                 Verdict::Fewest(rounds) => format!(in alloc; "yes {rounds}"),
                 Verdict::No { row, reason } => format!(in alloc; "no {row} {}", reason.name()),

@@ -12,7 +12,7 @@ use test_fixtures::expect;
 #[derive(Drop)]
 struct ShortWriter {
     taken: Vec<u8>,
-    room: usize,
+    spare: usize,
     takes_nothing: bool,
 }
 
@@ -20,12 +20,12 @@ impl Write for ShortWriter {
     ghost contents = { λ w. Some w.taken.items };
 
     fn write(&mut self, bytes: &[u8]) -> io::Result<usize> {
-        if self.room == 0 && !self.takes_nothing {
+        if self.spare == 0 && !self.takes_nothing {
             return Err(io::Error::from(ErrorKind::Other));
         }
-        let count = bytes.len().min(self.room);
+        let count = bytes.len().min(self.spare);
         self.taken.extend_from_slice(&bytes[..count])?;
-        self.room -= count;
+        self.spare -= count;
         Ok(count)
     }
 
@@ -34,20 +34,20 @@ impl Write for ShortWriter {
     }
 }
 
-/// Whether writing a record to a writer with this room has this outcome, and the writer has got these bytes.
+/// Whether writing a record to a writer that takes this many bytes has this outcome, and the writer has got these bytes.
 fn is_written(
     alloc: Global,
-    shown: &Record,
-    room: usize,
+    audited: &Record,
+    spare: usize,
     takes_nothing: bool,
     wanted: (Result<(), RecordWriteFault>, &[u8]),
 ) -> bool {
     let mut output = ShortWriter {
         taken: Vec::new(alloc),
-        room,
+        spare,
         takes_nothing,
     };
-    let written = write_record(alloc, shown, &mut output);
+    let written = write_record(alloc, audited, &mut output);
     (written, output.taken.as_slice()) == wanted
 }
 
@@ -55,26 +55,26 @@ fn is_written(
 // shows: write_record written front; streams
 #[test]
 fn a_writer_that_fails_has_got_a_front_of_the_record(rt: HostRuntime) {
-    let Ok(shown) = record_in(rt.alloc(), RECORD) else {
+    let Ok(audited) = record_in(rt.alloc(), RECORD) else {
         panic!(rt; "the record is not read")
     };
     let text = RECORD.as_bytes();
     for takes_nothing in [false, true] {
-        for room in 0..text.len() {
-            let wanted = (Err(RecordWriteFault::Write), &text[..room]);
-            let is_front = is_written(rt.alloc(), &shown, room, takes_nothing, wanted);
-            expect!(&rt; is_front, (room, takes_nothing));
+        for spare in 0..text.len() {
+            let wanted = (Err(RecordWriteFault::Write), &text[..spare]);
+            let is_front = is_written(rt.alloc(), &audited, spare, takes_nothing, wanted);
+            expect!(&rt; is_front, (spare, takes_nothing));
         }
         let is_whole = is_written(
             rt.alloc(),
-            &shown,
+            &audited,
             text.len(),
             takes_nothing,
             (Ok(()), text),
         );
         expect!(&rt; is_whole, takes_nothing);
     }
-    drop(shown);
+    drop(audited);
 }
 
 /// The same record as `RECORD`, in the second version.
@@ -115,12 +115,12 @@ window,1,0,3
 
 /// Whether the record in a text is written as another text.
 fn is_written_as(alloc: Global, text: &str, written: &str) -> bool {
-    let Ok(shown) = record_in(alloc, text) else {
+    let Ok(audited) = record_in(alloc, text) else {
         return false;
     };
     let wanted = (Ok(()), written.as_bytes());
-    let is_whole = is_written(alloc, &shown, written.len(), false, wanted);
-    drop(shown);
+    let is_whole = is_written(alloc, &audited, written.len(), false, wanted);
+    drop(audited);
     is_whole
 }
 

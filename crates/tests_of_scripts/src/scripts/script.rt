@@ -21,22 +21,22 @@ enum Full {
 #[derive(Drop)]
 struct FullWriter {
     taken: Vec<u8>,
-    room: usize,
+    spare: usize,
     full: Full,
     flush: Option<ErrorKind>,
 }
 
 impl Write for FullWriter {
     fn write(&mut self, bytes: &[u8]) -> io::Result<usize> {
-        if self.room == 0 {
+        if self.spare == 0 {
             return match self.full {
                 Full::Fails(kind) => Err(io::Error::from(kind)),
                 Full::TakesNothing => Ok(0),
             };
         }
-        let count = bytes.len().min(self.room).min(5);
+        let count = bytes.len().min(self.spare).min(5);
         self.taken.extend_from_slice(&bytes[..count])?;
-        self.room -= count;
+        self.spare -= count;
         Ok(count)
     }
 
@@ -95,17 +95,17 @@ fn a_full_writer_has_got_a_front_of_the_answers(rt: HostRuntime) -> Result<(), F
         Full::TakesNothing,
     ];
     for (script, at_once, answers) in runs {
-        for room in 0..answers.len() {
+        for spare in 0..answers.len() {
             for full in fulls {
                 let output = FullWriter {
                     taken: Vec::new(rt.alloc()),
-                    room,
+                    spare,
                     full,
                     flush: None,
                 };
                 let (taken, fault) = run_into(script, at_once, output, rt.alloc());
-                let is_front = taken.as_slice() == &answers[..room];
-                expect!(&rt; is_front && fault == Some(ScriptFault::Write), (full, room));
+                let is_front = taken.as_slice() == &answers[..spare];
+                expect!(&rt; is_front && fault == Some(ScriptFault::Write), (full, spare));
             }
         }
     }
@@ -126,7 +126,7 @@ fn a_flush_that_fails_is_a_fault_after_all_answers(rt: HostRuntime) -> Result<()
     ] {
         let output = FullWriter {
             taken: Vec::new(rt.alloc()),
-            room: 123,
+            spare: 123,
             full: Full::TakesNothing,
             flush,
         };

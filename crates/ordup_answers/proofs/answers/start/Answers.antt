@@ -1,3 +1,5 @@
+-- The definition refuses no start of a setup that is ready, so only memory can be lacking.
+-- The world has a copy of the setup, which declares the same.
 use Rattle.std.proofs.Common.{◌≡◌, refl, [], None, Some, Result, Ok, Err}
 use Rattle.std.specs.Prelude.{IfOk, IfErr}
 use Rattle.ordup_objects.specs.declared.refusal.Refusal.{Refusal}

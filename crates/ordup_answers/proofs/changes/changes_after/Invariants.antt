@@ -5,7 +5,7 @@ use Rattle.ordup_answers.specs.Changes.{changes_in}
 use Rattle.ordup_answers.specs.NearestNumbers.{nearest_changes}
 use Rattle.ordup_answers.proofs.changes.changes_after.Given as goal
 
--- the changes so far and those that are left are all of them, and there is room
+-- the changes so far and those that are left are all of them, and there is spare capacity
 abbrev pub invariant-loop-word : goal.invariant-loop-word
 invariant-loop-word g l =
     (l.changes.items ++ changes_in l.objects (nearest_changes (changes_of l.rest))

@@ -1,3 +1,4 @@
+-- The event is at the site that the name stands for, so the reply to the event is the reply to the action.
 use Rattle.std.proofs.Common.{[], refl}
 use Rattle.std.proofs.lemmas.Result.{on_ok_weaker}
 use Rattle.ordup_world.specs.declared.event.Event.TheVariants as event

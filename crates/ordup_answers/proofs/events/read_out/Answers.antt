@@ -1,3 +1,5 @@
+-- A read is an event of the world, so its answer is the reply to that event.
+-- Only a read that was refused memory is not answered, and it has left the world as it was.
 use Rattle.std.proofs.Common.{◌∙◌, ap, refl}
 use Rattle.std.proofs.lemmas.Result.{on_ok_weaker}
 use Rattle.ordup_primary.specs.Primaries.{PrimaryState}

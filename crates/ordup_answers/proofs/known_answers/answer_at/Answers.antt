@@ -6,8 +6,8 @@ use Rattle.ordup_answers.specs.Texts.{answer_text}
 use Rattle.ordup_answers.proofs.AnsweringLemmas.{left_by_event}
 use Rattle.ordup_answers.proofs.known_answers.answer_at.Goals as goal
 
-pub returns-clause-reply : goal.returns-clause-reply
-returns-clause-reply g c =
+pub returns-2-clause-reply : goal.returns-2-clause-reply
+returns-2-clause-reply g c =
     let stepped = c.step-answer.ensures in
     on_ok_weaker c.stepped.result (λ h d past is.
     let after = stepped.state d past is in

@@ -1,3 +1,5 @@
+-- The pieces join to the text of the answer. No list has as many bytes as a saturated sum, so what was reserved is what all
+-- pieces need, and each leaves enough for those behind it.
 use Rattle.std.proofs.Common.{arith}
 use Rattle.ordup_answers.proofs.TextLemmas.{certified_parts}
 use Rattle.ordup_answers.proofs.text.push_certified.Goals as goal
@@ -21,12 +23,12 @@ put_windows-requires g c =
       arith,
       c.saturating_mul.ensures,
       c.saturating_add.ensures,
-      c.in_ok-reserve_answer.ensures.room,
+      c.in_ok-reserve_answer.ensures.spare,
       c.in_ok-reserve_answer.ensures.most,
-      c.put_array.ensures.room,
-      c.put_name.ensures.room,
-      c.put_array-2.ensures.room,
-      c.put_number.ensures.room,
+      c.put_array.ensures.spare,
+      c.put_name.ensures.spare,
+      c.put_array-2.ensures.spare,
+      c.put_number.ensures.spare,
     )
 
 pub put_array-requires-3 : goal.put_array-requires-3
@@ -35,11 +37,11 @@ put_array-requires-3 g c =
       arith,
       c.saturating_mul.ensures,
       c.saturating_add.ensures,
-      c.in_ok-reserve_answer.ensures.room,
+      c.in_ok-reserve_answer.ensures.spare,
       c.in_ok-reserve_answer.ensures.most,
-      c.put_array.ensures.room,
-      c.put_name.ensures.room,
-      c.put_array-2.ensures.room,
-      c.put_number.ensures.room,
-      c.put_windows.ensures.room,
+      c.put_array.ensures.spare,
+      c.put_name.ensures.spare,
+      c.put_array-2.ensures.spare,
+      c.put_number.ensures.spare,
+      c.put_windows.ensures.spare,
     )

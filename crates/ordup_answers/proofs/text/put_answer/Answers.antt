@@ -1,3 +1,5 @@
+-- In each branch the variant of the answer is known, and what the branch puts is the text of this variant.
+-- Only a refusal can be one for want of memory, so no other branch fails.
 use Rattle.ordup_answers.proofs.TextLemmas.{adds_answer}
 use Rattle.ordup_answers.proofs.text.put_answer.Goals as goal
 

@@ -1,3 +1,4 @@
+-- The pieces come in the order of the text. A value fits into 64 bits, so its digits are those of the number that was read.
 use Rattle.std.proofs.Common.{rules, w64}
 use Rattle.std.proofs.lemmas.Int.{to_z-of_z}
 use Rattle.ordup_answers.proofs.TextLemmas.{read_parts}

@@ -1,3 +1,5 @@
+-- The name of a refusal has at most 15 bytes, as going through all of them shows.
+-- So it fits, with the line feed, into what the number leaves of the spare capacity.
 use Rattle.std.proofs.Common.{◌≤◌, length, arith}
 use Rattle.ordup_objects.specs.Refusals.{refusal_name}
 use Rattle.ordup_objects.specs.declared.refusal.Refusal.{Refusal}
@@ -42,4 +44,4 @@ few (Mixed site) = omega arith
 pub put-requires-4 : goal.put-requires-4
 put-requires-4 g c =
     let size : length c.as_bytes.result.now ≤ 15 = rw (c.as_bytes.ensures.value, c.name.ensures) (few c.args.refusal) in
-    omega (arith, size, c.requires, c.put.ensures.room, c.put_number.ensures.room, c.put-2.ensures.room, c.put-3.ensures.room)
+    omega (arith, size, c.requires, c.put.ensures.spare, c.put_number.ensures.spare, c.put-2.ensures.spare, c.put-3.ensures.spare)

@@ -29,7 +29,7 @@ change-requires g c =
     (get_or entries i second).limit.amount lt c.loop-count.invariant.limits refl
     (ap (λ (e : LimitEntry). e.limit.amount) (get_or_default entries i second first lt)) in
     record {
-      room = omega (arith, ap (λ (ls : Limits). length ls) next, latest-take entries (i + 1), c.requires.scopes);
+      spare = omega (arith, ap (λ (ls : Limits). length ls) next, latest-take entries (i + 1), c.requires.scopes);
       known = c.requires.known i first lt;
       stands = c.loop-count.invariant.stands;
     }

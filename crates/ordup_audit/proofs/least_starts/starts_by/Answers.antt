@@ -17,7 +17,7 @@ loop-index-init g c =
     let r = c.args.audited.now in
     let is = c.decided-decided.ensures.sound in
     record {
-      room = omega (arith, c.in-Ok.ensures.capacity, c.push_reserved.ensures.capacity);
+      spare = omega (arith, c.in-Ok.ensures.capacity, c.push_reserved.ensures.capacity);
       starts = rw (c.push_reserved.ensures.items, c.in-Ok.ensures.items) (starts-first (is_within r)
           (in_force-test (history_of r) r.groups r.limits));
       begun = record { upto = λ i d lt. absurd (omega arith); later = is.limits.begun };
@@ -110,7 +110,7 @@ loop-index-preserved g c =
     let least : IsLeastStart (within (history_of r) r.groups (latest (take n r.limits))) start (c.loop-index.index + 1) =
     rw (log, c.groups-groups.ensures, limits) at c.next_start-start.ensures.least in
     record {
-      room = omega (arith, inside.room, c.push_reserved-in-loop-index.ensures.capacity);
+      spare = omega (arith, inside.spare, c.push_reserved-in-loop-index.ensures.capacity);
       starts = rw c.push_reserved-in-loop-index.ensures.items
           (starts-more (is_within r) (c.loop-index.index + 1) start c.loop-index.starts.items inside.starts
           (least-in_force r n start (c.loop-index.index + 1) begun least));

@@ -1,13 +1,13 @@
 -- The log of a record ends before the first update that is illegal.
 -- Where the record is not legal, that update is there, and the row is that of its first change whose result is out of range.
 use Rattle.ordup_audit.proofs.Common.{◌+◌, ◌-◌, ◌<◌, ◌∙◌, ◌≡◌, [], ap, arith, Bool, Change, List, cases_lt, false, false≢true, get_or, History}
-use Rattle.ordup_audit.proofs.Common.{history_of, inl, inr, IsLegalFront, IsLegalHistory, IsTrue, length, length-map, RecordState, sym, ℕ}
+use Rattle.ordup_audit.proofs.Common.{history_of, inl, inr, IsLegalPrefix, IsLegalHistory, IsTrue, length, length-map, RecordState, sym, ℕ}
 use Rattle.ordup_objects.proofs.SerialLemmas.{length-serial}
 use Rattle.ordup_audit.proofs.LegalityLemmas.{front-all, illegal-row, known-at}
 use Rattle.ordup_audit.proofs.legality.first_illegal.Goals as goal
 
 -- the log has not all updates
-not-all : (r : RecordState) (log : History) → IsLegalFront r log → (n : ℕ) (b : Bool) → n ≡ length log.sets
+not-all : (r : RecordState) (log : History) → IsLegalPrefix r log → (n : ℕ) (b : Bool) → n ≡ length log.sets
     → (IsLegalHistory (history_of r) → IsTrue b) → b ≡ false → n < length r.sets
 not-all r log front n b count all none = elim (cases_lt n (length r.sets)) [
   | inl lt ↦ lt

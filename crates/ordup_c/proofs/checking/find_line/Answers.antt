@@ -34,7 +34,7 @@ found_line r pushed status text line is finds =
 
 pub returns-in-Ok : goal.returns-in-Ok
 returns-in-Ok c =
-    let r = c.in-Ok.read in
+    let r = c.in-Ok.audited in
     let verdict = c.check-verdict.result in
     let line = c.push_verdict.new.out.text in
     found_line c.found.result c.push_verdict.result _ c.args.rows.now line c.found.ensures (λ ok.

@@ -15,7 +15,7 @@ returns-in_default-clause-text c =
     let bytes = c.args.bytes.now in
     let i = c.loop-count.count in
     let within : i < length bytes = omega arith in
-    over_none bytes i (get_or bytes i 0) (λ more. ends_at_long_row c.args.start c.args.room (bytes ++ more))
+    over_none bytes i (get_or bytes i 0) (λ more. ends_at_long_row c.args.start c.args.spare (bytes ++ more))
     c.loop-count.state c.loop-count.left (take_more bytes i 0 within) (drop_more bytes i 0 within) c.loop-count.invariant.1
     (rw c.after-state.ensures at (sym c.left_after.ensures ∙ c.in_default.is))
 
@@ -24,7 +24,7 @@ loop-count-preserved-then-rows-gt0 c =
     let bytes = c.args.bytes.now in (
       search rules,
       passes_more bytes _ c.loop-count.count c.whole_rows-rows.result
-          (λ more. ends_at_long_row c.args.start c.args.room (bytes ++ more))
+          (λ more. ends_at_long_row c.args.start c.args.spare (bytes ++ more))
           (ends_at_long_row c.loop-count.state c.loop-count.left) (take_all _ _ (rw length-drop (omega arith)))
           c.loop-count.invariant.1 c.whole_rows-rows.ensures.text,
     )
@@ -36,7 +36,7 @@ loop-count-preserved c =
     let within : i < length bytes = omega arith in (
       search rules,
       rw c.after-state.ensures
-          (over_some bytes i (get_or bytes i 0) (λ more. ends_at_long_row c.args.start c.args.room (bytes ++ more))
+          (over_some bytes i (get_or bytes i 0) (λ more. ends_at_long_row c.args.start c.args.spare (bytes ++ more))
           c.loop-count.state c.loop-count.left (take_more bytes i 0 within) (drop_more bytes i 0 within) c.loop-count.invariant.1
           c.in-Some.next (rw c.after-state.ensures at (sym c.left_after.ensures ∙ c.in-Some.is))),
     )

@@ -6,7 +6,7 @@ use Rattle.ordup_check.proofs.short_rows.go_over.Given as goal
 abbrev pub invariant-loop-count : goal.invariant-loop-count
 invariant-loop-count l =
     (l.count ≤ length l.bytes)
-    × ((more : List ℕ) → ends_at_long_row l.fn.start l.fn.room (l.bytes ++ more)
+    × ((more : List ℕ) → ends_at_long_row l.fn.start l.fn.spare (l.bytes ++ more)
     ≡ take l.count l.bytes ++ ends_at_long_row l.state l.left (drop l.count l.bytes ++ more))
 
 abbrev pub decreases-loop-count : goal.decreases-loop-count

@@ -1,9 +1,9 @@
 use Rattle.std.proofs.Common.{◌≡◌, ◌≤◌, length, vec_capacity}
 use Rattle.ordup_lag.proofs.amount_cell.amount_cells.Given as goal
 
--- the cells so far, with room for the others
+-- the cells so far, with spare capacity for the others
 abbrev pub invariant-loop : goal.invariant-loop
 invariant-loop g l = record {
   count : length l.cells.items ≡ l.counter;
-  room : l.count ≤ vec_capacity l.cells;
+  spare : l.count ≤ vec_capacity l.cells;
 }

@@ -1,5 +1,5 @@
 use Rattle.std.proofs.Common.{◌≡◌, ◌≤◌, ◌*◌, ◌-◌, ◌++◌, length}
-use Rattle.ordup_lag.specs.declared.amount_cell.TheConstants.{CELL_ROOM}
+use Rattle.ordup_lag.specs.declared.amount_cell.TheConstants.{CELL_BYTES}
 use Rattle.ordup_objects.specs.Serial.{History}
 use Rattle.ordup_log.specs.Groups.{GroupList}
 use Rattle.ordup_limits.specs.Ledgers.{StandsFor}
@@ -7,11 +7,11 @@ use Rattle.ordup_lag.specs.Series.{uses_of}
 use Rattle.ordup_lag.specs.Texts.{uses_text}
 use Rattle.ordup_lag.proofs.row_text.push_uses.Given as goal
 
--- the cells of the limits so far, with room for the others
+-- the cells of the limits so far, with spare capacity for the others
 abbrev pub invariant-loop-index : goal.invariant-loop-index
 invariant-loop-index g l = record {
   count : length l.cells.items ≡ length l.fn.cells.items;
   text : (h : History) (groups : GroupList) → StandsFor l.ledger h groups
       → l.out.text ≡ l.fn.out.text ++ uses_text (uses_of l.ledger h groups) l.index;
-  room : 2 * CELL_ROOM * (l.scopes - l.index) ≤ l.out.room;
+  spare : 2 * CELL_BYTES * (l.scopes - l.index) ≤ l.out.spare;
 }

@@ -1,3 +1,5 @@
+-- The limits so far are the last ones of the entries so far, all of which hold at the place.
+-- Where an entry holds from later, all behind it do, so none of these is in force.
 use Rattle.std.proofs.Common.{arith, ap, sym, ◌≤◌, ◌+◌, ◌∙◌, length, take, get_or}
 use Rattle.std.proofs.lemmas.List.{take_all}
 use Rattle.std.proofs.lemmas.List.Elements.{All-more}

@@ -1,3 +1,5 @@
+-- The entries rise by place, so none before the partition point is of the place that is looked for.
+-- The index among the others, and how many stand before them, come to the index among all.
 use Rattle.std.proofs.Common.{◌+◌, ◌∙◌, ap, option_map, rules, sym}
 use Rattle.std.specs.Prelude.{nat_lt}
 use Rattle.std.proofs.lemmas.List.Sorted.{IsPartitionPoint-from_clause, IsPartitionedBy-ltb}

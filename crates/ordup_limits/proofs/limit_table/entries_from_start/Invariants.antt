@@ -3,9 +3,9 @@ use Rattle.std.specs.Vec.{vec_capacity}
 use Rattle.ordup_limits.specs.Entries.{from_start}
 use Rattle.ordup_limits.proofs.limit_table.entries_from_start.Given as goal
 
--- the entries so far, with room for the others
+-- the entries so far, with spare capacity for the others
 abbrev pub invariant-loop-limit : goal.invariant-loop-limit
 invariant-loop-limit g l = record {
   so_far : l.entries.items ≡ from_start (take l.limit-index l.limits);
-  room : length l.limits ≤ vec_capacity l.entries;
+  spare : length l.limits ≤ vec_capacity l.entries;
 }

@@ -1,3 +1,5 @@
+-- The span keeps the limits before the index.
+-- So the first one that it does not keep is the answer, and where the loop comes to its end it keeps them all.
 use Rattle.std.proofs.Common.{arith, sym, ◌≡◌, false, true, get_or}
 use Rattle.std.proofs.lemmas.List.{take_all}
 use Rattle.ordup_limits.specs.Limits.{keeps_limit}

@@ -1,4 +1,6 @@
-use Rattle.std.proofs.Common.{arith, ap, [], inl, inr, ◌≡◌, ◌<◌, ◌-◌, ◌==◌, ◌∙◌, refl, sym, get_or, length}
+-- The marks are those of the place before, with the moves of the update that are still to come off.
+-- So no mark is less than the move that comes off it, and once no move is left they are those of the place before alone.
+use Rattle.std.proofs.Common.{arith, ap, [], inl, inr, ◌≡◌, ◌<◌, ◌+◌, ◌-◌, ◌==◌, ◌∙◌, refl, sym, get_or, length}
 use Rattle.std.proofs.Math.ListN.{length-set}
 use Rattle.std.proofs.lemmas.Bool.{cases_eq, eq-eqb, ne_eqb}
 use Rattle.std.proofs.lemmas.Grind.{get_or-set_at}
@@ -12,15 +14,17 @@ pub moves-moves-requires : goal.moves-moves-requires
 moves-moves-requires g c = record { first = c.requires.first; last = c.requires.last }
 
 pub loop-moved-init : goal.loop-moved-init
-loop-moved-init g c = record {
-  count = c.requires.count;
-  left = λ x lt. rw (c.moves-moves.ensures.moves) (omega (
-    arith,
-    c.requires.marks x (omega (arith, lt, c.requires.count)),
-    span-one c.args.log.now c.keeps.ensures.legal [] (λ i d lt. absurd (omega (arith, lt))) (Object x) lt c.args.place c.requires.first
-        c.requires.last,
-  ));
-}
+loop-moved-init g c =
+    let here : c.args.place - 1 + 1 ≡ c.args.place = omega (arith, c.requires.first) in
+    record {
+      count = c.requires.count;
+      left = λ x lt. rw (c.moves-moves.ensures.moves) (omega (
+        arith,
+        c.requires.marks x (omega (arith, lt, c.requires.count)),
+        rw here at (span-one c.args.log.now c.keeps.ensures.legal [] (λ i d lt. absurd (omega (arith, lt))) (Object x) lt (c.args.place - 1)
+            (omega (arith, c.requires.first, c.requires.last))),
+      ));
+    }
 
 pub index_mut-requires : goal.index_mut-requires
 index_mut-requires g c =

@@ -37,5 +37,5 @@ loop-i-preserved g c =
     record {
       so_far = rw (c.push_reserved.ensures.items, c.loop-i.invariant.so_far) (append_assoc old _ _ ∙ ap (λ ds. old ++ ds) more);
       len = omega (arith, c.push_reserved.ensures.len, c.loop-i.invariant.len);
-      room = omega (arith, c.push_reserved.ensures.capacity, c.loop-i.invariant.room);
+      spare = omega (arith, c.push_reserved.ensures.capacity, c.loop-i.invariant.spare);
     }

@@ -11,7 +11,7 @@ use Rattle.std.proofs.lemmas.List.{get_or-set_other, get_or_read}
 use Rattle.std.proofs.lemmas.Nat.Bits.{bit_at-trailing_zeros, bit_at-zero}
 use Rattle.ordup_objects.specs.Sizes.{most_updates}
 use Rattle.ordup_limits.proofs.MaskLemmas.{cleared-less}
-use Rattle.ordup_primary.specs.PrimaryInside.{kept_at, kept_of, HasRoom}
+use Rattle.ordup_primary.specs.PrimaryInside.{kept_at, kept_of, HasSpare}
 use Rattle.ordup_primary.specs.declared.progress.Progress.{Progress}
 use Rattle.ordup_primary.proofs.DecisionLemmas.{bit-gone, bit-kept, bit-left}
 use Rattle.ordup_primary.proofs.decisions.put_down.Goals as goal
@@ -48,7 +48,7 @@ put_down_at-requires g c =
     let lt : z < length before = c.requires.there z asked in
     let at : slice_index_or before z site ≡ site = sym (c.index_mut.ensures.value ∙ c.loop-rest.invariant.rest z site bit) in
     record {
-      room = subst HasRoom at (c.requires.room z site asked);
+      spare = subst HasSpare at (c.requires.spare z site asked);
       few = c.requires.few;
       reported = subst (λ (s : Progress g.row.A.Denot). s.reported ≤ most_updates) at (c.requires.reported z site lt);
     }

@@ -1,4 +1,4 @@
--- Contracts see no spare capacity, so the sites stay the same. Those whose bits are gone have room.
+-- Contracts see no spare capacity, so the sites stay the same. Those whose bits are gone have it.
 use Rattle.std.proofs.Common.{arith, ap, sym, refl, inl, inr, ◌∙◌, ◌≡◌, ◌<◌, length, w64}
 use Rattle.std.specs.Int.{bit_at, trailing_zeros}
 use Rattle.std.proofs.Math.Facts.{Fits-lt-pow}
@@ -18,7 +18,7 @@ loop-rest-init g c = record {
   same = refl;
   count = refl;
   left = λ s bit. bit;
-  room = λ s d bit none. absurd (false≢true (sym none ∙ bit));
+  spare = λ s d bit none. absurd (false≢true (sym none ∙ bit));
 }
 
 pub index_mut-requires : goal.index_mut-requires
@@ -55,13 +55,13 @@ loop-rest-preserved g c =
           ∙ before.same;
       count = length-set xs z x ∙ before.count;
       left = λ s bit. bit-left rest c.args.mask z s fits low.0 before.left bit;
-      room = λ s d bit gone. elim (cases_eq s z) [
-        | inl same ↦ rw (get_or-set_at xs z s x d same there) c.in_ok-reserve_decision_at.ensures.room
-        | inr other ↦ rw (get_or-set_other xs z s x d other) (before.room s d bit (sym (bit-kept rest z s fits low.0 other) ∙ gone))
+      spare = λ s d bit gone. elim (cases_eq s z) [
+        | inl same ↦ rw (get_or-set_at xs z s x d same there) c.in_ok-reserve_decision_at.ensures.spare
+        | inr other ↦ rw (get_or-set_other xs z s x d other) (before.spare s d bit (sym (bit-kept rest z s fits low.0 other) ∙ gone))
       ];
     }
 
-pub returns-clause-room : goal.returns-clause-room
-returns-clause-room g c = λ s d bit.
+pub returns-clause-spare : goal.returns-clause-spare
+returns-clause-spare g c = λ s d bit.
     (let none : c.loop-rest.rest ≡ 0 = omega (arith, c.loop-rest-test.false) in
-    c.loop-rest.invariant.room s d bit (rw (none, bit_at-zero s) refl))
+    c.loop-rest.invariant.spare s d bit (rw (none, bit_at-zero s) refl))

@@ -14,7 +14,7 @@ returns-in_err-add_sites g c =
       legal = IfOk-from_err _ _ c.from_residual.ensures.0;
       sites = rw failed.1 tt;
       limits = rw failed.1 tt;
-      ledgers = IfOk-from_err _ _ c.from_residual.ensures.0;
+      ledger = IfOk-from_err _ _ c.from_residual.ensures.0;
       refused = rw (failed.1, failed.2) c.in_err-add_sites.ensures.refused;
     }
 
@@ -29,7 +29,7 @@ returns-in_err-add_limits g c =
       legal = IfOk-from_err _ _ c.from_residual-in_err-add_limits.ensures.0;
       sites = rw failed.1 tt;
       limits = rw failed.1 tt;
-      ledgers = IfOk-from_err _ _ c.from_residual-in_err-add_limits.ensures.0;
+      ledger = IfOk-from_err _ _ c.from_residual-in_err-add_limits.ensures.0;
       refused = rw (failed.1, failed.2) c.in_err-add_limits.ensures.refused;
     }
 
@@ -41,31 +41,18 @@ returns-in_err-log g c =
       legal = IfOk-from_err _ _ c.from_residual-in_err-log.ensures.0;
       sites = rw failed.1 tt;
       limits = rw failed.1 tt;
-      ledgers = IfOk-from_err _ _ c.from_residual-in_err-log.ensures.0;
+      ledger = IfOk-from_err _ _ c.from_residual-in_err-log.ensures.0;
       refused = rw (failed.1, failed.2) c.in_err-log.ensures.refused;
     }
 
-pub first_ledgers-requires : goal.first_ledgers-requires
-first_ledgers-requires g c = c.as_slice.ensures.value ∙ c.in_ok-add_limits.ensures.limits
+pub first_store_ledger-requires : goal.first_store_ledger-requires
+first_store_ledger-requires g c = c.as_slice.ensures.value ∙ c.in_ok-add_limits.ensures.limits
 
-pub returns-in-Ok-clause-log : goal.returns-in-Ok-clause-log
-returns-in-Ok-clause-log g c = rw (← c.objects.ensures) c.in_ok-log.ensures.empty
+pub returns-2-clause-log : goal.returns-2-clause-log
+returns-2-clause-log g c = rw (← c.objects.ensures) c.in_ok-log.ensures.empty
 
-pub returns-in-Ok-clause-sites : goal.returns-in-Ok-clause-sites
-returns-in-Ok-clause-sites g c = rw (← c.sites.ensures.sites) c.in_ok-add_sites.ensures.sites
+pub returns-2-clause-sites : goal.returns-2-clause-sites
+returns-2-clause-sites g c = rw (← c.sites.ensures.sites) c.in_ok-add_sites.ensures.sites
 
-pub returns-in-Ok-clause-limits : goal.returns-in-Ok-clause-limits
-returns-in-Ok-clause-limits g c = c.in_ok-add_limits.ensures.limits
-
-pub returns-in-Ok-clause-ledgers : goal.returns-in-Ok-clause-ledgers
-returns-in-Ok-clause-ledgers g c = c.in-Ok.ensures.ledgers
-
-pub returns-in-Err : goal.returns-in-Err
-returns-in-Err g c = record {
-  log = tt;
-  legal = tt;
-  sites = tt;
-  limits = tt;
-  ledgers = tt;
-  refused = c.in-Err.ensures.refused;
-}
+pub returns-2-clause-limits : goal.returns-2-clause-limits
+returns-2-clause-limits g c = c.in_ok-add_limits.ensures.limits

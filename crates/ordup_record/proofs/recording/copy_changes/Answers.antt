@@ -1,4 +1,4 @@
--- The list has the first changes of those that are lent, and room for all. One push more makes it one longer.
+-- The list has the first changes of those that are lent, and spare capacity for all. One push more makes it one longer.
 use Rattle.ordup_audit.proofs.Common.{◌++◌, ◌+◌, ◌∙◌, ◌∷◌, ◌≡◌, [], ap, arith, List, rules, slice_get, Some, sym, take, take_all, ℕ}
 use Rattle.std.proofs.lemmas.Result.{err_from_is_err_and}
 use Rattle.ordup_objects.proofs.TableLemmas.{take-next}
@@ -21,7 +21,7 @@ returns-in_err-changes g c =
 pub loop-i-init : goal.loop-i-init
 loop-i-init g c = record {
   changes = c.in_ok-changes.ensures.items;
-  room = omega (arith, c.in_ok-changes.ensures.capacity, c.len.ensures);
+  spare = omega (arith, c.in_ok-changes.ensures.capacity, c.len.ensures);
 }
 
 pub at-requires : goal.at-requires
@@ -33,7 +33,7 @@ loop-i-preserved g c =
     record {
       changes = copied-more (changes_in c.args.lent) c.loop-i.changes.items c.push_reserved.new.self.items c.loop-i.i c.at.result
           c.push_reserved.ensures.items inside.changes c.at.ensures;
-      room = omega (arith, inside.room, c.push_reserved.ensures.capacity);
+      spare = omega (arith, inside.spare, c.push_reserved.ensures.capacity);
     }
 
 pub returns : goal.returns

@@ -33,14 +33,14 @@ copy_parts-requires g c =
     }
 
 pub from_parts-requires : goal.from_parts-requires
-from_parts-requires g c = c.in-Ok.ensures.parts
+from_parts-requires g c = c.in-Ok-or_give_up.ensures.parts
 
-pub returns-in-Ok : goal.returns-in-Ok
-returns-in-Ok g c =
+pub returns-2 : goal.returns-2
+returns-2 g c =
     let p = c.args.primary.now in
     let setup = ap (λ (d : Declared). length d.sites) c.setup.ensures in
     let known : c.args.site < length p.sites = omega (arith, c.index.ensures, c.sites.ensures.sites, setup, c.keeps.ensures.sound.count) in
-    let content = c.from_parts.ensures ∙ c.in-Ok.ensures.content in
+    let content = c.from_parts.ensures ∙ c.in-Ok-or_give_up.ensures.content in
     record {
       content = content ∙ c.lent_by.ensures.content;
       valid = rw content c.lent_by.ensures.valid;
@@ -48,8 +48,8 @@ returns-in-Ok g c =
       refused = tt;
     }
 
-pub returns-in-Err : goal.returns-in-Err
-returns-in-Err g c =
+pub returns : goal.returns
+returns g c =
     let p = c.args.primary.now in
     let setup = ap (λ (d : Declared). length d.sites) c.setup.ensures in
     let known : c.args.site < length p.sites = omega (arith, c.index.ensures, c.sites.ensures.sites, setup, c.keeps.ensures.sound.count) in
@@ -57,5 +57,5 @@ returns-in-Err g c =
       content = tt;
       valid = tt;
       allowed = tt;
-      refused = rw (not-refused p c.args.site known) c.in-Err.ensures.refused;
+      refused = rw (not-refused p c.args.site known, c.or_give_up-into.ensures) c.in-Err-or_give_up.ensures.refused;
     }

@@ -10,7 +10,7 @@ use Rattle.ordup_script.proofs.line_reader.read_lines.Goals as goal
 
 pub returns-in_default-clause-lines : goal.returns-in_default-clause-lines
 returns-in_default-clause-lines g c =
-    let (within, len, room, clear, script, count, took, read) = c.pieces.invariant in
+    let (within, len, lines_left, clear, script, count, took, read) = c.pieces.invariant in
     (script, Consumes-kept _ _ _ script took c.in_default.ensures.bytes, omega arith, takes_ended _ read)
 
 -- what lies within the limit of what was read
@@ -21,7 +21,7 @@ within_limit buf script taken limit count is over =
 
 pub returns-in_err-read_piece-clause-lines : goal.returns-in_err-read_piece-clause-lines
 returns-in_err-read_piece-clause-lines g c =
-    let (within, len, room, clear, script, count, took, read) = c.pieces.invariant in
+    let (within, len, lines_left, clear, script, count, took, read) = c.pieces.invariant in
     let failed = err_from_is_err_and c.from_residual-in_err-read_piece.result c.from_residual-in_err-read_piece.ensures.1 in
     let buf = c.read.new.buf in
     let front = within_limit buf script c.pieces.taken c.args.limit c.in-Ok.count count (omega arith) in
@@ -30,7 +30,7 @@ returns-in_err-read_piece-clause-lines g c =
 
 pub returns-then-count-limit-clause-lines : goal.returns-then-count-limit-clause-lines
 returns-then-count-limit-clause-lines g c =
-    let (within, len, room, clear, script, count, took, read) = c.pieces.invariant in
+    let (within, len, lines_left, clear, script, count, took, read) = c.pieces.invariant in
     let buf = c.read.new.buf in
     let front = within_limit buf script c.pieces.taken c.args.limit c.in-Ok.count count (omega arith) in
     reads_to_limit _ _ _ c.args.limit (take c.in-Ok.count buf) took c.in-Ok.ensures.bytes.0 (omega arith)
@@ -38,7 +38,7 @@ returns-then-count-limit-clause-lines g c =
 
 pub returns-in_err-read_piece-2-clause-lines : goal.returns-in_err-read_piece-2-clause-lines
 returns-in_err-read_piece-2-clause-lines g c =
-    let (within, len, room, clear, script, count, took, read) = c.pieces.invariant in
+    let (within, len, lines_left, clear, script, count, took, read) = c.pieces.invariant in
     let failed = err_from_is_err_and c.from_residual-in_err-read_piece-2.result c.from_residual-in_err-read_piece-2.ensures.1 in
     let piece : List ℕ = take c.in-Ok.count c.read.new.buf in
     let all : piece ≡ take (c.args.limit - length script) piece = sym (take_all _ piece (omega (arith, c.in-Ok.ensures.bound.1))) in
@@ -47,11 +47,11 @@ returns-in_err-read_piece-2-clause-lines g c =
 
 pub pieces-preserved : goal.pieces-preserved
 pieces-preserved g c =
-    let (within, len, room, clear, script, count, took, read) = c.pieces.invariant in
+    let (within, len, lines_left, clear, script, count, took, read) = c.pieces.invariant in
     let piece : List ℕ = take c.in-Ok.count c.read.new.buf in (
       omega arith,
       omega (arith, c.read.auto.buf),
-      omega (arith, room, c.in_ok-read_piece-2.ensures.room, c.in-Ok.ensures.bound.1),
+      omega (arith, lines_left, c.in_ok-read_piece-2.ensures.lines_left, c.in-Ok.ensures.bound.1),
       c.in_ok-read_piece-2.ensures.clear,
       script ++ piece,
       rw length-append (omega (arith, c.in-Ok.ensures.bound.1)),

@@ -8,7 +8,7 @@ abbrev pub invariant-pieces : goal.invariant-pieces
 invariant-pieces g l =
     (l.taken ≤ l.limit)
     × (length l.piece ≡ PIECE)
-    × (g.T.LineTaker.room l.fn.taker ≤ g.T.LineTaker.room l.taker + l.taken)
+    × (g.T.LineTaker.lines_left l.fn.taker ≤ g.T.LineTaker.lines_left l.taker + l.taken)
     × g.T.LineTaker.is_clear l.taker
     × (script : List ℕ)
     × (length script ≡ l.taken)

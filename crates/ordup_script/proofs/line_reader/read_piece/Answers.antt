@@ -18,17 +18,17 @@ line_done piece done rest part more is cut =
 pub returns-in_err-end_line-clause-lines : goal.returns-in_err-end_line-clause-lines
 returns-in_err-end_line-clause-lines g c =
     let failed = err_from_is_err_and c.from_residual.result c.from_residual.ensures.1 in
-    let (room, done, is, so_far) = c.loop-part.invariant in
+    let (lines_left, done, is, so_far) = c.loop-part.invariant in
     rw (failed.1, failed.2, line_done c.args.piece.now done _ _ c.in-Some.more.now is c.in-Some.ensures.1)
     (stops_before c.in-Some.more.now (reads_then {r = Err c.in_err-end_line.field-0.0} so_far c.in_err-end_line.ensures.lines))
 
 pub loop-part-preserved : goal.loop-part-preserved
 loop-part-preserved g c =
-    let (room, done, is, so_far) = c.loop-part.invariant in
+    let (lines_left, done, is, so_far) = c.loop-part.invariant in
     let part = c.in-Some.part in
     let more = c.in-Some.more.now in
     let size = simp length-append at (ap length c.in-Some.ensures.1) in (
-      omega (arith, room, c.in_ok-end_line.ensures.room, size),
+      omega (arith, lines_left, c.in_ok-end_line.ensures.lines_left, size),
       done ++ (part ++ 10 ∷ []),
       line_done c.args.piece.now done _ part more is c.in-Some.ensures.1,
       reads_then so_far c.in_ok-end_line.ensures.lines,
@@ -36,7 +36,7 @@ loop-part-preserved g c =
 
 pub returns-clause-lines : goal.returns-clause-lines
 returns-clause-lines g c =
-    let (room, done, is, so_far) = c.loop-part.invariant in
+    let (lines_left, done, is, so_far) = c.loop-part.invariant in
     let rest = c.loop-part.rest.now in
     let held = reads_part c.loop-part.taker c.loop-part.held c.hold.new.self rest c.hold.ensures in
     rw (is, ← append-nil (done ++ rest))

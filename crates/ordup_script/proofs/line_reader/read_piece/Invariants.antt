@@ -4,7 +4,7 @@ use Rattle.ordup_script.proofs.line_reader.read_piece.Given as goal
 
 abbrev pub invariant-loop-part : goal.invariant-loop-part
 invariant-loop-part g l =
-    (g.T.LineTaker.room l.fn.taker + length l.rest ≤ g.T.LineTaker.room l.taker + length l.piece)
+    (g.T.LineTaker.lines_left l.fn.taker + length l.rest ≤ g.T.LineTaker.lines_left l.taker + length l.piece)
     × (done : List ℕ)
     × (l.piece ≡ done ++ l.rest)
     × ReadsOn g.T.LineTaker.took g.T.LineTaker.stopped l.fn.taker l.fn.held l.taker l.held done (Ok tt)

@@ -19,7 +19,7 @@ loop-index-preserved g c =
           (append_assoc c.loop-index.out.text (value_text c.name-name.result.now (get_or values index (pos 0))) _
           ∙ ap (λ t. c.loop-index.out.text ++ t) (sym next)
           ∙ c.loop-index.invariant.0),
-      omega (arith, c.loop-index.invariant.1, c.put_named_value.ensures.room),
+      omega (arith, c.loop-index.invariant.1, c.put_named_value.ensures.spare),
     )
 
 pub returns-clause-text : goal.returns-clause-text

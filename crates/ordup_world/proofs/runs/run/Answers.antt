@@ -23,7 +23,7 @@ loop-event-preserved g c =
           append_assoc c.loop-event.yielded (c.in-Some.event ∷ []) (into_iter_items c.next.new.self)
           ∙ ap (λ xs. c.loop-event.yielded ++ xs) (sym c.in-Some.ensures.steps.0)
           ∙ before.left;
-      room = omega (arith, before.room, c.in-Some.ensures.steps.1, c.push_reserved.ensures.len, c.push_reserved.ensures.capacity);
+      spare = omega (arith, before.spare, c.in-Some.ensures.steps.1, c.push_reserved.ensures.len, c.push_reserved.ensures.capacity);
       setup = c.step.ensures.setup ∙ before.setup;
       sound = c.step.ensures.sound;
       limits = c.step.ensures.limits;
@@ -63,7 +63,7 @@ loop-event-init g c =
     let started = c.in_ok-world.ensures in
     record {
       left = gives.0;
-      room = omega (arith, gives.1, c.len.ensures, ap length started.answers, started.room);
+      spare = omega (arith, gives.1, c.len.ensures, ap length started.answers, started.spare);
       setup = started.setup;
       sound = started.sound;
       limits = started.limits;

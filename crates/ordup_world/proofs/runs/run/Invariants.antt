@@ -9,7 +9,7 @@ use Rattle.ordup_world.proofs.runs.run.Given as goal
 abbrev pub invariant-loop-event : goal.invariant-loop-event
 invariant-loop-event g l = record {
   left : l.yielded ++ into_iter_items l.event-iterator ≡ l.fn.events.items;
-  room : into_iter_len l.event-iterator + vec_len l.answers ≤ vec_capacity l.answers;
+  spare : into_iter_len l.event-iterator + vec_len l.answers ≤ vec_capacity l.answers;
   setup : l.world.primary.setup ≡ l.fn.setup;
   sound : IsSound l.world;
   limits : KeepsLimits l.world;

@@ -1,5 +1,5 @@
 -- A started world promises what a run does over no events. After it only the list of answers can be refused memory.
-use Rattle.std.proofs.Common.{refl}
+use Rattle.std.proofs.Common.{rules}
 use Rattle.std.proofs.lemmas.Result.{err_from_is_err_and}
 use Rattle.ordup_world.proofs.runs.start.Goals as goal
 
@@ -8,7 +8,7 @@ returns-in_err-world g c =
     let failed = err_from_is_err_and c.from_residual.result c.from_residual.ensures.1 in
     rw (failed.1, failed.2) (record {
       answers = tt;
-      room = tt;
+      spare = tt;
       state = tt;
       setup = tt;
       sound = tt;
@@ -17,10 +17,13 @@ returns-in_err-world g c =
       refused = c.in_err-world.ensures.refused;
     })
 
-pub returns-in-Ok : goal.returns-in-Ok
-returns-in-Ok g c = record {
-  answers = c.in-Ok.ensures.items;
-  room = c.in-Ok.ensures.capacity;
+pub returns-clause-refused : goal.returns-clause-refused
+returns-clause-refused g c = rw c.in_ok-world.ensures.allowed (search rules)
+
+pub returns-2 : goal.returns-2
+returns-2 g c = record {
+  answers = search rules;
+  spare = search rules;
   state = c.in_ok-world.ensures.state;
   setup = c.in_ok-world.ensures.setup;
   sound = c.in_ok-world.ensures.sound;
@@ -28,6 +31,3 @@ returns-in-Ok g c = record {
   allowed = c.in_ok-world.ensures.allowed;
   refused = tt;
 }
-
-pub returns-in-Err-clause-refused : goal.returns-in-Err-clause-refused
-returns-in-Err-clause-refused g c = rw c.in_ok-world.ensures.allowed refl

@@ -4,12 +4,12 @@ use Rattle.ordup_primary.specs.Primaries.{PrimaryState}
 use Rattle.ordup_cluster.proofs.OpeningRefusal.{opening-allowed}
 use Rattle.ordup_cluster.proofs.cluster.Cluster.after.Goals as goal
 
-pub returns-in-Ok-clause-cluster : goal.returns-in-Ok-clause-cluster
-returns-in-Ok-clause-cluster c =
+pub returns-2-clause-cluster : goal.returns-2-clause-cluster
+returns-2-clause-cluster c =
     let opened = c.in_ok-book.ensures.opened in
-    let setup = c.in-Ok.ensures.setup ∙ ap (λ (p : PrimaryState). p.setup) opened.primary in
+    let setup = c.in-Ok-or_give_up.ensures.setup ∙ ap (λ (p : PrimaryState). p.setup) opened.primary in
     c.under_locks.ensures ∙ ap (λ (d : Declared). record { before = c.args.before; start = d }) setup
 
-pub returns-in-Ok-clause-allowed : goal.returns-in-Ok-clause-allowed
-returns-in-Ok-clause-allowed c =
+pub returns-2-clause-allowed : goal.returns-2-clause-allowed
+returns-2-clause-allowed c =
     opening-allowed c.args.before c.args.setup (omega (arith, c.if-before-gt-MOST_BEFORE.false)) c.in_ok-book.ensures.allowed

@@ -1,14 +1,14 @@
--- The room for an end and a cell is there before the feed is made, so both lists get theirs, or neither does.
+-- Spare capacity for an end and a cell is reserved before the feed is made, so both lists get theirs, or neither does.
 use Rattle.std.proofs.Common.{◌∙◌, sym, ap}
 use Rattle.ordup_objects.specs.Tables.{initial_state}
-use Rattle.ordup_cluster.proofs.OpeningLemmas.{feeds-more, has-room}
+use Rattle.ordup_cluster.proofs.OpeningLemmas.{feeds-more, has-spare}
 use Rattle.ordup_cluster.proofs.holds.opening.add_feed.Goals as goal
 
 pub capacity-requires : goal.capacity-requires
 capacity-requires c = c.requires.site
 
 pub push_reserved-requires : goal.push_reserved-requires
-push_reserved-requires c = has-room _ _ c.in_ok-reserve.ensures.ok
+push_reserved-requires c = has-spare _ _ c.in_ok-reserve.ensures.ok
 
 pub new-requires-3 : goal.new-requires-3
 new-requires-3 c =
@@ -16,7 +16,7 @@ new-requires-3 c =
     (c.in_ok-replica.ensures.start _ (ap initial_state (c.objects-2.ensures ∙ sym c.objects.ensures)))
 
 pub push_reserved-requires-2 : goal.push_reserved-requires-2
-push_reserved-requires-2 c = has-room _ _ c.in_ok-reserve-2.ensures.ok
+push_reserved-requires-2 c = has-spare _ _ c.in_ok-reserve-2.ensures.ok
 
 pub returns-clause-feeds : goal.returns-clause-feeds
 returns-clause-feeds c =

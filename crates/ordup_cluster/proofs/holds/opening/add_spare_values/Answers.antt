@@ -4,7 +4,7 @@ use Rattle.std.proofs.lemmas.List.{length_push}
 use Rattle.std.proofs.lemmas.List.Elements.{All-push}
 use Rattle.ordup_objects.specs.States.{State}
 use Rattle.ordup_objects.specs.Tables.{initial_state}
-use Rattle.ordup_cluster.proofs.OpeningLemmas.{has-room, at-last}
+use Rattle.ordup_cluster.proofs.OpeningLemmas.{has-spare, at-last}
 use Rattle.ordup_cluster.proofs.holds.opening.add_spare_values.Goals as goal
 
 pub loop-init : goal.loop-init
@@ -14,7 +14,7 @@ loop-init c = record {
 }
 
 pub push_reserved-requires : goal.push_reserved-requires
-push_reserved-requires c = has-room _ _ c.in_ok-reserve.ensures.ok
+push_reserved-requires c = has-spare _ _ c.in_ok-reserve.ensures.ok
 
 pub loop-preserved : goal.loop-preserved
 loop-preserved c =

@@ -8,22 +8,22 @@ use Rattle.ordup_cluster.proofs.holds.opening.open.Goals as goal
 pub new-requires-2-clause-ends : goal.new-requires-2-clause-ends
 new-requires-2-clause-ends c =
     let made = c.in_ok-primary.ensures in
-    let feeds = rw (c.setup-2.ensures, made.setup) at c.in-Ok-first_feeds.ensures.feeds in
-    keeps-first c.args.setup _ _ c.in-Ok-first_feeds.cells.items
+    let feeds = rw (c.setup-2.ensures, made.setup) at c.in-Ok-or_give_up-2.ensures.feeds in
+    keeps-first c.args.setup _ _ c.in-Ok-or_give_up-2.field-0.1.items
     (first-is _ _ made.setup made.log made.numbers made.sites made.limits) feeds
 
-pub new-requires-2-clause-rooms : goal.new-requires-2-clause-rooms
-new-requires-2-clause-rooms c =
+pub new-requires-2-clause-spare : goal.new-requires-2-clause-spare
+new-requires-2-clause-spare c =
     let made = c.in_ok-primary.ensures in
-    let count = rw (c.setup.ensures, made.setup) at c.in-Ok.ensures.count in
-    let values = rw (c.setup.ensures, made.setup) at c.in-Ok.ensures.values in (
+    let count = rw (c.setup.ensures, made.setup) at c.in-Ok-or_give_up.ensures.count in
+    let values = rw (c.setup.ensures, made.setup) at c.in-Ok-or_give_up.ensures.values in (
       rw made.sites (count ∙ sym (length-replicate (length c.args.setup.sites) first_progress)),
       rw made.log values,
     )
 
-pub returns-clause-opened : goal.returns-clause-opened
-returns-clause-opened c =
+pub returns-3-clause-opened : goal.returns-3-clause-opened
+returns-3-clause-opened c =
     let made = c.in_ok-primary.ensures in
-    let feeds = rw (c.setup-2.ensures, made.setup) at c.in-Ok-first_feeds.ensures.feeds in
+    let feeds = rw (c.setup-2.ensures, made.setup) at c.in-Ok-or_give_up-2.ensures.feeds in
     rw c.new-2.ensures
     (record { primary = first-is _ _ made.setup made.log made.numbers made.sites made.limits; feeds = feeds })

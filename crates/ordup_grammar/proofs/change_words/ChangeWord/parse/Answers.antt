@@ -10,7 +10,7 @@ returns-in_err-operation c =
     let kind = c.in_ok-kind in
     let object = c.in_ok-object in
     let behind =
-    change_of-behind c.front.result (kind_text kind.kind) kind.rest object.object object.operand kind.ensures object.ensures in
+    change_of-behind c.prefix.result (kind_text kind.kind) kind.rest object.object object.operand kind.ensures object.ensures in
     grind (arith, common_steps)
 
 pub returns : goal.returns
@@ -18,5 +18,5 @@ returns c =
     let kind = c.in_ok-kind in
     let object = c.in_ok-object in
     let behind =
-    change_of-behind c.front.result (kind_text kind.kind) kind.rest object.object object.operand kind.ensures object.ensures in
+    change_of-behind c.prefix.result (kind_text kind.kind) kind.rest object.object object.operand kind.ensures object.ensures in
     grind (arith, common_steps)

@@ -1,27 +1,17 @@
+-- The limits and the masks depend on no place.
+-- So the ledger is still one of this log, once its weights are those of the two places.
+use Rattle.std.proofs.Common.{arith, ap}
 use Rattle.ordup_limits.specs.Ledgers.{LedgerState}
-use Rattle.std.proofs.Common.{arith, ap, refl}
 use Rattle.ordup_limits.proofs.lag_ledger.LagLedger.stand_at.Goals as goal
 
-pub move_allowed-requires : goal.move_allowed-requires
-move_allowed-requires g c =
+pub stand_at-requires : goal.stand_at-requires
+stand_at-requires g c =
     let stands = rw (← c.self.view_is) at c.requires.stands in
     record {
-      last = c.requires.reported;
-      known = rw c.as_slice-limits.ensures.limits stands.known;
-      few = rw c.as_slice-limits.ensures.limits c.self.invariant.ledger.few;
-      count = c.self.invariant.ledger.allowed;
-      allowed = rw c.as_slice-limits.ensures.limits stands.allowed;
-    }
-
-pub move_added-requires : goal.move_added-requires
-move_added-requires g c =
-    let stands = rw (← c.self.view_is) at c.requires.stands in
-    record {
-      last = c.requires.extended;
-      known = rw c.as_slice-limits.ensures.limits stands.known;
-      few = rw c.as_slice-limits.ensures.limits c.self.invariant.ledger.few;
-      count = c.self.invariant.ledger.added;
-      totals = rw c.as_slice-limits.ensures.limits stands.added;
+      reported = c.requires.reported;
+      extended = c.requires.extended;
+      known = stands.known;
+      weights = record { added = stands.added; allowed = stands.allowed };
     }
 
 pub invariant_of-self : goal.invariant_of-self
@@ -30,32 +20,28 @@ invariant_of-self g c =
     record {
       ledger = record {
         few = before.ledger.few;
-        last = omega (arith, c.requires.extended, c.keeps.ensures.few);
-        added = c.move_added.ensures.count;
-        allowed = c.move_allowed.ensures.count;
-        masks = before.ledger.masks;
+        last = omega (arith, c.stand_at.ensures.places.1, c.requires.extended, c.keeps.ensures.few);
         empty = before.ledger.empty;
       };
       count = before.count;
-      passed = rw (c.as_slice.ensures.value, c.as_slice-2.ensures.value) at c.passed_of-self-inside.ensures;
-      fits = c.passed_of-self-inside.type_inv;
     }
 
 pub returns-clause-limits : goal.returns-clause-limits
 returns-clause-limits g c = ap (λ (k : LedgerState). k.limits) c.self.view_is
 
 pub returns-clause-places : goal.returns-clause-places
-returns-clause-places g c = (refl, refl)
+returns-clause-places g c = c.stand_at.ensures.places
 
 pub returns-clause-stands : goal.returns-clause-stands
 returns-clause-stands g c =
     let stands = rw (← c.self.view_is) at c.requires.stands in
+    let places = c.stand_at.ensures.places in
     record {
       objects = stands.objects;
       known = stands.known;
-      reported = c.requires.reported;
-      extended = c.requires.extended;
-      added = rw c.as_slice-limits.ensures.limits at c.move_added.ensures.totals;
-      allowed = rw c.as_slice-limits.ensures.limits at c.move_allowed.ensures.allowed;
+      reported = omega (arith, places.0, c.requires.reported);
+      extended = omega (arith, places.1, c.requires.extended);
+      added = c.stand_at.ensures.weights.added;
+      allowed = c.stand_at.ensures.weights.allowed;
       masks = stands.masks;
     }

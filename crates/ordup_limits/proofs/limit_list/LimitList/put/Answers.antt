@@ -1,3 +1,5 @@
+-- The search finds the limit that the definition replaces.
+-- Where it finds none, the definition puts the limit last too, and by what is required the list can take one more.
 use Rattle.std.proofs.Common.{arith, ap, sym, length, ◌∙◌}
 use Rattle.std.proofs.Math.ListN.{set}
 use Rattle.std.proofs.lemmas.List.{length_push}

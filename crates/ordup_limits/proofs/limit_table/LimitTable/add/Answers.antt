@@ -1,3 +1,5 @@
+-- All entries hold from place 1, and none is on a scope without a limit.
+-- So the entry of a new limit comes last, and the list of the last limits gains the limit.
 use Rattle.std.proofs.Common.{arith, ap, sym, ◌≡◌, ◌<◌, ◌∙◌, length, false, true, refl}
 use Rattle.std.proofs.lemmas.Bool.{le-leb}
 use Rattle.ordup_limits.specs.declared.limit_entry.LimitEntry.{LimitEntry}
@@ -27,7 +29,7 @@ invariant_of-self-2 g c =
     let entries = c.self.inside.entries.items in
     let are = c.self.invariant.entries in
     let hold = rw (← c.self.view_is) at c.requires in
-    let room : length (latest entries) < most_limits =
+    let spare : length (latest entries) < most_limits =
     omega (
       arith,
       c.if-len-eq-MOST_LIMITS.false,

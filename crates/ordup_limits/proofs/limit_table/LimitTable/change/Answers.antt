@@ -1,3 +1,5 @@
+-- The tests promise an amount in range, and few enough entries and scopes with the change.
+-- No entry holds from a later place, so the entries stay in their order, and the new limit is the last one on its scope.
 use Rattle.std.proofs.Common.{◌≤◌, arith, ap, sym, ◌∙◌, length}
 use Rattle.std.specs.Prelude.{nat_le}
 use Rattle.std.proofs.lemmas.Bool.{and_parts, leb-true}
@@ -21,10 +23,10 @@ put-requires g c =
     let entries = c.self.inside.entries.items in
     let are = c.self.invariant.entries in
     let few = (change-allowed _ _ entries e (rw (← c.self.view_is) at c.in_ok-check_change.ensures.allowed)).1 in
-    let room = and_parts (nat_le (length (latest (changed entries e))) most_limits) (nat_le (length (changed entries e)) most_entries) few in
+    let spare = and_parts (nat_le (length (latest (changed entries e))) most_limits) (nat_le (length (changed entries e)) most_entries) few in
     rw c.self.invariant.limits (omega (
       arith,
-      leb-true (length (latest (changed entries e))) most_limits room.0,
+      leb-true (length (latest (changed entries e))) most_limits spare.0,
       ap (λ (ls : Limits). length ls) (latest-changed entries e are.distinct are.rising (rw (← c.self.view_is) at c.requires.last)),
     ))
 

@@ -1,3 +1,5 @@
+-- Where each entry holds from the end of the span or before, the limits in force there are the last ones, which the table
+-- has. Else they are made from the entries. An empty span passes none of them.
 use Rattle.std.proofs.Common.{arith, refl, sym, ◌∙◌, length}
 use Rattle.ordup_limits.specs.Entries.{in_force}
 use Rattle.ordup_limits.proofs.EntryLemmas.{in_force-known, in_force-latest, latest-known}

@@ -1,3 +1,4 @@
+-- The amount and the weight stand at the number of the scope alike. Each is at most 10^18, so their sum fits.
 use Rattle.std.proofs.lemmas.List.{get_or_read}
 use Rattle.std.proofs.Common.{arith}
 use Rattle.ordup_limits.proofs.site_ledger.SiteLedger.allowed.Goals as goal

@@ -1,10 +1,12 @@
+-- The entries come in their order, so the amount of a later one on a scope replaces that of an earlier one.
+-- After all of them each scope has the amount of its last limit, and nothing was reported.
 use Rattle.std.proofs.Common.{ap, sym, ◌∙◌, ◌≡◌, ◌+◌, ◌<◌, ℕ, length, take, get_or}
 use Rattle.std.proofs.Math.ListN.{length-set}
 use Rattle.std.proofs.lemmas.List.{length-replicate, take_all}
 use Rattle.ordup_limits.specs.declared.limit_entry.LimitEntry.{LimitEntry}
 use Rattle.ordup_limits.specs.Entries.{latest, put}
 use Rattle.ordup_limits.specs.Limits.{are_on_one_scope}
-use Rattle.ordup_limits.specs.SiteLedgers.{most_scopes, SiteLedgerState}
+use Rattle.ordup_limits.specs.StoreLedgers.{most_scopes, SiteLedgerState}
 use Rattle.ordup_limits.specs.Sizes.{greatest_amount}
 use Rattle.ordup_limits.proofs.SiteLemmas.{HaveAmounts-none, HaveAmounts-put, latest-distinct, replicate-few}
 use Rattle.ordup_limits.proofs.EntryLemmas.{latest-known, latest-more}

@@ -3,7 +3,7 @@ use Rattle.ordup_objects.specs.Serial.{History}
 use Rattle.ordup_objects.specs.Sizes.{most_objects}
 use Rattle.ordup_log.specs.Groups.{GroupList}
 use Rattle.ordup_limits.specs.Entries.{latest, AreEntriesKnown}
-use Rattle.ordup_limits.specs.SiteLedgers.{most_scopes, AreWeights, HaveAmounts}
+use Rattle.ordup_limits.specs.StoreLedgers.{most_scopes, AreWeights, HaveAmounts}
 use Rattle.ordup_limits.proofs.site_ledger.SiteLedger.new.Given as goal
 
 -- nothing is reported, and the entries so far are put down

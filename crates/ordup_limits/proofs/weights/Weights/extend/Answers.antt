@@ -1,18 +1,23 @@
+-- Each step moves the place on by one update and leaves the weights those of the place. So the loop ends at the later place.
+use Rattle.std.proofs.Common.{arith}
 use Rattle.ordup_limits.proofs.weights.Weights.extend.Goals as goal
 
-pub raise_to-requires : goal.raise_to-requires
-raise_to-requires g c = record {
-  forward = rw (← c.self.view_is) at c.requires.forward;
-  last = c.requires.last;
+pub add_update-requires : goal.add_update-requires
+add_update-requires g c = record {
+  last = omega (arith, c.place.ensures, c.loop-self-test.true, c.requires.last);
   objects = c.requires.objects;
-  count = c.requires.count;
   masks = c.requires.masks;
-  totals = c.self.invariant;
-  weights = rw (← c.self.view_is) at c.requires.weights;
+  weights = c.loop-self.invariant.weights;
 }
 
-pub invariant_of-self : goal.invariant_of-self
-invariant_of-self g c = c.raise_to.ensures.totals
+pub loop-self-preserved : goal.loop-self-preserved
+loop-self-preserved g c = record {
+  place = omega (arith, c.add_update.ensures.place, c.place.ensures, c.loop-self-test.true);
+  weights = c.add_update.ensures.weights;
+}
 
-pub returns-clause-weights : goal.returns-clause-weights
-returns-clause-weights g c = c.raise_to.ensures.weights
+pub returns : goal.returns
+returns g c = record {
+  place = omega (arith, c.place.ensures, c.loop-self-test.false, c.loop-self.invariant.place);
+  weights = c.loop-self.invariant.weights;
+}

@@ -1,6 +1,6 @@
 use Rattle.std.proofs.Common.{arith, ap, ◌∙◌, ℕ, length}
 use Rattle.std.proofs.lemmas.List.{length-replicate}
-use Rattle.ordup_limits.specs.SiteLedgers.{most_scopes, scope_index}
+use Rattle.ordup_limits.specs.StoreLedgers.{most_scopes, scope_index}
 use Rattle.ordup_limits.proofs.TotalLemmas.{none_at}
 use Rattle.ordup_limits.proofs.weights.Weights.new.Goals as goal
 

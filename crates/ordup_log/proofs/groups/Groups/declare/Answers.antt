@@ -1,4 +1,4 @@
--- What the test of a group allows is what the table asks: a free name, room, and members that are distinct and known.
+-- What the test of a group allows is what the table asks: a free name, few enough groups, and members that are distinct and known.
 -- So each way out leaves the groups as they were, or one more.
 use Rattle.std.proofs.Common.{◌∙◌, refl, sym}
 use Rattle.std.proofs.lemmas.Result.{IfOk-from_err, err_from_is_err_and}
@@ -56,7 +56,7 @@ invariant_of-self-2 g c =
     let may = group_allowed c.len.result c.args.self.now c.args.name.now c.args.members.now
     (groups_of-few c.self.inside.groups c.args.self.now c.self.view_is c.self.invariant.0) c.in_ok-name.ensures.allowed in
     are_groups-push c.self.inside.groups c.push.new.self c.args.self.now c.in_ok-name.name c.in_ok-members.members c.self.invariant
-    c.self.view_is may.room (rw c.in_ok-members.ensures.items may.group) c.in_ok-push.ensures.ok
+    c.self.view_is may.spare (rw c.in_ok-members.ensures.items may.group) c.in_ok-push.ensures.ok
 
 pub returns : goal.returns
 returns g c = record {

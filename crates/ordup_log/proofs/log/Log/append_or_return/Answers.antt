@@ -67,14 +67,14 @@ push_moves-requires-clause-legal g c = sym c.in-Ok.ensures.legal
 pub push_moves-requires-clause-results : goal.push_moves-requires-clause-results
 push_moves-requires-clause-results g c = c.in-Ok.ensures.results
 
-pub push_moves-requires-clause-room : goal.push_moves-requires-clause-room
-push_moves-requires-clause-room g c = rw c.changes.ensures.changes at c.in-Ok-reserve_update.ensures.move_room
+pub push_moves-requires-clause-spare : goal.push_moves-requires-clause-spare
+push_moves-requires-clause-spare g c = rw c.changes.ensures.changes at c.in-Ok-reserve_update.ensures.move_spare
 
 pub note_update-requires : goal.note_update-requires
 note_update-requires g c =
     let l = c.self.inside in
     let is = c.self.invariant in
-    let room = c.reserve_update.ensures in
+    let spare = c.reserve_update.ensures in
     let known : AreKnown (length l.start) c.args.set = rw (← c.self.view_is) at c.requires in
     let legal : is_legal c.args.set l.end ≡ true = sym c.in-Ok.ensures.legal in
     let begin : c.len-begin.result ≡ length c.reserve_update.new.moves.items = c.len-begin.ensures ∙ c.reserve_update.new.moves.ok.0 in
@@ -88,13 +88,13 @@ note_update-requires g c =
         ap length (c.as_slice.ensures.value ∙ c.push_moves.ensures),
         length-append c.reserve_update.new.moves.items (moves_of l.end c.args.set),
       );
-      short = omega (arith, begin, ap length room.moves, moves-short l is);
+      short = omega (arith, begin, ap length spare.moves, moves-short l is);
       known = subst (All (λ (d : Moved). d.object < length l.travelled.items)) (sym are)
           (known-moves l.end c.args.set (length l.travelled.items) (rw is.count (λ k d lt. (known k d lt).0)));
       few = λ x lt. subst (λ (ms : List Moved). mark_at l.travelled.items x + sum_by (distance_on x) ms < 2 ^ 64) (sym are)
           (travelled-fits l is c.args.set c.changes.ensures.set legal known (omega arith) x (omega (arith, lt, is.count)));
-      begin_room = c.in-Ok-reserve_update.ensures.begin_room;
-      mark_room = rw (c.len-3.ensures ∙ l.travelled.ok.0) at c.in-Ok-reserve_update.ensures.mark_room;
+      begin_spare = c.in-Ok-reserve_update.ensures.begin_spare;
+      mark_spare = rw (c.len-3.ensures ∙ l.travelled.ok.0) at c.in-Ok-reserve_update.ensures.mark_spare;
     }
 
 pub put-requires-clause-known : goal.put-requires-clause-known
@@ -109,12 +109,12 @@ pub put-requires-clause-results : goal.put-requires-clause-results
 put-requires-clause-results g c = c.in-Ok.ensures.results
 
 pub push_reserved-requires : goal.push_reserved-requires
-push_reserved-requires g c = c.in-Ok-reserve_update.ensures.set_room
+push_reserved-requires g c = c.in-Ok-reserve_update.ensures.set_spare
 
 pub invariant_of-self-2 : goal.invariant_of-self-2
 invariant_of-self-2 g c =
     let l = c.self.inside in
-    let room = c.reserve_update.ensures in
+    let spare = c.reserve_update.ensures in
     let note = c.note_update.ensures in
     let known : AreKnown (length l.start) c.args.set = rw (← c.self.view_is) at c.requires in
     let legal : is_legal c.args.set l.end ≡ true = sym c.in-Ok.ensures.legal in
@@ -126,13 +126,13 @@ invariant_of-self-2 g c =
     c.note_update.new.begins c.note_update.new.travelled c.note_update.new.marks c.put.new.self (c.len-2.result + 1) c.len-begin.result
     (omega arith)
     (omega (arith, c.len-2.ensures))
-    (begin ∙ ap length room.moves)
-    (c.push_reserved.ensures.items ∙ ap (λ xs. xs ++ c.args.set ∷ []) room.sets)
-    (c.push_moves.ensures ∙ ap (λ xs. xs ++ moves_of l.end c.args.set) room.moves)
-    (note.begins ∙ ap (λ xs. xs ++ c.len-begin.result ∷ []) room.begins)
+    (begin ∙ ap length spare.moves)
+    (c.push_reserved.ensures.items ∙ ap (λ xs. xs ++ c.args.set ∷ []) spare.sets)
+    (c.push_moves.ensures ∙ ap (λ xs. xs ++ moves_of l.end c.args.set) spare.moves)
+    (note.begins ∙ ap (λ xs. xs ++ c.len-begin.result ∷ []) spare.begins)
     note.count
     (λ x lt. note.travelled x lt ∙ ap (λ ms. mark_at l.travelled.items x + sum_by (distance_on x) ms) are)
-    (note.marks ∙ ap (λ xs. xs ++ row_due (c.len-2.result + 1) c.note_update.new.travelled.items) room.marks)
+    (note.marks ∙ ap (λ xs. xs ++ row_due (c.len-2.result + 1) c.note_update.new.travelled.items) spare.marks)
     c.put.ensures.after
 
 pub returns : goal.returns

@@ -6,8 +6,8 @@ copy_to-requires g c = c.new-objects.ensures
 pub invariant_of-result : goal.invariant_of-result
 invariant_of-result g c = rw c.in-Ok.ensures (c.keeps.ensures.few, c.keeps.ensures.state)
 
-pub returns-in-Ok : goal.returns-in-Ok
-returns-in-Ok g c = record {
+pub returns : goal.returns
+returns g c = record {
   copied = c.in-Ok.ensures;
   refused = tt;
 }

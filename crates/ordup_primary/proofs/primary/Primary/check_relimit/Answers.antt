@@ -30,7 +30,7 @@ returns-in_err-check_change-clause-refused g c =
     ∙ ap (λ k. get_or c.self.inside.limits.items k []) c.index.ensures in
     let refused = rw (c.objects.ensures, c.groups.ensures.groups, read) at c.in_err-check_change.ensures.refused in
     let failed = err_from_is_err_and c.from_residual.result c.from_residual.ensures.1 in
-    rw (failed.1, failed.2, ← c.self.view_is) (table-refused p c.args.site c.args.scope c.args.amount c.in_err-check_change.field-0.0 refused)
+    rw (failed.1, failed.2, ← c.self.view_is) (table-refused p c.args.site c.args.scope.now c.args.amount c.in_err-check_change.field-0.0 refused)
 
 pub returns-then-self-clause-refused : goal.returns-then-self-clause-refused
 returns-then-self-clause-refused g c =
@@ -41,7 +41,7 @@ returns-then-self-clause-refused g c =
     get_or_read c.self.inside.limits.items c.index.result c.index-limits.result.now inside c.index-limits.ensures []
     ∙ ap (λ k. get_or c.self.inside.limits.items k []) c.index.ensures in
     let allowed = rw (c.objects.ensures, c.groups.ensures.groups, read) at c.in_ok-check_change.ensures.allowed in
-    rw (← c.self.view_is) (pending-refused p c.args.site c.args.scope c.args.amount allowed c.if-self.true)
+    rw (← c.self.view_is) (pending-refused p c.args.site c.args.scope.now c.args.amount allowed c.if-self.true)
 
 pub lag_on-requires : goal.lag_on-requires
 lag_on-requires g c = record {

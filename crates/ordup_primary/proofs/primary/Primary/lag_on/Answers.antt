@@ -21,7 +21,7 @@ span-requires g c =
     record {
       forward = omega (arith, c.if-reported-self.false);
       last = omega (arith, is.acked, is.decided);
-      known = rw c.groups.ensures.groups (known-in_log (state_of c.self.inside) c.args.scope is (rw (← c.self.view_is) at c.requires.known));
+      known = rw c.groups.ensures.groups (known-in_log (state_of c.self.inside) c.args.scope.now is (rw (← c.self.view_is) at c.requires.known));
     }
 
 pub returns : goal.returns

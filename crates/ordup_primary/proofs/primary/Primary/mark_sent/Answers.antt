@@ -5,7 +5,7 @@ use Rattle.ordup_primary.specs.Primaries.{SiteProgress, PrimaryState}
 use Rattle.ordup_primary.specs.PrimaryInside.{state_of}
 use Rattle.ordup_primary.proofs.PrimaryLemmas.{view_at, view-set, sent_more, IsPrimary-sent}
 use Rattle.ordup_primary.proofs.KeptLemmas.{AreKept-set}
-use Rattle.ordup_primary.proofs.LedgerLemmas.{AreLedgers-with_site}
+use Rattle.ordup_primary.proofs.LedgerLemmas.{HasLedger-with_site}
 use Rattle.ordup_primary.proofs.primary.Primary.mark_sent.Goals as goal
 
 pub overflow_add-index_mut : goal.overflow_add-index_mut
@@ -22,8 +22,8 @@ invariant_of-self g c =
     sent_more c.index.ensures lt c.index_mut.ensures.value refl in
     record {
       primary = IsPrimary-sent c.self.inside _ c.args.site c.self.invariant.primary lt (rw (← c.self.view_is) at c.requires.unsent) e;
-      ledgers =
-          AreLedgers-with_site (state_of c.self.inside) c.self.inside.ledgers c.args.site _ _ c.self.invariant.ledgers lt refl e;
+      ledger =
+          HasLedger-with_site (state_of c.self.inside) c.self.inside.ledger c.args.site _ _ c.self.invariant.ledger lt refl e;
       kept =
           AreKept-set c.self.inside c.self.inside.moved c.index.result c.args.site c.index_mut.result.now
           (record c.index_mut.result.now { sent = c.index_mut.result.now.sent + 1 }) c.self.invariant.kept c.index.ensures lt

@@ -5,7 +5,7 @@ use Rattle.ordup_objects.specs.Sets.{IsSet}
 use Rattle.ordup_objects.specs.Serial.{History}
 use Rattle.ordup_primary.specs.PrimaryInside.{state_of, KeepsPrimary}
 use Rattle.ordup_primary.proofs.PrimaryLemmas.{IsPrimary-proposed, kept-appended}
-use Rattle.ordup_primary.proofs.LedgerLemmas.{AreLedgers-proposed}
+use Rattle.ordup_primary.proofs.LedgerLemmas.{HasLedger-proposed}
 use Rattle.ordup_primary.proofs.primary.Primary.propose.Goals as goal
 
 pub append-appended-requires : goal.append-appended-requires
@@ -19,7 +19,7 @@ invariant_of-self g c =
     kept-appended (λ (log : History). KeepsPrimary (record held { log = log })) c.append-appended.result held.log c.append-appended.new.self
     c.args.set before (λ allowed. record {
       primary = IsPrimary-proposed (state_of held) c.args.set before.primary set (rw (← c.self.view_is) at c.requires) allowed;
-      ledgers = AreLedgers-proposed (state_of held) c.args.set held.ledgers before.ledgers;
+      ledger = HasLedger-proposed (state_of held) c.args.set held.ledger before.ledger;
       kept = before.kept;
     }) c.append-appended.ensures.added c.append-appended.ensures.allowed c.append-appended.ensures.err
 

@@ -6,7 +6,7 @@ use Rattle.std.proofs.lemmas.List.{get_or_read, set-get_or}
 use Rattle.ordup_limits.specs.Entries.{Entries, entry_of, changed, AreEntries, HoldFrom}
 use Rattle.ordup_primary.specs.Primaries.{PrimaryState, limits_at}
 use Rattle.ordup_primary.specs.PrimaryInside.{state_of}
-use Rattle.ordup_primary.proofs.RelimitLemmas.{known-in_log, IsPrimary-relimited, AreLedgers-relimited}
+use Rattle.ordup_primary.proofs.RelimitLemmas.{known-in_log, IsPrimary-relimited, HasLedger-relimited}
 use Rattle.ordup_primary.proofs.primary.Primary.put_limit.Goals as goal
 
 pub invariant_of-self : goal.invariant_of-self
@@ -17,20 +17,20 @@ invariant_of-self g c =
     ∙ set-get_or tables c.index-index.result c.index_mut.result.now in
     record {
       primary = rw same c.self.invariant.primary;
-      ledgers = rw same c.self.invariant.ledgers;
+      ledger = rw same c.self.invariant.ledger;
       kept = c.self.invariant.kept;
     }
 
 pub change-requires-2-clause-site : goal.change-requires-2-clause-site
-change-requires-2-clause-site g c = omega (arith, rw (← c.self.view_is) at c.requires.site, c.self.invariant.ledgers.count)
+change-requires-2-clause-site g c = omega (arith, rw (← c.self.view_is) at c.requires.site, c.self.invariant.ledger.count)
 
 pub change-requires-2-clause-known : goal.change-requires-2-clause-known
 change-requires-2-clause-known g c =
-    rw c.groups-groups.ensures.groups (known-in_log (state_of c.self.inside) c.args.scope c.self.invariant.primary
+    rw c.groups-groups.ensures.groups (known-in_log (state_of c.self.inside) c.args.scope.now c.self.invariant.primary
     (rw (← c.self.view_is) at c.requires.known))
 
 pub change-requires-2-clause-stands : goal.change-requires-2-clause-stands
-change-requires-2-clause-stands g c = rw c.groups-groups.ensures.groups c.self.invariant.ledgers.stand
+change-requires-2-clause-stands g c = rw c.groups-groups.ensures.groups c.self.invariant.ledger.stand
 
 pub invariant_of-self-2 : goal.invariant_of-self-2
 invariant_of-self-2 g c =
@@ -43,7 +43,7 @@ invariant_of-self-2 g c =
     get_or_read tables c.index-index.result c.index.result.now inside c.index.ensures []
     ∙ ap (λ k. get_or tables k []) c.index-index.ensures in
     let keep : AreEntries (limits_at p c.args.site) = rw read at c.keeps.ensures in
-    let e = entry_of c.args.scope c.args.amount (c.self.inside.acked + 1) in
+    let e = entry_of c.args.scope.now c.args.amount (c.self.inside.acked + 1) in
     let old : c.index_mut.result.now ≡ limits_at p c.args.site =
     get_or_read tables c.index-index.result c.index_mut.result.now inside c.index_mut.ensures.value []
     ∙ ap (λ k. get_or tables k []) c.index-index.ensures in
@@ -54,9 +54,9 @@ invariant_of-self-2 g c =
     let known = rw (← c.self.view_is) at c.requires.known in
     let made = c.change-2.ensures in
     record {
-      primary = rw stored (IsPrimary-relimited p c.args.site c.args.scope c.args.amount sound there keep known allowed);
-      ledgers = rw stored (AreLedgers-relimited p c.args.site c.args.scope c.args.amount c.self.inside.ledgers c.change-2.new.self sound
-          c.self.invariant.ledgers there keep (rw c.groups-groups.ensures.groups at made.stands) made.place made.count made.others
+      primary = rw stored (IsPrimary-relimited p c.args.site c.args.scope.now c.args.amount sound there keep known allowed);
+      ledger = rw stored (HasLedger-relimited p c.args.site c.args.scope.now c.args.amount c.self.inside.ledger c.change-2.new.self sound
+          c.self.invariant.ledger there keep (rw c.groups-groups.ensures.groups at made.stands) made.place made.count made.others
           made.reported (rw c.groups-groups.ensures.groups at made.limits));
       kept = c.self.invariant.kept;
     }
@@ -72,7 +72,7 @@ returns g c =
     get_or_read tables c.index-index.result c.index.result.now inside c.index.ensures []
     ∙ ap (λ k. get_or tables k []) c.index-index.ensures in
     let keep : AreEntries (limits_at p c.args.site) = rw read at c.keeps.ensures in
-    let e = entry_of c.args.scope c.args.amount (c.self.inside.acked + 1) in
+    let e = entry_of c.args.scope.now c.args.amount (c.self.inside.acked + 1) in
     let old : c.index_mut.result.now ≡ limits_at p c.args.site =
     get_or_read tables c.index-index.result c.index_mut.result.now inside c.index_mut.ensures.value []
     ∙ ap (λ k. get_or tables k []) c.index-index.ensures in

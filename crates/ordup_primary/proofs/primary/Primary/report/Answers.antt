@@ -9,7 +9,7 @@ use Rattle.ordup_primary.specs.PrimaryInside.{state_of}
 use Rattle.ordup_primary.proofs.PrimaryLemmas.{view-set, reported_as, IsPrimary-reported}
 use Rattle.ordup_limits.proofs.MaskLemmas.{bit-set}
 use Rattle.ordup_primary.proofs.KeptLemmas.{AreKept-set}
-use Rattle.ordup_primary.proofs.LedgerLemmas.{AreLedgers-reported}
+use Rattle.ordup_primary.proofs.LedgerLemmas.{HasLedger-reported}
 use Rattle.ordup_primary.proofs.primary.Primary.report.Goals as goal
 
 pub invariant_of-self : goal.invariant_of-self
@@ -22,10 +22,10 @@ invariant_of-self g c =
       primary =
           IsPrimary-reported c.self.inside _ c.args.site c.args.place c.self.invariant.primary lt
           (rw (← c.self.view_is) at c.requires.risen) (rw (← c.self.view_is) at c.requires.sent) e;
-      ledgers =
+      ledger =
           (let made = c.reported-2.ensures in
-          AreLedgers-reported (state_of c.self.inside) c.self.inside.ledgers c.reported-2.new.self c.args.site c.args.place
-          (reported_as c.args.place (progress_at (state_of c.self.inside) c.args.site)) _ e c.self.invariant.ledgers lt
+          HasLedger-reported (state_of c.self.inside) c.self.inside.ledger c.reported-2.new.self c.args.site c.args.place
+          (reported_as c.args.place (progress_at (state_of c.self.inside) c.args.site)) _ e c.self.invariant.ledger lt
           (rw c.groups.ensures.groups at made.stands) made.place made.count made.others made.reported made.amounts refl);
       kept =
           (let few : c.args.site < 64 = omega (arith, lt, c.self.invariant.primary.count, c.keeps.ensures.few) in
@@ -55,15 +55,15 @@ reported-requires-2-clause-last g c =
     omega (arith, rw (← c.self.view_is) at c.requires.sent, (c.self.invariant.primary.sites c.args.site first_progress lt).sent)
 
 pub reported-requires-2-clause-site : goal.reported-requires-2-clause-site
-reported-requires-2-clause-site g c = omega (arith, rw (← c.self.view_is) at c.requires.site, c.self.invariant.ledgers.count)
+reported-requires-2-clause-site g c = omega (arith, rw (← c.self.view_is) at c.requires.site, c.self.invariant.ledger.count)
 
 pub reported-requires-2-clause-forward : goal.reported-requires-2-clause-forward
 reported-requires-2-clause-forward g c = λ d.
     omega (
       arith,
-      c.self.invariant.ledgers.reported c.args.site d (rw (← c.self.view_is) at c.requires.site),
+      c.self.invariant.ledger.reported c.args.site d (rw (← c.self.view_is) at c.requires.site),
       rw (← c.self.view_is) at c.requires.risen,
     )
 
 pub reported-requires-2-clause-stands : goal.reported-requires-2-clause-stands
-reported-requires-2-clause-stands g c = rw c.groups.ensures.groups c.self.invariant.ledgers.stand
+reported-requires-2-clause-stands g c = rw c.groups.ensures.groups c.self.invariant.ledger.stand

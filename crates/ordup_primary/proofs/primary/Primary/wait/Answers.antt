@@ -4,7 +4,7 @@ use Rattle.ordup_primary.specs.Primaries.{PrimaryState, acked_after, waiting_now
 use Rattle.ordup_primary.specs.PrimaryInside.{state_of}
 use Rattle.ordup_primary.proofs.PrimaryLemmas.{IsPrimary-acked, nil-from_empty, acked-none, acked-some}
 use Rattle.ordup_primary.proofs.PrimaryLemmas.{acked_or_waiting-none, acked_or_waiting-some}
-use Rattle.ordup_primary.proofs.LedgerLemmas.{AreLedgers-kept}
+use Rattle.ordup_primary.proofs.LedgerLemmas.{HasLedger-kept}
 use Rattle.ordup_primary.proofs.primary.Primary.wait.Goals as goal
 
 pub invariant_of-self : goal.invariant_of-self
@@ -15,10 +15,10 @@ invariant_of-self g c =
           IsPrimary-acked (state_of c.self.inside) c.as_slice.result.now c.args.head c.self.invariant.primary
           (rw (← c.self.view_is) at c.requires.later) (rw (← c.self.view_is) at c.requires.head) waiting
           (nil-from_empty c.as_slice.result.now c.if-is_empty.ensures);
-      ledgers =
-          AreLedgers-kept (state_of c.self.inside) (record (state_of c.self.inside) { acked = c.args.head }) c.self.inside.ledgers
-          c.self.invariant.ledgers refl refl refl (omega (arith, rw (← c.self.view_is) at c.requires.head))
-          c.self.invariant.ledgers.decided refl (λ s lt. refl);
+      ledger =
+          HasLedger-kept (state_of c.self.inside) (record (state_of c.self.inside) { acked = c.args.head }) c.self.inside.ledger
+          c.self.invariant.ledger refl refl refl (omega (arith, rw (← c.self.view_is) at c.requires.head))
+          c.self.invariant.ledger.decided refl (λ s lt. refl);
       kept = c.self.invariant.kept;
     }
 

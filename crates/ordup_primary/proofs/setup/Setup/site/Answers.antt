@@ -1,4 +1,4 @@
--- The room for the table of limits is there before the name goes in, so both lists grow by one, or neither does.
+-- Spare capacity for the table of limits is reserved before the name goes in, so both lists grow by one, or neither does.
 use Rattle.std.proofs.Common.{arith, refl, ◌∙◌}
 use Rattle.std.proofs.lemmas.Result.{err_from_is_err_and, IfOk-from_err}
 use Rattle.ordup_primary.specs.Declarations.{Declared}

@@ -1,4 +1,4 @@
--- A number has no more digits than there is room for. Written up to their end, they begin where the text ended.
+-- A number has no more digits than the spare capacity takes. Written up to their end, they begin where the text ended.
 use Rattle.std.proofs.Common.{arith, ◌≡◌}
 use Rattle.std.proofs.lemmas.Grind.{common_steps}
 use Rattle.std.proofs.lemmas.Fmt.{length-decimal-le}
@@ -21,7 +21,7 @@ returns-clause-text g c =
     let start : c.write_digits.result ≡ c.self.inside.len = omega (arith, written.start, c.digit_count.ensures) in
     grind (arith, common_steps, take-placed)
 
-pub returns-clause-room : goal.returns-clause-room
-returns-clause-room g c =
+pub returns-clause-spare : goal.returns-clause-spare
+returns-clause-spare g c =
     let few = length-decimal-le 20 c.args.number (omega arith) (omega arith) (omega arith) in
     grind (arith, common_steps)

@@ -10,14 +10,14 @@ returns-clause-text g c =
     take-shortened c.self.inside.bytes.items c.args.self.now.text c.args.text.now c.self.inside.len c.args.len g.row.N
     (ap (λ (b : BufferedText). b.text) c.self.view_is ∙ c.put_array.ensures.text) c.self.invariant c.told-text c.requires.0
 
-pub returns-clause-room : goal.returns-clause-room
-returns-clause-room g c =
+pub returns-clause-spare : goal.returns-clause-spare
+returns-clause-spare g c =
     let whole = ap (λ (b : BufferedText). b.text) c.self.view_is ∙ c.put_array.ensures.text in
-    let room = ap (λ (b : BufferedText). b.room) c.self.view_is in
+    let spare = ap (λ (b : BufferedText). b.spare) c.self.view_is in
     omega (
       arith,
-      room,
-      c.put_array.ensures.room,
+      spare,
+      c.put_array.ensures.spare,
       c.requires.0,
       c.told-text,
       c.self.invariant,

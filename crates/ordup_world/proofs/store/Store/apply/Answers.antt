@@ -34,7 +34,7 @@ apply_moves-requires g c =
         set_at w.primary.log (site.applied + 1),
         next_moves w c.requires c.args.site site lt at less c.moves.result.now (rw (c.log.ensures, here) at c.moves.ensures.moves),
       );
-      room = omega (arith, less, holds.holds.sent, c.requires.primary.few);
+      spare = omega (arith, less, holds.holds.sent, c.requires.primary.few);
     }
 
 pub returns : goal.returns

@@ -1,0 +1,75 @@
+-- For each limit, what was added and the moves left whose objects have its bit come to what the whole update adds.
+-- An update weighs so little that no total is above its bound meanwhile.
+use Rattle.std.proofs.Common.{arith, ap, inl, inr, ◌==◌, ◌∙◌, ◌≡◌, ◌+◌, ◌-◌, refl}
+use Rattle.std.specs.Int.{bit_at}
+use Rattle.std.proofs.lemmas.Bool.{cases_lt}
+use Rattle.std.proofs.lemmas.List.{drop_all}
+use Rattle.ordup_limits.specs.LagWeights.{LagWeightsAt}
+use Rattle.ordup_limits.specs.Sizes.{most_limits}
+use Rattle.ordup_limits.specs.Masks.{has_bit}
+use Rattle.ordup_limits.specs.Totals.{share}
+use Rattle.ordup_limits.proofs.RaisedLemmas.{AreRaised-one}
+use Rattle.ordup_limits.proofs.TotalLemmas.{distance-few, weight_of-next, weight_where-few, object-known}
+use Rattle.ordup_limits.proofs.lag_weights.LagWeights.add_update.Goals as goal
+
+pub loop-moved-init : goal.loop-moved-init
+loop-moved-init g c =
+    let here : c.args.place + 1 - 1 ≡ c.args.place = omega arith in
+    record { rest = refl; totals = λ k lt. rw (c.moves-moves.ensures.moves, here) refl; others = λ k past. refl }
+
+pub of-mask-requires : goal.of-mask-requires
+of-mask-requires g c =
+    let here : c.args.place + 1 - 1 ≡ c.args.place = omega arith in
+    let known = object-known c.args.log.now c.moves-moves.ensures.legal c.args.place c.loop-moved.moved-index c.moves-moves.result.now
+    c.moved-item.result c.requires.last (rw here at c.moves-moves.ensures.moves) c.loop-moved-test.true c.moved-item.is in
+    omega (arith, known, c.requires.objects)
+
+pub add-requires : goal.add-requires
+add-requires g c =
+    let here : c.args.place + 1 - 1 ≡ c.args.place = omega arith in
+    record {
+      weight = omega (
+        arith,
+        c.from-distance.ensures,
+        distance-few c.args.log.now c.moves-moves.ensures.legal c.args.place c.loop-moved.moved-index c.moves-moves.result.now
+            c.moved-item.result c.requires.last (rw here at c.moves-moves.ensures.moves) c.loop-moved-test.true c.moved-item.is,
+      );
+      few = λ k. elim (cases_lt k most_limits) [
+        | inl lt ↦ omega (
+          arith,
+          c.loop-moved.invariant.totals k lt,
+          weight_where-few c.args.log.now c.moves-moves.ensures.legal (has_bit c.args.masks.now k) c.args.place c.requires.last,
+          c.requires.few k,
+          c.requires.last,
+          c.keeps.ensures.few,
+        )
+        | inr past ↦ omega (arith, c.loop-moved.invariant.others k past, c.requires.few k, c.requires.last, c.keeps.ensures.few)
+      ];
+    }
+
+pub loop-moved-preserved : goal.loop-moved-preserved
+loop-moved-preserved g c =
+    let ds = c.moves-moves.result.now in
+    let i = c.loop-moved.moved-index in
+    let before = c.loop-moved.invariant in
+    record {
+      rest = c.add.ensures.rest ∙ ap (λ (v : LagWeightsAt). record v { added = c.add.new.self.added }) before.rest;
+      totals = λ k lt. omega (
+        arith,
+        before.totals k lt,
+        c.add.ensures.added.each k lt,
+        ap (λ m. share (bit_at m k == 1) c.moved-item.result.distance) c.of-mask.ensures,
+        ap (share (bit_at c.of-mask.result k == 1)) c.from-distance.ensures,
+        weight_of-next (has_bit c.args.masks.now k) ds i c.moved-item.result c.loop-moved-test.true c.moved-item.is,
+      );
+      others = λ k past. c.add.ensures.added.others k past ∙ before.others k past;
+    }
+
+pub returns : goal.returns
+returns g c =
+    let none = drop_all c.loop-moved.moved-index c.moves-moves.result.now c.loop-moved-test.false in
+    record {
+      rest = c.loop-moved.invariant.rest;
+      added = AreRaised-one c.args.log.now c.args.masks.now c.args.place c.args.self.now.added c.loop-moved.self.added
+          (λ k lt. omega (arith, rw none at (c.loop-moved.invariant.totals k lt))) c.loop-moved.invariant.others;
+    }

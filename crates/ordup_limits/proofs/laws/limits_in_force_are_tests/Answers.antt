@@ -1,5 +1,0 @@
-use Rattle.ordup_limits.proofs.EntryLemmas.{in_force-test}
-use Rattle.ordup_limits.proofs.laws.limits_in_force_are_tests.Goals as goal
-
-pub returns : goal.returns
-returns c = in_force-test

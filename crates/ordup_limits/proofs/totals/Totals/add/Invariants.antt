@@ -1,0 +1,19 @@
+use Rattle.std.proofs.Common.{◌≡◌, ◌<◌, ◌≤◌, ◌+◌, ℕ, length}
+use Rattle.std.specs.Prelude.{slice_index, ◌==◌}
+use Rattle.std.specs.Int.{bit_at}
+use Rattle.ordup_limits.specs.Sizes.{most_limits}
+use Rattle.ordup_limits.specs.Totals.{share}
+use Rattle.ordup_limits.proofs.totals.Totals.add.Given as goal
+
+-- with the weight where a bit is left, the totals are those with the weight where the mask has one
+abbrev pub invariant-loop-rest : goal.invariant-loop-rest
+invariant-loop-rest g l = record {
+  count : length l.self-inside.totals.items ≡ most_limits;
+  totals : (k : ℕ) → k < most_limits
+      → slice_index l.self-inside.totals.items k + share (bit_at l.rest k == 1) l.weight
+      ≡ slice_index l.initial.self-inside.totals.items k + share (bit_at l.mask k == 1) l.weight;
+  others : (k : ℕ) → most_limits ≤ k → slice_index l.self-inside.totals.items k ≡ slice_index l.initial.self-inside.totals.items k;
+}
+
+abbrev pub decreases-loop-rest : goal.decreases-loop-rest
+decreases-loop-rest g l = l.rest

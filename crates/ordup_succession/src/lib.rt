@@ -1,0 +1,14 @@
+//! Declarations as lines of a script: what is declared of a store, for its successor.
+//!
+//! The one contract above this layer: the lines of a setup, run as a script, declare just that setup and start its store.
+#![tactic(auto)]
+
+mod forming;
+mod laws;
+mod record_end;
+mod successor;
+
+pub use forming::{push_declarations, push_object_declarations};
+pub use laws::declarations_read_back;
+pub use record_end::objects_at_end;
+pub use successor::push_successor;

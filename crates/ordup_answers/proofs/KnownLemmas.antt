@@ -1,6 +1,6 @@
 -- What is left by a line that is kept, and what stays true of lines that are.
 use Rattle.std.proofs.Common.{◌≡◌, ◌∙◌, sym, subst, ℕ, List, [], Some}
-use Rattle.std.specs.Prelude.{Result, Ok, Err, IfErr}
+use Rattle.std.specs.Prelude.{Result, Ok, Err}
 use Rattle.ordup_primary.specs.Declarations.{Declared}
 use Rattle.ordup_world.specs.Events.{Past}
 use Rattle.ordup_world.specs.Worlds.{WorldState, StandsFor}
@@ -13,7 +13,7 @@ use Rattle.ordup_answers.specs.declared.script_end.ScriptEnd.{ScriptEnd}
 use Rattle.ordup_answers.specs.declared.script_end.ScriptEnd.TheVariants as variant
 use Rattle.ordup_answers.specs.Answers.{Leaves, Replies, StaysPut}
 use Rattle.ordup_answers.specs.Events.{event_of, names_of}
-use Rattle.ordup_answers.specs.KnownLines.{AreKnown, IsAnswering, Knows, Tells, TellsIn, name_of}
+use Rattle.ordup_answers.specs.KnownLines.{AreKnown, IsAnswering, Knows, StaysKnown, Tells, TellsIn, name_of}
 use Rattle.ordup_answers.specs.Replies.{Reply, event_reply, words_reply}
 use Rattle.ordup_answers.specs.ScriptStates.{ScriptState, declaring, running, IsWorldOf, Stands}
 
@@ -41,7 +41,7 @@ module _ {A E : Type 0} (old new : ScriptEnd A) (before after : KnownLines) (Too
   -- after a line the script stands in some state, of which what is kept of lines is true
   pub stays_answering : (r : Result (Unit {0}) E) → IsAnswering old before
       → Replies (λ s. Stands old s × Knows before s) (λ s. Stands new s × Knows after s) Took reply r → StaysPut old new Took r
-      → IfErr r (λ _. (s : ScriptState A) → Stands old s → Knows before s → Knows after s)
+      → StaysKnown old before after
       → IsAnswering new after
   stays_answering (Ok done) (s, (stands, knows)) replies stays still =
       let left = replies s (stands, knows) in

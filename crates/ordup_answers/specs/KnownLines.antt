@@ -52,6 +52,10 @@ module _ {A : Type 0} where
   abbrev pub StandsKnowing : ScriptEnd A → KnownLines → ScriptState A → Type 0
   StandsKnowing end known s = Stands end s × Knows known s
 
+  -- what is kept of lines is still true in each state in which the script stands
+  abbrev pub StaysKnown : ScriptEnd A → KnownLines → KnownLines → Type 0
+  StaysKnown end before after = (s : ScriptState A) → Stands end s → Knows before s → Knows after s
+
   -- it is so in some state
   abbrev pub IsAnswering : ScriptEnd A → KnownLines → Type 0
   IsAnswering end known = (s : ScriptState A) × StandsKnowing end known s

@@ -1,23 +1,23 @@
 //! A script that is answered line by line.
 //!
 //! Most lines of a script are one of a few: `settle`, and `send S`, `apply S` and `report S` of each site. The first is known as it
-//! stands. A line of a site is looked for among those that came before, by its bytes, and where it is not among them by its keyword
-//! and its site. The words of all other lines are looked at.
-ghost use Rattle.std.specs.Prelude.{◌≡◌, Some, IfErr};
+//! stands. A line of a site is looked for among those that came before, by its bytes. Of all other lines the words are looked at, and
+//! a line of a site is kept then.
+ghost use Rattle.std.specs.Prelude.{◌≡◌};
 ghost use Rattle.ordup_grammar.specs.Lines.{cut};
 ghost use Rattle.ordup_grammar.specs.Requests.{request_of};
 ghost use Rattle.ordup_answers.specs.Answers.{Replies, StaysPut};
-ghost use Rattle.ordup_answers.specs.KnownLines.{Knows, StandsKnowing};
+ghost use Rattle.ordup_answers.specs.KnownLines.{StandsKnowing, StaysKnown};
 ghost use Rattle.ordup_answers.specs.Replies.{request_reply};
-ghost use Rattle.ordup_answers.specs.ScriptStates.{ScriptState, Stands, first_state};
+ghost use Rattle.ordup_answers.specs.ScriptStates.{Stands, first_state};
 
 use crate::answers::answer_by_words;
-use crate::events::{answer_at_site, settle};
+use crate::events::settle;
 use crate::known_answers::answer_known;
 use crate::known_lines::KnownLines;
 use crate::script_end::ScriptEnd;
 use crate::taker::AnswerTaker;
-use ordup_grammar::{LinePart, ScriptLine, SiteLine};
+use ordup_grammar::LinePart;
 use std::alloc::{AllocError, Allocator, Global};
 use std::marker::Model;
 
@@ -95,7 +95,7 @@ fn answer_line<A: Allocator + Copy, O: AnswerTaker<A>>(
 ) -> Result<(), AllocError>
     ensures reply { Replies (StandsKnowing store.old known.old) (StandsKnowing store.new known.new) (O.took out.old out.new) (λ s. request_reply s (request_of (cut line.now))) result }
     ensures kept { StaysPut store.old store.new (O.took out.old out.new) result }
-    ensures known { IfErr result (λ _. (s : ScriptState A) → Stands store.old s → Knows known.old s → Knows known.new s) }
+    ensures known { StaysKnown store.old known.old known.new }
 {
     if line.is_settle() {
         return settle(store, out);
@@ -103,9 +103,5 @@ fn answer_line<A: Allocator + Copy, O: AnswerTaker<A>>(
     if let Some(known) = known.find(line.as_bytes()) {
         return answer_known(store, known, out);
     }
-    if let Some(at) = SiteLine::of(line) {
-        known.keep(store, line, &at);
-        return answer_at_site(store, at.action, &at.site, out);
-    }
-    answer_by_words(alloc, store, &ScriptLine::of(line), out)
+    answer_by_words(alloc, store, known, line, out)
 }

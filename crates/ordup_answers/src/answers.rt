@@ -2,45 +2,52 @@
 ghost use Rattle.std.specs.Prelude.{◌≡◌, [], None, Some, IfOk, IfErr, length, option_map};
 ghost use Rattle.ordup_grammar.specs.Commands.{Certify, Declare, Start, command_by, command_of};
 ghost use Rattle.ordup_grammar.specs.Declarations.{declaration_of};
-ghost use Rattle.ordup_grammar.specs.Requests.{asked};
+ghost use Rattle.ordup_grammar.specs.Lines.{cut};
+ghost use Rattle.ordup_grammar.specs.Requests.{request_by, request_of};
 ghost use Rattle.ordup_grammar.specs.declared.keyword.Keyword.{Keyword};
 ghost use Rattle.ordup_answers.specs.ScriptStates.{ScriptState, Declares, IsWorldOf, Stands};
 ghost use Rattle.ordup_answers.specs.Replies.{declared_name, request_reply, words_reply, command_reply, reply_or_refusal};
 ghost use Rattle.ordup_answers.specs.ScriptStates.{running};
 ghost use Rattle.ordup_primary.specs.Declarations.{Declared, start_refusal};
 ghost use Rattle.ordup_answers.specs.Answers.{Replies, StaysPut};
+ghost use Rattle.ordup_answers.specs.KnownLines.{StaysKnown};
 
 use crate::declaring::declare;
 use crate::events::{
     answer_abandon, answer_begin, answer_end, answer_propose, answer_read, answer_relimit,
     answer_settle, answer_show, answer_words_at_site,
 };
+use crate::known_lines::KnownLines;
 use crate::names::find_site;
 use crate::script_end::ScriptEnd;
 use crate::taker::AnswerTaker;
-use ordup_grammar::{Declaration, Keyword, ScriptLine, SiteAction, Word, Words};
+use ordup_grammar::{Declaration, Keyword, LinePart, ScriptLine, SiteAction, Word, Words};
 use ordup_objects::Refusal;
 use ordup_world::{Setup, World};
 use std::alloc::{AllocError, Allocator};
 
-/// Answers a line by its words.
+/// Answers a line by its words, and keeps it where it is one of a site.
 #[inline(always)]
 pub(crate) fn answer_by_words<A: Allocator + Copy, O: AnswerTaker<A>>(
     alloc: A,
     store: &mut ScriptEnd<A>,
-    line: &ScriptLine<'_>,
+    known: &mut KnownLines,
+    line: &LinePart<'_>,
     out: &mut O,
 ) -> Result<(), AllocError>
-    ensures reply { Replies (Stands store.old) (Stands store.new) (O.took out.old out.new) (λ s. request_reply s (asked line.now)) result }
+    ensures reply { Replies (Stands store.old) (Stands store.new) (O.took out.old out.new) (λ s. request_reply s (request_of (cut line.now))) result }
     ensures kept { StaysPut store.old store.new (O.took out.old out.new) result }
+    ensures known { StaysKnown store.old known.old known.new }
 {
-    match line {
+    match ScriptLine::of(line) {
         ScriptLine::Nothing => {
             out.nothing();
             Ok(())
         }
         ScriptLine::NoCommand => out.refused(Refusal::Syntax),
-        ScriptLine::Words(first, rest) => answer_words(alloc, store, first, rest, out),
+        ScriptLine::Words(first, rest) => answer_words(
+            alloc, store, known, line, &first, &rest, out,
+        ),
     }
 }
 
@@ -50,12 +57,16 @@ pub(crate) fn answer_by_words<A: Allocator + Copy, O: AnswerTaker<A>>(
 fn answer_words<A: Allocator + Copy, O: AnswerTaker<A>>(
     alloc: A,
     store: &mut ScriptEnd<A>,
+    known: &mut KnownLines,
+    line: &LinePart<'_>,
     first: &Word<'_>,
     rest: &Words<'_>,
     out: &mut O,
 ) -> Result<(), AllocError>
+    requires { request_of (cut line.now) ≡ request_by (command_of first.now rest.now) }
     ensures reply { Replies (Stands store.old) (Stands store.new) (O.took out.old out.new) (λ s. words_reply s (command_of first.now rest.now)) result }
     ensures kept { StaysPut store.old store.new (O.took out.old out.new) result }
+    ensures known { StaysKnown store.old known.old known.new }
 {
     let Some(keyword) = Keyword::of(first) else {
         return answer_declaration(alloc, store, first, rest, out);
@@ -64,9 +75,9 @@ fn answer_words<A: Allocator + Copy, O: AnswerTaker<A>>(
         Keyword::Start => answer_start(alloc, store, rest, out),
         Keyword::Certify => answer_certify(store, rest, out),
         Keyword::Propose => answer_propose(alloc, store, rest, out),
-        Keyword::Send => answer_words_at_site(store, SiteAction::Send, rest, out),
-        Keyword::Apply => answer_words_at_site(store, SiteAction::Apply, rest, out),
-        Keyword::Report => answer_words_at_site(store, SiteAction::Report, rest, out),
+        Keyword::Send => answer_words_at_site(store, known, line, SiteAction::Send, rest, out),
+        Keyword::Apply => answer_words_at_site(store, known, line, SiteAction::Apply, rest, out),
+        Keyword::Report => answer_words_at_site(store, known, line, SiteAction::Report, rest, out),
         Keyword::Settle => answer_settle(store, rest, out),
         Keyword::Begin => answer_begin(store, rest, out),
         Keyword::Read => answer_read(store, rest, out),

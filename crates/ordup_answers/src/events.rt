@@ -12,35 +12,47 @@ ghost use Rattle.ordup_world.specs.Worlds.{StandsFor};
 ghost use Rattle.ordup_world.specs.declared.event.Event.{Event};
 ghost use Rattle.ordup_grammar.specs.Actions.{Settle};
 ghost use Rattle.ordup_grammar.specs.Commands.{Act, command_by};
+ghost use Rattle.ordup_grammar.specs.Lines.{cut};
+ghost use Rattle.ordup_grammar.specs.Requests.{request_by, request_of};
 ghost use Rattle.ordup_grammar.specs.SiteLines.{action_at};
 ghost use Rattle.ordup_grammar.specs.declared.keyword.Keyword.{Keyword};
 ghost use Rattle.ordup_answers.specs.Answers.{Replies, StaysPut, Steps};
 ghost use Rattle.ordup_answers.specs.Events.{asked_at, query_name};
+ghost use Rattle.ordup_answers.specs.KnownLines.{StaysKnown};
 ghost use Rattle.ordup_answers.specs.Refusals.{Gives};
 ghost use Rattle.ordup_answers.specs.Replies.{event_reply, words_reply};
 ghost use Rattle.ordup_answers.specs.ScriptStates.{ScriptState, IsWorldOf, Stands};
 
 use crate::changes::{set_in, syntax_or};
+use crate::known_lines::KnownLines;
 use crate::names::{find_object, find_scope, find_site};
 use crate::script_end::ScriptEnd;
 use crate::taker::AnswerTaker;
-use ordup_grammar::{ScopeWord, SiteAction, Word, Words};
+use ordup_grammar::{LinePart, ScopeWord, SiteAction, Word, Words};
 use ordup_objects::{Name, ObjectId, Refusal, or_give_up};
 use ordup_world::{Event, World};
 use std::alloc::{AllocError, Allocator};
 
-/// Answers the action of words after a keyword: `send S`, `apply S` or `report S`.
+/// Answers the action of words after a keyword: `send S`, `apply S` or `report S`. The line is kept first, so that it need not be
+/// looked at by its words again.
 pub(crate) fn answer_words_at_site<A: Allocator + Copy, O: AnswerTaker<A>>(
     store: &mut ScriptEnd<A>,
+    known: &mut KnownLines,
+    line: &LinePart<'_>,
     action: SiteAction,
     rest: &Words<'_>,
     out: &mut O,
 ) -> Result<(), AllocError>
+    requires { request_of (cut line.now) ≡ request_by (asked_at action rest.now) }
     ensures reply { Replies (Stands store.old) (Stands store.new) (O.took out.old out.new) (λ s. words_reply s (asked_at action rest.now)) result }
     ensures kept { StaysPut store.old store.new (O.took out.old out.new) result }
+    ensures known { StaysKnown store.old known.old known.new }
 {
     match rest.only_word() {
-        Some(site) => answer_at_site(store, action, &site, out),
+        Some(site) => {
+            known.keep(store, line, action, &site);
+            answer_at_site(store, action, &site, out)
+        }
         None => out.refused(Refusal::Syntax),
     }
 }

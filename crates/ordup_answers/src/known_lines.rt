@@ -9,13 +9,12 @@ ghost use Rattle.ordup_grammar.specs.Commands.{Act};
 ghost use Rattle.ordup_grammar.specs.Lines.{cut};
 ghost use Rattle.ordup_grammar.specs.Requests.{Command, request_of};
 ghost use Rattle.ordup_grammar.specs.SiteLines.{action_at};
-ghost use Rattle.ordup_answers.specs.KnownLines.{AreKnown, Knows, Tells, line_of};
-ghost use Rattle.ordup_answers.specs.ScriptStates.{ScriptState, Stands};
+ghost use Rattle.ordup_answers.specs.KnownLines.{AreKnown, StaysKnown, Tells, line_of};
 
 use crate::known_line::{FEWEST_KEPT_BYTES, KnownLine, MOST_KEPT_BYTES};
 use crate::names::find_site;
 use crate::script_end::ScriptEnd;
-use ordup_grammar::{LinePart, SiteLine};
+use ordup_grammar::{LinePart, SiteAction, Word};
 use ordup_objects::sizes::MOST_NAME_BYTES;
 use ordup_objects::slot_of;
 use ordup_world::Setup;
@@ -57,39 +56,45 @@ impl KnownLines {
 
     /// Keeps a line whose site is declared, where its slot is free.
     #[inline(never)]
-    fn note<A: Allocator + Copy>(&mut self, setup: &Setup<A>, line: &[u8], asked: &SiteLine<'_>)
-        requires { request_of (cut line.now) ≡ Command (Act (action_at asked.now.action asked.now.site)) }
+    fn note<A: Allocator + Copy>(
+        &mut self,
+        setup: &Setup<A>,
+        line: &[u8],
+        action: SiteAction,
+        site: &Word<'_>,
+    )
+        requires { request_of (cut line.now) ≡ Command (Act (action_at action site.now)) }
         ensures { AreKnown setup.now self.old → AreKnown setup.now self.new }
     {
         let slot = slot_of(line) as usize;
         if self.lines[slot].is_some() {
             return;
         }
-        let name = asked.site.as_bytes();
-        let site = find_site(setup, &asked.site);
+        let name = site.as_bytes();
+        let site = find_site(setup, site);
         if site.index() >= setup.sites() || name.len() > MOST_NAME_BYTES {
             return;
         }
         if line.len() < FEWEST_KEPT_BYTES || line.len() > MOST_KEPT_BYTES {
             return;
         }
-        self.lines[slot] = Some(KnownLine::new(line, name, asked.action, site));
+        self.lines[slot] = Some(KnownLine::new(line, name, action, site));
     }
 
-    /// Keeps a line after the start, where it is one of a keyword and a site.
-    #[inline(always)]
+    /// Keeps a line that asks for an action at a site, after the start.
     pub(crate) fn keep<A: Allocator + Copy>(
         &mut self,
         store: &ScriptEnd<A>,
         part: &LinePart<'_>,
-        asked: &SiteLine<'_>,
+        action: SiteAction,
+        site: &Word<'_>,
     )
-        requires { request_of (cut part.now) ≡ Command (Act (action_at asked.now.action asked.now.site)) }
-        ensures { (s : ScriptState A) → Stands store.now s → Knows self.old s → Knows self.new s }
+        requires { request_of (cut part.now) ≡ Command (Act (action_at action site.now)) }
+        ensures { StaysKnown store.now self.old self.new }
     {
         let ScriptEnd::Running(world) = store else {
             return;
         };
-        self.note(world.primary().setup(), part.as_bytes(), asked);
+        self.note(world.primary().setup(), part.as_bytes(), action, site);
     }
 }

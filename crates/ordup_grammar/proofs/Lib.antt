@@ -5,6 +5,6 @@ pub mod Splits
 pub mod PrintedLemmas
 pub mod PositionLemmas
 pub mod SpelledLemmas
-pub mod SiteLineLemmas
+pub mod SettleLemmas
 mod Examples
 mod KeptLemmas

@@ -11,6 +11,5 @@ pub mod Actions
 pub mod Commands
 pub mod SiteLines
 pub mod Requests
-pub mod SiteLineBytes
 pub mod LineBuffers
 pub mod LineParts

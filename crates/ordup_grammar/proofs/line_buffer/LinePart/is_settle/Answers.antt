@@ -1,5 +1,5 @@
 use Rattle.std.proofs.Common.{◌∙◌, sym}
-use Rattle.ordup_grammar.proofs.SiteLineLemmas.{asks_to_settle}
+use Rattle.ordup_grammar.proofs.SettleLemmas.{asks_to_settle}
 use Rattle.ordup_grammar.proofs.line_buffer.LinePart.is_settle.Goals as goal
 
 pub returns-clause-asks : goal.returns-clause-asks

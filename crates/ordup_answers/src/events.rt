@@ -35,6 +35,7 @@ use std::alloc::{AllocError, Allocator};
 
 /// Answers the action of words after a keyword: `send S`, `apply S` or `report S`. The line is kept first, so that it need not be
 /// looked at by its words again.
+#[inline(never)]
 pub(crate) fn answer_words_at_site<A: Allocator + Copy, O: AnswerTaker<A>>(
     store: &mut ScriptEnd<A>,
     known: &mut KnownLines,
@@ -58,8 +59,8 @@ pub(crate) fn answer_words_at_site<A: Allocator + Copy, O: AnswerTaker<A>>(
 }
 
 /// Answers an action at a site.
-#[inline(never)]
-pub(crate) fn answer_at_site<A: Allocator + Copy, O: AnswerTaker<A>>(
+#[inline(always)]
+fn answer_at_site<A: Allocator + Copy, O: AnswerTaker<A>>(
     store: &mut ScriptEnd<A>,
     action: SiteAction,
     site: &Word<'_>,

@@ -46,6 +46,8 @@ impl<A: Allocator + Copy> Weights<A> {
     }
 
     /// Adds the updates after the place, up to a later one.
+    // Inlined: a settlement and a report seldom have more than one update to add.
+    #[inline(always)]
     pub(crate) fn extend(&mut self, log: &Log<A>, groups: &Groups<A>, masks: &Masks<A>, to: u64)
         requires forward { self.old.place ≤ to }
         requires last { to ≤ length log.now.sets }

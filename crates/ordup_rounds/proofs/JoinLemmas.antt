@@ -22,10 +22,10 @@ use Rattle.ordup_rounds.proofs.WindowLemmas.{no_fewer_rounds_than_windows}
 
 -- ---- reports
 
-reports-before : (n : ℕ) (f g : ℕ → ℕ) (k : ℕ) → k ≤ n → joined_reports n f g k ≡ f k
+pub reports-before : (n : ℕ) (f g : ℕ → ℕ) (k : ℕ) → k ≤ n → joined_reports n f g k ≡ f k
 reports-before n f g k le = rw (le-leb k n le) refl
 
-reports-after : (n : ℕ) (f g : ℕ → ℕ) (k : ℕ) → 0 < k → joined_reports n f g (n + k) ≡ n + g k
+pub reports-after : (n : ℕ) (f g : ℕ → ℕ) (k : ℕ) → 0 < k → joined_reports n f g (n + k) ≡ n + g k
 reports-after n f g k some = let here : n + k - n ≡ k = omega arith in rw (lt-leb (n + k) n (omega arith), here) refl
 
 -- ---- places that are moved
@@ -37,7 +37,7 @@ eqb-moved n x k = elim (cases_order x k) [
   | inr (inr more) ↦ rw (ne_eqb x k (omega arith), ne_eqb (n + x) (n + k) (omega arith)) refl
 ]
 
-has_place-moved : (n k : ℕ) (xs : List ℕ) → has_place (n + k) (moved_places n xs) ≡ has_place k xs
+pub has_place-moved : (n k : ℕ) (xs : List ℕ) → has_place (n + k) (moved_places n xs) ≡ has_place k xs
 has_place-moved n k [] = refl
 has_place-moved n k (x ∷ xs) = rw (eqb-moved n x k, has_place-moved n k xs) refl
 
@@ -53,7 +53,7 @@ count_upto-moved n e (x ∷ xs) =
     sum_by-cons (λ k. cond (nat_le k (n + e)) 1 0) (n + x) (moved_places n xs)
     ∙ rw (leb-moved n x e, count_upto-moved n e xs) (sym (sum_by-cons (λ k. cond (nat_le k e) 1 0) x xs))
 
-places-moved : (n d : ℕ) (xs : List ℕ) → All (λ k. (0 < k) × (k ≤ d)) xs → All (λ k. (n < k) × (k ≤ n + d)) (moved_places n xs)
+pub places-moved : (n d : ℕ) (xs : List ℕ) → All (λ k. (0 < k) × (k ≤ d)) xs → All (λ k. (n < k) × (k ≤ n + d)) (moved_places n xs)
 places-moved n d xs each =
     All-map (λ k. (n < k) × (k ≤ n + d)) (λ k. n + k) xs
     (All-weaker (λ k. (0 < k) × (k ≤ d)) (λ k. (n < n + k) × (n + k ≤ n + d)) (λ k is. (omega (arith, is.0), omega (arith, is.1))) xs each)
@@ -95,6 +95,31 @@ map-adjacent R S f keeps (x ∷ y ∷ xs) all (suc k) d there =
 adjacent-ascending : (xs : List ℕ) → IsStrictlyIncreasing xs → AllAdjacentBelow (λ x y. x < y) xs (length xs)
 adjacent-ascending xs are k d there = AllPairs-from_increasing xs are k (k + 1) d (omega arith) there
 
+-- ---- places of both epochs
+
+upto-join : (n : ℕ) (rounds : List ℕ) → AreRoundPlaces n rounds → All (λ k. k ≤ n) rounds
+upto-join n rounds places = All-weaker (λ k. (0 < k) × (k ≤ n)) (λ k. k ≤ n) (λ k is. is.1) rounds places.each
+
+after-join : (n decided : ℕ) (more : List ℕ) → AreRoundPlaces decided more → All (λ k. (n < k) × (k ≤ n + decided)) (moved_places n more)
+after-join n decided more places = places-moved n decided more places.each
+
+pub places-joined : (n decided : ℕ) (rounds more : List ℕ) → AreRoundPlaces n rounds → AreRoundPlaces decided more
+    → AreRoundPlaces (n + decided) (rounds ++ moved_places n more)
+places-joined n decided rounds more one two =
+    let after = after-join n decided more two in
+    let ascending : AllAdjacentBelow (λ x y. x < y) (rounds ++ moved_places n more) (length (rounds ++ moved_places n more)) =
+    adjacent-append (λ x y. x < y) (λ k. k ≤ n) (λ k. n < k) (λ x y le lt. omega arith) rounds (moved_places n more)
+    (adjacent-ascending rounds one.ascending) (upto-join n rounds one)
+    (map-adjacent (λ x y. x < y) (λ x y. x < y) (λ k. n + k) (λ x y lt. omega arith) more (adjacent-ascending more two.ascending))
+    (All-weaker (λ k. (n < k) × (k ≤ n + decided)) (λ k. n < k) (λ k is. is.0) (moved_places n more) after) in
+    record {
+      ascending = λ k there. ascending k 0 there;
+      each = All-append (λ k. (0 < k) × (k ≤ n + decided)) rounds (moved_places n more)
+          (All-weaker (λ k. (0 < k) × (k ≤ n)) (λ k. (0 < k) × (k ≤ n + decided)) (λ k is. (is.0, omega (arith, is.1))) rounds one.each)
+          (All-weaker (λ k. (n < k) × (k ≤ n + decided)) (λ k. (0 < k) × (k ≤ n + decided)) (λ k is. (omega (arith, is.0), is.1))
+          (moved_places n more) after);
+    }
+
 -- ---- what rounds wait for
 
 awaited-more : (p q : Schedule) (k : ℕ) → ((i : ℕ) → unwrap_or (p i) 0 ≤ unwrap_or (q i) 0) → awaited_place p k ≤ awaited_place q k
@@ -132,7 +157,7 @@ awaited-next n xs ys (suc k) =
 
 -- ---- a schedule of the whole, from the next epoch on
 
-abbrev later_part : ℕ → Schedule → Schedule
+abbrev pub later_part : ℕ → Schedule → Schedule
 later_part n p k = option_map (λ m. m - n) (p (n + k))
 
 count-later : (o : Option ℕ) (n a b c : ℕ) → a ≡ b + c
@@ -173,30 +198,6 @@ module _ (n decided : ℕ) (within first next : ℕ → ℕ → Bool) (f g : ℕ
 
   module _ (rounds more : List ℕ) (windows later : List Window) (one : IsCertificate first f n rounds windows)
       (two : IsCertificate next g decided more later) where
-    -- ---- the places
-
-    upto-join : All (λ k. k ≤ n) rounds
-    upto-join = All-weaker (λ k. (0 < k) × (k ≤ n)) (λ k. k ≤ n) (λ k is. is.1) rounds one.places.each
-
-    after-join : All (λ k. (n < k) × (k ≤ n + decided)) (moved_places n more)
-    after-join = places-moved n decided more two.places.each
-
-    ascending-joined : AllAdjacentBelow (λ x y. x < y) (rounds ++ moved_places n more) (length (rounds ++ moved_places n more))
-    ascending-joined =
-        adjacent-append (λ x y. x < y) (λ k. k ≤ n) (λ k. n < k) (λ x y le lt. omega arith) rounds (moved_places n more)
-        (adjacent-ascending rounds one.places.ascending) upto-join
-        (map-adjacent (λ x y. x < y) (λ x y. x < y) (λ k. n + k) (λ x y lt. omega arith) more (adjacent-ascending more two.places.ascending))
-        (All-weaker (λ k. (n < k) × (k ≤ n + decided)) (λ k. n < k) (λ k is. is.0) (moved_places n more) after-join)
-
-    places-joined : AreRoundPlaces (n + decided) (rounds ++ moved_places n more)
-    places-joined = record {
-      ascending = λ k there. ascending-joined k 0 there;
-      each = All-append (λ k. (0 < k) × (k ≤ n + decided)) rounds (moved_places n more)
-          (All-weaker (λ k. (0 < k) × (k ≤ n)) (λ k. (0 < k) × (k ≤ n + decided)) (λ k is. (is.0, omega (arith, is.1))) rounds one.places.each)
-          (All-weaker (λ k. (n < k) × (k ≤ n + decided)) (λ k. (0 < k) × (k ≤ n + decided)) (λ k is. (omega (arith, is.0), is.1))
-          (moved_places n more) after-join);
-    }
-
     -- ---- they keep the limits
 
     keeps-before : (k : ℕ) → 0 < k → k ≤ n → within (base reports (full_rounds (rounds ++ moved_places n more)) k) k ≡ true
@@ -258,7 +259,7 @@ module _ (n decided : ℕ) (within first next : ℕ → ℕ → Bool) (f g : ℕ
 
     certificate-joined : IsCertificate within reports (n + decided) (rounds ++ moved_places n more) (windows ++ moved_windows n later)
     certificate-joined = record {
-      places = places-joined;
+      places = places-joined n decided rounds more one.places two.places;
       keeps = keeps-joined;
       disjoint = disjoint-joined;
       count = omega (
@@ -278,13 +279,13 @@ module _ (n decided : ℕ) (within first next : ℕ → ℕ → Bool) (f g : ℕ
     count-before e le =
         let none : count_upto e (moved_places n more) ≡ 0 =
         count_upto-none e (moved_places n more)
-        (All-weaker (λ k. (n < k) × (k ≤ n + decided)) (λ k. e < k) (λ k is. omega (arith, is.0)) (moved_places n more) after-join) in
+        (All-weaker (λ k. (n < k) × (k ≤ n + decided)) (λ k. e < k) (λ k is. omega (arith, is.0)) (moved_places n more) (after-join n decided more two.places)) in
         omega (arith, sum_by-append (λ k. cond (nat_le k e) 1 0) rounds (moved_places n more), none)
 
     count-after : (e : ℕ) → count_upto (n + e) (rounds ++ moved_places n more) ≡ length rounds + count_upto e more
     count-after e =
         let all : count_upto (n + e) rounds ≡ length rounds =
-        count_upto-all (n + e) rounds (All-weaker (λ k. k ≤ n) (λ k. k ≤ n + e) (λ k le. omega arith) rounds upto-join) in
+        count_upto-all (n + e) rounds (All-weaker (λ k. k ≤ n) (λ k. k ≤ n + e) (λ k le. omega arith) rounds (upto-join n rounds one.places)) in
         omega (arith, sum_by-append (λ k. cond (nat_le k (n + e)) 1 0) rounds (moved_places n more), all, count_upto-moved n e more)
 
 pub certificates_join : CertificatesJoin
@@ -297,13 +298,13 @@ module _ (n decided : ℕ) (within first next : ℕ → ℕ → Bool) (f g : ℕ
     (joins : JoinsTests n within first next) (p : Schedule) (is : IsSchedule (n + decided) p)
     (keeps : StaysWithin within (joined_reports n f g) (n + decided) p) where
   -- up to the end of the first epoch a schedule of the whole is one of that epoch
-  keeps-first : StaysWithin first f n p
+  pub keeps-first : StaysWithin first f n p
   keeps-first k some le =
       sym (joins.before (base f p k) k le)
       ∙ test.later (base (joined_reports n f g) p k) (base f p k) k (omega (arith, reports-before n f g k le)) (keeps k some (omega arith))
 
   -- and from there on one of the next
-  keeps-next : StaysWithin next g decided (later_part n p)
+  pub keeps-next : StaysWithin next g decided (later_part n p)
   keeps-next k some le =
       let own = base g (later_part n p) k in
       sym (joins.after own k)
@@ -335,7 +336,7 @@ fewest_rounds_join n decided within first next f g test joins rounds more window
             let parts : round_count p e ≡ round_count p n + round_count (later_part n p) (e - n) = rw here at parted in
             let upto : count_upto n rounds ≡ length rounds =
             count_upto-all n rounds
-            (upto-join n decided within first next f g test joins rounds more windows later one.certificate two.certificate) in
+            (upto-join n rounds one.certificate.places) in
             omega (
               arith,
               count,

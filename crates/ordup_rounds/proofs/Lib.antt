@@ -4,3 +4,4 @@ pub mod PlaceLemmas
 pub mod RoundLemmas
 pub mod JoinLemmas
 pub mod Examples
+pub mod PartLemmas

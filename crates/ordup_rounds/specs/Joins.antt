@@ -1,8 +1,9 @@
 -- Two epochs of a site, one after the other. The next one begins where the first one ended, and the site has then reported all of the
 -- first.
-use Rattle.std.specs.Prelude.{◌≡◌, ℕ, ◌+◌, ◌-◌, ◌≤◌, Bool, if◌then◌else◌, nat_le, List, ◌++◌, map}
+use Rattle.std.specs.Prelude.{◌≡◌, ℕ, ◌+◌, ◌-◌, ◌≤◌, Bool, if◌then◌else◌, nat_le, List, ◌++◌, map, All}
 use Rattle.ordup_rounds.specs.declared.window.Window.{Window}
 use Rattle.ordup_rounds.specs.Schedules.{IsLimitTest}
+use Rattle.ordup_rounds.specs.Rounds.{AreRoundPlaces}
 use Rattle.ordup_rounds.specs.Fewest.{IsCertificate, AreFewest}
 
 -- what a site had reported at a place of the whole, where the first epoch has n places: in the next one all of the first, and what
@@ -43,3 +44,14 @@ FewestRoundsJoin =
     AreFewest first first_reports n rounds windows → AreFewest next next_reports decided next_rounds next_windows →
     AreFewest within (joined_reports n first_reports next_reports) (n + decided) (rounds ++ moved_places n next_rounds)
     (windows ++ moved_windows n next_windows)
+
+-- a certificate of the whole is one of each epoch, whose rounds and windows are within it
+abbrev pub CertificatesPart : Type 0
+CertificatesPart =
+    (n decided : ℕ) (within first next : ℕ → ℕ → Bool) (first_reports next_reports : ℕ → ℕ) →
+    IsLimitTest within → IsLimitTest first → IsLimitTest next → JoinsTests n within first next →
+    (rounds next_rounds : List ℕ) (windows next_windows : List Window) → AreRoundPlaces n rounds → AreRoundPlaces decided next_rounds →
+    All (λ w. w.to ≤ n) windows → All (λ w. w.to ≤ decided) next_windows →
+    IsCertificate within (joined_reports n first_reports next_reports) (n + decided) (rounds ++ moved_places n next_rounds)
+    (windows ++ moved_windows n next_windows) →
+    IsCertificate first first_reports n rounds windows × IsCertificate next next_reports decided next_rounds next_windows

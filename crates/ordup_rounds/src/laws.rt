@@ -1,4 +1,4 @@
-ghost use Rattle.ordup_rounds.specs.Joins.{CertificatesJoin, FewestRoundsJoin};
+ghost use Rattle.ordup_rounds.specs.Joins.{CertificatesJoin, CertificatesPart, FewestRoundsJoin};
 ghost use Rattle.ordup_rounds.specs.Fewest.{EachWindowHasARound, NoFewerRoundsThanWindows, RoundPlacesAreASchedule, CertifiedRoundsAreFewest, ForcedRoundsAreFewest};
 
 /// A law: a schedule that keeps the limits has a round at a place of each window.
@@ -34,6 +34,12 @@ pub fn forced_rounds_are_fewest()
 /// The site has reported all of the first epoch where the next one begins.
 pub fn certificates_join()
     ensures { CertificatesJoin }
+{}
+
+/// A law: a certificate of two epochs, the second moved by the length of the first, is a certificate of each, where its rounds and
+/// windows are within it, and the test of the whole is that of each epoch (`JoinsTests`).
+pub fn certificates_part()
+    ensures { CertificatesPart }
 {}
 
 /// A law: where the rounds of two epochs are the fewest, so are those of both, one after the other, where the test of the whole is that

@@ -13,7 +13,8 @@ mod laws;
 mod window;
 
 pub use laws::{
-    certificates_join, certified_rounds_are_fewest, each_window_has_a_round, fewest_rounds_join,
-    forced_rounds_are_fewest, no_fewer_rounds_than_windows, round_places_are_a_schedule,
+    certificates_join, certificates_part, certified_rounds_are_fewest, each_window_has_a_round,
+    fewest_rounds_join, forced_rounds_are_fewest, no_fewer_rounds_than_windows,
+    round_places_are_a_schedule,
 };
 pub use window::Window;

@@ -69,7 +69,7 @@ impl<A: Allocator + Copy> Answering<A> {
     /// Where it succeeds: if the script was in a state, it is afterwards in the state that the reply to the line leaves, and `out`
     /// took the text of the reply. It fails only where an allocation was refused, and then nothing happened: the script stands where
     /// it stood, and `out` took nothing.
-    // Inlined into the loop over lines, with the reading of a line before it, so that the words of a line are not moved.
+    // Inlined into the loop over lines, so that one call answers a line that is known.
     #[inline(always)]
     pub fn answer<O: AnswerTaker<A>>(
         &mut self,

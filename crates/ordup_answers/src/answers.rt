@@ -27,7 +27,8 @@ use ordup_world::{Setup, World};
 use std::alloc::{AllocError, Allocator};
 
 /// Answers a line by its words, and keeps it where it is one of a site.
-#[inline(always)]
+// A call: with it inlined, the answering of a line would grow so large that the compiler would leave all of that a call, and say nothing.
+#[inline(never)]
 pub(crate) fn answer_by_words<A: Allocator + Copy, O: AnswerTaker<A>>(
     alloc: A,
     store: &mut ScriptEnd<A>,

@@ -17,8 +17,7 @@ use ordup_world::{Answer, Event, World};
 use std::alloc::{AllocError, Allocator};
 
 /// Answers a line that is kept.
-// The answer to each action is a call, so that the values of one alone are cleared for a line.
-#[inline(always)]
+#[inline(never)]
 pub(crate) fn answer_known<A: Allocator + Copy, O: AnswerTaker<A>>(
     store: &mut ScriptEnd<A>,
     line: &KnownLine,
@@ -30,56 +29,12 @@ pub(crate) fn answer_known<A: Allocator + Copy, O: AnswerTaker<A>>(
     let ScriptEnd::Running(world) = store else {
         return out.refused(Refusal::NotStarted);
     };
+    let site = line.site;
     match line.action {
-        SiteAction::Send => send_at(world, line, out),
-        SiteAction::Apply => apply_at(world, line, out),
-        SiteAction::Report => report_at(world, line, out),
+        SiteAction::Send => answer_at(world, SiteAction::Send, Event::Send(site), line, out),
+        SiteAction::Apply => answer_at(world, SiteAction::Apply, Event::Apply(site), line, out),
+        SiteAction::Report => answer_at(world, SiteAction::Report, Event::Report(site), line, out),
     }
-}
-
-/// Sends the next update to the site of a line, and answers that.
-#[inline(never)]
-fn send_at<A: Allocator + Copy, O: AnswerTaker<A>>(
-    world: &mut World<A>,
-    line: &KnownLine,
-    out: &mut O,
-) -> Result<(), AllocError>
-    ensures reply { Steps {A = A} world.old world.new (O.took out.old out.new) (name_of line.now, []) (Event.Send line.now.site) result }
-    ensures kept { StaysPut world.old world.new (O.took out.old out.new) result }
-{
-    answer_at(world, SiteAction::Send, Event::Send(line.site), line, out)
-}
-
-/// Applies the next update at the site of a line, and answers that.
-#[inline(never)]
-fn apply_at<A: Allocator + Copy, O: AnswerTaker<A>>(
-    world: &mut World<A>,
-    line: &KnownLine,
-    out: &mut O,
-) -> Result<(), AllocError>
-    ensures reply { Steps {A = A} world.old world.new (O.took out.old out.new) (name_of line.now, []) (Event.Apply line.now.site) result }
-    ensures kept { StaysPut world.old world.new (O.took out.old out.new) result }
-{
-    answer_at(world, SiteAction::Apply, Event::Apply(line.site), line, out)
-}
-
-/// Lets the site of a line report, and answers that.
-#[inline(never)]
-fn report_at<A: Allocator + Copy, O: AnswerTaker<A>>(
-    world: &mut World<A>,
-    line: &KnownLine,
-    out: &mut O,
-) -> Result<(), AllocError>
-    ensures reply { Steps {A = A} world.old world.new (O.took out.old out.new) (name_of line.now, []) (Event.Report line.now.site) result }
-    ensures kept { StaysPut world.old world.new (O.took out.old out.new) result }
-{
-    answer_at(
-        world,
-        SiteAction::Report,
-        Event::Report(line.site),
-        line,
-        out,
-    )
 }
 
 /// Steps the world by the event of a line that is kept, and answers it. Spare capacity for the answer is reserved first.

@@ -54,11 +54,12 @@ impl KnownLines {
         Some(known)
     }
 
-    /// Keeps a line whose site is declared, where its slot is free.
+    /// Keeps a line in a slot, where its site is declared.
     #[inline(never)]
     fn note<A: Allocator + Copy>(
         &mut self,
         setup: &Setup<A>,
+        slot: u8,
         line: &[u8],
         action: SiteAction,
         site: &Word<'_>,
@@ -66,10 +67,6 @@ impl KnownLines {
         requires { request_of (cut line.now) ≡ Command (Act (action_at action site.now)) }
         ensures { AreKnown setup.now self.old → AreKnown setup.now self.new }
     {
-        let slot = slot_of(line) as usize;
-        if self.lines[slot].is_some() {
-            return;
-        }
         let name = site.as_bytes();
         let site = find_site(setup, site);
         if site.index() >= setup.sites() || name.len() > MOST_NAME_BYTES {
@@ -78,10 +75,10 @@ impl KnownLines {
         if line.len() < FEWEST_KEPT_BYTES || line.len() > MOST_KEPT_BYTES {
             return;
         }
-        self.lines[slot] = Some(KnownLine::new(line, name, action, site));
+        self.lines[slot as usize] = Some(KnownLine::new(line, name, action, site));
     }
 
-    /// Keeps a line that asks for an action at a site, after the start.
+    /// Keeps a line that asks for an action at a site, after the start, where its slot is free.
     pub(crate) fn keep<A: Allocator + Copy>(
         &mut self,
         store: &ScriptEnd<A>,
@@ -95,6 +92,9 @@ impl KnownLines {
         let ScriptEnd::Running(world) = store else {
             return;
         };
-        self.note(world.primary().setup(), part.as_bytes(), action, site);
+        let slot = slot_of(part.as_bytes());
+        if self.lines[slot as usize].is_none() {
+            self.note(world.primary().setup(), slot, part.as_bytes(), action, site);
+        }
     }
 }

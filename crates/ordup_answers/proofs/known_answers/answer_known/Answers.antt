@@ -6,14 +6,14 @@ use Rattle.ordup_answers.proofs.known_answers.answer_known.Goals as goal
 
 pub returns-in-Apply-clause-reply : goal.returns-in-Apply-clause-reply
 returns-in-Apply-clause-reply g c =
-    on_ok_weaker c.apply_at.result (λ left s (stands, tells).
-    left_by_known c.in-Running.world c.apply_at.new.world c.args.line.now (event.Apply c.args.line.now.site)
-    (g.O.AnswerTaker.took c.args.out.now c.apply_at.new.out) (λ d told. rw (c.in-Apply.is, told.site) refl)
-    (rw c.in-Apply.is refl) left s (rw c.in-Running.is at stands) tells) c.apply_at.ensures.reply
+    on_ok_weaker c.answer_at-in-Apply.result (λ left s (stands, tells).
+    left_by_known c.in-Running.world c.answer_at-in-Apply.new.world c.args.line.now (event.Apply c.args.line.now.site)
+    (g.O.AnswerTaker.took c.args.out.now c.answer_at-in-Apply.new.out) (λ d told. rw (c.in-Apply.is, told.site) refl)
+    (rw c.in-Apply.is refl) left s (rw c.in-Running.is at stands) tells) c.answer_at-in-Apply.ensures.reply
 
 pub returns-in-Report-clause-reply : goal.returns-in-Report-clause-reply
 returns-in-Report-clause-reply g c =
-    on_ok_weaker c.report_at.result (λ left s (stands, tells).
-    left_by_known c.in-Running.world c.report_at.new.world c.args.line.now (event.Report c.args.line.now.site)
-    (g.O.AnswerTaker.took c.args.out.now c.report_at.new.out) (λ d told. rw (c.in-Report.is, told.site) refl)
-    (rw c.in-Report.is refl) left s (rw c.in-Running.is at stands) tells) c.report_at.ensures.reply
+    on_ok_weaker c.answer_at-in-Report.result (λ left s (stands, tells).
+    left_by_known c.in-Running.world c.answer_at-in-Report.new.world c.args.line.now (event.Report c.args.line.now.site)
+    (g.O.AnswerTaker.took c.args.out.now c.answer_at-in-Report.new.out) (λ d told. rw (c.in-Report.is, told.site) refl)
+    (rw c.in-Report.is refl) left s (rw c.in-Running.is at stands) tells) c.answer_at-in-Report.ensures.reply

@@ -1,6 +1,8 @@
 -- The faults of a record that is read and of a series that is written, as those of a job.
 use Rattle.ordup_check.specs.declared.reading.RecordReadFault.{RecordReadFault}
 use Rattle.ordup_check.specs.declared.reading.RecordReadFault.TheVariants as reading
+use Rattle.ordup_check.specs.declared.series.SeriesReadFault.{SeriesReadFault}
+use Rattle.ordup_check.specs.declared.series.SeriesReadFault.TheVariants as reading_series
 use Rattle.ordup_lag.specs.declared.writing.SeriesFault.{SeriesFault}
 use Rattle.ordup_lag.specs.declared.writing.SeriesFault.TheVariants as series
 use Rattle.ordup_faults.specs.declared.fault.Fault.{Fault}
@@ -11,6 +13,12 @@ abbrev pub fault_of_reading : RecordReadFault → Fault
 fault_of_reading reading.Read = fault.Read
 fault_of_reading (reading.Malformed row) = fault.Malformed row
 fault_of_reading reading.NoMemory = fault.NoMemory
+
+-- the fault of reading a series of records
+abbrev pub fault_of_series_reading : SeriesReadFault → Fault
+fault_of_series_reading reading_series.Read = fault.Read
+fault_of_series_reading (reading_series.Malformed record row) = fault.MalformedRecord record row
+fault_of_series_reading reading_series.NoMemory = fault.NoMemory
 
 -- the fault of writing the series of a record
 abbrev pub fault_of_series : SeriesFault → Fault

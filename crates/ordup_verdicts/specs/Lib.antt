@@ -1,3 +1,4 @@
 pub mod Faults
 pub mod Verdicts
 pub mod Lags
+pub mod Series

@@ -1,8 +1,8 @@
 //! The faults of a record that is read and of a series that is written, as those of a job.
 ghost use Rattle.std.specs.Prelude.{◌≡◌};
-ghost use Rattle.ordup_verdicts.specs.Faults.{fault_of_reading, fault_of_series};
+ghost use Rattle.ordup_verdicts.specs.Faults.{fault_of_reading, fault_of_series, fault_of_series_reading};
 
-use ordup_check::RecordReadFault;
+use ordup_check::{RecordReadFault, SeriesReadFault};
 use ordup_faults::Fault;
 use ordup_lag::SeriesFault;
 
@@ -14,6 +14,17 @@ pub fn fault_of_reading(fault: RecordReadFault) -> Fault
         RecordReadFault::Read => Fault::Read,
         RecordReadFault::Malformed { row } => Fault::Malformed { row },
         RecordReadFault::NoMemory => Fault::NoMemory,
+    }
+}
+
+/// The fault of reading a series of records.
+pub(crate) fn fault_of_series_reading(fault: SeriesReadFault) -> Fault
+    ensures { result ≡ fault_of_series_reading fault }
+{
+    match fault {
+        SeriesReadFault::Read => Fault::Read,
+        SeriesReadFault::Malformed { record, row } => Fault::MalformedRecord { record, row },
+        SeriesReadFault::NoMemory => Fault::NoMemory,
     }
 }
 

@@ -6,9 +6,11 @@
 mod check;
 mod faults;
 mod lag;
+mod series;
 mod verdict;
 
 pub use check::check_record;
 pub use faults::fault_of_reading;
 pub use lag::print_lag;
+pub use series::check_series;
 pub use verdict::print_verdict;

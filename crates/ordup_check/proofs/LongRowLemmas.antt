@@ -530,6 +530,12 @@ other_bad init last other n far (some, within, before, bad) =
       ],
     )
 
+last-same : (xs ys : List Row) (x y : Row) → xs ++ x ∷ [] ≡ ys ++ y ∷ [] → x ≡ y
+last-same [] [] x y e = cc
+last-same [] (z ∷ ys) x y e = absurd (let count : 1 ≡ 1 + length (ys ++ y ∷ []) = ap length e in omega (arith, count, length_push ys y))
+last-same (z ∷ xs) [] x y e = absurd (let count : 1 + length (xs ++ x ∷ []) ≡ 1 = ap length e in omega (arith, count, length_push xs x))
+last-same (z ∷ xs) (w ∷ ys) x y e = last-same xs ys x y cc
+
 pub short_malformed : (text : List ℕ) (n : ℕ) → IsMalformedAt (from_row text) n → IsMalformedAt text n
 short_malformed text n (inl (rows, (t, rest, h), bad)) = elim (rows_walk rows st.StartRecord t text rest (refl, refl) h) [
   | inl (rest2, follow, end) ↦ inl (rows, (t, rest2, follow), bad)
@@ -547,6 +553,17 @@ short_taken text stage n (rows, (t, rest, h, none), came, ran, counted) = elim (
   | inr (init, last, other, is, long, far, t2, rest2, follow) ↦
       absurd (too_long rows init last is long (taken_rows_begin_a_record rows stage ran))
 ]
+
+-- rows of which the last ones begin a record are those of the text, and all of it where they are all
+pub short_rows : (text : List ℕ) (before rows : List Row) (row : Row) → BeginARecord (rows ++ row ∷ [])
+    → HasRows (from_row text) (before ++ rows ++ row ∷ []) → HasRows text (before ++ rows ++ row ∷ [])
+short_rows text before rows row begins (t, rest, h, none) =
+    elim (rows_walk (before ++ rows ++ row ∷ []) st.StartRecord t text rest (refl, refl) h) [
+      | inl (rest2, follow, end) ↦ (t, rest2, follow, end none)
+      | inr (init, last, other, is, long, far, t2, rest2, follow) ↦
+          (let same : row ≡ last = last-same (before ++ rows) init row last (append_assoc before rows (row ∷ []) ∙ is) in
+          absurd (too_long (rows ++ row ∷ []) rows row refl (subst (λ r. 100 < size r) (sym same) long) begins))
+    ]
 
 -- ---- where the text ends depends on its first bytes alone
 

@@ -12,7 +12,7 @@ use Rattle.ordup_rows.specs.Telling.{IsBadRow, IsMissingRow, Tells}
 use Rattle.ordup_rows.specs.Texts.{BeginsWithRows, HasRows}
 use Rattle.ordup_check.specs.Limits.{cut_at, never}
 use Rattle.ordup_check.specs.Reading.{AllCame, IsPlain}
-use Rattle.ordup_check.specs.ShortRows.{ends_at_long_row, most_row_bytes}
+use Rattle.ordup_check.specs.ShortRows.{ends_at_long_row, from_row, most_row_bytes}
 use Rattle.ordup_check.specs.declared.reading.RecordReadFault.{RecordReadFault}
 use Rattle.ordup_check.specs.declared.reading.RecordReadFault.TheVariants as fault
 use Rattle.ordup_check.specs.declared.series_reader.SeriesReader.{SeriesReader}
@@ -45,17 +45,18 @@ pub record IsBadRowOfPart (part : List Row) (n : ℕ) : Type 0 where
 abbrev pub TextTellsSeries : List ℕ → List RecordState → Type 0
 TextTellsSeries text records = (rows : List Row) × HasRows text rows × AreRowsOf rows records
 
--- The text begins with these records: then it ends, or a row follows that is the first of the next one.
+-- The text begins with these records: then it ends, or a row follows that is the first of the next one. Of a row that is too long as
+-- much counts as is read of it.
 abbrev pub TextBeginsSeries : List ℕ → List RecordState → Type 0
 TextBeginsSeries text records =
     TextTellsSeries text records
-    ⊎ ((rows : List Row) × (r : Row) × BeginsWithRows text (rows ++ r ∷ []) × (begins_record r ≡ true) × AreRowsOf rows records)
+    ⊎ ((rows : List Row) × (r : Row) × BeginsWithRows (from_row text) (rows ++ r ∷ []) × (begins_record r ≡ true) × AreRowsOf rows records)
 
 -- after these records the next one of the text is malformed at row n
 abbrev pub IsMalformedAfter : List ℕ → List RecordState → ℕ → Type 0
 IsMalformedAfter text records n =
     (before : List Row) × AreRowsOf before records
-    × (((part : List Row) × BeginsWithRows text (before ++ part) × IsBadRowOfPart part n)
+    × (((part : List Row) × BeginsWithRows (from_row text) (before ++ part) × IsBadRowOfPart part n)
     ⊎ ((part : List Row) × HasRows text (before ++ part) × IsMissingRow part n))
 
 -- This is so of a text within the limit, without a byte order mark at its start; of a longer one it is so however the text goes on
@@ -78,22 +79,23 @@ short_bytes rem r = if r.is_ended then Some [] else option_map (ends_at_long_row
 abbrev pub passed : ℕ → List ℕ → List ℕ
 passed limit text = strip_bom (ends_at_long_row row.Text most_row_bytes (cut_at limit text))
 
--- The reader stands behind the rows of whole records: it has read nothing; or the first row of the next one is at hand; or the text has
--- ended.
-abbrev pub StandsAt : {R : Type 0} → (R → Option (List ℕ)) → Position → Reader R → Row → List ℕ → List Row → Type 0
-StandsAt rem at.Start rdr row text before = (before ≡ []) × (source_of rem rdr ≡ Some text) × (reader_state rdr ≡ st.StartRecord)
-StandsAt rem at.FirstRow rdr row text before =
+-- Before it reads the next record the reader stands behind the rows of whole ones: it has read nothing; or it has the first row of the
+-- next one at hand.
+abbrev pub StandsBefore : {R : Type 0} → (R → Option (List ℕ)) → Position → Reader R → Row → List ℕ → List Row → Type 0
+StandsBefore rem at.Start rdr row text before = (before ≡ []) × (source_of rem rdr ≡ Some text) × (reader_state rdr ≡ st.StartRecord)
+StandsBefore rem at.FirstRow rdr row text before =
     (rest : List ℕ) × (source_of rem rdr ≡ Some rest)
     × Reached default_config st.StartRecord text (before ++ row ∷ []) (reader_state rdr) rest
     × AllCame (before ++ row ∷ []) × (begins_record row ≡ true)
-StandsAt rem at.End rdr row text before = HasRows text before × AllCame before
+StandsBefore rem at.End rdr row text before = ⊥
 
--- a reader of the records of a text within a limit has read just these
+-- a reader of the records of a text within a limit has read just these: it stands before the next one, or the text has ended
 abbrev pub HasReadRecords : {R : Type 0} → (R → Option (List ℕ)) → ℕ → SeriesReader R → List ℕ → List RecordState → Type 0
 HasReadRecords rem limit s text records =
     IsPlain s.rdr
-    × ((before : List Row) × AreRowsOf before records
-    × StandsAt (short_bytes (limited_bytes rem)) s.position s.rdr (fields_of s.row) (passed limit text) before)
+    × (((before : List Row) × AreRowsOf before records
+    × StandsBefore (short_bytes (limited_bytes rem)) s.position s.rdr (fields_of s.row) (passed limit text) before)
+    ⊎ ((s.position ≡ at.End) × (length text ≤ limit) × TextTellsSeries (strip_bom text) records))
 
 -- What the next record of a text is, after these: a record, behind which the reader stands; none, since these are all; or a fault, and
 -- where it is a row, that row is malformed.

@@ -2,12 +2,13 @@
 //!
 //! Each record begins at a row of the kind `ordup`. So a record ends where the next one begins, or where the text does. That row is
 //! read before the record is answered, and kept for the next one.
-ghost use Rattle.std.specs.Prelude.{◌≡◌, ◌≢◌, ◌++◌, [], ℕ, List, Some, None, IfErr, IfOk, IfSome};
+ghost use Rattle.std.specs.Prelude.{◌≡◌, ◌≢◌, ◌++◌, [], ℕ, List, Some, None, IfErr, IfNone, IfOk, IfSome, OnOk};
 ghost use Rattle.csv.specs.Records.{fields_of};
 ghost use Rattle.ordup_audit.specs.Records.{IsRecord, RecordState};
 ghost use Rattle.ordup_rows.specs.Rows.{Row};
 ghost use Rattle.ordup_rows.specs.Stages.{unread};
-ghost use Rattle.ordup_check.specs.SeriesReading.{HasReadRecords, NextRecord, begins_record};
+ghost use Rattle.ordup_check.specs.SeriesReading.{HasReadRecords, NextRecord, StandsBefore, begins_record, limited_bytes, short_bytes};
+ghost use Rattle.ordup_check.specs.Reading.{EndsAt, IsPlain, IsReached};
 ghost use Rattle.ordup_check.specs.StageViews.{stage_of};
 
 use crate::limited::Limited;
@@ -69,52 +70,68 @@ impl<R: Read> SeriesReader<R> {
     pub fn next(&mut self, alloc: Global) -> Result<Option<Record>, RecordReadFault>
         ensures { (limit : ℕ) (text : List ℕ) (records : List RecordState) → HasReadRecords R.remaining limit self.old text records
             → NextRecord R.remaining limit self.new text records result }
+        ensures sound { IfOk result (λ o. IfSome o IsRecord) }
     {
-        match self.position {
-            Position::End => Ok(None),
-            Position::Start => self.read_record(alloc, false),
-            Position::FirstRow => self.read_record(alloc, true),
+        let mut stage = Stage::Unread;
+        match or_give_up!(self.read_stage(alloc, &mut stage), stage) {
+            Some(end) => self.end_record(stage, end),
+            None => {
+                drop(stage);
+                Ok(None)
+            }
         }
     }
 
-    /// Reads a record, whose first row may be at hand.
-    fn read_record(&mut self, alloc: Global, is_at_hand: bool) -> Result<Option<Record>, RecordReadFault> {
-        let mut stage = Stage::Unread;
-        let end = or_give_up!(self.read_stage(alloc, &mut stage, is_at_hand), stage);
-        let number = match end {
-            RowsEnd::Text(number) => {
-                self.position = Position::End;
-                number
+    /// Reads the rows of the next record, as far as they may stand where they stand. It has none after the last record.
+    fn read_stage(&mut self, alloc: Global, stage: &mut Stage) -> Result<Option<RowsEnd>, RecordReadFault>
+        requires plain { IsPlain self.old.rdr }
+        requires unread { stage_of stage.old ≡ unread }
+        ensures plain { IsPlain self.new.rdr }
+        ensures position { self.new.position ≡ self.old.position }
+        ensures none { IfOk result (λ o. IfNone o (self.old.position ≡ Position.End)) }
+        ensures stage { OnOk result (IsReached (stage_of stage.new)) }
+        ensures ended { IfOk result (λ o. IfSome o (λ end. (text : List ℕ) (before : List Row)
+            → StandsBefore (short_bytes (limited_bytes R.remaining)) self.old.position self.old.rdr (fields_of self.old.row.now) text before
+            → EndsAt (short_bytes (limited_bytes R.remaining)) self.new.rdr before (stage_of stage.new) (fields_of self.new.row.now) text end)) }
+        ensures fault { IfErr result (λ e. (n : ℕ) → e ≢ RecordReadFault.Malformed n) }
+    {
+        match self.position {
+            Position::End => Ok(None),
+            Position::Start => {
+                let end = read_rows(alloc, &mut self.rdr, &mut self.row, stage, 0)?;
+                Ok(Some(end))
             }
-            RowsEnd::Row(number) => {
-                if !begins_record(&self.row) {
-                    drop(stage);
-                    return Err(RecordReadFault::Malformed { row: number });
+            Position::FirstRow => match take_row(alloc, stage, &self.row) {
+                Ok(true) => {
+                    let end = read_rows(alloc, &mut self.rdr, &mut self.row, stage, 1)?;
+                    Ok(Some(end))
                 }
+                Ok(false) => Ok(Some(RowsEnd::Row(1))),
+                Err(_) => Err(RecordReadFault::NoMemory),
+            },
+        }
+    }
+
+    /// The record of which all rows were read that come before this end, if it misses none and the next record begins there or the text
+    /// ends.
+    fn end_record(&mut self, stage: Stage, end: RowsEnd) -> Result<Option<Record>, RecordReadFault> {
+        let row = match end {
+            RowsEnd::Text(row) => {
+                self.position = Position::End;
+                row
+            }
+            RowsEnd::Row(row) if begins_record(&self.row) => {
                 self.position = Position::FirstRow;
-                number
+                row
+            }
+            RowsEnd::Row(row) => {
+                drop(stage);
+                return Err(RecordReadFault::Malformed { row });
             }
         };
         match close(stage) {
             Ok(Some(record)) => Ok(Some(record)),
-            Ok(None) => Err(RecordReadFault::Malformed { row: number }),
-            Err(_) => Err(RecordReadFault::NoMemory),
-        }
-    }
-
-    /// Reads the rows of a record, as far as they may stand where they stand.
-    fn read_stage(
-        &mut self,
-        alloc: Global,
-        stage: &mut Stage,
-        is_at_hand: bool,
-    ) -> Result<RowsEnd, RecordReadFault> {
-        if !is_at_hand {
-            return read_rows(alloc, &mut self.rdr, &mut self.row, stage, 0);
-        }
-        match take_row(alloc, stage, &self.row) {
-            Ok(true) => read_rows(alloc, &mut self.rdr, &mut self.row, stage, 1),
-            Ok(false) => Ok(RowsEnd::Row(1)),
+            Ok(None) => Err(RecordReadFault::Malformed { row }),
             Err(_) => Err(RecordReadFault::NoMemory),
         }
     }

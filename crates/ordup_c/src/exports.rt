@@ -140,6 +140,19 @@ pub extern "C" fn ordup_check(
     tell_verdict(alloc, rows, verdict, written)
 }
 
+/// Audits records of one site, one after another, and tells the verdict: how long its line is, and the line where it fits.
+#[unsafe(no_mangle)]
+pub extern "C" fn ordup_check_series(
+    alloc: Global,
+    rows: &[u8],
+    verdict: &mut [u8],
+    written: &mut usize,
+) -> u32
+    ensures { ChecksSeriesCall rows.now verdict.old verdict.new written.new result }
+{
+    tell_series_verdict(alloc, rows, verdict, written)
+}
+
 /// Whether bytes of a text are left, for want of memory, and else whether there are more answers.
 fn status_of(session: &Session, left: usize) -> u32
     ensures { result ≡ status_of session.now left }

@@ -11,10 +11,11 @@ ghost use Rattle.ordup_lag.specs.declared.amount_cell.TheConstants.{CELL_BYTES};
 ghost use Rattle.ordup_rows.specs.Rows.{scope_text};
 ghost use Rattle.ordup_audit.specs.Records.{history_of, report_at};
 ghost use Rattle.ordup_audit.specs.Validity.{IsValid};
-ghost use Rattle.ordup_lag.specs.Series.{row_at, uses_of};
+ghost use Rattle.ordup_lag.specs.Series.{AreFew, row_at, uses_of};
 ghost use Rattle.ordup_lag.specs.Texts.{head_text, round_text, row_text, scope_head, scope_heads, use_text, uses_text, window_text};
 
 use crate::amount_cell::{AmountCell, CELL_BYTES};
+use crate::offsets::Offsets;
 use crate::places::{has_round, window_of};
 use ordup_audit::Record;
 use ordup_limits::{Groups, LagLedger, Scope};
@@ -187,6 +188,7 @@ pub(crate) fn push_row<A: Allocator + Copy>(
     out: &mut TextBuffer<A>,
     cells: &mut Vec<AmountCell, A>,
     audited: &Record<A>,
+    before: Offsets,
     ledger: &LagLedger<A>,
     scopes: usize,
     place: u64,
@@ -194,14 +196,18 @@ pub(crate) fn push_row<A: Allocator + Copy>(
     requires scopes { scopes ≤ length cells.old.items }
     requires few { scopes ≤ most_limits }
     requires valid { IsValid audited.now }
+    requires before { AreFew before }
     requires stands { StandsAt (history_of audited.now) audited.now.groups (in_force audited.now.limits place)
         (min (report_at audited.now.reports place) place) place ledger.now }
     ensures count { OnOk result (length cells.new.items ≡ length cells.old.items) }
-    ensures text { OnOk result (out.new.text ≡ out.old.text ++ row_text scopes (row_at audited.now place)) }
+    ensures text { OnOk result (out.new.text ≡ out.old.text ++ row_text scopes (row_at before audited.now place)) }
 {
-    out.push_number(place)?;
-    push_with_number(out, b",", audited.reported_at(place))?;
+    out.push_number(before.places + place)?;
+    push_with_number(out, b",", before.places + audited.reported_at(place))?;
     push_uses(out, cells, ledger, scopes)?;
     push_round(out, has_round(audited.rounds(), place))?;
-    push_window(out, window_of(audited.windows(), place))
+    match window_of(audited.windows(), place) {
+        Some(number) => push_window(out, Some(before.windows + number)),
+        None => push_window(out, None),
+    }
 }

@@ -34,6 +34,11 @@ abbrev pub rounds_of : List RecordState → ℕ
 rounds_of [] = 0
 rounds_of (r ∷ more) = rounds_in r more
 
+-- how many updates they have together
+abbrev pub places_of : List RecordState → ℕ
+places_of [] = 0
+places_of (r ∷ more) = length r.sets + places_of more
+
 -- the whole of the records is certified
 abbrev pub IsWholeCertified : List RecordState → Type 0
 IsWholeCertified [] = ⊥
@@ -64,6 +69,7 @@ pub record HasAudited {A : Type 0} (a : SeriesAudit A) (done : List RecordState)
   pub valid : AreValidSeries done
   pub end : IsLastEnd done a.end
   pub records : a.records ≡ length done
+  pub places : a.places ≡ places_of done
   pub rounds : a.rounds ≡ rounds_of done
 
 -- the verdict is a number of rounds for which this holds, or no such number

@@ -20,9 +20,11 @@ pub struct SeriesAudit<A: Allocator + Copy = Global> {
     end: Option<RecordEnd<A>>,
     /// How many records there were.
     records: u64,
+    /// How many updates they have together.
+    places: u64,
     /// How many rounds they have together.
     rounds: u64,
-    ghost kept: { rounds ≤ records * most_updates },
+    ghost kept: { (records ≤ MOST_RECORDS) × (places ≤ records * most_updates) × (rounds ≤ records * most_updates) },
 }
 
 impl<A: Allocator + Copy> SeriesAudit<A> {
@@ -33,6 +35,7 @@ impl<A: Allocator + Copy> SeriesAudit<A> {
         SeriesAudit {
             end: None,
             records: 0,
+            places: 0,
             rounds: 0,
         }
     }
@@ -67,6 +70,7 @@ impl<A: Allocator + Copy> SeriesAudit<A> {
                 let end = RecordEnd::of(alloc, audited)?;
                 drop(replace(&mut self.end, Some(end)));
                 self.records = record;
+                self.places += audited.decided();
                 self.rounds += rounds;
                 Ok(SeriesVerdict::Fewest(self.rounds))
             }
@@ -87,6 +91,13 @@ impl<A: Allocator + Copy> SeriesAudit<A> {
             None => None,
             Some(end) => end.first_difference(audited),
         }
+    }
+
+    /// How many updates the records have together that were taken.
+    pub fn places(&self) -> u64
+        ensures { result ≡ self.now.places }
+    {
+        self.places
     }
 
     /// How many rounds the records have together that were taken.

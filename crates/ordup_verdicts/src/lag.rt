@@ -8,7 +8,7 @@ use crate::verdict::print_verdict;
 use ordup_audit::{Record, Verdict, check};
 use ordup_check::read_record;
 use ordup_faults::{DONE, Outcome, flush};
-use ordup_lag::write_series;
+use ordup_lag::{Offsets, write_series};
 use std::alloc::Global;
 use std::io::{Read, Write};
 
@@ -53,9 +53,77 @@ fn print_series<W: Write>(alloc: Global, audited: &Record, output: &mut W) -> Ou
     requires { IsValid audited.now }
     ensures { PrintsSeries audited.now (W.contents output.old) (W.contents output.new) result }
 {
-    if let Err(fault) = write_series(alloc, audited, output) {
+    if let Err(fault) = write_series(alloc, audited, Offsets::NONE, output) {
         return Err(fault_of_series(fault));
     }
     flush(output)?;
     Ok(DONE)
+}
+
+/// Reads records of one site, one after another, and prints the series of each, with places and windows counted on; or, after those of
+/// the records before it, the verdict on the first against which there is a reason.
+///
+/// - Where it ends with a status or a write fault, the text begins with records that are a valid series. Their series was printed, and
+///   then the verdict on the next record if there is a reason against it; or a prefix of that.
+/// - `MalformedRecord`, `Read`, `NoMemory`: so far the series of records that are a valid series was printed.
+pub fn print_lag_of_series<R: Read, W: Write>(
+    alloc: Global,
+    input: &mut R,
+    output: &mut W,
+) -> Outcome
+    ensures { LagsOfSeries (R.remaining input.old) (W.contents output.old) (W.contents output.new) result }
+{
+    let mut records = SeriesReader::new(alloc, input, MOST_SERIES_BYTES);
+    let mut audit = SeriesAudit::new();
+    let printed = print_all(alloc, &mut records, &mut audit, output);
+    drop(audit);
+    drop(records);
+    printed
+}
+
+/// Prints the series of all records, up to the first against which there is a reason.
+fn print_all<R: Read, W: Write>(
+    alloc: Global,
+    records: &mut SeriesReader<R>,
+    audit: &mut SeriesAudit,
+    output: &mut W,
+) -> Outcome {
+    for count in 0..MOST_RECORDS {
+        let record = match records.next(alloc) {
+            Ok(Some(record)) => record,
+            Ok(None) => {
+                flush(output)?;
+                return Ok(DONE);
+            }
+            Err(fault) => return Err(fault_of_series_reading(series_fault(fault, count + 1))),
+        };
+        let printed = print_next(alloc, audit, &record, output);
+        record.discard();
+        match printed? {
+            None => {}
+            Some(status) => return Ok(status),
+        }
+    }
+    Err(Fault::Read)
+}
+
+/// Prints the series of the next record, or the verdict where there is a reason against it, and then answers the exit status.
+fn print_next<W: Write>(
+    alloc: Global,
+    audit: &mut SeriesAudit,
+    record: &Record,
+    output: &mut W,
+) -> Result<Option<u8>, Fault> {
+    let before = Offsets {
+        places: audit.places(),
+        windows: audit.rounds(),
+    };
+    match audit.take(alloc, record) {
+        Ok(SeriesVerdict::Fewest(_)) => match write_series(alloc, record, before, output) {
+            Ok(()) => Ok(None),
+            Err(fault) => Err(fault_of_series(fault)),
+        },
+        Ok(no) => Ok(Some(print_series_verdict(alloc, no, output)?)),
+        Err(_) => Err(Fault::NoMemory),
+    }
 }

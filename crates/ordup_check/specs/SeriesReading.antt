@@ -1,12 +1,11 @@
 -- The records of a series as a text tells them, and how far a reader of them came.
 use Rattle.std.specs.Prelude.{◌≡◌, ◌≢◌, ◌⊎◌, ⊤, ℕ, ◌-◌, ◌<◌, ◌≤◌, Bool, true, false, List, [], ◌∷◌, ◌++◌, length, take}
-use Rattle.std.specs.Prelude.{codes, if◌then◌else◌, slice_index_or, Option, Some, None, option_map, unwrap_or, Result, Ok, Err}
+use Rattle.std.specs.Prelude.{codes, if◌then◌else◌, slice_index_or, Option, Some, None, option_map, Result, Ok, Err}
 use Rattle.std.specs.Str.{bytes_eq}
 use Rattle.csv.specs.Reading.{Reached, default_config, reader_state, source_of, strip_bom}
 use Rattle.csv.specs.Records.{fields_of}
 use Rattle.csv.specs.declared.parser.State.TheVariants as st
 use Rattle.ordup_audit.specs.Records.{RecordState, IsRecord}
-use Rattle.ordup_rows.specs.Columns.{columns_of}
 use Rattle.ordup_rows.specs.Rows.{Row}
 use Rattle.ordup_rows.specs.Telling.{IsBadRow, IsMissingRow, Tells}
 use Rattle.ordup_rows.specs.Texts.{BeginsWithRows, HasRows}
@@ -25,9 +24,9 @@ use Rattle.ordup_check.specs.declared.short_rows.RowState.TheVariants as row
 
 -- ---- rows of records
 
--- a row is the first of a record
+-- a row is the first of a record: its first column says so
 abbrev pub begins_record : Row → Bool
-begins_record r = unwrap_or (option_map (λ c. bytes_eq c.kind (codes "ordup")) (columns_of r)) false
+begins_record r = bytes_eq (slice_index_or r 0 []) (codes "ordup")
 
 -- these are the rows of these records, one record after the other
 abbrev pub AreRowsOf : List Row → List RecordState → Type 0

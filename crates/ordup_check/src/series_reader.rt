@@ -13,7 +13,6 @@ ghost use Rattle.ordup_check.specs.StageViews.{stage_of};
 
 use crate::limited::Limited;
 use crate::reading::{RecordReadFault, RowsEnd, close, read_rows};
-use crate::row_columns::RowColumns;
 use crate::short_rows::ShortRows;
 use crate::stage::{Stage, take_row};
 use csv::{ByteRecord, Reader, ReaderBuilder};
@@ -45,8 +44,8 @@ pub struct SeriesReader<R: Read> {
 fn begins_record(row: &ByteRecord) -> bool
     ensures { result ≡ begins_record (fields_of row.now) }
 {
-    match RowColumns::split(row) {
-        Some(columns) => columns.kind == b"ordup".as_slice(),
+    match row.get(0) {
+        Some(kind) => kind == b"ordup".as_slice(),
         None => false,
     }
 }

@@ -1,5 +1,5 @@
-# A picture of the lag of a site: gnuplot -c examples/lag.gp SERIES PICTURE
-# SERIES is a file with what `ordup lag` printed, or the header and a stretch of its rows, and PICTURE the PNG to write. There is a
+# A picture of the lag of a site: gnuplot -c examples/lag.gp LAG PICTURE
+# LAG is a file with what `ordup lag` printed, or the header and a stretch of its rows, and PICTURE the PNG to write. There is a
 # panel for each limit. The colours are told apart by readers who are colour-blind too, and each thing has a form of its own.
 series = ARG1
 cell(line, column) = system(sprintf("%s -n 1 '%s' | cut -d , -f %d", line, series, column))

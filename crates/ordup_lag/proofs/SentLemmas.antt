@@ -4,10 +4,10 @@ use Rattle.ordup_audit.proofs.Common.{refl, Some, sym, ◌+◌, ◌≤◌, ℕ}
 use Rattle.std.proofs.KnownBytes.{Appends-trans}
 use Rattle.ordup_text.specs.Fronts.{AppendsFront}
 use Rattle.ordup_limits.specs.Entries.{latest}
-use Rattle.ordup_lag.specs.Series.{row_at}
+use Rattle.ordup_lag.specs.LagRows.{row_at}
 use Rattle.ordup_rows.specs.Forming.{SendsUpto}
 use Rattle.ordup_lag.specs.Texts.{row_text, rows_upto}
-use Rattle.ordup_lag.proofs.SeriesLemmas.{upto-front, upto-next}
+use Rattle.ordup_lag.proofs.LagLemmas.{upto-front, upto-next}
 
 -- more is formed
 formed : (a b : Option (List ℕ)) (whole left more all text : List ℕ) → SendsUpto a b whole left → all ≡ whole ++ more

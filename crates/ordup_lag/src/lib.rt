@@ -1,6 +1,6 @@
 //! The lag of a site, decision by decision, as its record tells it: a row for each decided place.
 //!
-//! The one contract above this layer: the series of a valid record is written whole, or a prefix of it and then the writer failed. Of
+//! The one contract above this layer: the lag of a valid record is written whole, or a prefix of it and then the writer failed. Of
 //! a record that comes after others the places, the reports and the windows are counted on.
 //!
 //! `writing.rt` goes through the places in order, and moves a ledger from place to place: by the update, by the limits that begin
@@ -16,4 +16,4 @@ mod row_text;
 mod writing;
 
 pub use offsets::Offsets;
-pub use writing::{SeriesFault, write_series};
+pub use writing::{LagFault, write_lag};

@@ -1,4 +1,4 @@
-//! The text of the series: its header, and the line of a row.
+//! The text of the lag: its header, and the line of a row.
 
 ghost use Rattle.std.specs.Prelude.{◌≡◌, ◌++◌, ◌+◌, ◌*◌, ◌≤◌, OnOk, Option, length, min, slice_get, Some};
 ghost use Rattle.ordup_objects.specs.Serial.{History};
@@ -11,7 +11,7 @@ ghost use Rattle.ordup_lag.specs.declared.amount_cell.TheConstants.{CELL_BYTES};
 ghost use Rattle.ordup_rows.specs.Rows.{scope_text};
 ghost use Rattle.ordup_audit.specs.Records.{history_of, report_at};
 ghost use Rattle.ordup_audit.specs.Validity.{IsValid};
-ghost use Rattle.ordup_lag.specs.Series.{AreFew, row_at, uses_of};
+ghost use Rattle.ordup_lag.specs.LagRows.{AreFew, row_at, uses_of};
 ghost use Rattle.ordup_lag.specs.Texts.{head_text, round_text, row_text, scope_head, scope_heads, use_text, uses_text, window_text};
 
 use crate::amount_cell::{AmountCell, CELL_BYTES};

@@ -5,7 +5,7 @@ use Rattle.ordup_audit.specs.Validity.{IsValid}
 use Rattle.ordup_audit.specs.Verdicts.{IfFewest, IsVerdict}
 use Rattle.ordup_audit.specs.declared.verdict.Verdict.{Verdict}
 use Rattle.ordup_audit.specs.declared.verdict.Verdict.TheVariants.{Fewest, No}
-use Rattle.ordup_lag.specs.Texts.{series_text}
+use Rattle.ordup_lag.specs.Texts.{lag_text}
 use Rattle.ordup_faults.specs.Faults.{Outcome}
 use Rattle.ordup_verdicts.specs.Verdicts.{Checks, Judges, PrintsJudged, PrintsVerdict, ReadsRecord, verdict_status, verdict_text}
 use Rattle.ordup_verdicts.specs.Lags.{Lags, PrintsLag}
@@ -51,7 +51,7 @@ verdict_leaves r verdict old new f = print_leaves (verdict_status verdict) (verd
 
 lag_leaves : (r : RecordState) (verdict : Verdict) (old new : Option (List ℕ)) (f : Fault)
     → PrintsLag r verdict old new (Err f) → LeavesAfter old new f
-lag_leaves r (Fewest n) old new f = print_leaves 0 (series_text r) old new f
+lag_leaves r (Fewest n) old new f = print_leaves 0 (lag_text r) old new f
 lag_leaves r (No row reason) old new f = verdict_leaves r (No row reason) old new f
 
 module _ (PrintsOf : RecordState → Verdict → Option (List ℕ) → Option (List ℕ) → Outcome → Type 0)

@@ -3,8 +3,8 @@ use Rattle.ordup_check.specs.declared.reading.RecordReadFault.{RecordReadFault}
 use Rattle.ordup_check.specs.declared.reading.RecordReadFault.TheVariants as reading
 use Rattle.ordup_check.specs.declared.series.SeriesReadFault.{SeriesReadFault}
 use Rattle.ordup_check.specs.declared.series.SeriesReadFault.TheVariants as reading_series
-use Rattle.ordup_lag.specs.declared.writing.SeriesFault.{SeriesFault}
-use Rattle.ordup_lag.specs.declared.writing.SeriesFault.TheVariants as series
+use Rattle.ordup_lag.specs.declared.writing.LagFault.{LagFault}
+use Rattle.ordup_lag.specs.declared.writing.LagFault.TheVariants as series
 use Rattle.ordup_faults.specs.declared.fault.Fault.{Fault}
 use Rattle.ordup_faults.specs.declared.fault.Fault.TheVariants as fault
 
@@ -21,6 +21,6 @@ fault_of_series_reading (reading_series.Malformed record row) = fault.MalformedR
 fault_of_series_reading reading_series.NoMemory = fault.NoMemory
 
 -- the fault of writing the series of a record
-abbrev pub fault_of_series : SeriesFault → Fault
-fault_of_series series.Write = fault.Write
-fault_of_series series.NoMemory = fault.NoMemory
+abbrev pub fault_of_lag : LagFault → Fault
+fault_of_lag series.Write = fault.Write
+fault_of_lag series.NoMemory = fault.NoMemory

@@ -1,10 +1,10 @@
 //! The faults of a record that is read and of a series that is written, as those of a job.
 ghost use Rattle.std.specs.Prelude.{◌≡◌};
-ghost use Rattle.ordup_verdicts.specs.Faults.{fault_of_reading, fault_of_series, fault_of_series_reading};
+ghost use Rattle.ordup_verdicts.specs.Faults.{fault_of_reading, fault_of_lag, fault_of_series_reading};
 
 use ordup_check::{RecordReadFault, SeriesReadFault};
 use ordup_faults::Fault;
-use ordup_lag::SeriesFault;
+use ordup_lag::LagFault;
 
 /// The fault of reading a record.
 pub fn fault_of_reading(fault: RecordReadFault) -> Fault
@@ -29,11 +29,11 @@ pub(crate) fn fault_of_series_reading(fault: SeriesReadFault) -> Fault
 }
 
 /// The fault of writing the series of a record.
-pub(crate) fn fault_of_series(fault: SeriesFault) -> Fault
-    ensures { result ≡ fault_of_series fault }
+pub(crate) fn fault_of_lag(fault: LagFault) -> Fault
+    ensures { result ≡ fault_of_lag fault }
 {
     match fault {
-        SeriesFault::Write => Fault::Write,
-        SeriesFault::NoMemory => Fault::NoMemory,
+        LagFault::Write => Fault::Write,
+        LagFault::NoMemory => Fault::NoMemory,
     }
 }

@@ -1,4 +1,4 @@
-//! The jobs that judge a record: `check` prints the verdict on it, and `lag` its series where it is valid.
+//! The jobs that judge a record: `check` prints the verdict on it, and `lag` its lag where it is valid.
 //!
 //! The one contract above this layer: a record was read and judged, and what was printed follows from both; else nothing was written.
 #![tactic(auto)]

@@ -2,8 +2,8 @@ use Rattle.std.proofs.Common.{◌+◌, ◌∙◌, ap, option_map, refl, sym}
 use Rattle.std.specs.Prelude.{◌==◌, min}
 use Rattle.std.specs.List.{list_any, position}
 use Rattle.ordup_audit.specs.Records.{history_of}
-use Rattle.ordup_lag.specs.Series.{has_place}
-use Rattle.ordup_lag.proofs.SeriesLemmas.{row_written}
+use Rattle.ordup_lag.specs.LagRows.{has_place}
+use Rattle.ordup_lag.proofs.LagLemmas.{row_written}
 use Rattle.ordup_lag.proofs.row_text.push_row.Goals as goal
 
 pub returns-clause-text : goal.returns-clause-text

@@ -45,7 +45,7 @@ pub record AreFew (before : Offsets) : Type 0 where
   pub places : before.places ≤ most_before
   pub windows : before.windows ≤ most_before
 
--- a row of the series: a decided place, what the site had reported at its decision, how much of each limit in force was used,
+-- a row of the lag: a decided place, what the site had reported at its decision, how much of each limit in force was used,
 -- whether the place has a round, and the window that has it
 pub record LagRow : Type 0 where
   pub place : ℕ

@@ -15,7 +15,7 @@ use Rattle.ordup_limits.specs.Entries.{latest}
 use Rattle.ordup_limits.specs.Ledgers.{LedgerState, StandsFor}
 use Rattle.ordup_limits.specs.Limits.{Limits}
 use Rattle.ordup_audit.specs.declared.report_change.ReportChange.{ReportChange}
-use Rattle.ordup_lag.specs.Series.{LimitUse, row_at, use_of, uses_of, window_of}
+use Rattle.ordup_lag.specs.LagRows.{LimitUse, row_at, use_of, uses_of, window_of}
 use Rattle.ordup_lag.specs.Texts.{limit_head, round_text, row_text, rows_upto, scope_head, scope_heads, use_text, uses_text, window_text}
 
 -- a span from after its end is empty, as one from its end is

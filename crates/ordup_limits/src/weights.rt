@@ -46,7 +46,7 @@ impl<A: Allocator + Copy> Weights<A> {
     }
 
     /// Adds the updates after the place, up to a later one.
-    // Inlined: a settlement and a report seldom have more than one update to add.
+    // Inlined into a settlement and a report: the bench shows what a call costs.
     #[inline(always)]
     pub(crate) fn extend(&mut self, log: &Log<A>, groups: &Groups<A>, masks: &Masks<A>, to: u64)
         requires forward { self.old.place ≤ to }

@@ -6,7 +6,7 @@ use Rattle.std.proofs.lemmas.Option.{slice_get_within}
 use Rattle.std.proofs.lemmas.Bool.{cases_eq}
 use Rattle.ordup_primary.specs.Primaries.{PrimaryState, IsPrimary, progress_at, is_lag_within}
 use Rattle.ordup_site.specs.Sites.{SiteState}
-use Rattle.ordup_cluster.specs.Agreement.{Agrees}
+use Rattle.ordup_holds.specs.Agreement.{Agrees}
 use Rattle.ordup_cluster.specs.Clusters.{AgreeBelow, IsFirstMixed, IsClosed}
 
 pub agree-more : (n : ℕ) (p : PrimaryState) (sites : List SiteState) (y : SiteState) → AgreeBelow n p sites

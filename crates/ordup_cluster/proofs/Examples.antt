@@ -1,15 +1,17 @@
--- Refusals of the cluster's calls, worked out by hand: no definition can change its meaning unseen.
+-- Refusals of the cluster's calls, and a successor, worked out by hand: no definition can change its meaning unseen.
 use Rattle.std.proofs.Common.{◌≡◌, ◌+◌, Bool, List, [], ◌∷◌, pos, inl, inr, refl, arith}
 use Rattle.std.specs.Prelude.{Some, None, codes, true, false, if◌then◌else◌}
 use Rattle.std.specs.Option.{option_or}
 use Rattle.ordup_objects.specs.declared.change.Change.{Change}
 use Rattle.ordup_objects.specs.declared.change.Op.TheVariants.{Add}
 use Rattle.ordup_objects.specs.declared.refusal.Refusal.TheVariants.{UnknownObject, UnknownGroup, UnknownSite, OutOfRange, TooMany}
-use Rattle.ordup_objects.specs.declared.refusal.Refusal.TheVariants.{Behind, Stopped, HeadPending, LagOver}
+use Rattle.ordup_objects.specs.declared.refusal.Refusal.TheVariants.{Behind, NotYet, Stopped, HeadPending, LagOver, LogFull}
 use Rattle.ordup_objects.specs.Refusals.{IsRefusal}
 use Rattle.ordup_objects.specs.Serial.{History}
 use Rattle.ordup_log.specs.declared.scope.Scope.TheVariants.{Object, Group, Count}
-use Rattle.ordup_cluster.specs.Clusters.{ClusterState}
+use Rattle.ordup_limits.specs.Entries.{entry_of}
+use Rattle.ordup_holds.proofs.Examples.{lagging}
+use Rattle.ordup_cluster.specs.Clusters.{ClusterState, ClosedState, IsSuccessor, count_at_end, closed_successor_refusal, opening_refusal}
 use Rattle.ordup_cluster.specs.Refusals.{IsNumber, ReadRequest, IsReadRefusal, IsLimitPlace, IsLimitChangeRefusal, proposal_refusal, undeclared_refusal}
 
 -- ---- a read of the one object at the one site, by a session that has seen 1 update
@@ -116,3 +118,41 @@ number_before is = absurd (omega (arith, is.0))
 
 number_after : ¬ IsNumber 100 1000101
 number_after is = absurd (omega (arith, is.1))
+
+-- ---- the successor of the lagging store, where 100 updates came before, and a has the limit 3 from place 2 on
+
+abbrev ended : ClosedState
+ended = record {
+  before = 100;
+  primary = record lagging {
+    limits = (entry_of (Object 0) 5 1 ∷ entry_of (Object 0) 3 2 ∷ []) ∷ (entry_of (Object 0) 5 1 ∷ []) ∷ [];
+  };
+  sites = [];
+}
+
+-- It begins after 101 updates, with x at 3, and has each site's last limit from its start.
+abbrev successor : ClusterState
+successor = record {
+  before = 101;
+  start = record {
+    objects = (codes "x", pos 3) ∷ [];
+    groups = [];
+    sites = (codes "a", 4) ∷ (codes "b", 4) ∷ [];
+    limits = (entry_of (Object 0) 3 1 ∷ []) ∷ (entry_of (Object 0) 5 1 ∷ []) ∷ [];
+  };
+}
+
+succeeds : (count_at_end ended ≡ 101) × (closed_successor_refusal ended ≡ None) × IsSuccessor ended successor
+succeeds = (refl, refl, record { before = refl; objects = refl; values = refl; groups = refl; sites = refl; limits = refl })
+
+-- at the initial values it does not begin
+not_anew : IsSuccessor ended (record successor { start = lagging.setup }) → ⊥
+not_anew is = absurd (let same : pos 0 ∷ [] ≡ pos 3 ∷ [] = is.values in cc)
+
+-- nor while an update waits, nor after more than 10^18 updates
+refuses : (closed_successor_refusal (record ended { primary = record lagging { acked = 0; decided = 0 } }) ≡ Some (NotYet 1))
+    × (closed_successor_refusal (record ended { before = 999999999999999999 }) ≡ None)
+    × (closed_successor_refusal (record ended { before = 1000000000000000000 }) ≡ Some LogFull)
+    × (opening_refusal 1000000000000000000 lagging.setup ≡ None)
+    × (opening_refusal 1000000000000000001 lagging.setup ≡ Some LogFull)
+refuses = (refl, refl, refl, refl, refl)

@@ -9,7 +9,7 @@ use Rattle.ordup_primary.specs.Declarations.{Declared, start_refusal}
 use Rattle.ordup_primary.specs.Successors.{limits_from_start, successor_refusal}
 use Rattle.ordup_primary.specs.Primaries.{PrimaryState, IsPrimary, is_lag_within}
 use Rattle.ordup_site.specs.Sites.{SiteState}
-use Rattle.ordup_cluster.specs.Agreement.{Agrees}
+use Rattle.ordup_holds.specs.Agreement.{Agrees}
 
 -- how many updates may come before a store
 abbrev pub most_before : ℕ

@@ -1,13 +1,3 @@
-pub mod Opening
-pub mod Books
-pub mod BookInside
-pub mod Cells
-pub mod CellInside
-pub mod Turning
-pub mod Numbering
-pub mod Relimiting
-pub mod Waiting
-pub mod Agreement
 pub mod Sessions
 pub mod Clusters
 pub mod ClosedInside

@@ -1,7 +1,7 @@
 ghost use Rattle.std.specs.Prelude.{◌≡◌, ◌+◌, ◌^◌, ◌<◌, true, false, IfOk, OnOk, IfErr, OnErr};
 
 use crate::cluster::Cluster;
-use crate::holds::Turns;
+use ordup_holds::Turns;
 use ordup_objects::Refusal;
 use std::sync::Wait;
 

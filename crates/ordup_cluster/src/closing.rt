@@ -1,13 +1,13 @@
 ghost use Rattle.std.specs.Prelude.{◌≡◌, ◌≢◌, ◌<◌, ◌⊎◌, ℕ, Some, length, slice_get, IfOk, IfErr, IfSome, IfNone};
 ghost use Rattle.ordup_site.specs.Sites.{SiteState};
-ghost use Rattle.ordup_cluster.specs.Books.{AreSpareValues};
-ghost use Rattle.ordup_cluster.specs.Agreement.{Agrees};
+ghost use Rattle.ordup_holds.specs.Books.{AreSpareValues};
+ghost use Rattle.ordup_holds.specs.Agreement.{Agrees};
 ghost use Rattle.ordup_cluster.specs.Clusters.{IsClosed, IsFirstMixed};
 
 use crate::closed::Closed;
 use crate::cluster::Cluster;
-use crate::holds::agree;
 use crate::reserved::sites_of;
+use ordup_holds::agree;
 use ordup_objects::{Refusal, SiteId, Values};
 use ordup_primary::{Primary, Setup};
 use ordup_site::Site;

@@ -3,20 +3,20 @@ ghost use Rattle.std.specs.Vec.{vec_capacity};
 ghost use Rattle.ordup_objects.specs.Refusals.{IsRefusal};
 ghost use Rattle.ordup_objects.specs.Sizes.{most_updates};
 ghost use Rattle.ordup_primary.specs.Declarations.{start_refusal};
-ghost use Rattle.ordup_cluster.specs.Numbering.{IsTurn, with_numbered};
-ghost use Rattle.ordup_cluster.specs.Opening.{AreOpened};
+ghost use Rattle.ordup_holds.specs.Numbering.{IsTurn, with_numbered};
+ghost use Rattle.ordup_holds.specs.Opening.{AreOpened};
 ghost use Rattle.ordup_cluster.specs.Clusters.{most_before, opening_refusal};
 ghost use Rattle.ordup_cluster.specs.Refusals.{IsNumber, IsNumberingRefusal, IsProposalRefusal, IsSettlementRefusal, IsLimitPlace, IsBookRefusal, IsLimitChangeRefusal, undeclared_refusal, proposal_refusal};
 
 use crate::bell::{Bell, Bells};
 use crate::book_turns::BookTurns;
-use crate::holds::{
-    Book, Numbered, SiteCell, number_and_turn, open, relimit, until, until_acknowledged,
-};
 use crate::progress::Progress;
 use crate::reserved::{Reserved, locked};
 use crate::session::Session;
 use crossbeam_utils::sync::EventCount;
+use ordup_holds::{
+    Book, Numbered, SiteCell, number_and_turn, open, relimit, until, until_acknowledged,
+};
 use ordup_limits::check_scope;
 use ordup_log::Scope;
 use ordup_objects::{MessageSet, ObjectTable, Refusal, SiteId, or_give_up};

@@ -12,8 +12,8 @@
 //!
 //! The book is the primary with the sending ends of the feeds. Each site lies in a cell with the taking end of its feed. No call
 //! takes a lock while it holds another. A book and a cell keep their facts by their types. A function that takes a lock itself can
-//! say nothing of what it found under it, so the work of one hold is a function of `holds`, which is lent the locked value. No fact
-//! goes from a book to a cell: `close` compares each site with the log, in memory that `new` took.
+//! say nothing of what it found under it, so the work of one hold is a function of `ordup_holds`, here `holds`, which is lent the
+//! locked value. No fact goes from a book to a cell: `close` compares each site with the log, in memory that `new` took.
 //!
 //! The one contract above this layer: a book and a cell keep their facts whenever their lock is free, and a session sees no less
 //! than it has seen. Each site of a closed cluster agrees with the log, and the acknowledged updates that it has not applied keep
@@ -27,7 +27,6 @@ mod closed;
 mod closing;
 mod cluster;
 mod gate;
-pub mod holds;
 mod progress;
 mod reading;
 mod reserved;
@@ -38,6 +37,7 @@ mod waking;
 pub use closed::Closed;
 pub use cluster::{Cluster, MOST_BEFORE};
 pub use gate::{Gate, OpenGate};
-pub use holds::SeenValue;
+pub use ordup_holds as holds;
+pub use ordup_holds::SeenValue;
 pub use session::Session;
 pub use site_query::SiteQuery;

@@ -5,9 +5,9 @@ ghost use Rattle.ordup_query.specs.Queries.{begin_refusal};
 ghost use Rattle.ordup_cluster.specs.Refusals.{IsReadRefusal, site_query_refusal};
 
 use crate::cluster::Cluster;
-use crate::holds::{SeenValue, begin, view};
 use crate::session::Session;
 use crate::site_query::SiteQuery;
+use ordup_holds::{SeenValue, begin, view};
 use ordup_objects::{ObjectId, Refusal, SiteId};
 use ordup_query::Query;
 use std::sync::Wait;

@@ -2,7 +2,7 @@
 ghost use Rattle.std.specs.Prelude.{◌≡◌, ◌≤◌, length, vec_len, IfOk, IfErr};
 ghost use Rattle.std.specs.Vec.{vec_capacity};
 
-use crate::holds::{Book, SiteCell};
+use ordup_holds::{Book, SiteCell};
 use ordup_objects::{Refusal, or_give_up};
 use ordup_primary::Setup;
 use ordup_site::Site;

@@ -3,7 +3,7 @@ ghost use Rattle.ordup_query.specs.declared.answer.ReadAnswer.{ReadAnswer};
 ghost use Rattle.ordup_query.specs.Queries.{HasRead, read_refusal, summed_up};
 ghost use Rattle.ordup_cluster.specs.Refusals.{IsQueryRefusal};
 
-use crate::holds::SiteCell;
+use ordup_holds::SiteCell;
 use ordup_objects::{ObjectId, Refusal};
 use ordup_query::{Query, QueryAnswer, ReadAnswer};
 use std::marker::Model;

@@ -3,8 +3,8 @@ ghost use Rattle.std.specs.Prelude.{◌≡◌, ◌≤◌, ◌+◌, IfOk};
 ghost use Rattle.ordup_objects.specs.Sizes.{most_updates};
 
 use crate::cluster::Cluster;
-use crate::holds::turn;
 use crate::progress::Progress;
+use ordup_holds::turn;
 use ordup_objects::Refusal;
 use std::sync::Wait;
 use std::sync::atomic::Ordering;

@@ -8,7 +8,7 @@ ghost use Rattle.ordup_primary.specs.Primaries.{IsPrimary, site_view};
 ghost use Rattle.ordup_query.specs.Queries.{HasRead, read_refusal, summed_up};
 ghost use Rattle.ordup_query.specs.declared.answer.ReadAnswer.{ReadAnswer};
 ghost use Rattle.ordup_cluster.specs.Refusals.{IsQueryRefusal};
-ghost use Rattle.ordup_cluster.specs.Relimiting.{with_changed_limit};
+ghost use Rattle.ordup_holds.specs.Relimiting.{with_changed_limit};
 
 use ordup_cluster::SiteQuery;
 use ordup_cluster::holds::{self, Book};

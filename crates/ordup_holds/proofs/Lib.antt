@@ -1,0 +1,5 @@
+pub mod CellLemmas
+pub mod BookLemmas
+pub mod SettlementLemmas
+mod OpeningLemmas
+pub mod Examples

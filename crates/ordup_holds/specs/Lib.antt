@@ -1,0 +1,10 @@
+pub mod Opening
+pub mod Books
+pub mod BookInside
+pub mod Cells
+pub mod CellInside
+pub mod Turning
+pub mod Numbering
+pub mod Relimiting
+pub mod Waiting
+pub mod Agreement

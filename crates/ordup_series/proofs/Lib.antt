@@ -1,1 +1,3 @@
+pub mod AuditLemmas
+mod DifferLemmas
 pub mod SeriesLemmas

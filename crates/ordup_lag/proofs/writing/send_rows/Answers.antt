@@ -30,20 +30,20 @@ push_row-requires-clause-stands g c =
 
 pub returns-in_default-clause-front : goal.returns-in_default-clause-front
 returns-in_default-clause-front g c =
-    stops_at _ _ _ _ c.args.audited.now c.loop-updates.updates _ (omega arith) c.loop-updates.invariant.sent (front_none _ _)
+    stops_at _ _ _ _ c.args.before c.args.audited.now c.loop-updates.updates _ (omega arith) c.loop-updates.invariant.sent (front_none _ _)
 
 pub returns-in_err-send_many-clause-front : goal.returns-in_err-send_many-clause-front
 returns-in_err-send_many-clause-front g c =
     let r = c.args.audited.now in
     let scopes = c.len-scopes.ensures.len ∙ ap (λ entries. length (latest entries)) c.limits.ensures in
-    let sent = row_formed _ _ _ r c.loop-updates.updates _ _ c.loop-updates.invariant.sent (rw scopes at c.in-Ok.ensures.text) in
-    stops_at _ _ _ _ r (c.loop-updates.updates + 1) _ (omega arith) sent c.in_err-send_many.ensures.front
+    let sent = row_formed _ _ _ c.args.before r c.loop-updates.updates _ _ c.loop-updates.invariant.sent (rw scopes at c.in-Ok.ensures.text) in
+    stops_at _ _ _ _ c.args.before r (c.loop-updates.updates + 1) _ (omega arith) sent c.in_err-send_many.ensures.front
 
 pub loop-updates-preserved : goal.loop-updates-preserved
 loop-updates-preserved g c =
     let r = c.args.audited.now in
     let scopes = c.len-scopes.ensures.len ∙ ap (λ entries. length (latest entries)) c.limits.ensures in
-    let sent = row_formed _ _ _ r c.loop-updates.updates _ _ c.loop-updates.invariant.sent (rw scopes at c.in-Ok.ensures.text) in
+    let sent = row_formed _ _ _ c.args.before r c.loop-updates.updates _ _ c.loop-updates.invariant.sent (rw scopes at c.in-Ok.ensures.text) in
     record {
       count = c.in-Ok.ensures.count ∙ c.loop-updates.invariant.count;
       begun = c.advance-begun.ensures.begun;
@@ -53,5 +53,5 @@ loop-updates-preserved g c =
 
 pub returns-clause-front : goal.returns-clause-front
 returns-clause-front g c =
-    stops_at _ _ _ _ c.args.audited.now c.loop-updates.updates _ (omega arith) c.loop-updates.invariant.sent
+    stops_at _ _ _ _ c.args.before c.args.audited.now c.loop-updates.updates _ (omega arith) c.loop-updates.invariant.sent
     (rw c.as_slice.ensures at c.send.ensures.front)

@@ -8,7 +8,8 @@ use Rattle.ordup_runs.specs.Answers.{Answers}
 use Rattle.ordup_runs.specs.Records.{Records}
 use Rattle.ordup_verdicts.specs.Verdicts.{Checks}
 use Rattle.ordup_verdicts.specs.Lags.{Lags}
-use Rattle.ordup_verdicts.specs.Series.{ChecksSeries, LagsOfSeries}
+use Rattle.ordup_verdicts.specs.Series.{ChecksSeries}
+use Rattle.ordup_verdicts.specs.SeriesLags.{LagsOfSeries}
 use Rattle.ordup_next.specs.Successors.{DeclaresSuccessor}
 use Rattle.ordup_next.specs.Ends.{DeclaresEnd}
 use Rattle.ordup_cli.specs.Plans.{RunsPlan}

@@ -1,11 +1,11 @@
-# A picture of the lag of a site: gnuplot -c examples/lag.gp SERIES PICTURE
-# SERIES is a file with what `ordup lag` printed, or the header and a stretch of its rows, and PICTURE the PNG to write. There is a
+# A picture of the lag of a site: gnuplot -c examples/lag.gp LAG PICTURE
+# LAG is a file with what `ordup lag` printed, or the header and a stretch of its rows, and PICTURE the PNG to write. There is a
 # panel for each limit. The colours are told apart by readers who are colour-blind too, and each thing has a form of its own.
-series = ARG1
-cell(line, column) = system(sprintf("%s -n 1 '%s' | cut -d , -f %d", line, series, column))
-columns = int(system(sprintf("head -n 1 '%s' | tr , '\n' | wc -l", series)))
+lag = ARG1
+cell(line, column) = system(sprintf("%s -n 1 '%s' | cut -d , -f %d", line, lag, column))
+columns = int(system(sprintf("head -n 1 '%s' | tr , '\n' | wc -l", lag)))
 limits = (columns - 4) / 2
-first = int(system(sprintf("sed -n 2p '%s' | cut -d , -f 1", series)))
+first = int(system(sprintf("sed -n 2p '%s' | cut -d , -f 1", lag)))
 last = int(cell("tail", 1))
 if (limits == 0 || last == 0) {
     print "no limit, or no decided place: there is nothing to draw"
@@ -17,7 +17,7 @@ scope(column) = substr(cell("head", column), 8, -1)
 unit(scope) = scope eq "count" ? "updates" : "units of the values"
 
 set datafile separator comma
-stats series skip 1 using window name "WINDOW" nooutput
+stats lag skip 1 using window name "WINDOW" nooutput
 set terminal pngcairo size 800, 120 + 260 * limits font "DejaVu Sans,11"
 set output ARG2
 set multiplot layout limits, 1 margins 0.12, 0.96, 65.0 / (120 + 260 * limits), 1 - 70.0 / (120 + 260 * limits) spacing 0, 60.0 / (120 + 260 * limits)
@@ -30,8 +30,8 @@ do for [i = 1:limits] {
     weight = 1 + 2 * i
     amount = 2 + 2 * i
     set yrange [*:*]
-    stats series skip 1 using weight name "WEIGHT" nooutput
-    stats series skip 1 using amount name "AMOUNT" nooutput
+    stats lag skip 1 using weight name "WEIGHT" nooutput
+    stats lag skip 1 using amount name "AMOUNT" nooutput
     top = 1.1 * (WEIGHT_max > AMOUNT_max ? WEIGHT_max : AMOUNT_max)
     top = top > 0 ? top : 1
     if (top <= 10) { set ytics 1 } else { set ytics autofreq }
@@ -40,10 +40,10 @@ do for [i = 1:limits] {
     set ylabel unit(scope(weight))
     set xlabel i == limits ? "place in the log (updates)" : ""
     band(parity) = valid(window) && int(column(window)) % 2 == parity ? top : NaN
-    plot series skip 1 using 1:(band(1)):(1) with boxes lc rgb "#CFE3F1" fs solid border lc rgb "#CFE3F1" title (i == 1 && WINDOW_records > 0 ? "window" : ""), \
-         series skip 1 using 1:(band(0)):(1) with boxes lc rgb "#EAD9E6" fs solid border lc rgb "#EAD9E6" title (i == 1 && WINDOW_records > 0 && WINDOW_max > 1 ? "next window" : ""), \
-         series skip 1 using 1:weight with histeps lw 2 lc rgb "#0072B2" title (i == 1 ? "not reported" : ""), \
-         series skip 1 using ($1 - 0.5):amount:(1):(0) with vectors nohead lw 2 lc rgb "#000000" title (i == 1 ? "amount" : ""), \
-         series skip 1 using 1:(column(round) == 1 ? column(weight) : NaN) with points pt 9 ps 1.4 lc rgb "#D55E00" title (i == 1 ? "round" : "")
+    plot lag skip 1 using 1:(band(1)):(1) with boxes lc rgb "#CFE3F1" fs solid border lc rgb "#CFE3F1" title (i == 1 && WINDOW_records > 0 ? "window" : ""), \
+         lag skip 1 using 1:(band(0)):(1) with boxes lc rgb "#EAD9E6" fs solid border lc rgb "#EAD9E6" title (i == 1 && WINDOW_records > 0 && WINDOW_max > 1 ? "next window" : ""), \
+         lag skip 1 using 1:weight with histeps lw 2 lc rgb "#0072B2" title (i == 1 ? "not reported" : ""), \
+         lag skip 1 using ($1 - 0.5):amount:(1):(0) with vectors nohead lw 2 lc rgb "#000000" title (i == 1 ? "amount" : ""), \
+         lag skip 1 using 1:(column(round) == 1 ? column(weight) : NaN) with points pt 9 ps 1.4 lc rgb "#D55E00" title (i == 1 ? "round" : "")
 }
 unset multiplot

@@ -63,10 +63,21 @@ static uint32_t check(const char *rows, size_t room) {
     return ordup_check(rows, strlen(rows), given, room, &written);
 }
 
+static uint32_t check_series(const char *rows, size_t room) {
+    clear();
+    return ordup_check_series(rows, strlen(rows), given, room, &written);
+}
+
 static const char SETUP[] = "object x 0\nobject y 10\nsite a 4\nlimit a object x 5\nstart";
 static const char DECLARED[] = "ok object x\nok object y\nok site a\nok limit a\nok start\n";
 static const char RECORD[] = "ordup,1,a,2\nobject,1,x,0\nobject,2,y,10\nlimit,1,object:x,5\n"
                              "change,1,1,add:x:5\nchange,2,1,add:x:1\nround,1,2,-\nwindow,1,0,2\n";
+/* The first record ends with 34 bags of tea, and the second one begins with these. */
+static const char SERIES[] = "ordup,2,a,2\nobject,1,tea,40\nlimit,1,object:tea,5@1\nlimit,2,object:tea,3@2\n"
+                             "change,1,1,add:tea:-4\nchange,2,1,add:tea:-2\nround,1,2,-\nwindow,1,0,2\n"
+                             "ordup,2,a,3\nobject,1,tea,34\nlimit,1,object:tea,4@1\nlimit,2,object:tea,1@3\n"
+                             "change,1,1,add:tea:-3\nchange,2,1,add:tea:-2\nchange,3,1,add:tea:-1\nreport,3,2,-\n"
+                             "round,1,2,-\nwindow,1,0,2\n";
 
 static void where_there_is_no_store(void) {
     ordup_store store = ORDUP_STORE;
@@ -155,6 +166,24 @@ static void records_are_told_and_checked(void) {
     IS(check("", 11) == ORDUP_MORE && written == 12 && wrote_nothing());
 }
 
+static void series_are_checked(void) {
+    IS(check_series(SERIES, ROOM) == ORDUP_DONE && wrote("yes 2\n", ROOM));
+    IS(check_series(SERIES, 5) == ORDUP_MORE && written == 6 && wrote_nothing());
+    IS(check_series(SERIES, 6) == ORDUP_DONE && wrote("yes 2\n", 6));
+    IS(check_series(RECORD, ROOM) == ORDUP_DONE && wrote("yes 1\n", ROOM));
+    char rows[sizeof SERIES];
+    memcpy(rows, SERIES, sizeof rows);
+    strstr(rows, "tea,34")[5] = '5'; /* the second record begins with a bag more */
+    IS(check_series(rows, 14) == ORDUP_MORE && written == 15 && wrote_nothing());
+    IS(check_series(rows, 15) == ORDUP_DONE && wrote("no 2 2 NotNext\n", 15));
+    strstr(rows, ",a,3")[1] = 'b'; /* and it is of another site */
+    IS(check_series(rows, ROOM) == ORDUP_DONE && wrote("no 2 1 NotNext\n", ROOM));
+    strstr(rows, "report,3")[7] = '4'; /* and it has a report at the decision of an update that was not decided */
+    IS(check_series(rows, ROOM) == ORDUP_MALFORMED && wrote("malformed 2 8\n", ROOM));
+    IS(check_series("", 13) == ORDUP_MORE && written == 14 && wrote_nothing());
+    IS(check_series("", 14) == ORDUP_MALFORMED && wrote("malformed 1 1\n", 14));
+}
+
 /* The objects begin with the values of the whole log, and the limits are those in force. */
 static void successor_is_declared(void) {
     static const char before[] = "object x 0\nobject y 10\nsite a 4\nlimit a object x 5\nstart\n";
@@ -181,6 +210,7 @@ int main(void) {
     lines_have_their_answers();
     answers_come_in_parts();
     records_are_told_and_checked();
+    series_are_checked();
     successor_is_declared();
     printf("%d statements, %d are not so\n", count, failed);
     return failed ? 1 : 0;

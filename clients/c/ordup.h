@@ -52,7 +52,7 @@ enum {
     ORDUP_NO_MEMORY = 4,    /* memory was refused; nothing is lost */
     ORDUP_NOT_STARTED = 5,  /* no `start` was accepted */
     ORDUP_UNKNOWN_SITE = 6, /* of ordup_record: no such site is declared */
-    ORDUP_MALFORMED = 7,    /* of ordup_check: a row breaks a rule of the format */
+    ORDUP_MALFORMED = 7,    /* of the checks: a row breaks a rule of the format */
     ORDUP_TOO_LONG = 8,     /* of ordup_check: the record has more bytes than a record may have */
     ORDUP_NOT_YET = 9       /* of ordup_next: an update is not acknowledged yet */
 };
@@ -95,6 +95,14 @@ uint32_t ordup_record(ordup_store *store, const char *site, size_t bytes, char *
  * bytes, and none was written. Else `*written` is 0, and nothing was written: TOO_LONG (more than 8 GiB, and no row of the first
  * 8 GiB breaks a rule) or NO_MEMORY. */
 uint32_t ordup_check(const char *record, size_t bytes, char *verdict, size_t room, size_t *written);
+
+/* Checks the records of a site, one after another, of a store and of those that go on from it, and gives the line that
+ * `ordup check --series` prints: `yes N`, `no RECORD ROW REASON` or `malformed RECORD ROW`, and LF. It needs no store.
+ *
+ * `*written` is how many bytes the line has, at most 64. DONE: it was written, and the series is valid (`yes`) or not (`no`).
+ * MALFORMED: it was written, and the text is no series: the row of the record is the first that breaks a rule. MORE: it has more
+ * than `room` bytes, and none was written. Else `*written` is 0, and nothing was written: NO_MEMORY. */
+uint32_t ordup_check_series(const char *records, size_t bytes, char *verdict, size_t room, size_t *written);
 
 /* Gives the declarations of the successor, which begins with what this store ends with: the bytes that `ordup next` prints. The
  * store is as it was.

@@ -1,5 +1,5 @@
 /* Refuses each allocation of some calls in turn, and then all from it on until a call says so. What was not done for that is asked
- * again. The answers, the record, the verdict and the successor are then those of a run in which nothing was refused, and each block
+ * again. The answers, the record, the verdicts and the successor are then those of a run in which nothing was refused, and each block
  * of memory is given back. Link it with -Wl,--wrap=malloc,--wrap=realloc,--wrap=free. */
 #include <stdio.h>
 #include <stdlib.h>
@@ -57,7 +57,7 @@ static int is_short(uint32_t status) {
     return 1;
 }
 
-/* All that the calls give: the answers, the record of a, the verdict on it, and the successor. */
+/* All that the calls give: the answers, the record of a, the verdicts on it and on the series that it begins, and the successor. */
 struct given {
     char text[4 * ROOM];
     size_t bytes;
@@ -101,6 +101,9 @@ static const char *const LINES =
     "propose add:x:6 take:y:x\nsettle\nsend a\napply a\nreport a\nsend b\napply b\nreport b\nsettle\nbegin q a 9\nread q x\n"
     "# nothing\n\nrelimit a count 4\npropose add:x:1 max:y:3\nsettle\nshow a\nread q y\nend q\ncertify a\nbad\nshow b";
 
+/* A record that goes on from the one of a. */
+static const char *const NEXT = "ordup,1,a,0\nobject,1,x,7\nobject,2,y,3\nmember,1,g,x\nmember,2,g,y\n";
+
 /* Makes the calls, with so much room for answers, and all lines by one call or one at a time. */
 static void calls(size_t room, int at_once, struct given *given) {
     ordup_store store = ORDUP_STORE;
@@ -121,7 +124,10 @@ static void calls(size_t room, int at_once, struct given *given) {
     char *record = given->text + given->bytes;
     WHOLE(ordup_record(&store, "a", 1, at, ROOM, &written));
     size_t bytes = strlen(record);
+    char series[ROOM];
+    sprintf(series, "%s%s", record, NEXT);
     WHOLE(ordup_check(record, bytes, at, ROOM, &written));
+    WHOLE(ordup_check_series(series, strlen(series), at, ROOM, &written));
     WHOLE(ordup_next(&store, at, ROOM, &written));
     run(&store, "show a", room, given); /* the store is as it was */
     ordup_close(&store);
@@ -134,7 +140,7 @@ int main(void) {
     static struct given wanted, given;
     long tried = 0, told = 0;
     calls(ROOM, 1, &wanted);
-    if (refused || !strstr(wanted.text, "\nyes 1\n"))
+    if (refused || !strstr(wanted.text, "\nyes 1\nyes 1\n"))
         fail("nothing is refused, and this is not what was to come");
     for (int form = 0; form < 8; form++) {
         size_t room = rooms[form & 1];

@@ -45,12 +45,14 @@ static size_t write_load(void) {
 
 static void *make_calls(void *bytes) {
     ordup_store store = ORDUP_STORE;
-    size_t taken, written;
+    size_t taken, written, length;
     failed |= ordup_open(&store) != ORDUP_DONE;
     failed |= ordup_run(&store, text, *(size_t *)bytes, &taken, answers, ROOM, &written) != ORDUP_DONE;
     failed |= memmem(answers, written, "refused 1 ", 10) != NULL || memmem(answers, written, "ok acked 50\n", 12) == NULL;
-    failed |= ordup_record(&store, "s1", 2, text, ROOM, &written) != ORDUP_DONE;
-    failed |= ordup_check(text, written, answers, ROOM, &written) != ORDUP_DONE || memcmp(answers, "yes ", 4);
+    failed |= ordup_record(&store, "s1", 2, text, ROOM, &length) != ORDUP_DONE;
+    failed |= ordup_check(text, length, answers, ROOM, &written) != ORDUP_DONE || memcmp(answers, "yes ", 4);
+    memcpy(text + length, text, length); /* object_1, in row 3, does not begin with what it ended with */
+    failed |= ordup_check_series(text, 2 * length, answers, ROOM, &written) != ORDUP_DONE || memcmp(answers, "no 2 3 NotNext\n", 15);
     ordup_next(&store, answers, ROOM, &written);
     ordup_close(&store);
     return NULL;

@@ -50,6 +50,12 @@ uint32_t ordup_check(const char *record, size_t bytes, char *verdict, size_t roo
     return ORDUP_TOO_LONG;
 }
 
+uint32_t ordup_check_series(const char *records, size_t bytes, char *verdict, size_t room, size_t *written) {
+    (void)records, (void)bytes, (void)verdict, (void)room;
+    *written = 0;
+    return ORDUP_NO_MEMORY;
+}
+
 uint32_t ordup_next(ordup_store *store, char *lines, size_t room, size_t *written) {
     (void)store;
     *written = (size_t)snprintf(lines, room, "closed %u, given again %u\n", closed, given_again);

@@ -125,7 +125,19 @@ type Verdict struct {
 	Reason string
 }
 
-// A VerdictKind says that the rounds of a record are the fewest (Yes), that there is a reason against it (No), or that it is no record.
+// A SeriesVerdict is what the records of a site show, one after another. Records and rows are counted from 1.
+type SeriesVerdict struct {
+	Kind VerdictKind
+	// Of Yes: no schedule of all their updates that keeps the site's limits has fewer rounds.
+	Rounds uint64
+	// Of No and Malformed: the record that is wrong, and its row.
+	Record, Row uint64
+	// Of No: the reason against the record.
+	Reason string
+}
+
+// A VerdictKind says that the rounds of a record or a series are the fewest (Yes), that there is a reason against it (No), or that it
+// is none (Malformed).
 type VerdictKind string
 
 // The kinds of verdicts.
@@ -275,6 +287,25 @@ func parseVerdict(text string) (Verdict, error) {
 	}
 	if words.bad || len(words.rest) > 0 {
 		return Verdict{}, fmt.Errorf("ordup: %q is no verdict", text)
+	}
+	return verdict, nil
+}
+
+func parseSeriesVerdict(text string) (SeriesVerdict, error) {
+	words := &words{rest: strings.Split(text, " ")}
+	verdict := SeriesVerdict{Kind: VerdictKind(words.next())}
+	switch verdict.Kind {
+	case Yes:
+		verdict.Rounds = words.number()
+	case No:
+		verdict.Record, verdict.Row, verdict.Reason = words.number(), words.number(), words.next()
+	case Malformed:
+		verdict.Record, verdict.Row = words.number(), words.number()
+	default:
+		words.bad = true
+	}
+	if words.bad || len(words.rest) > 0 {
+		return SeriesVerdict{}, fmt.Errorf("ordup: %q is no verdict on a series", text)
 	}
 	return verdict, nil
 }

@@ -33,6 +33,8 @@ func TestStandInRefusesMemoryAndIsClosed(t *testing.T) {
 	if _, err := Check(nil); err != ErrTooLong {
 		t.Error(err)
 	}
+	_, err = CheckSeries(nil)
+	isShort(t, 0, err)
 	store.Close()
 	last := open(t)
 	_, err = last.Command("start")

@@ -188,6 +188,18 @@ func Check(record []byte) (Verdict, error) {
 	return parseVerdict(strings.TrimSuffix(text, "\n"))
 }
 
+// CheckSeries checks the records of a site, one after another, of a store and of those that go on from it, as `ordup check --series`
+// does. It needs no store.
+func CheckSeries(records []byte) (SeriesVerdict, error) {
+	text, err := given(64, func(room []byte, written *C.size_t) C.uint32_t {
+		return C.ordup_check_series(pointer(records), C.size_t(len(records)), pointer(room), C.size_t(len(room)), written)
+	})
+	if err != nil {
+		return SeriesVerdict{}, err
+	}
+	return parseSeriesVerdict(strings.TrimSuffix(text, "\n"))
+}
+
 // given is what a call writes, which says how much room it needs.
 func given(size int, call func([]byte, *C.size_t) C.uint32_t) (string, error) {
 	for {

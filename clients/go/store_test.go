@@ -220,6 +220,41 @@ func TestARecordIsToldAndChecked(t *testing.T) {
 	is(t, Verdict{Kind: Malformed, Row: 1}, verdict, err)
 }
 
+func TestASeriesIsChecked(t *testing.T) {
+	series := `ordup,2,a,2
+object,1,tea,40
+limit,1,object:tea,5@1
+limit,2,object:tea,3@2
+change,1,1,add:tea:-4
+change,2,1,add:tea:-2
+round,1,2,-
+window,1,0,2
+ordup,2,a,3
+object,1,tea,34
+limit,1,object:tea,4@1
+limit,2,object:tea,1@3
+change,1,1,add:tea:-3
+change,2,1,add:tea:-2
+change,3,1,add:tea:-1
+report,3,2,-
+round,1,2,-
+window,1,0,2
+`
+	for _, it := range []struct {
+		before, after string
+		wanted        SeriesVerdict
+	}{
+		{"", "", SeriesVerdict{Kind: Yes, Rounds: 2}},
+		{"tea,34", "tea,35", SeriesVerdict{Kind: No, Record: 2, Row: 2, Reason: "NotNext"}},
+		{",a,3", ",b,3", SeriesVerdict{Kind: No, Record: 2, Row: 1, Reason: "NotNext"}},
+		{"report,3", "report,4", SeriesVerdict{Kind: Malformed, Record: 2, Row: 8}},
+		{series, "", SeriesVerdict{Kind: Malformed, Record: 1, Row: 1}},
+	} {
+		verdict, err := CheckSeries([]byte(strings.Replace(series, it.before, it.after, 1)))
+		is(t, it.wanted, verdict, err)
+	}
+}
+
 func TestTheSuccessorIsDeclared(t *testing.T) {
 	store := open(t)
 	if _, err := store.NextDeclarations(); err != ErrNotStarted {

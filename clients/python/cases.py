@@ -24,6 +24,26 @@ change,2,1,add:x:1
 round,1,2,-
 window,1,0,2
 """
+# The first series there, of two records.
+SERIES = b"""ordup,2,a,2
+object,1,tea,40
+limit,1,object:tea,5@1
+limit,2,object:tea,3@2
+change,1,1,add:tea:-4
+change,2,1,add:tea:-2
+round,1,2,-
+window,1,0,2
+ordup,2,a,3
+object,1,tea,34
+limit,1,object:tea,4@1
+limit,2,object:tea,1@3
+change,1,1,add:tea:-3
+change,2,1,add:tea:-2
+change,3,1,add:tea:-1
+report,3,2,-
+round,1,2,-
+window,1,0,2
+"""
 
 
 def text_of(outcome):

@@ -9,7 +9,7 @@ import time
 from unittest import mock
 
 from cases import VALID, TestCase
-from ordup import Error, Malformed, No, NoMemory, Proposed, Store, Yes, check, find, line
+from ordup import Error, NoMemory, Proposed, Store, Yes, check, check_series, find, line
 
 
 class InProcess(TestCase):
@@ -43,12 +43,6 @@ class InProcess(TestCase):
         store.commands(["settle"] * 10_001)
         self.assertGreater(len(store.record("a")), 200_000)
         self.assertEqual(check(store.record("a")), Yes(1))
-
-    def test_a_verdict(self):
-        self.assertEqual(check(VALID), Yes(1))
-        self.assertEqual(check(VALID.replace(b"window,1,0,2", b"window,1,1,2")), No(8, "WindowLight"))
-        self.assertEqual(check(VALID.replace(b"object,2", b"object,3")), Malformed(3))
-        self.assertEqual(check(b""), Malformed(1))
 
     def test_the_successor(self):
         store = self.shop()
@@ -198,6 +192,19 @@ stores.pop()
     def test_a_record_that_is_too_long(self):
         with mock.patch.object(find(), "check", lambda *words: 8):
             self.assertRaisesRegex(Error, "read fault", check, b"")
+
+    def test_a_check_that_is_refused_memory(self):
+        with mock.patch.object(find(), "check", lambda *words: 4):
+            self.assertRaises(MemoryError, check, b"")
+        with mock.patch.object(find(), "check_series", lambda *words: 4):
+            self.assertRaises(MemoryError, check_series, b"")
+
+    def test_an_older_library(self):
+        older = mock.Mock(spec=["ordup_version"])
+        older.ordup_version.return_value = 1
+        with mock.patch("ctypes.PyDLL", return_value=older), mock.patch("ctypes.CDLL", return_value=older):
+            with mock.patch.dict(os.environ, {"ORDUP_LIBRARY": "older.so"}):
+                self.assertRaisesRegex(OSError, "older.so is an older library of ordup: .*ordup_check_series", Store)
 
     def test_where_it_is_looked_for(self):
         with tempfile.NamedTemporaryFile(suffix=".so") as no_library:

@@ -16,10 +16,10 @@ from pathlib import Path
 sys.dont_write_bytecode = True
 
 import ordup
-from cases import TOP, VALID, TestCase, text_of, transcripts
+from cases import SERIES, TOP, VALID, TestCase, text_of, transcripts
 from ordup import (
-    Abandoned, Acked, Applied, BadLine, Begun, Certified, Declared, Ended, Proposed, Read, Refused, Relimited, Reported, Round, Sent,
-    Shown, Started, Waiting, Yes, check, line,
+    Abandoned, Acked, Applied, BadLine, Begun, Certified, Declared, Ended, Malformed, MalformedInSeries, No, NoInSeries, Proposed,
+    Read, Refused, Relimited, Reported, Round, Sent, Shown, Started, Waiting, Yes, check, check_series, line,
 )
 from test_ends import Ends, Forks, Interrupts, Mute
 from test_library import InProcess
@@ -287,12 +287,15 @@ class ManyLines(TestCase):
         self.assertEqual(store.run(bytearray()), b"")
         self.assertEqual(check(bytearray(VALID), self.program), Yes(1))
         self.assertEqual(check(memoryview(VALID), self.program), Yes(1))
+        self.assertEqual(check_series(bytearray(SERIES), self.program), Yes(2))
+        self.assertEqual(check_series(memoryview(SERIES), self.program), Yes(2))
 
     def test_what_is_not_like_bytes(self):
         store = self.shop()
         for text in ("settle", None, 5, [115], object()):
             self.assertRaises(TypeError, store.run, text)
             self.assertRaises(TypeError, check, text, self.program)
+            self.assertRaises(TypeError, check_series, text, self.program)
         for text in ([b"settle"], [None], [5], 5, None):
             self.assertRaises(TypeError, store.commands, text)
         self.refused(17, "NothingToSettle", store.settle)
@@ -322,7 +325,23 @@ class ManyLines(TestCase):
         self.assertEqual(sorted(places), list(range(1, 1001)))
 
 
-BY_BOTH = [Commands, Refusals, BadLines, ManyLines, Ends, Interrupts, Forks]
+class Verdicts(TestCase):
+    def test_a_record(self):
+        self.assertEqual(check(VALID, self.program), Yes(1))
+        self.assertEqual(check(VALID.replace(b"window,1,0,2", b"window,1,1,2"), self.program), No(8, "WindowLight"))
+        self.assertEqual(check(VALID.replace(b"object,2", b"object,3"), self.program), Malformed(3))
+        self.assertEqual(check(b"", self.program), Malformed(1))
+
+    def test_a_series(self):
+        self.assertEqual(check_series(SERIES, self.program), Yes(2))
+        self.assertEqual(check_series(VALID, self.program), Yes(1))
+        self.assertEqual(check_series(SERIES.replace(b"tea,34", b"tea,35"), self.program), NoInSeries(2, 2, "NotNext"))
+        self.assertEqual(check_series(SERIES.replace(b",a,3", b",b,3"), self.program), NoInSeries(2, 1, "NotNext"))
+        self.assertEqual(check_series(SERIES.replace(b"report,3", b"report,4"), self.program), MalformedInSeries(2, 8))
+        self.assertEqual(check_series(b"", self.program), MalformedInSeries(1, 1))
+
+
+BY_BOTH = [Commands, Refusals, BadLines, ManyLines, Verdicts, Ends, Interrupts, Forks]
 
 
 def load_tests(loader, tests, pattern):

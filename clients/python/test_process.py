@@ -6,10 +6,8 @@ import tempfile
 from pathlib import Path
 from unittest import mock
 
-from cases import TOP, VALID, TestCase, text_of
-from ordup import (
-    BadAnswer, Declared, Error, Malformed, No, OnlyInProcess, Proposed, Store, Yes, check,
-)
+from cases import SERIES, TOP, VALID, TestCase, text_of
+from ordup import BadAnswer, Declared, Error, OnlyInProcess, Proposed, Store, check, check_series
 
 
 class Process(TestCase):
@@ -112,12 +110,11 @@ class Process(TestCase):
         self.assertRaises(OnlyInProcess, store.next_declarations)
         self.assertEqual(store.propose({"x": ("add", 1)}), Proposed(1))
 
-    def test_a_verdict(self):
-        self.assertEqual(check(VALID, self.program), Yes(1))
-        self.assertEqual(check(VALID.replace(b"window,1,0,2", b"window,1,1,2"), self.program), No(8, "WindowLight"))
-        self.assertEqual(check(VALID.replace(b"object,2", b"object,3"), self.program), Malformed(3))
-        self.assertEqual(check(b"", self.program), Malformed(1))
+    def test_what_is_no_verdict(self):
         for text in ("cat", "echo yes", "echo no 1", "echo yes 1 WindowLight", "exit 3"):
             self.assertRaises(BadAnswer, check, VALID, self.stand_in(text + "\n"))
-        self.assertRaises(MemoryError, check, VALID, self.stand_in("echo no memory >&2\nexit 4\n"))
-        self.assertRaises(Error, check, VALID, self.stand_in("echo read fault >&2\nexit 3\n"))
+        for text in ("cat", "echo yes 1 1", "echo no 1 WindowLight", "echo malformed 1", "exit 3"):
+            self.assertRaises(BadAnswer, check_series, SERIES, self.stand_in(text + "\n"))
+        for call in (check, check_series):
+            self.assertRaises(MemoryError, call, VALID, self.stand_in("echo no memory >&2\nexit 4\n"))
+            self.assertRaises(Error, call, VALID, self.stand_in("echo read fault >&2\nexit 3\n"))

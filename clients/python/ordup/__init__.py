@@ -52,14 +52,14 @@ import subprocess
 from typing import Any, Iterable, List, Mapping, Optional, Sequence, Type, TypeVar, Union
 
 from . import _answers
-from ._library import InProcess, check_record, find
+from ._library import InProcess, check_text, find
 from ._pipe import Pipe, Program, path_of
 from ._answers import *
 from ._way import Answered, Text, bytes_of, seconds_of
-from ._answers import answered_lines, check_lines, count_answers, outcomes_of, scope_words, verdict_of
+from ._answers import answered_lines, check_lines, count_answers, outcomes_of, scope_words, series_verdict_of, verdict_of
 
 __version__ = "0.2.0"
-__all__ = ["Store", "check"]
+__all__ = ["Store", "check", "check_series"]
 __all__ += _answers.__all__
 
 for _it in [vars(_answers)[name] for name in _answers.__all__]:
@@ -74,16 +74,30 @@ def check(record: Text, program: Optional[Program] = None) -> Verdict:
 
     It is found in this process where no program is given and the library is there, else by the program.
     """
-    text, library = bytes_of(record), find() if program is None else None
+    return verdict_of(_checked(bytes_of(record), program, is_series=False))
+
+
+def check_series(records: Text, program: Optional[Program] = None) -> SeriesVerdict:
+    """The verdict on the records of a site, one after another in one text, as the job `check --series` gives it.
+
+    The records are of a store and of those that go on from it. The verdict is found as that of `check` is.
+    """
+    return series_verdict_of(_checked(bytes_of(records), program, is_series=True))
+
+
+def _checked(text: bytes, program: Optional[Program], is_series: bool) -> str:
+    """The line that the job `check` prints for a text."""
+    library = find() if program is None else None
     if library:
-        return verdict_of(check_record(library, text))
-    ran = subprocess.run([path_of(program), "check"], input=text, stdout=subprocess.PIPE, stderr=subprocess.PIPE)
+        return check_text(library.check_series if is_series else library.check, text)
+    words = ["check", "--series"] if is_series else ["check"]
+    ran = subprocess.run([path_of(program), *words], input=text, stdout=subprocess.PIPE, stderr=subprocess.PIPE)
     said = (ran.stdout or ran.stderr).decode("utf-8", "replace").strip()
     if said == "no memory":
         raise MemoryError
     if said == "read fault":
         raise Error(said)
-    return verdict_of(said)
+    return said
 
 
 class Store:

@@ -9,9 +9,9 @@ from typing import Callable, Dict, List, Literal, Mapping, Sequence, Tuple, Unio
 
 __all__ = [
     "Abandoned", "Acked", "Answer", "Applied", "BadAnswer", "BadLine", "Begun", "Certified", "Change", "Declared", "Ended",
-    "Error", "Malformed", "No", "NoMemory", "OnlyInProcess", "Outcome", "ProgramEnded", "Proposed", "Read", "Refused",
-    "Relimited", "Reported", "Round", "Scope", "Sent", "Settled", "Shown", "Started", "TimedOut", "Unanswered", "Verdict",
-    "Waiting", "Word", "Yes", "line",
+    "Error", "Malformed", "MalformedInSeries", "No", "NoInSeries", "NoMemory", "OnlyInProcess", "Outcome", "ProgramEnded",
+    "Proposed", "Read", "Refused", "Relimited", "Reported", "Round", "Scope", "Sent", "SeriesVerdict", "Settled", "Shown",
+    "Started", "TimedOut", "Unanswered", "Verdict", "Waiting", "Word", "Yes", "line",
 ]
 
 # A change of an object: `('add', -5)`, or `('take', 'till')` for the value of another object.
@@ -218,7 +218,7 @@ Outcome = Union[Answer, Refused]
 
 @dataclass(frozen=True)
 class Yes:
-    """The record is valid, and no schedule that keeps the site's limits has fewer than these rounds."""
+    """The record or the series is valid, and no schedule that keeps the site's limits has fewer than these rounds."""
 
     rounds: int
 
@@ -238,7 +238,25 @@ class Malformed:
     row: int
 
 
+@dataclass(frozen=True)
+class NoInSeries:
+    """There is a reason against this record of a series, in this row of it."""
+
+    record: int
+    row: int
+    reason: str
+
+
+@dataclass(frozen=True)
+class MalformedInSeries:
+    """The text is no series: this row of this record is the first that breaks a rule of the format."""
+
+    record: int
+    row: int
+
+
 Verdict = Union[Yes, No, Malformed]
+SeriesVerdict = Union[Yes, NoInSeries, MalformedInSeries]
 
 
 def _shown(words: List[str]) -> Shown:
@@ -308,6 +326,16 @@ def verdict_of(text: str) -> Verdict:
         raise BadAnswer(f"{quoted(text)} is no verdict")
     number = int(found[2])
     return Yes(number) if found[1] == "yes" else Malformed(number) if found[1] == "malformed" else No(number, found[3])
+
+
+def series_verdict_of(text: str) -> SeriesVerdict:
+    """What the line says that `ordup check --series` prints."""
+    found = re.fullmatch(r"yes ([0-9]+)|no ([0-9]+) ([0-9]+) ([A-Za-z]+)|malformed ([0-9]+) ([0-9]+)", text)
+    if not found:
+        raise BadAnswer(f"{quoted(text)} is no verdict")
+    if found[1]:
+        return Yes(int(found[1]))
+    return NoInSeries(int(found[2]), int(found[3]), found[4]) if found[2] else MalformedInSeries(int(found[5]), int(found[6]))
 
 
 def check_lines(lines: Sequence[str]) -> None:

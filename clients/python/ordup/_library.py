@@ -37,6 +37,10 @@ class Library:
             raise OSError(f"{path} is no library of ordup: {why}") from why
         if version != _VERSION:
             raise OSError(f"{path} has the version {version} of the library's functions, not {_VERSION}")
+        try:  # a function that came later than the version
+            self.check_series = long.ordup_check_series
+        except AttributeError as why:
+            raise OSError(f"{path} is an older library of ordup: {why}") from why
         handle, text, size = ctypes.POINTER(_Handle), ctypes.c_char_p, ctypes.c_size_t
         answer: Any = (ctypes.c_void_p, size, ctypes.POINTER(size))
         self.open, self.close, self.run, self.run_long = quick.ordup_open, long.ordup_close, quick.ordup_run, long.ordup_run
@@ -46,7 +50,7 @@ class Library:
         self.run.argtypes = self.run_long.argtypes = [handle, text, size, ctypes.POINTER(size), *answer]
         self.record.argtypes = [handle, text, size, *answer]
         self.next.argtypes = [handle, *answer]
-        self.check.argtypes = [text, size, *answer]
+        self.check.argtypes = self.check_series.argtypes = [text, size, *answer]
 
 
 @functools.lru_cache(maxsize=None)
@@ -81,9 +85,9 @@ def _whole(call: Any, *words: Any) -> Tuple[int, bytes]:
         room = written.value
 
 
-def check_record(library: Library, record: bytes) -> str:
-    """The line that `ordup check` prints for a record."""
-    status, line = _whole(library.check, record, len(record))
+def check_text(check: Any, text: bytes) -> str:
+    """The line that `ordup check` prints for a text, by a function that checks it."""
+    status, line = _whole(check, text, len(text))
     if status == _NO_MEMORY:
         raise MemoryError
     if status == _TOO_LONG:

@@ -80,12 +80,15 @@ class Pipe(Way):
         return answers, None
 
     def _wait(self, to_write: bool, limit: Optional[float]) -> List[int]:
-        """The pipes that are ready, or none at the limit of time."""
+        """The pipes that are ready, or none once the limit of time is reached."""
+        left = _milliseconds_until(limit)
+        if left == 0:
+            return []
         pipes = select.poll()
         pipes.register(self._output, select.POLLIN)
         if to_write:
             pipes.register(self._input, select.POLLOUT)
-        return [pipe for pipe, _ in pipes.poll(_milliseconds_until(limit))]
+        return [pipe for pipe, _ in pipes.poll(left)]
 
     def _stop(self) -> None:
         _kill(self.process)

@@ -91,6 +91,17 @@ pub enum Verdict {
     Malformed { row: u64 },
 }
 
+/// What the records of a site show, one after another. Records and rows are counted from 1.
+#[derive(Clone, Debug, PartialEq, Eq)]
+pub enum SeriesVerdict {
+    /// No schedule of all their updates that keeps the site's limits has fewer than these rounds.
+    Yes { rounds: u64 },
+    /// There is a reason against this record, in this row of it.
+    No { record: u64, row: u64, reason: String },
+    /// This row of this record is the first that breaks a rule of the format.
+    Malformed { record: u64, row: u64 },
+}
+
 /// The number that a word is.
 fn number<T: FromStr>(word: &str) -> Option<T> {
     word.parse().ok()
@@ -172,6 +183,20 @@ impl Verdict {
             ["yes", rounds] => Some(Verdict::Yes { rounds: number(rounds)? }),
             ["no", row, reason] => Some(Verdict::No { row: number(row)?, reason: reason.to_string() }),
             ["malformed", row] => Some(Verdict::Malformed { row: number(row)? }),
+            _ => None,
+        }
+    }
+}
+
+impl SeriesVerdict {
+    /// What a verdict on a series says, without its line feed. None where the text is none.
+    pub fn parse(text: &str) -> Option<SeriesVerdict> {
+        match text.split(' ').collect::<Vec<_>>().as_slice() {
+            ["yes", rounds] => Some(SeriesVerdict::Yes { rounds: number(rounds)? }),
+            ["no", record, row, reason] => {
+                Some(SeriesVerdict::No { record: number(record)?, row: number(row)?, reason: reason.to_string() })
+            }
+            ["malformed", record, row] => Some(SeriesVerdict::Malformed { record: number(record)?, row: number(row)? }),
             _ => None,
         }
     }

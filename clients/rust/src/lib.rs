@@ -23,7 +23,7 @@ mod error;
 mod raw;
 mod store;
 
-pub use answer::{Answer, Certified, Ended, Read, Settled, Shown, Verdict};
+pub use answer::{Answer, Certified, Ended, Read, SeriesVerdict, Settled, Shown, Verdict};
 pub use commands::{Change, Scope};
 pub use error::{Error, Refused};
-pub use store::{check, Outcome, SharedStore, Store};
+pub use store::{check, check_series, Outcome, SharedStore, Store};

@@ -42,5 +42,6 @@ extern "C" {
         written: *mut usize,
     ) -> u32;
     pub fn ordup_check(record: *const u8, bytes: usize, verdict: *mut u8, room: usize, written: *mut usize) -> u32;
+    pub fn ordup_check_series(records: *const u8, bytes: usize, verdict: *mut u8, room: usize, written: *mut usize) -> u32;
     pub fn ordup_next(store: *mut RawStore, lines: *mut u8, room: usize, written: *mut usize) -> u32;
 }

@@ -1,6 +1,6 @@
 //! A store, and what it is asked in text.
 
-use crate::answer::{Answer, Verdict};
+use crate::answer::{Answer, SeriesVerdict, Verdict};
 use crate::error::{Error, Refused};
 use crate::raw::*;
 use std::ptr;
@@ -162,6 +162,26 @@ pub fn check(record: &[u8]) -> Result<Verdict, Error> {
         ordup_check(record.as_ptr(), record.len(), room, size, written)
     })?;
     Verdict::parse(text.trim_end()).ok_or(Error::BadAnswer(text))
+}
+
+/// Checks the records of a site, one after another, of a store and of those that go on from it, as `ordup check --series` does. It
+/// needs no store.
+///
+/// ```
+/// use ordup::{check_series, SeriesVerdict};
+/// let first = "ordup,1,a,1\nobject,1,x,0\nchange,1,1,add:x:4\n";
+/// let series = [first, "ordup,1,a,0\nobject,1,x,4\n"].concat();
+/// assert_eq!(check_series(series.as_bytes())?, SeriesVerdict::Yes { rounds: 0 });
+/// let series = [first, "ordup,1,a,0\nobject,1,x,5\n"].concat();
+/// assert_eq!(check_series(series.as_bytes())?, SeriesVerdict::No { record: 2, row: 2, reason: "NotNext".into() });
+/// # Ok::<(), ordup::Error>(())
+/// ```
+pub fn check_series(records: &[u8]) -> Result<SeriesVerdict, Error> {
+    // SAFETY: as in `Store::run`.
+    let text = given(VERDICT, |room, size, written| unsafe {
+        ordup_check_series(records.as_ptr(), records.len(), room, size, written)
+    })?;
+    SeriesVerdict::parse(text.trim_end()).ok_or(Error::BadAnswer(text))
 }
 
 /// What a call writes, which says how much room it needs.

@@ -1,6 +1,6 @@
 //! Refused memory, and what is closed, with the stand-in of clients/c for the library: ORDUP_LIB_DIR=.. cargo test --test stand_in
 
-use ordup::{check, Answer, Error, Store};
+use ordup::{check, check_series, Answer, Error, Store};
 
 #[test]
 fn refused_memory_loses_nothing_and_a_dropped_store_is_closed() {
@@ -13,6 +13,7 @@ fn refused_memory_loses_nothing_and_a_dropped_store_is_closed() {
     assert_eq!(outcomes, [Ok(Answer::Started)]);
     assert_eq!(store.record("a"), Err(Error::NoMemory { taken: 0 }));
     assert_eq!(check(b""), Err(Error::TooLong));
+    assert_eq!(check_series(b""), Err(Error::NoMemory { taken: 0 }));
     drop(store);
     let mut store = Store::new().unwrap();
     assert_eq!(store.command("start"), Err(Error::NoMemory { taken: 0 }));

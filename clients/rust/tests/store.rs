@@ -1,6 +1,7 @@
 //! What the calls give. The answers are worked out by hand, or are those of the transcripts in README.md and docs/FORMATS.md.
 
-use ordup::{check, Answer, Certified, Change, Ended, Error, Read, Refused, Scope, Settled, SharedStore, Shown, Store, Verdict};
+use ordup::{check, check_series, Answer, Certified, Change, Ended, Error, Read, Refused, Scope};
+use ordup::{SeriesVerdict, Settled, SharedStore, Shown, Store, Verdict};
 
 /// 40 bags of tea, and a shop that may lag by 6 of them.
 fn shop() -> Store {
@@ -177,6 +178,39 @@ fn a_record_is_told_and_checked() {
     let lighter = record.replace("x,5", "x,6");
     assert_eq!(check(lighter.as_bytes()), Ok(Verdict::No { row: 8, reason: "WindowLight".into() }));
     assert_eq!(check(b""), Ok(Verdict::Malformed { row: 1 }));
+}
+
+#[test]
+fn a_series_is_checked() {
+    let rows = [
+        "ordup,2,a,2",
+        "object,1,tea,40",
+        "limit,1,object:tea,5@1",
+        "limit,2,object:tea,3@2",
+        "change,1,1,add:tea:-4",
+        "change,2,1,add:tea:-2",
+        "round,1,2,-",
+        "window,1,0,2",
+        "ordup,2,a,3",
+        "object,1,tea,34",
+        "limit,1,object:tea,4@1",
+        "limit,2,object:tea,1@3",
+        "change,1,1,add:tea:-3",
+        "change,2,1,add:tea:-2",
+        "change,3,1,add:tea:-1",
+        "report,3,2,-",
+        "round,1,2,-",
+        "window,1,0,2",
+    ];
+    let series = rows.join("\n") + "\n";
+    assert_eq!(check_series(series.as_bytes()), Ok(SeriesVerdict::Yes { rounds: 2 }));
+    for (before, after, row) in [("tea,34", "tea,35", 2), (",a,3", ",b,3", 1)] {
+        let verdict = SeriesVerdict::No { record: 2, row, reason: "NotNext".into() };
+        assert_eq!(check_series(series.replace(before, after).as_bytes()), Ok(verdict));
+    }
+    let malformed = series.replace("report,3", "report,4");
+    assert_eq!(check_series(malformed.as_bytes()), Ok(SeriesVerdict::Malformed { record: 2, row: 8 }));
+    assert_eq!(check_series(b""), Ok(SeriesVerdict::Malformed { record: 1, row: 1 }));
 }
 
 #[test]

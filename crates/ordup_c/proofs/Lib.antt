@@ -1,3 +1,4 @@
 pub mod AsBox
 pub mod Sessions
 mod Examples
+mod PushedLines

@@ -9,6 +9,10 @@ use Rattle.ordup_audit.specs.Verdicts.{IsVerdict}
 use Rattle.ordup_audit.specs.declared.verdict.Verdict.{Verdict}
 use Rattle.ordup_audit.specs.declared.verdict.Verdict.TheVariants.{Fewest, No}
 use Rattle.ordup_check.specs.Limits.{IsMalformedWithin}
+use Rattle.ordup_check.specs.SeriesVerdicts.{IsMalformedSeries, JudgesText}
+use Rattle.ordup_series.specs.Reasons.{series_reason_name}
+use Rattle.ordup_series.specs.declared.verdict.SeriesVerdict.{SeriesVerdict}
+use Rattle.ordup_series.specs.declared.verdict.SeriesVerdict.TheVariants as of_series
 use Rattle.ordup_rows.specs.Sizes.{most_record_bytes}
 use Rattle.ordup_rows.specs.Texts.{TextTells}
 use Rattle.ordup_c.specs.Records.{Copies, Lacks}
@@ -52,3 +56,28 @@ abbrev pub ChecksCall : List ℕ → List ℕ → List ℕ → ℕ → ℕ → T
 ChecksCall text old new written status =
     ((line : List ℕ) × (found : ℕ) × Finds text line found × (written ≡ length line) × Copies line found old new status)
     ⊎ (Lacks NO_MEMORY old new written status ⊎ ((most_record_bytes < length text) × Lacks TOO_LONG old new written status))
+
+-- ---- a series of records
+
+-- the line of the verdict on a series
+abbrev pub series_line : SeriesVerdict → List ℕ
+series_line (of_series.Fewest n) = codes "yes " ++ decimal n ++ codes "\n"
+series_line (of_series.No place row why) =
+    codes "no " ++ decimal place ++ codes " " ++ decimal row ++ codes " " ++ series_reason_name why ++ codes "\n"
+
+-- the line of a row of a record that breaks a rule
+abbrev pub malformed_record_line : ℕ → ℕ → List ℕ
+malformed_record_line place row = codes "malformed " ++ decimal place ++ codes " " ++ decimal row ++ codes "\n"
+
+-- a line was found for a text of records, and the status that goes with it
+abbrev pub FindsSeries : List ℕ → List ℕ → ℕ → Type 0
+FindsSeries text line status =
+    ((verdict : SeriesVerdict) × JudgesText text verdict × (line ≡ series_line verdict) × (status ≡ DONE))
+    ⊎ ((place : ℕ) × (row : ℕ) × IsMalformedSeries text place row × (line ≡ malformed_record_line place row) × (status ≡ MALFORMED))
+
+-- of the line that was found for a text of records the length was told, and the line written where it fits; or there is none, for want
+-- of memory
+abbrev pub ChecksSeriesCall : List ℕ → List ℕ → List ℕ → ℕ → ℕ → Type 0
+ChecksSeriesCall text old new written status =
+    ((line : List ℕ) × (found : ℕ) × FindsSeries text line found × (written ≡ length line) × Copies line found old new status)
+    ⊎ Lacks NO_MEMORY old new written status

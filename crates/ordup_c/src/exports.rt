@@ -1,13 +1,13 @@
 //! The functions that C calls.
 ghost use Rattle.std.specs.Prelude.{◌≡◌, ◌<◌, ◌≤◌, None, IfSome, drop, length, take};
 ghost use Rattle.ordup_c.specs.Calls.{Opens, RunsCall, status_of};
-ghost use Rattle.ordup_c.specs.Checks.{ChecksCall};
+ghost use Rattle.ordup_c.specs.Checks.{ChecksCall, ChecksSeriesCall};
 ghost use Rattle.ordup_c.specs.Records.{RecordCall};
 ghost use Rattle.ordup_c.specs.declared.exports.TheConstants.{VERSION};
 ghost use Rattle.ordup_c.specs.Sessions.{kept};
 ghost use Rattle.ordup_c.specs.Successors.{NextCall};
 
-use crate::checking::tell_verdict;
+use crate::checking::{tell_series_verdict, tell_verdict};
 use crate::next::tell_next;
 use crate::record::tell_record;
 use crate::session::Session;
@@ -138,6 +138,19 @@ pub extern "C" fn ordup_check(
     ensures { ChecksCall rows.now verdict.old verdict.new written.new result }
 {
     tell_verdict(alloc, rows, verdict, written)
+}
+
+/// Audits records of one site, one after another, and tells the verdict: how long its line is, and the line where it fits.
+#[unsafe(no_mangle)]
+pub extern "C" fn ordup_check_series(
+    alloc: Global,
+    rows: &[u8],
+    verdict: &mut [u8],
+    written: &mut usize,
+) -> u32
+    ensures { ChecksSeriesCall rows.now verdict.old verdict.new written.new result }
+{
+    tell_series_verdict(alloc, rows, verdict, written)
 }
 
 /// Whether bytes of a text are left, for want of memory, and else whether there are more answers.

@@ -8,3 +8,5 @@ mod TextAnswers
 mod LongRowLemmas
 mod PlainRowLemmas
 mod CutRows
+mod SeriesLemmas
+mod JudgingLemmas

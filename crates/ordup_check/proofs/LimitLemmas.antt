@@ -9,7 +9,7 @@ use Rattle.csv.specs.declared.parser.Action.{Action}
 use Rattle.csv.specs.declared.parser.State.{State}
 use Rattle.csv.specs.declared.parser.State.TheVariants as st
 use Rattle.ordup_rows.specs.Rows.{Row}
-use Rattle.ordup_rows.specs.Texts.{HasRows, IsMalformedAt}
+use Rattle.ordup_rows.specs.Texts.{BeginsWithRows, HasRows, IsMalformedAt}
 use Rattle.ordup_check.specs.Limits.{never}
 use Rattle.ordup_check.specs.ShortRows.{from_row}
 use Rattle.ordup_check.specs.Reading.{AllCame, HasBadRow, has_never}
@@ -193,14 +193,24 @@ begun_bad left n (rows, (t, rest, h), came, bad) more =
     let (open2, left2, rest_is, follow) = front_rows rows st.StartRecord t left rest refl came h in
     inl (rows, (t, left2 ++ more, follow more), bad)
 
--- no bad row came where the first row is lost
-pub lost_bad : (text : List ℕ) (n : ℕ) → BeginsLost text → HasBadRow text n → ⊥
+-- the first rows that came are the first ones however the text goes on
+pub begun_rows : (left : List ℕ) (rows : List Row) → BeginsWithRows (left ++ never ∷ []) rows → AllCame rows → (more : List ℕ)
+    → BeginsWithRows (left ++ more) rows
+begun_rows left rows (t, rest, h) came more =
+    let (open2, left2, rest_is, follow) = front_rows rows st.StartRecord t left rest refl came h in
+    (t, left2 ++ more, follow more)
+
+-- no row came where the first row is lost
+pub lost_rows : (text : List ℕ) (row : Row) (rows : List Row) → BeginsLost text → BeginsWithRows text (row ∷ rows) → AllCame (row ∷ rows) → ⊥
 unfolding Reached
-lost_bad text n lost ([], begins, came, bad) = absurd (omega (arith, bad.0, bad.1))
-lost_bad text n (q, f, lost, same) (row ∷ rows, (t, rest, (p, e, is, h)), came, bad) =
+lost_rows text row rows (q, f, lost, same) (t, rest, (p, e, is, h)) came =
     let both = or_parts (has_never row) (list_any has_never rows) came in
     let one : q ≡ p = same_Some q p (sym f ∙ e) in
-    absurd (false≢true (sym both.0 ∙ (ap has_never is ∙ (ap (λ z. has_never z.0) (sym one) ∙ lost))))
+    false≢true (sym both.0 ∙ (ap has_never is ∙ (ap (λ z. has_never z.0) (sym one) ∙ lost)))
+
+pub lost_bad : (text : List ℕ) (n : ℕ) → BeginsLost text → HasBadRow text n → ⊥
+lost_bad text n lost ([], begins, came, bad) = absurd (omega (arith, bad.0, bad.1))
+lost_bad text n lost (row ∷ rows, begins, came, bad) = lost_rows text row rows lost begins came
 
 pub cut_is_not_all : (bytes : List ℕ) (rows : List Row) → AllCame rows → HasRows (strip_bom (bytes ++ never ∷ [])) rows → ⊥
 cut_is_not_all bytes rows came all =

@@ -14,7 +14,7 @@ use Rattle.csv.specs.declared.parser.State.TheVariants as st
 use Rattle.ordup_rows.specs.Rows.{Row, row_line}
 use Rattle.ordup_rows.specs.Stages.{Stage}
 use Rattle.ordup_rows.specs.Telling.{BeginARecord, IsBadRow}
-use Rattle.ordup_rows.specs.Texts.{IsMalformedAt}
+use Rattle.ordup_rows.specs.Texts.{HasRows, IsMalformedAt}
 use Rattle.ordup_rows.proofs.Beginnings.{taken_rows_begin_a_record}
 use Rattle.ordup_rows.proofs.PlainLemmas.{IsLine, all_lines}
 use Rattle.ordup_rows.proofs.RecordsSoFar.{all_at}
@@ -530,6 +530,18 @@ other_bad init last other n far (some, within, before, bad) =
       ],
     )
 
+last-same : (xs ys : List Row) (x y : Row) → xs ++ x ∷ [] ≡ ys ++ y ∷ [] → x ≡ y
+last-same [] [] x y e = cc
+last-same [] (z ∷ ys) x y e =
+    let count : length (x ∷ []) ≡ length ((z ∷ ys) ++ y ∷ []) = ap length e in
+    absurd (omega (arith, count, length_push (z ∷ ys) y))
+last-same (z ∷ xs) [] x y e =
+    let count : length ((z ∷ xs) ++ x ∷ []) ≡ length (y ∷ []) = ap length e in
+    absurd (omega (arith, count, length_push (z ∷ xs) x))
+last-same (z ∷ xs) (w ∷ ys) x y e =
+    let rest : xs ++ x ∷ [] ≡ ys ++ y ∷ [] = cc in
+    last-same xs ys x y rest
+
 pub short_malformed : (text : List ℕ) (n : ℕ) → IsMalformedAt (from_row text) n → IsMalformedAt text n
 short_malformed text n (inl (rows, (t, rest, h), bad)) = elim (rows_walk rows st.StartRecord t text rest (refl, refl) h) [
   | inl (rest2, follow, end) ↦ inl (rows, (t, rest2, follow), bad)
@@ -546,6 +558,40 @@ short_taken text stage n (rows, (t, rest, h, none), came, ran, counted) = elim (
   | inl (rest2, follow, end) ↦ (rows, (t, rest2, follow, end none), came, ran, counted)
   | inr (init, last, other, is, long, far, t2, rest2, follow) ↦
       absurd (too_long rows init last is long (taken_rows_begin_a_record rows stage ran))
+]
+
+-- rows are none, or there is a last one
+ends-with : (rows : List Row) → (rows ≡ []) ⊎ ((front : List Row) × (last : Row) × (rows ≡ front ++ last ∷ []))
+ends-with [] = inl refl
+ends-with (row ∷ rows) = elim (ends-with rows) [
+  | inl none ↦ inr ([], row, ap (λ l. row ∷ l) none)
+  | inr (front, last, is) ↦ inr (row ∷ front, last, ap (λ l. row ∷ l) is)
+]
+
+-- all rows are those of the text, where the last ones begin a record
+short_last : (text : List ℕ) (before front : List Row) (last : Row) → BeginARecord (front ++ last ∷ [])
+    → HasRows (from_row text) (before ++ (front ++ last ∷ [])) → HasRows text (before ++ (front ++ last ∷ []))
+short_last text before front last begins (t, rest, h, none) =
+    elim (rows_walk (before ++ (front ++ last ∷ [])) st.StartRecord t text rest (refl, refl) h) [
+      | inl (rest2, follow, end) ↦ (t, rest2, follow, end none)
+      | inr (init, row, other, is, long, far, t2, rest2, follow) ↦
+          (let same : last ≡ row = last-same (before ++ front) init last row (append_assoc before front (last ∷ []) ∙ is) in
+          absurd (too_long (front ++ last ∷ []) front last refl (subst (λ r. 100 < size r) (sym same) long) begins))
+    ]
+
+short_none : (text : List ℕ) → HasRows (from_row text) [] → HasRows text []
+short_none text (t, rest, h, none) =
+    elim (rows_walk [] st.StartRecord t text rest (refl, refl) h) [
+      | inl (rest2, follow, end) ↦ (t, rest2, follow, end none)
+      | inr (init, row, other, is, long, far, t2, rest2, follow) ↦
+          (let count : length {A = Row} [] ≡ length (init ++ row ∷ []) = ap length is in absurd (omega (arith, count, length_push init row)))
+    ]
+
+pub short_all : (text : List ℕ) (before rows : List Row) → BeginARecord rows → (rows ≡ [] → before ≡ [])
+    → HasRows (from_row text) (before ++ rows) → HasRows text (before ++ rows)
+short_all text before rows begins alone has = elim (ends-with rows) [
+  | inl none ↦ rw (none, alone none) (short_none text (rw (none, alone none) at has))
+  | inr (front, last, is) ↦ rw is (short_last text before front last (subst BeginARecord is begins) (rw is at has))
 ]
 
 -- ---- where the text ends depends on its first bytes alone

@@ -1,11 +1,12 @@
 -- How a reading of rows goes on.
-use Rattle.ordup_audit.proofs.Common.{◌++◌, ◌||◌, list_any, list_any-append, or_from, ◌+◌, ◌∙◌, ◌∷◌, ◌≡◌, [], ap, arith, false, IfSome, inl, inr, length, length_push, List, None}
-use Rattle.ordup_audit.proofs.Common.{Option, option_and_then, option_map, RecordState, refl, Some, sym, true, ℕ}
+use Rattle.ordup_audit.proofs.Common.{◌++◌, ◌||◌, list_any, list_any-append, or_from, ◌+◌, ◌∙◌, ◌∷◌, ◌≡◌, [], ap, append_assoc, arith, false, IfSome, inl, inr, length, length_push, List, None}
+use Rattle.ordup_audit.proofs.Common.{IsRecord, Option, option_and_then, option_map, RecordState, refl, Some, subst, sym, true, ℕ}
 use Rattle.csv.specs.Reading.{Reached, ReadRecord, default_config, reader_config, reader_state, source_of, strip_bom}
 use Rattle.csv.specs.declared.parser.State.TheVariants as st
 use Rattle.csv.specs.declared.reader.Reader.{Reader}
 use Rattle.csv.proofs.ReadFacts.{rows-end, rows-more}
-use Rattle.ordup_check.specs.Reading.{AllCame, HasBadRow, IsFresh, IsTaken, has_never}
+use Rattle.ordup_check.specs.Reading.{AllCame, EndsAt, HasBadRow, HasRead, IsFresh, IsReached, IsTaken, begins_record, has_never}
+use Rattle.ordup_check.specs.declared.reading.RowsEnd.TheVariants as end
 use Rattle.ordup_rows.specs.Telling.{IsBadRow}
 use Rattle.ordup_rows.specs.Texts.{HasRows, IsMalformedAt, TextTells}
 use Rattle.ordup_rows.specs.Rows.{Row}
@@ -24,46 +25,75 @@ run-last s (first ∷ rows) row stage ran =
     let (mid, stepped, rest) = bound (λ next. run next rows) (step s first) stage ran in
     rw stepped (run-last mid rows row stage rest)
 
--- the rows read so far, and the stage after them
-abbrev pub HasRead : {R : Type 0} → (R → Option (List ℕ)) → Reader R → Stage → ℕ → List ℕ → Type 0
-HasRead rem rdr stage count text =
-    (rows : List Row) × (rest : List ℕ) × (source_of rem rdr ≡ Some rest)
-    × Reached default_config st.StartRecord text rows (reader_state rdr) rest × AllCame rows × (run unread rows ≡ Some stage)
-    × (length rows ≡ count)
-
 -- a row more that came
 came_more : (rows : List Row) (row : Row) → AllCame rows → has_never row ≡ false → AllCame (rows ++ row ∷ [])
 came_more rows row came last =
     list_any-append has_never rows (row ∷ []) ∙ or_from (list_any has_never rows) (has_never row || false) came
     (or_from (has_never row) false last refl)
 
-begin-at : {R : Type 0} (rem : R → Option (List ℕ)) (rdr : Reader R) (o : Option (List ℕ)) → source_of rem rdr ≡ o → IsFresh rdr
-    → IfSome o (HasRead rem rdr unread 0)
+-- a stage that rows lead to, and one row more
+pub reached-push : (stage next : Stage) (row : Row) → IsReached stage → step stage row ≡ Some next → IsReached next
+reached-push stage next row (rows, ran) e =
+    (rows ++ row ∷ [], run-last unread rows row stage ran ∙ ap (option_and_then (λ t. run t [])) e)
+
+pub begins : {R : Type 0} (rem : R → Option (List ℕ)) (rdr : Reader R) (text : List ℕ) → source_of rem rdr ≡ Some text → IsFresh rdr
+    → HasRead rem rdr [] unread 0 text
 unfolding Reached
-begin-at rem rdr None e fresh = tt
-begin-at rem rdr (Some text) e fresh = ([], text, e, (sym fresh.state, refl), refl, refl, refl)
+begins rem rdr text e fresh = ([], text, e, (sym fresh.state, refl), refl, refl, refl)
 
-pub begins : {R : Type 0} (rem : R → Option (List ℕ)) (rdr : Reader R) → IsFresh rdr → IfSome (source_of rem rdr) (HasRead rem rdr unread 0)
-begins rem rdr fresh = begin-at rem rdr (source_of rem rdr) refl fresh
+-- the rows before and one more
+rows-push : (before rows : List Row) (row : Row) → (before ++ rows) ++ row ∷ [] ≡ before ++ (rows ++ row ∷ [])
+rows-push before rows row = append_assoc before rows (row ∷ [])
 
-pub onward : {R : Type 0} (rem : R → Option (List ℕ)) (old new : Reader R) (o : Option (List ℕ)) (stage next : Stage) (count : ℕ)
-    (row : Row) → reader_config old ≡ default_config → IfSome o (HasRead rem old stage count) → ReadRecord rem old new true row
-    → has_never row ≡ false → step stage row ≡ Some next
-    → IfSome o (HasRead rem new next (count + 1))
-onward rem old new None stage next count row config h r last e = tt
-onward rem old new (Some text) stage next count row config (rows, rest, source, reached, came, ran, counted) r last e =
-    let (z, at_z, more) = rows-more rem old new row default_config st.StartRecord text rest rows config source reached r in (
+pub onward : {R : Type 0} (rem : R → Option (List ℕ)) (old new : Reader R) (before : List Row) (stage next : Stage) (count : ℕ)
+    (text : List ℕ) (row : Row) → reader_config old ≡ default_config → HasRead rem old before stage count text
+    → ReadRecord rem old new true row → has_never row ≡ false → step stage row ≡ Some next
+    → HasRead rem new before next (count + 1) text
+onward rem old new before stage next count text row config (rows, rest, source, reached, came, ran, counted) r last e =
+    let (z, at_z, more) = rows-more rem old new row default_config st.StartRecord text rest (before ++ rows) config source reached r in
+    let push = rows-push before rows row in (
       rows ++ row ∷ [],
       z,
       at_z,
-      more,
-      came_more rows row came last,
+      subst (λ l. Reached default_config st.StartRecord text l (reader_state new) z) push more,
+      subst AllCame push (came_more (before ++ rows) row came last),
       run-last unread rows row stage ran ∙ ap (option_and_then (λ t. run t [])) e,
       length_push rows row ∙ ap (λ n. n + 1) counted,
     )
 
+-- the reading ends at a row that is not taken
+pub stops : {R : Type 0} (rem : R → Option (List ℕ)) (old new : Reader R) (before : List Row) (at stage : Stage) (count : ℕ)
+    (text : List ℕ) (row : Row) → reader_config old ≡ default_config → HasRead rem old before at count text
+    → ReadRecord rem old new true row → has_never row ≡ false → step at row ≡ None → (begins_record row ≡ true → stage ≡ at)
+    → EndsAt rem new before stage row text (end.Row (count + 1))
+stops rem old new before at stage count text row config (rows, rest, source, reached, came, ran, counted) r last none kept =
+    let (z, at_z, more) = rows-more rem old new row default_config st.StartRecord text rest (before ++ rows) config source reached r in (
+      rows,
+      z,
+      at,
+      at_z,
+      more,
+      came_more (before ++ rows) row came last,
+      ran,
+      none,
+      kept,
+      ap (λ n. n + 1) counted,
+    )
+
+-- or at the end of the text
+pub ends : {R : Type 0} (rem : R → Option (List ℕ)) (old new : Reader R) (before : List Row) (stage : Stage) (count : ℕ) (text : List ℕ)
+    (row other : Row) → reader_config old ≡ default_config → HasRead rem old before stage count text → ReadRecord rem old new false row
+    → EndsAt rem new before stage other text (end.Text (count + 1))
+ends rem old new before stage count text row other config (rows, rest, source, reached, came, ran, counted) r = (
+  rows,
+  (reader_state old, rest, reached, rows-end rem old new row default_config rest config source r),
+  came,
+  ran,
+  ap (λ n. n + 1) counted,
+)
+
 -- a row that is not taken is bad
-not-taken : (rows : List Row) (row : Row) (stage : Stage) → run unread rows ≡ Some stage → step stage row ≡ None
+pub not-taken : (rows : List Row) (row : Row) (stage : Stage) → run unread rows ≡ Some stage → step stage row ≡ None
     → IsBadRow (rows ++ row ∷ []) (length rows + 1)
 not-taken rows row stage ran none =
     elim (first_row_not_taken_is_bad rows row [] stage ran none) as (λ x. IsBadRow (rows ++ row ∷ []) (length rows + 1)) [
@@ -71,23 +101,33 @@ not-taken rows row stage ran none =
       | inr missing ↦ absurd (omega (arith, missing.0, length_push rows row))
     ]
 
-pub bad : {R : Type 0} (rem : R → Option (List ℕ)) (old new : Reader R) (o : Option (List ℕ)) (stage : Stage) (count : ℕ) (row : Row)
-    → reader_config old ≡ default_config → IfSome o (HasRead rem old stage count) → ReadRecord rem old new true row
-    → has_never row ≡ false → step stage row ≡ None
-    → IfSome o (λ text. HasBadRow text (count + 1))
-bad rem old new None stage count row config h r last e = tt
-bad rem old new (Some text) stage count row config (rows, rest, source, reached, came, ran, counted) r last e =
-    let (z, at_z, more) = rows-more rem old new row default_config st.StartRecord text rest rows config source reached r in
-    let there : HasBadRow text (length rows + 1) =
-    (rows ++ row ∷ [], (new.state, z, more), came_more rows row came last, not-taken rows row stage ran e) in
-    rw counted at there
+-- what rows lead to is a record, where it can be closed
+closed-is : (stage : Stage) (o : Option RecordState) → IsReached stage → closed stage ≡ o → IfSome o IsRecord
+closed-is stage None reached is = tt
+closed-is stage (Some r) (rows, ran) is = (reading_is_sound rows r (ap (option_and_then closed) ran ∙ is)).valid
 
-pub whole : {R : Type 0} (rem : R → Option (List ℕ)) (old new : Reader R) (o : Option (List ℕ)) (stage : Stage) (count : ℕ) (row : Row)
-    → reader_config old ≡ default_config → IfSome o (HasRead rem old stage count) → ReadRecord rem old new false row
-    → IfSome o (λ text. IsTaken text stage (count + 1))
-whole rem old new None stage count row config h r = tt
-whole rem old new (Some text) stage count row config (rows, rest, source, reached, came, ran, counted) r =
-    (rows, (old.state, rest, reached, rows-end rem old new row default_config rest config source r), came, ran, ap (λ n. n + 1) counted)
+pub closed-sound : (stage : Stage) → IsReached stage → IfSome (closed stage) IsRecord
+closed-sound stage reached = closed-is stage (closed stage) reached refl
+
+-- ---- the rows of a text from its start
+
+pub whole : {R : Type 0} (rem : R → Option (List ℕ)) (old new : Reader R) (o : Option (List ℕ)) (stage : Stage) (n : ℕ) (row : Row)
+    → source_of rem old ≡ o → IsFresh old
+    → ((text : List ℕ) (before : List Row) → HasRead rem old before unread 0 text → EndsAt rem new before stage row text (end.Text n))
+    → IfSome o (λ text. IsTaken text stage n)
+whole rem old new None stage n row e fresh h = tt
+whole rem old new (Some text) stage n row e fresh h = h text [] (begins rem old text e fresh)
+
+pub bad : {R : Type 0} (rem : R → Option (List ℕ)) (old new : Reader R) (o : Option (List ℕ)) (stage : Stage) (n : ℕ) (row : Row)
+    → source_of rem old ≡ o → IsFresh old
+    → ((text : List ℕ) (before : List Row) → HasRead rem old before unread 0 text → EndsAt rem new before stage row text (end.Row n))
+    → IfSome o (λ text. HasBadRow text n)
+bad rem old new None stage n row e fresh h = tt
+bad rem old new (Some text) stage n row e fresh h =
+    let (rows, rest, at, source, reached, came, ran, none, kept, counted) = h text [] (begins rem old text e fresh) in
+    let there : HasBadRow text (length rows + 1) =
+    (rows ++ row ∷ [], (reader_state new, rest, reached), came, not-taken rows row at ran none) in
+    rw counted at there
 
 -- ---- the end
 

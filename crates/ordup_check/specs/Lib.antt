@@ -7,3 +7,5 @@ pub mod Limits
 pub mod Reading
 pub mod Answers
 pub mod ShortRows
+pub mod SeriesReading
+pub mod SeriesVerdicts

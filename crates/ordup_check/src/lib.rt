@@ -16,10 +16,16 @@ mod partial_record;
 mod partial_updates;
 mod reading;
 mod row_columns;
+mod series;
+mod series_reader;
 mod short_rows;
+pub mod sizes;
 mod stage;
 
 pub use ordup_audit::{Reason, Record, Verdict, check};
 pub use ordup_record::record_of;
 pub use ordup_rows::{RecordWriteFault, write_record};
+pub use ordup_series::{SeriesAudit, SeriesReason, SeriesVerdict};
 pub use reading::{RecordReadFault, read_record, read_record_within};
+pub use series::{SeriesReadFault, audit_series};
+pub use series_reader::SeriesReader;

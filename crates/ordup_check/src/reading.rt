@@ -1,14 +1,14 @@
 //! From a text to a record.
-ghost use Rattle.std.specs.Prelude.{All, ◌≡◌, ◌==◌, false, ◌≤◌, ◌++◌, ℕ, List, Some, IfErr, IfOk, IfSome, OnOk, length};
+ghost use Rattle.std.specs.Prelude.{All, ◌≡◌, ◌≢◌, ◌==◌, false, ◌<◌, ◌≤◌, ◌++◌, ℕ, List, Some, IfErr, IfOk, IfSome, OnOk, length};
 ghost use Rattle.csv.specs.Reading.{source_of, strip_bom};
 ghost use Rattle.csv.specs.Records.{fields_of};
 ghost use Rattle.std.specs.List.{list_any};
 ghost use Rattle.ordup_audit.specs.Records.{IsRecord, RecordState};
-ghost use Rattle.ordup_rows.specs.Rows.{rows_of, rows_text};
+ghost use Rattle.ordup_rows.specs.Rows.{Row, rows_of, rows_text};
 ghost use Rattle.ordup_check.specs.Answers.{AnswersRecord};
 ghost use Rattle.ordup_check.specs.Limits.{IsMalformedWithin, never};
 ghost use Rattle.ordup_rows.specs.Sizes.{most_record_bytes};
-ghost use Rattle.ordup_check.specs.Reading.{HasBadRow, IsFresh, IsTaken, has_never};
+ghost use Rattle.ordup_check.specs.Reading.{EndsAt, HasBadRow, HasRead, IsFresh, IsPlain, IsReached, IsTaken, ReachesEnd, has_never};
 ghost use Rattle.ordup_rows.specs.Texts.{TextTells};
 ghost use Rattle.ordup_rows.specs.Stages.{closed, unread};
 ghost use Rattle.ordup_check.specs.StageViews.{stage_of};
@@ -69,7 +69,7 @@ fn whole_record(read: PartialRecord) -> Result<Record, AllocError>
 }
 
 /// The record, if no row is missing.
-fn close(stage: Stage) -> Result<Option<Record>, AllocError>
+pub fn close(stage: Stage) -> Result<Option<Record>, AllocError>
     requires { IfSome (closed (stage_of stage)) IsRecord }
     ensures { IfOk result (λ r. r ≡ closed (stage_of stage)) }
 {
@@ -102,42 +102,55 @@ fn see_row(row: &ByteRecord)
     see_bytes(row.as_slice());
 }
 
-/// Reads rows to the end, or to the first that may not stand where it stands. The stage is then the one after them, and the answer
-/// is the number of the row that would be next.
-fn read_rows<R: Read>(
+/// Where the reading of rows ended.
+#[derive(Clone, Copy)]
+pub enum RowsEnd {
+    /// At the end of the text. This is the number of the row that would be next.
+    Text(u64),
+    /// At the row with this number, which may not stand where it stands. It is at hand.
+    Row(u64),
+}
+
+/// Reads rows to the end, or to the first that may not stand where it stands. The stage is then the one after those before it, of
+/// which `read` were read already; where that row begins no record, it is any.
+pub fn read_rows<R: Read>(
     alloc: Global,
     rdr: &mut Reader<R>,
     row: &mut ByteRecord,
     stage: &mut Stage,
-) -> Result<u64, RecordReadFault>
-    requires fresh { IsFresh rdr.old }
-    requires unread { stage_of stage.old ≡ unread }
-    ensures taken { IfOk result (λ n. IfSome (source_of R.remaining rdr.old) (λ text. IsTaken text (stage_of stage.new) n)) }
-    ensures sound { OnOk result (IfSome (closed (stage_of stage.new)) IsRecord) }
-    ensures malformed { IfErr result (λ e. (n : ℕ) → e ≡ RecordReadFault.Malformed n
-        → IfSome (source_of R.remaining rdr.old) (λ text. HasBadRow text n)) }
+    read: u64,
+) -> Result<RowsEnd, RecordReadFault>
+    requires plain { IsPlain rdr.old }
+    requires stage { IsReached (stage_of stage.old) }
+    ensures plain { OnOk result (IsPlain rdr.new) }
+    ensures stage { IfOk result (λ end. ReachesEnd (stage_of stage.new) (fields_of row.new) end) }
+    ensures ended { IfOk result (λ end. (text : List ℕ) (before : List Row) → HasRead R.remaining rdr.old before (stage_of stage.old) read text
+        → EndsAt R.remaining rdr.new before (stage_of stage.new) (fields_of row.new) text end) }
+    ensures after { IfOk result (λ end. (n : ℕ) → end ≡ RowsEnd.Text n → read < n) }
+    ensures fault { IfErr result (λ e. (n : ℕ) → e ≢ RecordReadFault.Malformed n) }
 {
-    for count in 0..u64::MAX {
+    for count in read..u64::MAX {
         let is_found = match rdr.read_byte_record(row) {
             Ok(is_found) => is_found,
             Err(e) if e.is_io_error() => return Err(RecordReadFault::Read),
             Err(_) => return Err(RecordReadFault::NoMemory),
         };
         if !is_found {
-            return Ok(count + 1);
+            return Ok(RowsEnd::Text(count + 1));
         }
         see_row(row);
         let Ok(is_taken) = take_row(alloc, stage, row) else {
             return Err(RecordReadFault::NoMemory);
         };
         if !is_taken {
-            return Err(RecordReadFault::Malformed { row: count + 1 });
+            return Ok(RowsEnd::Row(count + 1));
         }
     }
     Err(RecordReadFault::Read)
 }
 
-/// Reads rows as [`read_rows`] does, from none on. It answers the stage after them, and the number of the row that would be next.
+/// Reads all rows of a text as [`read_rows`] does, each of which may stand where it stands. It answers the stage after them, and the
+/// number of the row that would be next.
 fn read_stage<R: Read>(alloc: Global, rdr: &mut Reader<R>) -> Result<(Stage, u64), RecordReadFault>
     requires { IsFresh rdr.old }
     ensures taken { IfOk result (λ p. IfSome (source_of R.remaining rdr.old) (λ text. IsTaken text (stage_of p.0) p.1)) }
@@ -147,10 +160,15 @@ fn read_stage<R: Read>(alloc: Global, rdr: &mut Reader<R>) -> Result<(Stage, u64
 {
     let mut row = ByteRecord::new(alloc);
     let mut stage = Stage::Unread;
-    let read = read_rows(alloc, rdr, &mut row, &mut stage);
+    let read = read_rows(alloc, rdr, &mut row, &mut stage, 0);
     drop(row);
-    let next = or_give_up!(read, stage);
-    Ok((stage, next))
+    match or_give_up!(read, stage) {
+        RowsEnd::Text(next) => Ok((stage, next)),
+        RowsEnd::Row(row) => {
+            drop(stage);
+            Err(RecordReadFault::Malformed { row })
+        }
+    }
 }
 
 /// Reads a record of at most `limit` bytes. A byte order mark at the start is passed over. It promises, clause by clause, of a

@@ -1,11 +1,12 @@
 //! How far a reading has come.
-ghost use Rattle.std.specs.Prelude.{◌≡◌, IfOk, option_map, option_and_then};
+ghost use Rattle.std.specs.Prelude.{◌≡◌, true, false, None, IfOk, option_map, option_and_then};
 ghost use Rattle.std.specs.Bool.{then_some};
 ghost use Rattle.csv.specs.Records.{fields_of};
 ghost use Rattle.ordup_check.specs.ColumnViews.{columns_view};
 ghost use Rattle.ordup_rows.specs.RowKinds.{kind_of};
 ghost use Rattle.ordup_rows.specs.Stages.{head_of, step, reading, with_row};
 ghost use Rattle.ordup_check.specs.PartialRecords.{record_so_far};
+ghost use Rattle.ordup_check.specs.Reading.{begins_record};
 ghost use Rattle.ordup_check.specs.StageViews.{stage_of};
 
 use crate::partial_record::PartialRecord;
@@ -65,7 +66,8 @@ fn read_head(alloc: Global, c: &RowColumns<'_>) -> Option<Stage>
 // Not inlined, since memory for a stage would be cleared for each row.
 #[inline(never)]
 fn take_head(alloc: Global, stage: &mut Stage, c: &RowColumns<'_>) -> bool
-    ensures { then_some result (stage_of stage.new) ≡ head_of (columns_view c.now) }
+    ensures taken { then_some result (stage_of stage.new) ≡ head_of (columns_view c.now) }
+    ensures kept { result ≡ false → stage.new ≡ stage.old }
 {
     match read_head(alloc, c) {
         Some(reading) => {
@@ -83,10 +85,11 @@ fn take_later_row(
     so_far: &mut PartialRecord,
     c: &RowColumns<'_>,
 ) -> Result<bool, AllocError>
-    ensures { IfOk result (λ is_taken. then_some is_taken (reading version decided (record_so_far so_far.new))
+    ensures taken { IfOk result (λ is_taken. then_some is_taken (reading version decided (record_so_far so_far.new))
         ≡ option_and_then (λ kind. option_map (λ r. reading version decided r)
         (with_row version decided (record_so_far so_far.old) kind (columns_view c.now)))
         (kind_of c.now.kind.now)) }
+    ensures kept { kind_of c.now.kind.now ≡ None → so_far.new ≡ so_far.old }
 {
     let Some(kind) = RowKind::parse(c.kind) else {
         return Ok(false);
@@ -94,10 +97,12 @@ fn take_later_row(
     so_far.add_row(version, decided, kind, c)
 }
 
-/// Takes a row, where it may stand there, and answers whether it did.
+/// Takes a row, where it may stand there, and answers whether it did. A row that begins a record and is not taken changes nothing.
 // In place, since a stage has tables: by value they would be moved a few times with each row.
 pub fn take_row(alloc: Global, stage: &mut Stage, row: &ByteRecord) -> Result<bool, AllocError>
-    ensures { IfOk result (λ is_taken. then_some is_taken (stage_of stage.new) ≡ step (stage_of stage.old) (fields_of row.now)) }
+    ensures taken { IfOk result (λ is_taken. then_some is_taken (stage_of stage.new) ≡ step (stage_of stage.old) (fields_of row.now)) }
+    ensures kept { IfOk result (λ is_taken. is_taken ≡ false → begins_record (fields_of row.now) ≡ true
+        → stage_of stage.new ≡ stage_of stage.old) }
 {
     let Some(columns) = RowColumns::split(row) else {
         return Ok(false);

@@ -8,6 +8,8 @@ use Rattle.ordup_runs.specs.Answers.{Answers}
 use Rattle.ordup_runs.specs.Records.{Records}
 use Rattle.ordup_verdicts.specs.Verdicts.{Checks}
 use Rattle.ordup_verdicts.specs.Lags.{Lags}
+use Rattle.ordup_verdicts.specs.Series.{ChecksSeries}
+use Rattle.ordup_verdicts.specs.SeriesLags.{LagsOfSeries}
 use Rattle.ordup_next.specs.Successors.{DeclaresSuccessor}
 use Rattle.ordup_next.specs.Ends.{DeclaresEnd}
 use Rattle.ordup_cli.specs.Plans.{RunsPlan}
@@ -17,6 +19,8 @@ abbrev pub Does : Job → Streams → Outcome → Type 0
 Does job.Run s outcome = Answers s outcome
 Does (job.Record site) s outcome = Records (string_bytes site) s outcome
 Does job.Check s outcome = Checks s.had s.old s.new outcome
+Does job.CheckSeries s outcome = ChecksSeries s.had s.old s.new outcome
+Does job.LagSeries s outcome = LagsOfSeries s.had s.old s.new outcome
 Does job.Lag s outcome = Lags s.had s.old s.new outcome
 Does job.Next s outcome = DeclaresSuccessor s outcome
 Does job.NextOfRecord s outcome = DeclaresEnd s.had s.old s.new outcome

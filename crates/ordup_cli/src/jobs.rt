@@ -7,7 +7,7 @@ use ordup_command_line::Job;
 use ordup_faults::Outcome;
 use ordup_next::{print_next, print_next_of_record};
 use ordup_runs::{print_answers, print_record};
-use ordup_verdicts::{check_record, print_lag};
+use ordup_verdicts::{check_record, check_series, print_lag, print_lag_of_series};
 use std::alloc::Global;
 use std::io::{Read, Write};
 use std::sync::Wait;
@@ -32,7 +32,9 @@ pub(crate) fn do_job<T: Threads + Wait + Sync, R: Read, W: Write>(
         Job::Run => print_answers(alloc, input, output),
         Job::Record { site } => print_record(alloc, site.as_bytes(), input, output),
         Job::Check => check_record(alloc, input, output),
+        Job::CheckSeries => check_series(alloc, input, output),
         Job::Lag => print_lag(alloc, input, output),
+        Job::LagSeries => print_lag_of_series(alloc, input, output),
         Job::Next => print_next(alloc, input, output),
         Job::NextOfRecord => print_next_of_record(alloc, input, output),
         Job::Threads { callers } => run_plan(rt, alloc, *callers, input, output),

@@ -14,8 +14,12 @@ pub enum Job {
     },
     /// Checks a record.
     Check,
+    /// Checks the records of a site, one after another.
+    CheckSeries,
     /// Prints the lag of a site, as its record tells it.
     Lag,
+    /// Prints the lag of a site, as its records tell it, one after another.
+    LagSeries,
     /// Prints the declarations of the successor of a script's store.
     Next,
     /// Prints the declarations of the objects of a record, at their values after its last update, and of its groups.
@@ -45,8 +49,8 @@ fn job_in(alloc: Global, matches: &ArgMatches<'_>) -> Result<Option<Job>, AllocE
     match name {
         "run" => Ok(Some(Job::Run)),
         "record" => record_of(alloc, words.get_str("SITE")),
-        "check" => Ok(Some(Job::Check)),
-        "lag" => Ok(Some(Job::Lag)),
+        "check" => Ok(Some(check_of(words.get_flag("series")))),
+        "lag" => Ok(Some(lag_of(words.get_flag("series")))),
         "next" => Ok(Some(next_of(words.get_flag("record")))),
         "threads" => Ok(callers_of(words.get_one::<u8>("CLIENTS"))),
         _ => Ok(None),
@@ -60,6 +64,20 @@ fn record_of(alloc: Global, site: Option<&str>) -> Result<Option<Job>, AllocErro
     };
     let site = site.to_string(alloc)?;
     Ok(Some(Job::Record { site }))
+}
+
+/// The job of checking a series of records, or one.
+fn check_of(is_series: bool) -> Job {
+    if is_series {
+        Job::CheckSeries
+    } else {
+        Job::Check
+    }
+}
+
+/// The job of printing the lag of a site, by a series of records, or by one.
+fn lag_of(is_series: bool) -> Job {
+    if is_series { Job::LagSeries } else { Job::Lag }
 }
 
 /// The job of printing declarations: of a record, or of a script.
@@ -81,8 +99,8 @@ fn callers_of(callers: Option<u8>) -> Option<Job> {
 fn command<'a>(alloc: Global) -> Result<Command<'a>, AllocError> {
     let ordup = with_words(Ok(program(alloc)), run(alloc));
     let ordup = with_job(ordup, record(alloc));
-    let ordup = with_words(ordup, check(alloc));
-    let ordup = with_words(ordup, lag(alloc));
+    let ordup = with_job(ordup, check(alloc));
+    let ordup = with_job(ordup, lag(alloc));
     let ordup = with_job(ordup, next(alloc));
     with_job(ordup, threads(alloc))
 }
@@ -138,23 +156,33 @@ fn run<'a>(alloc: Global) -> Command<'a> {
 }
 
 /// The words of `ordup check`.
-fn check<'a>(alloc: Global) -> Command<'a> {
+fn check<'a>(alloc: Global) -> Result<Command<'a>, AllocError> {
     words_of(
         alloc,
         "check",
         "Checks whether a record shows that the site's forced rounds are the fewest",
         CHECK_HELP,
     )
+    .arg(series(alloc))
 }
 
 /// The words of `ordup lag`.
-fn lag<'a>(alloc: Global) -> Command<'a> {
+fn lag<'a>(alloc: Global) -> Result<Command<'a>, AllocError> {
     words_of(
         alloc,
         "lag",
         "Prints the lag of a site at each decision, as its record tells it",
         LAG_HELP,
     )
+    .arg(series(alloc))
+}
+
+/// The word that asks for a series of records.
+fn series<'a>(alloc: Global) -> Arg<'a> {
+    Arg::new(alloc, "series")
+        .long("series")
+        .action(ArgAction::SetTrue)
+        .help("Reads the records of a site, one after another")
 }
 
 /// The words of `ordup record`.
@@ -304,9 +332,15 @@ the first reason why it does not, and the row, counted from 1:
 The reasons, in the order in which they are looked for: NotLegal, LimitsBroken,
 WindowLight, WindowsMeet, WindowBeforeReport, CountDiffers.
 
+With --series it reads the records of a site, one after another, of a store and of
+those that go on from it. It prints `yes N` for the N rounds of all, or the first
+reason and its record: `no RECORD ROW REASON`. NotNext says that a record does not
+begin with what the one before ended with.
+
 Exit statuses: 0 yes, 1 no; 3 with `malformed ROW` (the first row that breaks a
-rule of the format), `read fault` (also for a record that is too long) or
-`write fault` on standard error; 4 with `no memory`; 2 for wrong words.
+rule of the format; of a series `malformed RECORD ROW`), `read fault` (also for
+input that is too long) or `write fault` on standard error; 4 with `no memory`;
+2 for wrong words.
 The rows, and each reason: docs/FORMATS.md";
 
 const LAG_HELP: &str = "\
@@ -325,9 +359,15 @@ the window that has the place, if any.
 
 Of a record that is not valid it prints what `ordup check` prints: `no ROW REASON`.
 
-Exit statuses: 0 the series, 1 not valid; 3 with `malformed ROW` (the first row
-that breaks a rule of the format), `read fault` (also for a record that is too
-long) or `write fault` on standard error; 4 with `no memory`; 2 for wrong words.
+With --series it reads the records of a site, one after another. Places, reports
+and windows are counted on, and each record has a header of its own. Where
+`ordup check --series` has a reason against a record, its answer comes after the
+lag of the records before.
+
+Exit statuses: 0 the lag, 1 not valid; 3 with `malformed ROW` (the first row that
+breaks a rule of the format; of a series `malformed RECORD ROW`), `read fault`
+(also for input that is too long) or `write fault` on standard error; 4 with
+`no memory`; 2 for wrong words.
 The cells: docs/FORMATS.md. A picture of them: examples/lag.gp";
 
 const NEXT_HELP: &str = "\

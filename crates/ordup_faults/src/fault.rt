@@ -20,6 +20,8 @@ pub enum Fault {
     Write,
     /// This row of a record, or this line of a plan, is the first that breaks a rule of the format.
     Malformed { row: u64 },
+    /// This row of this record of a series is the first that breaks a rule of the format.
+    MalformedRecord { record: u64, row: u64 },
     /// The script did not start its store.
     NotStarted,
     /// The store has no such site.
@@ -45,6 +47,7 @@ impl Fault {
             Fault::TooLong => INPUT_OR_OUTPUT_FAILED,
             Fault::Write => INPUT_OR_OUTPUT_FAILED,
             Fault::Malformed { .. } => INPUT_OR_OUTPUT_FAILED,
+            Fault::MalformedRecord { .. } => INPUT_OR_OUTPUT_FAILED,
             Fault::NotStarted => INPUT_OR_OUTPUT_FAILED,
             Fault::UnknownSite => WRONG_WORDS,
             Fault::NotYet { .. } => NOT_DONE,
@@ -72,12 +75,22 @@ fn send_line<E: Write>(faults: &mut E, fault: Fault) -> Result<(), WriteFault>
         Fault::TooLong => send(faults, b"input too long\n"),
         Fault::Write => send(faults, b"write fault\n"),
         Fault::Malformed { row } => send_numbered(faults, b"malformed ", row),
+        Fault::MalformedRecord { record, row } => send_row_of_series(faults, record, row),
         Fault::NotStarted => send(faults, b"refused 2 NotStarted\n"),
         Fault::UnknownSite => send(faults, b"refused 8 UnknownSite\n"),
         Fault::NotYet { number } => send_numbered(faults, b"refused 22 NotYet ", number),
         Fault::Mixed => send(faults, b"refused 27 Mixed\n"),
         Fault::NoMemory => send(faults, b"no memory\n"),
     }
+}
+
+/// Sends the line that tells the place of a record in its series, and a row of it.
+fn send_row_of_series<E: Write>(faults: &mut E, place: u64, row: u64) -> Result<(), WriteFault>
+    ensures { AppendsFront (E.contents faults.old) (E.contents faults.new) (codes "malformed " ++ (decimal place ++ (codes " " ++ (decimal row ++ codes "\n")))) }
+{
+    send(faults, b"malformed ")?;
+    send(faults, Buffer::new().format(place).as_bytes())?;
+    send_numbered(faults, b" ", row)
 }
 
 /// Sends a line of a text and a number.

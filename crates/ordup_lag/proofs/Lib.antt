@@ -1,3 +1,3 @@
 pub mod PlaceLemmas
-pub mod SeriesLemmas
+pub mod LagLemmas
 pub mod SentLemmas

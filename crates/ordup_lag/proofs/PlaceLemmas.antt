@@ -8,7 +8,7 @@ use Rattle.std.specs.List.Sorted.{IsNonDecreasingBy, IsPartitionPoint}
 use Rattle.std.proofs.lemmas.Bool.{and_right, cases_eq, le-ltb, ltb-false, ne_eqb}
 use Rattle.std.proofs.lemmas.List.Sorted.{IsNonDecreasingBy-from_all_adjacent}
 use Rattle.std.proofs.lemmas.List.Sums.{position_or_len_is}
-use Rattle.ordup_lag.specs.Series.{AreApart, has_place}
+use Rattle.ordup_lag.specs.LagRows.{AreApart, has_place}
 
 -- ---- rounds
 

@@ -4,10 +4,11 @@ use Rattle.ordup_audit.proofs.Common.{refl, Some, sym, ◌+◌, ◌≤◌, ℕ}
 use Rattle.std.proofs.KnownBytes.{Appends-trans}
 use Rattle.ordup_text.specs.Fronts.{AppendsFront}
 use Rattle.ordup_limits.specs.Entries.{latest}
-use Rattle.ordup_lag.specs.Series.{row_at}
+use Rattle.ordup_lag.specs.LagRows.{row_at}
+use Rattle.ordup_lag.specs.declared.offsets.Offsets.{Offsets}
 use Rattle.ordup_rows.specs.Forming.{SendsUpto}
 use Rattle.ordup_lag.specs.Texts.{row_text, rows_upto}
-use Rattle.ordup_lag.proofs.SeriesLemmas.{upto-front, upto-next}
+use Rattle.ordup_lag.proofs.LagLemmas.{upto-front, upto-next}
 
 -- more is formed
 formed : (a b : Option (List ℕ)) (whole left more all text : List ℕ) → SendsUpto a b whole left → all ≡ whole ++ more
@@ -51,19 +52,19 @@ sends_none None text = ([], append-nil text, tt)
 sends_none (Some xs) text = ([], append-nil text, sym (append-nil xs))
 
 -- the line of one place more is formed
-pub row_formed : (a b : Option (List ℕ)) (head : List ℕ) (r : RecordState) (k : ℕ) (left text : List ℕ)
-    → SendsUpto a b (head ++ rows_upto r k) left → text ≡ left ++ row_text (length (latest r.limits)) (row_at r (k + 1))
-    → SendsUpto a b (head ++ rows_upto r (k + 1)) text
-row_formed a b head r k left text sent next =
-    let row = row_text (length (latest r.limits)) (row_at r (k + 1)) in
-    formed a b (head ++ rows_upto r k) left row (head ++ rows_upto r (k + 1)) text sent
-    (ap (λ t. head ++ t) (sym (upto-next r k)) ∙ sym (append_assoc head (rows_upto r k) row)) next
+pub row_formed : (a b : Option (List ℕ)) (head : List ℕ) (before : Offsets) (r : RecordState) (k : ℕ) (left text : List ℕ)
+    → SendsUpto a b (head ++ rows_upto before r k) left → text ≡ left ++ row_text (length (latest r.limits)) (row_at before r (k + 1))
+    → SendsUpto a b (head ++ rows_upto before r (k + 1)) text
+row_formed a b head before r k left text sent next =
+    let row = row_text (length (latest r.limits)) (row_at before r (k + 1)) in
+    formed a b (head ++ rows_upto before r k) left row (head ++ rows_upto before r (k + 1)) text sent
+    (ap (λ t. head ++ t) (sym (upto-next before r k)) ∙ sym (append_assoc head (rows_upto before r k) row)) next
 
 -- of the lines up to a place a prefix is sent, and no more of all
-pub stops_at : (a b c : Option (List ℕ)) (head : List ℕ) (r : RecordState) (k : ℕ) (text : List ℕ) → k ≤ length r.sets
-    → SendsUpto a b (head ++ rows_upto r k) text → AppendsFront b c text
-    → AppendsFront a c (head ++ rows_upto r (length r.sets))
-stops_at a b c head r k text le sent front =
-    let rest = upto-front r k (length r.sets) le in
-    stops_early a b c (head ++ rows_upto r k) text (head ++ rows_upto r (length r.sets)) rest.0 sent front
-    (ap (λ t. head ++ t) rest.1 ∙ sym (append_assoc head (rows_upto r k) rest.0))
+pub stops_at : (a b c : Option (List ℕ)) (head : List ℕ) (before : Offsets) (r : RecordState) (k : ℕ) (text : List ℕ) → k ≤ length r.sets
+    → SendsUpto a b (head ++ rows_upto before r k) text → AppendsFront b c text
+    → AppendsFront a c (head ++ rows_upto before r (length r.sets))
+stops_at a b c head before r k text le sent front =
+    let rest = upto-front before r k (length r.sets) le in
+    stops_early a b c (head ++ rows_upto before r k) text (head ++ rows_upto before r (length r.sets)) rest.0 sent front
+    (ap (λ t. head ++ t) rest.1 ∙ sym (append_assoc head (rows_upto before r k) rest.0))

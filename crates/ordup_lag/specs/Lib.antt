@@ -1,3 +1,3 @@
-pub mod Series
+pub mod LagRows
 pub mod Texts
 pub mod AmountCellInside

@@ -1,5 +1,5 @@
--- The series as text: comma-separated values with a header. No name has a comma or a quote, so no cell needs quotes.
-use Rattle.std.specs.Prelude.{ℕ, zero, suc, ◌++◌, Bool, true, false, List, [], length, slice_get, Option, Some, None, codes}
+-- The lag as text: comma-separated values with a header. No name has a comma or a quote, so no cell needs quotes.
+use Rattle.std.specs.Prelude.{ℕ, zero, suc, ◌+◌, ◌++◌, Bool, true, false, List, [], ◌∷◌, length, slice_get, Option, Some, None, codes}
 use Rattle.std.specs.Fmt.{decimal}
 use Rattle.ordup_objects.specs.Tables.{Objects}
 use Rattle.ordup_log.specs.Groups.{GroupList}
@@ -9,7 +9,8 @@ use Rattle.ordup_limits.specs.Limits.{Limits}
 use Rattle.ordup_limits.specs.declared.limit.Limit.{Limit}
 use Rattle.ordup_rows.specs.Rows.{scope_text}
 use Rattle.ordup_audit.specs.Records.{RecordState}
-use Rattle.ordup_lag.specs.Series.{LagRow, LimitUse, row_at}
+use Rattle.ordup_lag.specs.LagRows.{LagRow, LimitUse, row_at}
+use Rattle.ordup_lag.specs.declared.offsets.Offsets.{Offsets}
 
 -- ---- the header
 
@@ -60,11 +61,24 @@ row_text scopes row =
     decimal row.place
     ++ ((codes "," ++ decimal row.reported) ++ (uses_text row.uses scopes ++ (round_text row.is_round ++ window_text row.window)))
 
--- the lines of the places from 1 to k
-abbrev pub rows_upto : RecordState → ℕ → List ℕ
-rows_upto r zero = []
-rows_upto r (suc k) = rows_upto r k ++ row_text (length (latest r.limits)) (row_at r (suc k))
+-- the lines of the places from 1 to k, after so many places and windows of other records
+abbrev pub rows_upto : Offsets → RecordState → ℕ → List ℕ
+rows_upto before r zero = []
+rows_upto before r (suc k) = rows_upto before r k ++ row_text (length (latest r.limits)) (row_at before r (suc k))
 
 -- the header, and the line of each decided place in order
-abbrev pub series_text : RecordState → List ℕ
-series_text r = head_text r ++ rows_upto r (length r.sets)
+abbrev pub lag_after : Offsets → RecordState → List ℕ
+lag_after before r = head_text r ++ rows_upto before r (length r.sets)
+
+-- the same of a record alone
+abbrev pub lag_text : RecordState → List ℕ
+lag_text r = lag_after (record { places = 0; windows = 0 }) r
+
+-- after one record more there are so many more places and windows
+abbrev pub offsets_after : Offsets → RecordState → Offsets
+offsets_after before r = record { places = before.places + length r.sets; windows = before.windows + length r.windows }
+
+-- the lag over records, one after another: each has a header of its own
+abbrev pub lag_of_series : Offsets → List RecordState → List ℕ
+lag_of_series before [] = []
+lag_of_series before (r ∷ more) = lag_after before r ++ lag_of_series (offsets_after before r) more

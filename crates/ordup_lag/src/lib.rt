@@ -1,6 +1,7 @@
 //! The lag of a site, decision by decision, as its record tells it: a row for each decided place.
 //!
-//! The one contract above this layer: the series of a valid record is written whole, or a prefix of it and then the writer failed.
+//! The one contract above this layer: the lag of a valid record is written whole, or a prefix of it and then the writer failed. Of
+//! a record that comes after others the places, the reports and the windows are counted on.
 //!
 //! `writing.rt` goes through the places in order, and moves a ledger from place to place: by the update, by the limits that begin
 //! to hold, and by what the site has reported since. So a place costs by its changes and its limits, however long the span is. It
@@ -9,8 +10,10 @@
 #![tactic(auto)]
 
 mod amount_cell;
+mod offsets;
 mod places;
 mod row_text;
 mod writing;
 
-pub use writing::{SeriesFault, write_series};
+pub use offsets::Offsets;
+pub use writing::{LagFault, write_lag};

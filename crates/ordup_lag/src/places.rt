@@ -3,7 +3,7 @@
 ghost use Rattle.std.specs.Prelude.{◌≡◌, ◌+◌, ◌==◌, option_map};
 ghost use Rattle.std.specs.List.{list_any, position};
 ghost use Rattle.std.specs.List.Sorted.{IsStrictlyIncreasing};
-ghost use Rattle.ordup_lag.specs.Series.{has_place, AreApart};
+ghost use Rattle.ordup_lag.specs.LagRows.{has_place, AreApart};
 
 use ordup_rounds::Window;
 

@@ -1,6 +1,6 @@
-//! The text of the series: its header, and the line of a row.
+//! The text of the lag: its header, and the line of a row.
 
-ghost use Rattle.std.specs.Prelude.{◌≡◌, ◌++◌, ◌+◌, ◌*◌, ◌≤◌, OnOk, Option, length, min, slice_get, Some};
+ghost use Rattle.std.specs.Prelude.{◌≡◌, ◌++◌, ◌+◌, ◌*◌, ◌≤◌, OnOk, Option, length, min, option_map, slice_get, Some};
 ghost use Rattle.ordup_objects.specs.Serial.{History};
 ghost use Rattle.ordup_log.specs.Groups.{GroupList};
 ghost use Rattle.ordup_log.specs.Spans.{IsScopeKnown};
@@ -11,10 +11,11 @@ ghost use Rattle.ordup_lag.specs.declared.amount_cell.TheConstants.{CELL_BYTES};
 ghost use Rattle.ordup_rows.specs.Rows.{scope_text};
 ghost use Rattle.ordup_audit.specs.Records.{history_of, report_at};
 ghost use Rattle.ordup_audit.specs.Validity.{IsValid};
-ghost use Rattle.ordup_lag.specs.Series.{row_at, uses_of};
+ghost use Rattle.ordup_lag.specs.LagRows.{AreFew, row_at, uses_of, window_of as window_in};
 ghost use Rattle.ordup_lag.specs.Texts.{head_text, round_text, row_text, scope_head, scope_heads, use_text, uses_text, window_text};
 
 use crate::amount_cell::{AmountCell, CELL_BYTES};
+use crate::offsets::Offsets;
 use crate::places::{has_round, window_of};
 use ordup_audit::Record;
 use ordup_limits::{Groups, LagLedger, Scope};
@@ -166,6 +167,21 @@ fn push_round<A: Allocator + Copy>(
     }
 }
 
+/// The number of the window that has a place, counted on from those before the record, if there is one.
+fn window_number<A: Allocator + Copy>(
+    audited: &Record<A>,
+    before: Offsets,
+    place: u64,
+) -> Option<u64>
+    requires valid { IsValid audited.now }
+    requires few { AreFew before }
+    ensures { result ≡ option_map (λ n. before.windows + n) (window_in audited.now place) }
+{
+    audited.keeps();
+    let number = window_of(audited.windows(), place)?;
+    Some(before.windows + number)
+}
+
 /// Adds the number of a window, if there is one, and ends the line.
 fn push_window<A: Allocator + Copy>(
     out: &mut TextBuffer<A>,
@@ -187,21 +203,22 @@ pub(crate) fn push_row<A: Allocator + Copy>(
     out: &mut TextBuffer<A>,
     cells: &mut Vec<AmountCell, A>,
     audited: &Record<A>,
+    before: Offsets,
     ledger: &LagLedger<A>,
-    scopes: usize,
     place: u64,
 ) -> Result<(), AllocError>
-    requires scopes { scopes ≤ length cells.old.items }
-    requires few { scopes ≤ most_limits }
+    requires limits { length cells.old.items ≡ length (latest audited.now.limits) }
     requires valid { IsValid audited.now }
+    requires before { AreFew before }
     requires stands { StandsAt (history_of audited.now) audited.now.groups (in_force audited.now.limits place)
         (min (report_at audited.now.reports place) place) place ledger.now }
     ensures count { OnOk result (length cells.new.items ≡ length cells.old.items) }
-    ensures text { OnOk result (out.new.text ≡ out.old.text ++ row_text scopes (row_at audited.now place)) }
+    ensures text { OnOk result (out.new.text ≡ out.old.text ++ row_text (length (latest audited.now.limits)) (row_at before audited.now place)) }
 {
-    out.push_number(place)?;
-    push_with_number(out, b",", audited.reported_at(place))?;
-    push_uses(out, cells, ledger, scopes)?;
+    audited.keeps();
+    out.push_number(before.places + place)?;
+    push_with_number(out, b",", before.places + audited.reported_at(place))?;
+    push_uses(out, cells, ledger, audited.limits().len())?;
     push_round(out, has_round(audited.rounds(), place))?;
-    push_window(out, window_of(audited.windows(), place))
+    push_window(out, window_number(audited, before, place))
 }

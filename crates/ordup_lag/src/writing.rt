@@ -1,4 +1,4 @@
-//! The series as text, a piece at a time.
+//! The lag as text, a piece at a time.
 
 ghost use Rattle.std.specs.Prelude.{◌≡◌, ◌++◌, ◌+◌, ◌<◌, [], IfErr, IfOk, OnOk, length, min, take};
 ghost use Rattle.std.specs.Io.KnownBytes.{Appends};
@@ -9,9 +9,11 @@ ghost use Rattle.ordup_audit.specs.Beginning.{HaveBegun};
 ghost use Rattle.ordup_limits.specs.Ledgers.{StandsAt};
 ghost use Rattle.ordup_audit.specs.Records.{history_of, report_at};
 ghost use Rattle.ordup_audit.specs.Validity.{IsValid};
-ghost use Rattle.ordup_lag.specs.Texts.{head_text, rows_upto, series_text};
+ghost use Rattle.ordup_lag.specs.LagRows.{AreFew};
+ghost use Rattle.ordup_lag.specs.Texts.{head_text, rows_upto, lag_after};
 
 use crate::amount_cell::{AmountCell, amount_cells};
+use crate::offsets::Offsets;
 use crate::row_text::{push_head, push_row};
 use ordup_audit::{Record, begin_limits, first_ledger};
 use ordup_limits::LagLedger;
@@ -19,9 +21,9 @@ use ordup_text::{TextBuffer, WriteFault, send};
 use std::alloc::{AllocError, Allocator};
 use std::io::Write;
 
-/// Why not all of a series was written.
+/// Why not all of the lag was written.
 #[derive(Clone, Copy, Debug, PartialEq, Eq)]
-pub enum SeriesFault {
+pub enum LagFault {
     /// A write failed, or took no byte.
     Write,
     /// Memory was refused, before the first write.
@@ -34,75 +36,81 @@ const PIECE: usize = 65_536;
 /// The most bytes between two times that rows are handed out: a piece, and the header or a row.
 const MOST_UNSENT_BYTES: usize = PIECE + 16_384;
 
-/// Writes the series of a valid record: a header, and a row for each decided place in order. It does not flush the writer. It
-/// promises, clause by clause, of a writer whose bytes are known:
+/// Writes the lag of a valid record: a header, and a row for each decided place in order. Places and windows are counted on from
+/// those `before` the record. It does not flush the writer. It promises, clause by clause, of a writer whose bytes are known:
 ///
-/// - `written`: after success the text of the series stands after what the writer held before.
+/// - `written`: after success the text of the lag stands after what the writer held before.
 /// - `front`: in every case a prefix of that text stands there, which may be none of it or all.
 /// - `refused`: where memory was refused, the writer is as it was.
-pub fn write_series<A: Allocator + Copy, W: Write>(
+pub fn write_lag<A: Allocator + Copy, W: Write>(
     alloc: A,
     audited: &Record<A>,
+    before: Offsets,
     output: &mut W,
-) -> Result<(), SeriesFault>
-    requires { IsValid audited.now }
-    ensures written { OnOk result (Appends (W.contents output.old) (W.contents output.new) (series_text audited.now)) }
-    ensures front { AppendsFront (W.contents output.old) (W.contents output.new) (series_text audited.now) }
-    ensures refused { IfErr result (λ e. e ≡ SeriesFault.NoMemory → output.new ≡ output.old) }
+) -> Result<(), LagFault>
+    requires valid { IsValid audited.now }
+    requires few { AreFew before }
+    ensures written { OnOk result (Appends (W.contents output.old) (W.contents output.new) (lag_after before audited.now)) }
+    ensures front { AppendsFront (W.contents output.old) (W.contents output.new) (lag_after before audited.now) }
+    ensures refused { IfErr result (λ e. e ≡ LagFault.NoMemory → output.new ≡ output.old) }
 {
     let Ok(mut ledger) = first_ledger(alloc, audited) else {
-        return Err(SeriesFault::NoMemory);
+        return Err(LagFault::NoMemory);
     };
-    let written = write_with(alloc, &mut ledger, audited, output);
+    let written = write_with(alloc, &mut ledger, audited, before, output);
     drop(ledger);
     written
 }
 
-/// Writes the series as [`write_series`] does, by a first ledger.
+/// Writes the lag as [`write_lag`] does, by a first ledger.
 fn write_with<A: Allocator + Copy, W: Write>(
     alloc: A,
     ledger: &mut LagLedger<A>,
     audited: &Record<A>,
+    before: Offsets,
     output: &mut W,
-) -> Result<(), SeriesFault>
+) -> Result<(), LagFault>
     requires valid { IsValid audited.now }
+    requires few { AreFew before }
     requires first { StandsAt (history_of audited.now) audited.now.groups [] 0 0 ledger.old }
-    ensures written { OnOk result (Appends (W.contents output.old) (W.contents output.new) (series_text audited.now)) }
-    ensures front { AppendsFront (W.contents output.old) (W.contents output.new) (series_text audited.now) }
-    ensures refused { IfErr result (λ e. e ≡ SeriesFault.NoMemory → output.new ≡ output.old) }
+    ensures written { OnOk result (Appends (W.contents output.old) (W.contents output.new) (lag_after before audited.now)) }
+    ensures front { AppendsFront (W.contents output.old) (W.contents output.new) (lag_after before audited.now) }
+    ensures refused { IfErr result (λ e. e ≡ LagFault.NoMemory → output.new ≡ output.old) }
 {
     let Ok(mut cells) = amount_cells(alloc, audited.limits().len()) else {
-        return Err(SeriesFault::NoMemory);
+        return Err(LagFault::NoMemory);
     };
     let mut out = TextBuffer::new(alloc);
-    let written = write_rows(&mut out, &mut cells, ledger, audited, output);
+    let written = write_rows(&mut out, &mut cells, ledger, audited, before, output);
     drop(out);
     drop(cells);
     written
 }
 
-/// Writes the series as [`write_series`] does, by a buffer that is empty, a cell for each limit and a first ledger.
+/// Writes the lag as [`write_lag`] does, by a buffer that is empty, a cell for each limit and a first ledger.
 fn write_rows<A: Allocator + Copy, W: Write>(
     out: &mut TextBuffer<A>,
     cells: &mut Vec<AmountCell, A>,
     ledger: &mut LagLedger<A>,
     audited: &Record<A>,
+    before: Offsets,
     output: &mut W,
-) -> Result<(), SeriesFault>
+) -> Result<(), LagFault>
     requires valid { IsValid audited.now }
+    requires few { AreFew before }
     requires empty { out.old.text ≡ [] }
     requires limits { length cells.old.items ≡ length (latest audited.now.limits) }
     requires first { StandsAt (history_of audited.now) audited.now.groups [] 0 0 ledger.old }
-    ensures written { OnOk result (Appends (W.contents output.old) (W.contents output.new) (series_text audited.now)) }
-    ensures front { AppendsFront (W.contents output.old) (W.contents output.new) (series_text audited.now) }
-    ensures refused { IfErr result (λ e. e ≡ SeriesFault.NoMemory → output.new ≡ output.old) }
+    ensures written { OnOk result (Appends (W.contents output.old) (W.contents output.new) (lag_after before audited.now)) }
+    ensures front { AppendsFront (W.contents output.old) (W.contents output.new) (lag_after before audited.now) }
+    ensures refused { IfErr result (λ e. e ≡ LagFault.NoMemory → output.new ≡ output.old) }
 {
     let Ok(()) = form_head(out, audited) else {
-        return Err(SeriesFault::NoMemory);
+        return Err(LagFault::NoMemory);
     };
-    match send_rows(out, cells, ledger, audited, output) {
+    match send_rows(out, cells, ledger, audited, before, output) {
         Ok(()) => Ok(()),
-        Err(_) => Err(SeriesFault::Write),
+        Err(_) => Err(LagFault::Write),
     }
 }
 
@@ -123,20 +131,21 @@ fn send_rows<A: Allocator + Copy, W: Write>(
     cells: &mut Vec<AmountCell, A>,
     ledger: &mut LagLedger<A>,
     audited: &Record<A>,
+    before: Offsets,
     output: &mut W,
 ) -> Result<(), WriteFault>
     requires valid { IsValid audited.now }
+    requires few { AreFew before }
     requires limits { length cells.old.items ≡ length (latest audited.now.limits) }
     requires first { StandsAt (history_of audited.now) audited.now.groups [] 0 0 ledger.old }
-    ensures sent { OnOk result (Appends (W.contents output.old) (W.contents output.new) (out.old.text ++ rows_upto audited.now (length audited.now.sets))) }
-    ensures front { AppendsFront (W.contents output.old) (W.contents output.new) (out.old.text ++ rows_upto audited.now (length audited.now.sets)) }
+    ensures sent { OnOk result (Appends (W.contents output.old) (W.contents output.new) (out.old.text ++ rows_upto before audited.now (length audited.now.sets))) }
+    ensures front { AppendsFront (W.contents output.old) (W.contents output.new) (out.old.text ++ rows_upto before audited.now (length audited.now.sets)) }
 {
     audited.keeps();
-    let scopes = audited.limits().len();
     let mut begun = 0;
     for updates in 0..audited.decided() {
         begun = advance(ledger, audited, begun, updates);
-        let Ok(()) = push_row(out, cells, audited, ledger, scopes, updates + 1) else {
+        let Ok(()) = push_row(out, cells, audited, before, ledger, updates + 1) else {
             return Err(WriteFault);
         };
         send_many(out, output)?;

@@ -17,6 +17,7 @@ objects_leave r n old new fault.NoMemory told = told
 objects_leave r n old new fault.Read told = told.2
 objects_leave r n old new fault.TooLong told = told.2
 objects_leave r n old new (fault.Malformed row) told = told.2
+objects_leave r n old new (fault.MalformedRecord place row) told = told.2
 objects_leave r n old new fault.NotStarted told = told.2
 objects_leave r n old new fault.UnknownSite told = told.2
 objects_leave r n old new (fault.NotYet number) told = told.2

@@ -6,7 +6,7 @@ use Rattle.ordup_audit.specs.declared.verdict.Verdict.{Verdict}
 use Rattle.ordup_audit.specs.declared.verdict.Verdict.TheVariants.{Fewest, No}
 use Rattle.ordup_script.specs.Streams.{Bytes}
 use Rattle.ordup_succession.specs.DeclaringLines.{object_lines}
-use Rattle.ordup_succession.specs.Ends.{AreObjectsAtEnd}
+use Rattle.ordup_series.specs.Ends.{AreObjectsAtEnd}
 use Rattle.ordup_succession.specs.Lines.{lines_text}
 use Rattle.ordup_faults.specs.Faults.{Outcome}
 use Rattle.ordup_faults.specs.Printing.{Prints}

@@ -1,1 +1,4 @@
+pub mod AuditLemmas
+mod DifferLemmas
+mod Examples
 pub mod SeriesLemmas

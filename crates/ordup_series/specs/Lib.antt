@@ -1,1 +1,4 @@
+pub mod Audits
+pub mod Ends
+pub mod Reasons
 pub mod Series

@@ -1,11 +1,10 @@
 -- What a store ends with, and its successor begins with.
 use Rattle.std.specs.Prelude.{◌≡◌, ◌++◌, ℕ, List, None, length}
 use Rattle.ordup_objects.specs.Serial.{serial}
-use Rattle.ordup_objects.specs.Tables.{Objects, initial_state, names_of}
+use Rattle.ordup_objects.specs.Tables.{initial_state, names_of}
 use Rattle.ordup_primary.specs.Declarations.{Declared, start_refusal}
 use Rattle.ordup_primary.specs.Primaries.{PrimaryState}
 use Rattle.ordup_primary.specs.Successors.{limits_from_start}
-use Rattle.ordup_audit.specs.Records.{RecordState, history_of}
 use Rattle.ordup_succession.specs.DeclaringLines.{declarations_text}
 use Rattle.ordup_succession.specs.ReadingBack.{ReadsBack}
 
@@ -22,8 +21,3 @@ pub record IsSuccessor (p : PrimaryState) (d : Declared) : Type 0 where
 -- a text has more behind it: the lines that declare the successor of a primary's store, which read back as it
 abbrev pub DeclaresSuccessor : Type 0 → PrimaryState → List ℕ → List ℕ → Type 0
 DeclaresSuccessor A p old new = (d : Declared) × IsSuccessor p d × ReadsBack A d × (new ≡ old ++ declarations_text d)
-
--- the objects of a record, each beginning at its value after all updates of the record
-pub record AreObjectsAtEnd (r : RecordState) (objects : Objects) : Type 0 where
-  pub names : names_of objects ≡ names_of r.objects
-  pub values : initial_state objects ≡ serial (history_of r) (length r.sets)

@@ -5,10 +5,8 @@
 
 mod forming;
 mod laws;
-mod record_end;
 mod successor;
 
 pub use forming::{push_declarations, push_object_declarations};
 pub use laws::declarations_read_back;
-pub use record_end::objects_at_end;
 pub use successor::push_successor;

@@ -5,7 +5,7 @@ use Rattle.ordup_audit.specs.Validity.{IsValid}
 use Rattle.ordup_audit.specs.Verdicts.{IfFewest, IsVerdict}
 use Rattle.ordup_audit.specs.declared.verdict.Verdict.{Verdict}
 use Rattle.ordup_audit.specs.declared.verdict.Verdict.TheVariants.{Fewest, No}
-use Rattle.ordup_lag.specs.Texts.{series_text}
+use Rattle.ordup_lag.specs.Texts.{lag_text}
 use Rattle.ordup_faults.specs.Faults.{Outcome}
 use Rattle.ordup_verdicts.specs.Verdicts.{Checks, Judges, PrintsJudged, PrintsVerdict, ReadsRecord, verdict_status, verdict_text}
 use Rattle.ordup_verdicts.specs.Lags.{Lags, PrintsLag}
@@ -40,6 +40,7 @@ print_leaves status text old new fault.NoMemory told = told
 print_leaves status text old new fault.Read told = told
 print_leaves status text old new fault.TooLong told = told
 print_leaves status text old new (fault.Malformed row) told = told
+print_leaves status text old new (fault.MalformedRecord place row) told = told
 print_leaves status text old new fault.NotStarted told = told
 print_leaves status text old new fault.UnknownSite told = told
 print_leaves status text old new (fault.NotYet number) told = told
@@ -51,7 +52,7 @@ verdict_leaves r verdict old new f = print_leaves (verdict_status verdict) (verd
 
 lag_leaves : (r : RecordState) (verdict : Verdict) (old new : Option (List ℕ)) (f : Fault)
     → PrintsLag r verdict old new (Err f) → LeavesAfter old new f
-lag_leaves r (Fewest n) old new f = print_leaves 0 (series_text r) old new f
+lag_leaves r (Fewest n) old new f = print_leaves 0 (lag_text r) old new f
 lag_leaves r (No row reason) old new f = verdict_leaves r (No row reason) old new f
 
 module _ (PrintsOf : RecordState → Verdict → Option (List ℕ) → Option (List ℕ) → Outcome → Type 0)
@@ -66,6 +67,7 @@ module _ (PrintsOf : RecordState → Verdict → Option (List ℕ) → Option (L
   printed had old new (Err fault.Read) told = absurd (leaves _ _ old new fault.Read told.5)
   printed had old new (Err fault.TooLong) told = absurd (leaves _ _ old new fault.TooLong told.5)
   printed had old new (Err (fault.Malformed row)) told = absurd (leaves _ _ old new (fault.Malformed row) told.5)
+  printed had old new (Err (fault.MalformedRecord place row)) told = leaves _ _ old new (fault.MalformedRecord place row) told.5
   printed had old new (Err fault.NotStarted) told = leaves _ _ old new fault.NotStarted told.5
   printed had old new (Err fault.UnknownSite) told = leaves _ _ old new fault.UnknownSite told.5
   printed had old new (Err (fault.NotYet number)) told = leaves _ _ old new (fault.NotYet number) told.5

@@ -1,3 +1,5 @@
 pub mod Faults
 pub mod Verdicts
 pub mod Lags
+pub mod Series
+pub mod SeriesLags

@@ -1,14 +1,19 @@
-//! The jobs that judge a record: `check` prints the verdict on it, and `lag` its series where it is valid.
+//! The jobs that judge a record, or a series of them: `check` prints the verdict, and `lag` the lag where it is valid.
 //!
-//! The one contract above this layer: a record was read and judged, and what was printed follows from both; else nothing was written.
+//! The one contract above this layer: a record was read and judged, and what was printed follows from both; else nothing was written,
+//! or of a series the lag of the records before.
 #![tactic(auto)]
 
 mod check;
 mod faults;
 mod lag;
+mod series;
+mod series_lag;
 mod verdict;
 
 pub use check::check_record;
 pub use faults::fault_of_reading;
 pub use lag::print_lag;
+pub use series::check_series;
+pub use series_lag::print_lag_of_series;
 pub use verdict::print_verdict;

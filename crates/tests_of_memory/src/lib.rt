@@ -19,8 +19,6 @@ mod lines;
 #[cfg(test)]
 mod promises;
 #[cfg(test)]
-mod scripts;
-#[cfg(test)]
 mod starts;
 #[cfg(test)]
 mod successors;

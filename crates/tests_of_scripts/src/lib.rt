@@ -1,5 +1,5 @@
 //! Tests by calls, of what no script says and no clause: of names, of lists of events and of worked rows (`events`); of records; of
-//! streams that fail, and plans (`scripts`). `promises.rt` repeats clauses of calls that no proof above cites.
+//! streams that fail, of scripts and plans without memory (`scripts`). `promises.rt` repeats clauses of calls that no proof above cites.
 #![tactic(auto)]
 
 #[cfg(test)]

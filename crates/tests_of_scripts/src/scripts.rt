@@ -1,3 +1,4 @@
-//! Scripts and plans over streams that fail and limits of bytes.
+//! Scripts and plans over streams that fail, with memory that is refused, and limits of bytes.
+mod memory;
 mod plans;
 mod script;

@@ -11,6 +11,7 @@ use Rattle.ordup_audit.specs.declared.verdict.Verdict.TheVariants.{Fewest, No}
 use Rattle.ordup_rows.specs.Sizes.{most_record_bytes}
 use Rattle.ordup_c.specs.Checks.{Finds, Judges, malformed_line, verdict_line}
 use Rattle.ordup_c.specs.declared.status.TheConstants.{NO_MEMORY, TOO_LONG}
+use Rattle.ordup_c.proofs.PushedLines.{pushed_line}
 use Rattle.ordup_c.proofs.checking.find_line.Goals as goal
 
 -- what the check of a record answers judges it
@@ -19,10 +20,6 @@ judged : (r : RecordState) (verdict : Verdict) → IsVerdict r verdict → IfFew
     → Judges r verdict
 judged r (Fewest n) is fewest valid = fewest
 judged r (No row reason) is fewest valid = (λ h. let e = valid h in cc, is)
-
--- the line that was pushed
-pushed_line : {E : Type 0} (r : Result (Unit {0}) E) (old new line : List ℕ) → OnOk r (new ≡ old ++ line) → old ≡ [] → r ≡ Ok tt → new ≡ line
-pushed_line r old new line is none ok = rw (ok, none) at is
 
 -- what is found where a line is
 found_line : {E : Type 0} (r : Result ℕ ℕ) (pushed : Result (Unit {0}) E) (status : ℕ) (text line : List ℕ)

@@ -5,7 +5,7 @@ use Rattle.ordup_limits.proofs.EntryLemmas.{latest-known}
 use Rattle.ordup_limits.specs.declared.limit.Limit.{Limit}
 use Rattle.ordup_limits.specs.Entries.{Entries, latest}
 use Rattle.ordup_lag.specs.Texts.{scope_head, scope_heads}
-use Rattle.ordup_lag.proofs.SeriesLemmas.{heads-next}
+use Rattle.ordup_lag.proofs.LagLemmas.{heads-next}
 use Rattle.ordup_lag.proofs.row_text.push_scope_heads.Goals as goal
 
 pub push_scope_head-requires : goal.push_scope_head-requires

@@ -1,6 +1,6 @@
 use Rattle.std.proofs.Common.{◌∙◌, arith}
 use Rattle.std.proofs.Math.ListN.{length-set}
-use Rattle.ordup_lag.proofs.SeriesLemmas.{uses_next}
+use Rattle.ordup_lag.proofs.LagLemmas.{uses_next}
 use Rattle.ordup_lag.proofs.row_text.push_uses.Goals as goal
 
 pub loop-index-preserved : goal.loop-index-preserved

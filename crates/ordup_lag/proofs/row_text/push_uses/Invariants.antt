@@ -3,7 +3,7 @@ use Rattle.ordup_lag.specs.declared.amount_cell.TheConstants.{CELL_BYTES}
 use Rattle.ordup_objects.specs.Serial.{History}
 use Rattle.ordup_log.specs.Groups.{GroupList}
 use Rattle.ordup_limits.specs.Ledgers.{StandsFor}
-use Rattle.ordup_lag.specs.Series.{uses_of}
+use Rattle.ordup_lag.specs.LagRows.{uses_of}
 use Rattle.ordup_lag.specs.Texts.{uses_text}
 use Rattle.ordup_lag.proofs.row_text.push_uses.Given as goal
 

@@ -1,6 +1,6 @@
 use Rattle.std.proofs.Common.{ap, arith, get_or, length}
 use Rattle.ordup_limits.specs.Limits.{Limits}
-use Rattle.ordup_lag.proofs.SeriesLemmas.{use_none, use_there}
+use Rattle.ordup_lag.proofs.LagLemmas.{use_none, use_there}
 use Rattle.ordup_lag.proofs.row_text.put_any_use.Goals as goal
 
 pub returns-then-index-limits-clause-text : goal.returns-then-index-limits-clause-text

@@ -2,7 +2,7 @@
 -- site has reported, which never falls.
 use Rattle.ordup_audit.proofs.Common.{◌+◌, ◌∙◌, ap, arith}
 use Rattle.std.specs.Prelude.{min}
-use Rattle.ordup_lag.proofs.SeriesLemmas.{report_at-rises}
+use Rattle.ordup_lag.proofs.LagLemmas.{report_at-rises}
 use Rattle.ordup_lag.proofs.writing.advance.Goals as goal
 
 pub reported-requires-clause-forward : goal.reported-requires-clause-forward

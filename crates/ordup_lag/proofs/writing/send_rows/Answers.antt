@@ -1,8 +1,7 @@
 -- What was written and what is held come to the rows so far, of which a writer that fails has a prefix.
 -- The ledger has the limits that are in force at the row.
-use Rattle.ordup_audit.proofs.Common.{◌≡◌, ◌+◌, ◌∙◌, ap, arith, length, refl, report_at}
+use Rattle.ordup_audit.proofs.Common.{◌≡◌, ◌+◌, ◌∙◌, arith, refl, report_at}
 use Rattle.std.specs.Prelude.{min}
-use Rattle.ordup_limits.specs.Entries.{latest}
 use Rattle.ordup_limits.proofs.EntryLemmas.{in_force-first}
 use Rattle.ordup_lag.proofs.SentLemmas.{front_none, row_formed, sends_more, sends_none, stops_at}
 use Rattle.ordup_lag.proofs.writing.send_rows.Goals as goal
@@ -17,10 +16,8 @@ loop-updates-init g c =
       sent = sends_none _ _;
     }
 
-pub push_row-requires-clause-scopes : goal.push_row-requires-clause-scopes
-push_row-requires-clause-scopes g c =
-    let scopes = c.len-scopes.ensures.len ∙ ap (λ entries. length (latest entries)) c.limits.ensures in
-    omega (arith, scopes, c.requires.limits, c.loop-updates.invariant.count)
+pub push_row-requires-clause-limits : goal.push_row-requires-clause-limits
+push_row-requires-clause-limits g c = c.loop-updates.invariant.count ∙ c.requires.limits
 
 pub push_row-requires-clause-stands : goal.push_row-requires-clause-stands
 push_row-requires-clause-stands g c =
@@ -30,20 +27,18 @@ push_row-requires-clause-stands g c =
 
 pub returns-in_default-clause-front : goal.returns-in_default-clause-front
 returns-in_default-clause-front g c =
-    stops_at _ _ _ _ c.args.audited.now c.loop-updates.updates _ (omega arith) c.loop-updates.invariant.sent (front_none _ _)
+    stops_at _ _ _ _ c.args.before c.args.audited.now c.loop-updates.updates _ (omega arith) c.loop-updates.invariant.sent (front_none _ _)
 
 pub returns-in_err-send_many-clause-front : goal.returns-in_err-send_many-clause-front
 returns-in_err-send_many-clause-front g c =
     let r = c.args.audited.now in
-    let scopes = c.len-scopes.ensures.len ∙ ap (λ entries. length (latest entries)) c.limits.ensures in
-    let sent = row_formed _ _ _ r c.loop-updates.updates _ _ c.loop-updates.invariant.sent (rw scopes at c.in-Ok.ensures.text) in
-    stops_at _ _ _ _ r (c.loop-updates.updates + 1) _ (omega arith) sent c.in_err-send_many.ensures.front
+    let sent = row_formed _ _ _ c.args.before r c.loop-updates.updates _ _ c.loop-updates.invariant.sent c.in-Ok.ensures.text in
+    stops_at _ _ _ _ c.args.before r (c.loop-updates.updates + 1) _ (omega arith) sent c.in_err-send_many.ensures.front
 
 pub loop-updates-preserved : goal.loop-updates-preserved
 loop-updates-preserved g c =
     let r = c.args.audited.now in
-    let scopes = c.len-scopes.ensures.len ∙ ap (λ entries. length (latest entries)) c.limits.ensures in
-    let sent = row_formed _ _ _ r c.loop-updates.updates _ _ c.loop-updates.invariant.sent (rw scopes at c.in-Ok.ensures.text) in
+    let sent = row_formed _ _ _ c.args.before r c.loop-updates.updates _ _ c.loop-updates.invariant.sent c.in-Ok.ensures.text in
     record {
       count = c.in-Ok.ensures.count ∙ c.loop-updates.invariant.count;
       begun = c.advance-begun.ensures.begun;
@@ -53,5 +48,5 @@ loop-updates-preserved g c =
 
 pub returns-clause-front : goal.returns-clause-front
 returns-clause-front g c =
-    stops_at _ _ _ _ c.args.audited.now c.loop-updates.updates _ (omega arith) c.loop-updates.invariant.sent
+    stops_at _ _ _ _ c.args.before c.args.audited.now c.loop-updates.updates _ (omega arith) c.loop-updates.invariant.sent
     (rw c.as_slice.ensures at c.send.ensures.front)

@@ -16,5 +16,5 @@ invariant-loop-updates g l = record {
   stands : StandsAt (history_of l.audited) l.audited.groups (latest (take l.begun l.audited.limits))
       (min (report_at l.audited.reports l.updates) l.updates) l.updates l.ledger;
   sent : SendsUpto (g.W.Write.contents l.fn.output) (g.W.Write.contents l.output)
-      (l.initial.out.text ++ rows_upto l.audited l.updates) l.out.text;
+      (l.initial.out.text ++ rows_upto l.before l.audited l.updates) l.out.text;
 }

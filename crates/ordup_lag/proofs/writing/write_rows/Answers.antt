@@ -4,6 +4,7 @@ use Rattle.ordup_lag.proofs.writing.write_rows.Goals as goal
 pub send_rows-requires : goal.send_rows-requires
 send_rows-requires g c = record {
   valid = c.requires.valid;
+  few = c.requires.few;
   limits = c.requires.limits;
   first = c.requires.first;
 }

@@ -3,7 +3,7 @@ use Rattle.std.proofs.lemmas.List.{length-map}
 use Rattle.ordup_objects.proofs.SerialLemmas.{length-serial}
 use Rattle.ordup_objects.specs.States.{State}
 use Rattle.ordup_audit.specs.Records.{history_of}
-use Rattle.ordup_succession.proofs.record_end.objects_at_end.Goals as goal
+use Rattle.ordup_series.proofs.record_end.objects_at_end.Goals as goal
 
 pub copy_with-requires : goal.copy_with-requires
 copy_with-requires g c =

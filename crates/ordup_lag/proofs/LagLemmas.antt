@@ -2,9 +2,11 @@
 use Rattle.ordup_audit.proofs.Common.{◌+◌, ◌-◌, ◌<◌, ◌≤◌, ◌∙◌, ◌∷◌, ◌≡◌, ◌++◌, [], ap, append-nil, append_assoc, arith, cases_lt}
 use Rattle.ordup_audit.proofs.Common.{get_or, GroupList, History, inl, inr, in_force, length, Limit, List, map, option_map, RecordState, refl}
 use Rattle.ordup_audit.proofs.Common.{slice_get, Some, None, suc, sym, zero, ℕ, Bool, codes, decimal, history_of, list_any, Objects, Option, report_at, ◌==◌}
-use Rattle.std.specs.Prelude.{min, nat_le, fold, if◌then◌else◌, Err, Ok, OnOk, Result}
+use Rattle.std.specs.Prelude.{min, nat_le, fold, if◌then◌else◌, OnOk, Result}
 use Rattle.std.specs.List.Sorted.{IsStrictlyIncreasing}
-use Rattle.ordup_audit.proofs.Common.{AllPairs, AllPairs-from_increasing, get_or-map, length-map}
+use Rattle.ordup_audit.proofs.Common.{All, All-tail, AllPairs, AllPairs-from_increasing, get_or-map, length-map}
+use Rattle.std.proofs.lemmas.List.Elements.{All-head}
+use Rattle.ordup_objects.specs.Sizes.{most_updates}
 use Rattle.std.proofs.lemmas.Bool.{le-leb, lt-leb}
 use Rattle.std.proofs.Common.{add-one}
 use Rattle.std.proofs.lemmas.Bool.{cases_eq}
@@ -15,7 +17,8 @@ use Rattle.ordup_limits.specs.Entries.{latest}
 use Rattle.ordup_limits.specs.Ledgers.{LedgerState, StandsFor}
 use Rattle.ordup_limits.specs.Limits.{Limits}
 use Rattle.ordup_audit.specs.declared.report_change.ReportChange.{ReportChange}
-use Rattle.ordup_lag.specs.Series.{LimitUse, row_at, use_of, uses_of, window_of}
+use Rattle.ordup_lag.specs.declared.offsets.Offsets.{Offsets}
+use Rattle.ordup_lag.specs.LagRows.{LimitUse, row_at, use_of, uses_of, window_of}
 use Rattle.ordup_lag.specs.Texts.{limit_head, round_text, row_text, rows_upto, scope_head, scope_heads, use_text, uses_text, window_text}
 
 -- a span from after its end is empty, as one from its end is
@@ -120,6 +123,23 @@ pub report_at-rises : (changes : List ReportChange) (k : ℕ) → IsStrictlyIncr
 report_at-rises changes k rise =
     report_from-rises 0 0 changes k (k + 1) (omega arith) (omega arith) (λ i d lt. omega arith) (reports-rise changes rise)
 
+-- and never more than a record may tell
+reports-few : (first most : ℕ) (changes : List ReportChange) (k : ℕ) → first ≤ most
+    → All (λ (c : ReportChange). (0 < c.reported) × (c.reported ≤ most)) changes
+    → report_from first changes k ≤ most
+reports-few first most [] k le each = le
+reports-few first most (c ∷ changes) k le each =
+    let rest = All-tail (λ (c : ReportChange). (0 < c.reported) × (c.reported ≤ most)) c changes each in
+    elim (cases_lt k c.place) [
+      | inl after ↦ rw (lt-leb c.place k after) (reports-few first most changes k le rest)
+      | inr here ↦ rw (le-leb c.place k here)
+          (reports-few c.reported most changes k (All-head (λ (c : ReportChange). (0 < c.reported) × (c.reported ≤ most)) c changes each).1 rest)
+    ]
+
+pub report_at-few : (changes : List ReportChange) (k : ℕ) → All (λ (c : ReportChange). (0 < c.reported) × (c.reported ≤ most_updates)) changes
+    → report_at changes k ≤ most_updates
+report_at-few changes k each = reports-few 0 most_updates changes k (omega arith) each
+
 heads-more : (objects : Objects) (groups : GroupList) (limits : Limits) (n : ℕ)
     → scope_heads objects groups limits n ++ limit_head objects groups (slice_get limits n) ≡ scope_heads objects groups limits (n + 1)
 heads-more objects groups limits n = rw (add-one n) refl
@@ -132,39 +152,40 @@ heads-next objects groups limits n amount s at =
     ap (λ o. scope_heads objects groups limits n ++ limit_head objects groups o) (sym at) ∙ heads-more objects groups limits n
 
 -- the lines up to a place are a prefix of those up to a later one
-pub upto-front : (r : RecordState) (k n : ℕ) → k ≤ n → (more : List ℕ) × (rows_upto r n ≡ rows_upto r k ++ more)
-upto-front r k zero le = (let none : k ≡ 0 = omega arith in rw none ([], refl))
-upto-front r k (suc n) le = elim (cases_eq k (suc n)) [
-  | inl same ↦ rw same ([], sym (append-nil (rows_upto r (suc n))))
+pub upto-front : (before : Offsets) (r : RecordState) (k n : ℕ) → k ≤ n → (more : List ℕ) × (rows_upto before r n ≡ rows_upto before r k ++ more)
+upto-front before r k zero le = (let none : k ≡ 0 = omega arith in rw none ([], refl))
+upto-front before r k (suc n) le = elim (cases_eq k (suc n)) [
+  | inl same ↦ rw same ([], sym (append-nil (rows_upto before r (suc n))))
   | inr other ↦ (
-      let rest = upto-front r k n (omega arith) in
-      let row = row_text (length (latest r.limits)) (row_at r (suc n)) in (
+      let rest = upto-front before r k n (omega arith) in
+      let row = row_text (length (latest r.limits)) (row_at before r (suc n)) in (
         rest.0 ++ row,
-        ap (λ t. t ++ row) rest.1 ∙ append_assoc (rows_upto r k) rest.0 row,
+        ap (λ t. t ++ row) rest.1 ∙ append_assoc (rows_upto before r k) rest.0 row,
       ))
 ]
 
 -- the lines of one place more
-pub upto-next : (r : RecordState) (k : ℕ) → rows_upto r k ++ row_text (length (latest r.limits)) (row_at r (k + 1)) ≡ rows_upto r (k + 1)
-upto-next r k = rw (add-one k) refl
+pub upto-next : (before : Offsets) (r : RecordState) (k : ℕ)
+    → rows_upto before r k ++ row_text (length (latest r.limits)) (row_at before r (k + 1)) ≡ rows_upto before r (k + 1)
+upto-next before r k = rw (add-one k) refl
 
 parts_of_row : (a b c d e f : List ℕ) → ((((a ++ b) ++ c) ++ d) ++ e) ++ f ≡ a ++ (b ++ (c ++ (d ++ (e ++ f))))
 parts_of_row a b c d e f = simp append_assoc
 
 -- the line of a place, cell by cell
-pub row_written : {T E : Type 0} (result : Result T E) (r : RecordState) (k n from reported : ℕ) (limits : Limits) (is : Bool)
-    (window : Option ℕ) (old t1 t2 t3 t4 t5 : List ℕ)
+pub row_written : {T E : Type 0} (result : Result T E) (before : Offsets) (r : RecordState) (k n from reported : ℕ) (limits : Limits)
+    (is : Bool) (window : Option ℕ) (old t1 t2 t3 t4 t5 : List ℕ)
     → from ≡ min reported k → reported ≡ report_at r.reports k → limits ≡ in_force r.limits k
-    → is ≡ list_any (λ p. p == k) r.rounds → window ≡ window_of r k
-    → t1 ≡ old ++ decimal k → t2 ≡ t1 ++ (codes "," ++ decimal reported)
+    → is ≡ list_any (λ p. p == k) r.rounds → window ≡ option_map (λ i. before.windows + i) (window_of r k)
+    → t1 ≡ old ++ decimal (before.places + k) → t2 ≡ t1 ++ (codes "," ++ decimal (before.places + reported))
     → t3 ≡ t2 ++ uses_text (map (use_of (history_of r) r.groups from k) limits) n
     → t4 ≡ t3 ++ round_text is
     → OnOk result (t5 ≡ t4 ++ window_text window)
-    → OnOk result (t5 ≡ old ++ row_text n (row_at r k))
-row_written result r k n from reported limits is window old t1 t2 t3 t4 t5 at told force round in_window e1 e2 e3 e4 last =
-    let whole : t4 ++ window_text window ≡ old ++ row_text n (row_at r k) =
+    → OnOk result (t5 ≡ old ++ row_text n (row_at before r k))
+row_written result before r k n from reported limits is window old t1 t2 t3 t4 t5 at told force round in_window e1 e2 e3 e4 last =
+    let whole : t4 ++ window_text window ≡ old ++ row_text n (row_at before r k) =
     rw (e4, e3, e2, e1, at, force, round, in_window, told, uses-min (history_of r) r.groups (report_at r.reports k) k (in_force r.limits k))
-    (parts_of_row old (decimal k) (codes "," ++ decimal (report_at r.reports k))
+    (parts_of_row old (decimal (before.places + k)) (codes "," ++ decimal (before.places + report_at r.reports k))
     (uses_text (map (use_of (history_of r) r.groups (report_at r.reports k) k) (in_force r.limits k)) n)
-    (round_text (list_any (λ p. p == k) r.rounds)) (window_text (window_of r k))) in
+    (round_text (list_any (λ p. p == k) r.rounds)) (window_text (option_map (λ i. before.windows + i) (window_of r k)))) in
     rw whole at last

@@ -9,6 +9,11 @@ use Rattle.ordup_limits.specs.Ledgers.{LedgerState}
 use Rattle.ordup_limits.specs.declared.limit.Limit.{Limit}
 use Rattle.ordup_rounds.specs.declared.window.Window.{Window}
 use Rattle.ordup_audit.specs.Records.{RecordState, history_of, report_at}
+use Rattle.ordup_lag.specs.declared.offsets.Offsets.{Offsets}
+
+-- at most so many places, and so many windows, come before a record of a series
+abbrev pub most_before : ℕ
+most_before = 1_000_000_000_000_000_000
 
 -- what a span weighs on the scope of a limit, and the amount of the limit
 pub record LimitUse : Type 0 where
@@ -35,7 +40,12 @@ has_place k w = nat_lt w.from k && nat_le k w.to
 abbrev pub window_of : RecordState → ℕ → Option ℕ
 window_of r k = option_map (λ i. i + 1) (position (has_place k) r.windows)
 
--- a row of the series: a decided place, what the site had reported at its decision, how much of each limit in force was used,
+-- what came before a record is no more than machines count
+pub record AreFew (before : Offsets) : Type 0 where
+  pub places : before.places ≤ most_before
+  pub windows : before.windows ≤ most_before
+
+-- a row of the lag: a decided place, what the site had reported at its decision, how much of each limit in force was used,
 -- whether the place has a round, and the window that has it
 pub record LagRow : Type 0 where
   pub place : ℕ
@@ -44,14 +54,14 @@ pub record LagRow : Type 0 where
   pub is_round : Bool
   pub window : Option ℕ
 
--- the row of place k
-abbrev pub row_at : RecordState → ℕ → LagRow
-row_at r k = record {
-  place = k;
-  reported = report_at r.reports k;
+-- the row of place k, after so many places and windows of other records
+abbrev pub row_at : Offsets → RecordState → ℕ → LagRow
+row_at before r k = record {
+  place = before.places + k;
+  reported = before.places + report_at r.reports k;
   uses = uses_at r k;
   is_round = list_any (λ p. p == k) r.rounds;
-  window = window_of r k;
+  window = option_map (λ n. before.windows + n) (window_of r k);
 }
 
 -- each window ends after it begins, and no later than the next one begins

@@ -1,3 +1,4 @@
+-- Names over zeros: they are padded, and two are the same where their bytes are.
 use Rattle.std.proofs.Common.{◌≡◌, ℕ, ◌*◌, ◌-◌, ◌≤◌, Bool, true, List, length, ◌++◌, take, drop, arith, replicate}
 use Rattle.std.proofs.Common.{length-append, length-drop}
 use Rattle.std.proofs.Common.{ap, ◌∙◌, sym, inl, inr, nat_eq, refl}

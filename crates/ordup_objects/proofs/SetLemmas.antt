@@ -1,3 +1,4 @@
+-- What a set makes of a state: values stay in range, and each is the result of the change of its object, or stays.
 use Rattle.std.proofs.Common.{◌≡◌, ℕ, ◌<◌, ◌≤◌, true, false, cond}
 use Rattle.std.proofs.Common.{List, [], ◌∷◌, length, get_or, arith, refl, sym}
 use Rattle.std.proofs.Common.{ap, ◌∙◌}

@@ -1,3 +1,4 @@
+-- A line that was sent in part is a prefix of the whole: of its word, the number of the record, or that of the row.
 use Rattle.std.proofs.Common.{◌≡◌, ◌∙◌, ◌++◌, codes, List, ℕ}
 use Rattle.std.specs.Fmt.{decimal}
 use Rattle.ordup_faults.proofs.Parts.{front_after, front_of_first}

@@ -98,7 +98,8 @@ fn take_later_row(
 }
 
 /// Takes a row, where it may stand there, and answers whether it did. A row that begins a record and is not taken changes nothing.
-// In place, since a stage has tables: by value they would be moved a few times with each row.
+// In place, since a stage has tables: by value they would be moved a few times with each row. Inlined, since rows are taken in a loop.
+#[inline(always)]
 pub fn take_row(alloc: Global, stage: &mut Stage, row: &ByteRecord) -> Result<bool, AllocError>
     ensures taken { IfOk result (λ is_taken. then_some is_taken (stage_of stage.new) ≡ step (stage_of stage.old) (fields_of row.now)) }
     ensures kept { IfOk result (λ is_taken. is_taken ≡ false → begins_record (fields_of row.now) ≡ true

@@ -1,8 +1,6 @@
 //! Public calls whose clauses no proof above them cites, as in `promises.rt` of `test_cluster_fixtures`.
-ghost use Rattle.std.specs.Prelude.{◌≡◌, ◌<◌, ◌≤◌, ◌+◌, ◌+ℤ◌, List, ◌∷◌, [], None, length, IfOk, IfErr, OnErr};
+ghost use Rattle.std.specs.Prelude.{◌≡◌, ◌<◌, ◌≤◌, ◌+◌, ◌+ℤ◌, List, ◌∷◌, None, length, IfOk, IfErr, OnErr};
 ghost use Rattle.ordup_objects.specs.Refusals.{IsRefusal};
-ghost use Rattle.ordup_objects.specs.Tables.{initial_state};
-ghost use Rattle.ordup_feed.specs.Parcels.{feed_refusal};
 ghost use Rattle.ordup_primary.specs.LimitChanges.{limit_change_refusal};
 ghost use Rattle.ordup_primary.specs.Primaries.{IsPrimary, site_view};
 ghost use Rattle.ordup_query.specs.Queries.{HasRead, read_refusal, summed_up};
@@ -12,27 +10,10 @@ ghost use Rattle.ordup_holds.specs.Relimiting.{with_changed_limit};
 
 use ordup_cluster::SiteQuery;
 use ordup_cluster::holds::{self, Book};
-use ordup_feed::{Feed, SendEnd, TakeEnd};
 use ordup_limits::Scope;
-use ordup_objects::{ObjectId, ObjectTable, Refusal, SiteId};
+use ordup_objects::{ObjectId, Refusal, SiteId};
 use ordup_query::{QueryAnswer, ReadAnswer};
-use std::alloc::Global;
 use std::sync::Wait;
-
-/// `Feed::new`. Both ends are of one feed.
-pub fn new_feed(
-    alloc: Global,
-    objects: &ObjectTable,
-    capacity: u64,
-) -> Result<(SendEnd, TakeEnd), Refusal>
-    ensures sender { IfOk result (λ ends. ends.0 ≡ record { feed = ends.0.feed; start = initial_state objects.now; pushed = []; known = 0 }) }
-    ensures taker { IfOk result (λ ends. ends.1 ≡ record { feed = ends.0.feed; start = initial_state objects.now; taken = []; told = 0 }) }
-    ensures holds { IfOk result (λ ends. ends.0.feed.capacity ≡ capacity) }
-    ensures allowed { IfOk result (λ _. feed_refusal capacity ≡ None) }
-    ensures refused { IfErr result (λ e. IsRefusal (feed_refusal capacity) e) }
-{
-    Feed::new(alloc, objects, capacity)
-}
 
 /// `holds::relimit`.
 pub fn relimit_in_hold(

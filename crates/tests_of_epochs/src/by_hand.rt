@@ -31,9 +31,11 @@ fn opened_after_five<R: Wait + Abort>(
     let Ok(cluster) = Cluster::after(alloc, 5, made(rt, declared(alloc, sites))) else {
         panic!(rt; "a store is refused")
     };
-    expect_eq!(rt; (cluster.before(), cluster.numbered()), (5, 0));
+    expect_eq!(rt; cluster.before(), 5);
+    expect_eq!(rt; cluster.numbered(), 0);
     expect_eq!(rt; propose(rt, &cluster, &mut Session::new(), 1), answer);
-    expect_eq!(rt; (cluster.before(), cluster.numbered()), (5, 1));
+    expect_eq!(rt; cluster.before(), 5);
+    expect_eq!(rt; cluster.numbered(), 1);
     cluster.stop();
     cluster
 }
@@ -47,7 +49,8 @@ fn closed(rt: &impl Abort, cluster: Cluster) -> Closed {
 
 /// A store after six updates, in which a has all six: x is 1.
 fn expect_after_six<R: Wait + Abort>(rt: &R, next: &Cluster) {
-    expect_eq!(rt; (next.before(), next.numbered()), (6, 0));
+    expect_eq!(rt; next.before(), 6);
+    expect_eq!(rt; next.numbered(), 0);
     expect_eq!(rt; read_at(rt, next, &mut Session::new(), a(), x()), Ok(seen(1, 6)));
     expect_eq!(rt; propose(rt, next, &mut Session::new(), 1), Ok(7));
 }

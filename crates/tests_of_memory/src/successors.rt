@@ -61,8 +61,10 @@ fn end<'a>(rt: &impl Abort, heap: Heap<'a>, primary: &mut Primary<Heap<'a>>) {
 fn expect_successor<'a>(rt: &impl Abort, successor_setup: &Setup<Heap<'a>>) {
     let objects = successor_setup.objects();
     expect!(rt; objects.len() == 2);
-    expect_eq!(rt; (objects.initial(x()), objects.initial(y())), (4, 10));
-    expect_eq!(rt; (objects.find(b"x"), objects.find(b"y")), (Some(x()), Some(y())));
+    expect_eq!(rt; objects.initial(x()), 4);
+    expect_eq!(rt; objects.initial(y()), 10);
+    expect_eq!(rt; objects.find(b"x"), Some(x()));
+    expect_eq!(rt; objects.find(b"y"), Some(y()));
     expect_eq!(rt; successor_setup.find_site(b"a"), Some(a()));
     expect!(rt; successor_setup.sites() == 1);
     expect!(rt; successor_setup.capacity(a()) == 4);

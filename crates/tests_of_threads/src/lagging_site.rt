@@ -88,7 +88,8 @@ fn close(rt: &impl Abort, cluster: Cluster) {
     expect_eq!(rt; primary.windows(a()), [Window { from: 0, to: 4 }].as_slice());
     let site = closed.site(a());
     expect!(rt; site.len() > 0);
-    expect_eq!(rt; (site.value(x()), site.applied()), (4, 4));
+    expect_eq!(rt; site.value(x()), 4);
+    expect_eq!(rt; site.applied(), 4);
     closed.discard();
 }
 

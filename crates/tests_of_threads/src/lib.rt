@@ -1,4 +1,5 @@
-//! Tests by calls, of a cluster that threads share: appliers, callers and readers each have a thread of their own.
+//! Tests by calls, of feeds and of a cluster that threads share: appliers, callers and readers each have a thread of their own.
+//! `promises.rt` repeats the clauses of a call that no proof above cites.
 //!
 //! Each wait is bounded, so a test that would hang fails.
 #![tactic(auto)]
@@ -7,6 +8,8 @@
 mod changing_limit;
 #[cfg(test)]
 mod expect;
+#[cfg(test)]
+mod feed;
 #[cfg(test)]
 mod fixtures;
 #[cfg(test)]
@@ -21,6 +24,8 @@ mod level_reads;
 mod many_callers;
 #[cfg(test)]
 mod one_turn;
+#[cfg(test)]
+mod promises;
 #[cfg(test)]
 mod quiet_store;
 #[cfg(test)]

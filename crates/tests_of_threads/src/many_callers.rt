@@ -136,7 +136,8 @@ impl<R: Wait + Abort> Parts<R> for All<'_> {
 fn expect_all(rt: &impl Abort, log: &Log) {
     expect_eq!(rt; log.len(), 4 * SETS);
     expect!(rt; log.objects() == 2);
-    expect_eq!(rt; (log.end_value(x()), log.end_value(y())), (20_000, -39_990));
+    expect_eq!(rt; log.end_value(x()), 20_000);
+    expect_eq!(rt; log.end_value(y()), -39_990);
 }
 
 /// The sites with limits have applied all updates but those by which they may lag.

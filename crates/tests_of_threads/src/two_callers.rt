@@ -75,9 +75,11 @@ fn sets_on(log: &Log, object: ObjectId) -> u64 {
 /// The log has twenty sets of each caller.
 fn expect_both(rt: &impl Abort, log: &Log) {
     expect_eq!(rt; log.len(), 40);
-    expect_eq!(rt; (sets_on(log, x()), sets_on(log, y())), (20, 20));
+    expect_eq!(rt; sets_on(log, x()), 20);
+    expect_eq!(rt; sets_on(log, y()), 20);
     expect!(rt; log.objects() == 2);
-    expect_eq!(rt; (log.end_value(x()), log.end_value(y())), (20, 30));
+    expect_eq!(rt; log.end_value(x()), 20);
+    expect_eq!(rt; log.end_value(y()), 30);
 }
 
 /// The log has all sets, and the site at most three fewer.

@@ -121,6 +121,7 @@ pub fn expect_closed(
     expect_eq!(rt; primary.windows(a()), windows);
     let site = closed.site(a());
     expect!(rt; site.len() > 0);
-    expect_eq!(rt; (site.value(x()), site.applied()), (at_a.value, at_a.applied));
+    expect_eq!(rt; site.value(x()), at_a.value);
+    expect_eq!(rt; site.applied(), at_a.applied);
     closed.discard();
 }

@@ -27,7 +27,8 @@ fn take_all<R: Wait + Abort>(rt: &R, cell: &mut SiteCell, first: u64, last: u64)
 fn expect_known(rt: &impl Abort, book: &Book, sent: u64, reported: u64) {
     let primary = book.primary();
     expect!(rt; primary.setup().sites() > 0);
-    expect_eq!(rt; (primary.sent(a()), primary.reported(a())), (sent, reported));
+    expect_eq!(rt; primary.sent(a()), sent);
+    expect_eq!(rt; primary.reported(a()), reported);
 }
 
 /// Five updates through a feed with a capacity of two.
@@ -200,7 +201,8 @@ fn expect_round(rt: &impl Abort, book: &Book, place: u64) {
     expect_eq!(rt; primary.rounds(a()), [place].as_slice());
     let windows = primary.windows(a());
     expect!(rt; windows.len() == 1);
-    expect_eq!(rt; (windows[0].from, windows[0].to), (0, place));
+    expect_eq!(rt; windows[0].from, 0);
+    expect_eq!(rt; windows[0].to, place);
 }
 
 /// Waits for four updates through a feed with a capacity of one.

@@ -368,7 +368,8 @@ fn expect_full(rt: &impl Abort, alloc: Global, setup: &Setup) {
     let of_a_65th_scope = refusal_of_change(&mut table, objects, groups, another, 1);
     expect_eq!(rt; of_a_65th_scope, Some(Refusal::TooMany));
     change_at_each_place(rt, &mut table, objects, groups);
-    expect_eq!(rt; (table.len(), table.entries().len()), (64, 1_088));
+    expect_eq!(rt; table.len(), 64);
+    expect_eq!(rt; table.entries().len(), 1_088);
     let of_another = refusal_of_change(&mut table, objects, groups, Scope::All, 1_025);
     expect_eq!(rt; of_another, Some(Refusal::TooMany));
     // The entry of that place is replaced.
@@ -376,7 +377,8 @@ fn expect_full(rt: &impl Abort, alloc: Global, setup: &Setup) {
     expect_eq!(rt; at_the_last_place, None);
     let at_the_next_place = refusal_of_change(&mut table, objects, groups, on_x(), 1_026);
     expect_eq!(rt; at_the_next_place, Some(Refusal::TooMany));
-    expect_eq!(rt; (table.len(), table.entries().len()), (64, 1_088));
+    expect_eq!(rt; table.len(), 64);
+    expect_eq!(rt; table.entries().len(), 1_088);
     drop(table);
 }
 

@@ -2,7 +2,7 @@
 use Rattle.std.proofs.Common.{length, ap, ◌∙◌, arith}
 use Rattle.std.proofs.lemmas.List.{length-map, length_push}
 use Rattle.ordup_feed.specs.Ends.{Sending}
-use Rattle.tests_of_clusters.proofs.feed.one_thread.a_full_feed_hands_the_parcel_back.Goals as goal
+use Rattle.tests_of_threads.proofs.feed.one_thread.a_full_feed_hands_the_parcel_back.Goals as goal
 
 pub push-requires : goal.push-requires
 push-requires g c =

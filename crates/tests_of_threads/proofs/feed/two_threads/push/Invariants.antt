@@ -1,6 +1,6 @@
 use Rattle.std.proofs.Common.{◌≡◌}
 use Rattle.ordup_feed.specs.Parcels.{IsNext}
-use Rattle.tests_of_clusters.proofs.feed.two_threads.push.Given as goal
+use Rattle.tests_of_threads.proofs.feed.two_threads.push.Given as goal
 
 abbrev pub invariant-loop : goal.invariant-loop
 invariant-loop g l =

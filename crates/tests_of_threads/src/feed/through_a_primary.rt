@@ -1,5 +1,5 @@
 //! What a primary has next for a site goes into its feed.
-ghost use Rattle.tests_of_clusters.specs.Following.{HasPushed};
+ghost use Rattle.tests_of_threads.specs.Following.{HasPushed};
 
 use ordup_feed::{Feed, SendEnd, TakeEnd};
 use ordup_objects::Refusal;

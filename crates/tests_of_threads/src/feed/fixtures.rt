@@ -1,7 +1,7 @@
 //! Parcels that follow each other.
 ghost use Rattle.std.specs.Prelude.{◌≤◌, length};
 ghost use Rattle.ordup_objects.specs.Sizes.{most_updates};
-ghost use Rattle.tests_of_clusters.specs.Following.{FollowsAny};
+ghost use Rattle.tests_of_threads.specs.Following.{FollowsAny};
 
 use ordup_objects::{Change, MessageSet, ObjectTable, Op};
 use ordup_primary::Parcel;

@@ -48,7 +48,8 @@ fn a_full_feed_hands_the_parcel_back(rt: HostRuntime) -> Result<(), Fail> {
     let Err(back) = sender.push(&rt, parcel(&rt, &objects, 2)) else {
         panic!(rt; "the feed takes a second parcel")
     };
-    expect_eq!(&rt; (back.refusal.number(), back.parcel.number), (15, 2));
+    expect_eq!(&rt; back.refusal.number(), 15);
+    expect_eq!(&rt; back.parcel.number, 2);
     expect_eq!(&rt; pop(&rt, &mut taker), Some(1));
     expect_eq!(&rt; pop(&rt, &mut taker), None);
     expect_eq!(&rt; sender.look(&rt), 0);

@@ -24,8 +24,8 @@ import sys
 from pathlib import Path
 
 ROOTS = ("ordup_cli", "ordup_c")
-# What is installed, by the places in out/ that it comes from.
-FILES = {"bin/ordup": "ordup", "lib/libordup.so.1": "libordup.so.1", "lib/libordup.a": "libordup.a", "include/ordup.h": "ordup.h"}
+# What is installed, with the names that it has in out/.
+FILES = {"bin/ordup": "ordup", "lib/libordup.so": "libordup.so", "lib/libordup.a": "libordup.a", "include/ordup.h": "ordup.h"}
 
 
 class Unknown(Exception):

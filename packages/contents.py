@@ -1,6 +1,5 @@
 """What is installed: the files below a prefix, such as /usr, with their bytes."""
 
-
 import re
 import subprocess
 from pathlib import Path

@@ -31,10 +31,18 @@ def changelog(contents):
     return f"ordup ({contents.version}) unstable; urgency=medium\n\n  * CHANGELOG.md has what a user sees.\n\n -- {MAINTAINER}  {date}\n"
 
 
+# Why lintian may find an error: nothing is stripped from what was proved.
+OVERRIDE = """# The bytes are those of which the account of the proof has the digest.
+ordup: unstripped-binary-or-object [usr/bin/ordup]
+"""
+
+
 def package(contents):
     """The name of the package, and its bytes."""
     below = contents.below(LIBRARIES, ("/usr", "${prefix}/" + LIBRARIES), gzip)
     below.append(Entry("share/doc/ordup/changelog.gz", 0o644, gzip(changelog(contents).encode("utf-8"))))
+    if b"\0.symtab\0" in contents.program:
+        below.append(Entry("share/lintian/overrides/ordup", 0o644, OVERRIDE.encode("utf-8")))
     files = [it._replace(path=f"usr/{it.path}") for it in below]
     plain = [it for it in files if not isinstance(it.data, str)]
     texts = {

@@ -1,8 +1,6 @@
 """Archives that are the same bytes wherever they are made: each entry has one date, no owner, and its place by its name."""
 
-import io
 import struct
-import tarfile
 import zlib
 from collections import namedtuple
 
@@ -19,24 +17,29 @@ def folders_of(paths):
     return found
 
 
+def tar_head(path, it, epoch):
+    """The head of an entry, as POSIX has it. The module tarfile of Python 3.8 writes another one than later ones do."""
+    if len(path) > 100:
+        raise ValueError(f"{path} is too long for an archive")
+    kind, size, link = (b"5", 0, "") if it.data is None else (b"2", 0, it.data) if isinstance(it.data, str) else (b"0", len(it.data), "")
+    octal = lambda number, width: f"{number:0{width}o}".encode("ascii")
+    fields = [path.encode("ascii"), octal(it.mode, 7), octal(0, 7), octal(0, 7), octal(size, 11), octal(epoch, 11), b" " * 8, kind,
+              link.encode("ascii"), b"ustar\0" b"00", b"root", b"root", octal(0, 7), octal(0, 7)]
+    layout = "100s8s8s8s12s12s8sc100s8s32s32s8s8s167x"
+    fields[6] = octal(sum(struct.pack(layout, *fields)), 6) + b"\0 "
+    return struct.pack(layout, *fields)
+
+
 def tar(entries, epoch, top=""):
     """A tar archive. Each name begins with `top`."""
     items = {it.path: it for it in entries}
-    items.update({path: Entry(path, 0o755, None) for path in folders_of(items)})
-    with io.BytesIO() as made:
-        with tarfile.open(fileobj=made, mode="w", format=tarfile.GNU_FORMAT) as to:
-            for path in sorted(items):
-                it = items[path]
-                info = tarfile.TarInfo(top + path)
-                info.mtime, info.mode, info.uname, info.gname = epoch, it.mode, "root", "root"
-                if it.data is None:
-                    info.type = tarfile.DIRTYPE
-                elif isinstance(it.data, str):
-                    info.type, info.linkname = tarfile.SYMTYPE, it.data
-                else:
-                    info.size = len(it.data)
-                to.addfile(info, io.BytesIO(it.data) if info.isreg() else None)
-        return made.getvalue()
+    items.update({path: Entry(f"{path}/", 0o755, None) for path in folders_of(items)})
+    made = b""  # with two empty blocks at its end, and whole blocks of 10 KiB, as tar writes them
+    for path in sorted(items):
+        it = items[path]
+        data = it.data if isinstance(it.data, bytes) else b""
+        made += tar_head(top + it.path, it, epoch) + data + bytes(-len(data) % 512)
+    return made + bytes(1024 + -(len(made) + 1024) % 10240)
 
 
 def gzip(data):

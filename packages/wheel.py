@@ -10,6 +10,7 @@ import zipfile
 from contents import TOP, glibc_of
 
 CLIENT = TOP / "clients/python"
+FIRST_DATE = 315532800  # of a file in a zip archive: 1980-01-01
 
 
 def metadata(version):
@@ -26,7 +27,7 @@ def metadata(version):
 def tags(shared):
     """For which systems the wheel is, by the newest C library that the shared library wants: those with it, or a newer one."""
     major, minor = max(glibc_of(shared), (2, 17))
-    older = [f"py3-none-manylinux2014_x86_64"] if (major, minor) == (2, 17) else []
+    older = ["py3-none-manylinux2014_x86_64"] if (major, minor) == (2, 17) else []
     return [f"py3-none-manylinux_{major}_{minor}_x86_64", *older]
 
 
@@ -49,10 +50,10 @@ def package(contents):
     files[f"{about}/copyright"] = (TOP / "packages/copyright").read_bytes()
     files[f"{about}/RECORD"] = f"{record_of(files)}{about}/RECORD,,\n".encode("utf-8")
     with io.BytesIO() as made:
-        with zipfile.ZipFile(made, "w", zipfile.ZIP_DEFLATED, compresslevel=9) as to:
+        with zipfile.ZipFile(made, "w") as to:
             for name, data in files.items():
-                info = zipfile.ZipInfo(name, time.gmtime(contents.epoch)[:6])
+                info = zipfile.ZipInfo(name, time.gmtime(max(contents.epoch, FIRST_DATE))[:6])
                 info.external_attr, info.create_system, info.compress_type = 0o100644 << 16, 3, zipfile.ZIP_DEFLATED
-                to.writestr(info, data)
+                to.writestr(info, data, compresslevel=9)
         name = "-".join(["ordup", contents.version, "py3-none", ".".join(it.split("-")[2] for it in tagged)])
         return f"{name}.whl", made.getvalue()

@@ -8,7 +8,7 @@ said. A line of the account is one of these, in this order; DIGEST is by SHA-256
     kit NAME logic SUM        what `rt version` says
     source FILE DIGEST        of crates.txt and of HANDLES
     crate NAME FUNCTIONS DIGEST
-    verdict NAME WORDS..      the kit's last line on the program and on the library, without what it takes from earlier runs
+    verdict NAME WORDS..      the kit's last line on the program and on the library, without what it trusts of earlier runs
     axiom NAME FUNCTION       a function of C that NAME reaches, whose contract is assumed
     file NAME DIGEST          what is installed
 
@@ -63,8 +63,8 @@ def said_of(folder, name):
     said = (folder / name / "said").read_text(encoding="utf-8", errors="replace")
     verdicts = re.findall(r"^(logic=proved .*)$", said, re.M)
     reached = re.findall(r"^\s*(\w+(?:::\w+)+)\b.*\breached$", said, re.M)
-    counts = [int(it) for it in re.findall(r"^axioms \w+: (\d+) reached of the \d+ declared", said, re.M)]
-    if not verdicts or sum(counts) != len(set(reached)):
+    counted = re.search(r" axioms=(\d+) ", verdicts[-1]) if verdicts else None
+    if not verdicts or len(set(reached)) != int(counted[1] if counted else 0):
         raise Unknown(f"{folder}/{name}/said does not tell what was proved of {name}")
     words = [it for it in verdicts[-1].split() if not it.endswith("=trusted")]
     return words, sorted(set(reached))

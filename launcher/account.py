@@ -12,8 +12,9 @@ said. A line of the account is one of these, in this order; DIGEST is by SHA-256
     axiom NAME FUNCTION       a function of C that NAME reaches, whose contract is assumed
     file NAME DIGEST          what is installed
 
-FUNCTIONS is how many functions are proved in the crate: all, since the kit makes nothing of a crate that has a hole. DIGEST of a crate
-is that of the lines `DIGEST  FILE` for its files in src/ and specs/, sorted, as `sha256sum` prints them.
+FUNCTIONS is how many functions are proved in the crate: all, since the kit makes nothing of a crate that has a hole. Closures are
+counted with their functions, as the kit does. DIGEST of a crate is that of the lines `DIGEST  FILE` for its files in src/ and
+specs/, sorted, as `sha256sum` prints them.
 """
 
 import hashlib
@@ -24,6 +25,8 @@ import sys
 from pathlib import Path
 
 ROOTS = ("ordup_cli", "ordup_c")
+# What the kit makes of a library beside its functions: closures, methods that a trait declares, and the drop of nothing.
+NOT_COUNTED = re.compile(r"::fn::|\+decl$|Destruct\+\+none::drop$")
 # What is installed, with the names that it has in out/.
 FILES = {"bin/ordup": "ordup", "lib/libordup.so": "libordup.so", "lib/libordup.a": "libordup.a", "include/ordup.h": "ordup.h"}
 
@@ -71,12 +74,17 @@ def said_of(folder, name):
 
 
 def functions_in(folder, name):
-    """How many functions are proved in a library."""
+    """How many functions are proved in a library. The kit tells it in its last line, but not of a library that was built before."""
     made = folder / name / "crates" / name / f"out/rlib/{name}.rlib/toolchain/mir.json"
     try:
-        return len(json.loads(made.read_text(encoding="utf-8")))
-    except (OSError, ValueError) as why:
+        names = [it[0] for it in json.loads(made.read_text(encoding="utf-8"))]
+        said = (folder / name / "said").read_text(encoding="utf-8", errors="replace")
+    except (OSError, ValueError, LookupError) as why:
         raise Unknown(f"{made} does not tell what was proved of {name}") from why
+    count = sum(not NOT_COUNTED.search(it) for it in names)
+    if any(int(it) != count for it in re.findall(r"^logic=proved functions=(\d+)", said, re.M)):
+        raise Unknown(f"{made} has {count} functions, and the kit counts others")
+    return count
 
 
 def crate_lines(top, folder, verdicts):

@@ -65,6 +65,33 @@ build_library() {
     say "the library is in $out: libordup.a, libordup.so and ordup.h"
 }
 
+# Whether the folder of the proof still tells what was proved of what was made.
+tells_of_proof() {
+    [[ -s $told/kit ]] && grep -q '^logic=proved ' -- "$folder/$crate/said" &&
+        { [[ $aim == library ]] || cmp -s -- "$folder/$crate/crates/$crate/out/$crate" "$program"; }
+} 2>/dev/null
+
+# Builds the packages of the program and of the library, which have the date of the commit. Where it is not told any more what was
+# proved of these, as of a program that the gate handed over, they are proved once more.
+build_packages() {
+    local made
+    need_kit
+    SOURCE_DATE_EPOCH=${SOURCE_DATE_EPOCH:-$(git -C "$top" log -1 --format=%ct 2>/dev/null)}
+    [[ $SOURCE_DATE_EPOCH == +([0-9]) ]] || give_up "there is no commit whose date the packages could have: set SOURCE_DATE_EPOCH"
+    export SOURCE_DATE_EPOCH
+    make_folder
+    for aim in library program; do
+        aim_at $aim
+        tells_of_proof || rm -f -- "$told/sources"
+    done
+    is_proved || wait_for_proof
+    build_library
+    flock --shared "$folder/lock" python3 -IS "$top/launcher/account.py" "$top" "$folder" >"$out/proof.new" &&
+        mv -f -- "$out/proof.new" "$out/proof" || give_up "so there are no packages"
+    made=$(python3 -IS "$top/packages/build" "$program" "$out" "$out/proof" "$out") || give_up "so there are no packages"
+    say "the packages are in $out: ${made//$'\n'/, }"
+}
+
 # Tells how far the proof of the program is, and that of the library where it was begun.
 tell_all_progress() {
     aim_at program
@@ -81,6 +108,7 @@ start() {
     --stop) stop ;;
     --clean) clean ;;
     --library) build_library ;;
+    --package) build_packages ;;
     --test)
         need_kit
         make_folder

@@ -3,13 +3,12 @@
 // A Store has a method for each command of docs/FORMATS.md, and Run for the lines of many. Goroutines may share it.
 // docs/EMBEDDING.md says what is proved of the library, and what its caller owes, which is what this package keeps to.
 //
-// It links libordup.a of out/ in this repository, where ./ordup --library leaves it. Where that is another folder, set CGO_CFLAGS
-// to -I and CGO_LDFLAGS to -L with its name.
+// It links libordup.a of out/ in this repository, where ./ordup --library leaves it, or else of the folders that the C compiler knows.
+// Where that is another folder, set CGO_CFLAGS to -I and CGO_LDFLAGS to -L with its name. With the tag pkgconfig it links the library
+// that pkg-config finds, which may be the shared one.
 package ordup
 
 /*
-#cgo CFLAGS: -I${SRCDIR}/../../out
-#cgo LDFLAGS: -L${SRCDIR}/../../out -l:libordup.a
 #include <stdlib.h>
 #include "ordup.h"
 */

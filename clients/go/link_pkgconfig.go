@@ -1,0 +1,8 @@
+//go:build pkgconfig
+
+package ordup
+
+/*
+#cgo pkg-config: ordup
+*/
+import "C"

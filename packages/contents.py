@@ -1,0 +1,112 @@
+"""What is installed: the files below a prefix, such as /usr, with their bytes."""
+
+import re
+import subprocess
+from pathlib import Path
+
+import manual
+from archives import Entry
+
+TOP = Path(__file__).resolve().parent.parent
+# The prefix, and in it the folder of libraries, where they lie as in an archive that is unpacked anywhere.
+WHERE_IT_LIES = ("${pcfiledir}/../..", "${prefix}/lib")
+# The completion: each word in capitals stands for some of ordup's.
+COMPLETION = """# Completes the words of ordup, for bash.
+_ordup() {
+    local word=${COMP_WORDS[COMP_CWORD]} words
+    case $COMP_CWORD:${COMP_WORDS[1]} in
+    1:*) words='FIRST' ;;
+OTHERS
+    esac
+    mapfile -t COMPREPLY < <(compgen -W "$words" -- "$word")
+}
+complete -F _ordup ordup
+"""
+
+
+def said_by(*words):
+    """What a command prints, where it ends well."""
+    return subprocess.run(words, stdin=subprocess.DEVNULL, stdout=subprocess.PIPE, check=True, encoding="utf-8").stdout
+
+
+def version_of(program):
+    """The version that the program says: the one that the packages have."""
+    said = said_by(program, "--version")
+    found = re.fullmatch(r"ordup (\d+(?:\.\d+)*)\n", said)
+    if not found:
+        raise ValueError(f"{program} --version says {said!r}, and no version")
+    return found[1]
+
+
+def summary_of(header):
+    """What ordup is, in the words of the first line of its header."""
+    return re.match(r"/\* ordup: an? ([^,]*),", header)[1]
+
+
+def glibc_of(*binaries):
+    """The newest version of the C library of which these take a function."""
+    found = [tuple(map(int, it.split(b"."))) for data in binaries for it in re.findall(rb"\0GLIBC_(\d+\.\d+)(?:\.\d+)?(?=\0)", data)]
+    if not found:
+        raise ValueError("nothing there names a version of the C library")
+    return max(found)
+
+
+def completion(commands):
+    """The completion: which words may stand first, and which behind each of them."""
+    words = [it.split()[1:] for it, _ in commands]
+    first = list(dict.fromkeys(it[0] for it in words))
+    behind = {name: [it[1] for it in words if it[0] == name and it[1:] and it[1].startswith("-")] for name in first}
+    lines = [f"    2:{name}) words='{' '.join([*options, '--help'])}' ;;" for name, options in behind.items() if not name.startswith("-")]
+    return COMPLETION.replace("FIRST", " ".join(first)).replace("OTHERS", "\n".join(lines))
+
+
+def description(name, version, summary, prefix, library):
+    """What pkg-config reads of the library."""
+    return (f"prefix={prefix}\nlibdir={library}\nincludedir=${{prefix}}/include\n\nName: {name}\nDescription: {summary}\n"
+            f"Version: {version}\nLibs: -L${{libdir}} -lordup\nCflags: -I${{includedir}}\n")
+
+
+def pages():
+    """The pages and the examples that they name, at the places that they have in the repository."""
+    found = [TOP / "README.md", TOP / "CHANGELOG.md"]
+    for folder in ("docs", "examples"):
+        found += sorted(it for it in (TOP / folder).iterdir() if it.is_file())
+    return {str(it.relative_to(TOP)): it.read_bytes() for it in found}
+
+
+class Contents:
+    """What the packages hold, of a program, of the folder of its library, and of the account of their proof."""
+
+    def __init__(self, program, library, proof, epoch):
+        self.epoch, self.version = epoch, version_of(program)
+        self.program, self.proof = Path(program).read_bytes(), Path(proof).read_bytes()
+        self.archive, self.shared = (Path(library, it).read_bytes() for it in ("libordup.a", "libordup.so"))
+        self.soname = re.search(rb"\0(libordup\.so\.\d+)\0", self.shared)[1].decode("ascii")
+        self.header = Path(library, "ordup.h").read_text(encoding="utf-8")
+        self.summary = summary_of(self.header)
+        self.commands = manual.usage((TOP / "docs/FORMATS.md").read_text(encoding="utf-8"))
+        jobs = dict.fromkeys(it.split()[1] for it, _ in self.commands if not it.split()[1].startswith("-"))
+        helps = {name: said_by(program, *name.split(), "--help") for name in ["", *jobs]}
+        told = (epoch, self.version, self.summary)
+        self.pages_of_manual = {
+            "man1/ordup.1": manual.page_of_program(helps, self.commands, *told).encode("utf-8"),
+            "man3/ordup.3": manual.page_of_library(self.header, *told).encode("utf-8"),
+        }
+
+    def below(self, library="lib", where=WHERE_IT_LIES, pack=None):
+        """What lies below a prefix, in which `library` is the folder of libraries; man pages as `pack` packs them."""
+        config = description("ordup", self.version, self.summary, *where)
+        made = {
+            f"{library}/{self.soname}": self.shared,
+            f"{library}/libordup.so": self.soname,
+            f"{library}/libordup.a": self.archive,
+            f"{library}/pkgconfig/ordup.pc": config.encode("utf-8"),
+            "include/ordup.h": self.header.encode("utf-8"),
+            "share/bash-completion/completions/ordup": completion(self.commands).encode("utf-8"),
+            "share/ordup/proof": self.proof,
+            "share/doc/ordup/copyright": (TOP / "packages/copyright").read_bytes(),
+        }
+        for name, page in self.pages_of_manual.items():
+            made[f"share/man/{name}" + (".gz" if pack else "")] = pack(page) if pack else page
+        made.update((f"share/doc/ordup/{name}", page) for name, page in pages().items())
+        return [Entry("bin/ordup", 0o755, self.program)] + [Entry(path, 0o777 if isinstance(it, str) else 0o644, it) for path, it in made.items()]

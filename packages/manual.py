@@ -1,0 +1,113 @@
+"""Makes man pages: of the help of the program, and of the header of the library. Neither has a sentence of its own that these have."""
+
+import re
+import time
+
+# A command of the page FORMATS: its words, and what it does.
+USAGE = re.compile(r"^```usage\n(.*?)^```$", re.M | re.S)
+
+
+def usage(page):
+    """The commands that the block `usage` of FORMATS lists, each with what it does."""
+    return [tuple(re.split(r"  +", line, maxsplit=1)) for line in USAGE.search(page)[1].rstrip("\n").split("\n")]
+
+
+def roff(text):
+    """A text as roff has it. What stands in backquotes is bold."""
+    text = text.replace("\\", "\\e").replace("-", "\\-")
+    text = re.sub(r"`([^`]+)`", r"\\fB\1\\fP", text)
+    return re.sub(r"^([.'])", r"\\&\1", text, flags=re.M)
+
+
+def literal(lines):
+    """Lines that stay as they are."""
+    body = "\n".join(line.replace("\\", "\\e").replace("-", "\\-") for line in lines)
+    return ".PP\n.RS 4\n.nf\n" + re.sub(r"^([.'])", r"\\&\1", body, flags=re.M) + "\n.fi\n.RE\n"
+
+
+def paragraphs(text):
+    """Paragraphs with blank lines between them. Lines further in are literal, and those that begin with `- ` are items."""
+    made = ""
+    for part in re.split(r"\n\s*\n", text.strip("\n")):
+        lines = part.split("\n")
+        inner = [line for line in lines if line.startswith("    ")]
+        if len(inner) == len(lines):
+            made += literal(line[4:] for line in lines)
+        elif lines[0].startswith("- "):
+            for item in re.split(r"^- ", part, flags=re.M)[1:]:
+                made += ".IP \\(bu 2\n" + roff(re.sub(r"\s*\n\s*", "\n", item.strip())) + "\n"
+        elif inner:
+            at = lines.index(inner[0])
+            made += paragraphs("\n".join(lines[:at])) + paragraphs("\n".join(line for line in lines[at:]))
+        else:
+            made += ".PP\n" + roff("\n".join(line.strip() for line in lines)) + "\n"
+    return made
+
+
+def head(name, section, epoch, version, summary):
+    date = time.strftime("%Y-%m-%d", time.gmtime(epoch))
+    return f'.TH {name.upper()} {section} "{date}" "ordup {version}" "ordup"\n.SH NAME\n{name} \\- {roff(summary)}\n'
+
+
+def parts_of(help_text):
+    """The parts of a help: those with a heading, such as `Options`, as items, and the others as one text."""
+    headed, text = {}, []
+    for part in re.split(r"\n\s*\n", help_text.strip("\n")):
+        heading = re.match(r"(Usage|Commands|Options|Arguments):(.*)", part, re.S)
+        if heading:
+            headed[heading[1]] = heading[2].strip("\n")
+        else:
+            text.append(part)
+    return headed, text
+
+
+def items(lines):
+    """Words with what they mean, which two blanks divide."""
+    made = ""
+    for line in lines.split("\n"):
+        words, _, meaning = line.strip().partition("  ")
+        made += f".TP\n.B {roff(words)}\n{roff(meaning.strip()) or '.br'}\n"
+    return made
+
+
+def job(words, help_text):
+    """What the page says of one job: its arguments, and its help."""
+    headed, text = parts_of(help_text)
+    made = f".SS ordup {words}\n" + paragraphs("\n\n".join(text))
+    return made + "".join(items(headed[it]) for it in ("Arguments", "Options") if it in headed)
+
+
+def page_of_program(helps, commands, epoch, version, summary):
+    """ordup(1): `helps` has the help of the program under no word, and that of each job under its name."""
+    headed, text = parts_of(helps[""])
+    statuses = [it for it in text if it.startswith("Exit statuses:")]
+    made = head("ordup", 1, epoch, version, summary) + ".SH SYNOPSIS\n"
+    for words, _ in commands:
+        made += f".B {roff(words)}\n.br\n"
+    made += ".SH DESCRIPTION\n" + paragraphs("\n\n".join(it for it in text if it not in statuses))
+    made += ".SH COMMANDS\n" + "".join(job(name, it) for name, it in helps.items() if name)
+    made += ".SH OPTIONS\n" + items(headed.get("Options", "\\-\\-help"))
+    made += ".SH EXIT STATUS\n" + paragraphs("\n\n".join(statuses))
+    return made + ".SH FILES\nThe pages and the examples that are named here lie in share/doc/ordup.\n.SH SEE ALSO\n.BR ordup (3)\n"
+
+
+def comment_of(text):
+    """The lines of a comment of C, without what makes it one."""
+    return "\n".join(re.sub(r"^ \* ?", "", line) for line in text.split("\n"))
+
+
+def page_of_library(header, epoch, version, summary):
+    """ordup(3): each comment of the header, with the declaration that it stands above."""
+    opening = re.match(r"/\*(.*?)\*/", header, re.S)[1]
+    declared = header.partition('extern "C" {\n#endif\n')[2].partition("#ifdef __cplusplus\n}")[0]
+    chunks = re.findall(r"^/\* ?(.*?) ?\*/\n(.*?)(?=^/\*|\Z)", declared, re.M | re.S)
+    calls = [re.sub(r"\s+", " ", code).strip() for _, code in chunks if re.match(r"\w+ ordup_\w+\(", code)]
+    made = head("ordup", 3, epoch, version, summary) + ".SH SYNOPSIS\n.nf\n#include <ordup.h>\n"
+    made += "".join(f"\n{roff(it)}" for it in calls)
+    made += "\n\ncc FILE.c $(pkg\\-config \\-\\-cflags \\-\\-libs ordup)\n.fi\n.SH DESCRIPTION\n"
+    made += paragraphs(comment_of(opening).partition("\n")[2])
+    for comment, code in chunks:
+        lines = code.strip("\n").split("\n")
+        named = re.search(r"^(?:#define|typedef struct|\w+) (ORDUP_\w+|ordup_\w+)|^(enum)", lines[0])
+        made += f".SS {named[1] or 'Statuses'}\n" + literal(lines) + paragraphs(comment_of(comment))
+    return made + ".SH SEE ALSO\n.BR ordup (1)\n"

@@ -109,4 +109,5 @@ class Contents:
         for name, page in self.pages_of_manual.items():
             made[f"share/man/{name}" + (".gz" if pack else "")] = pack(page) if pack else page
         made.update((f"share/doc/ordup/{name}", page) for name, page in pages().items())
-        return [Entry("bin/ordup", 0o755, self.program)] + [Entry(path, 0o777 if isinstance(it, str) else 0o644, it) for path, it in made.items()]
+        others = [Entry(path, 0o777 if isinstance(it, str) else 0o644, it) for path, it in made.items()]
+        return [Entry("bin/ordup", 0o755, self.program), *others]

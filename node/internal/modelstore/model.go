@@ -234,3 +234,12 @@ func (model *Model) move(kind, name string, site *site) string {
 	}
 	return "refused 1 Syntax"
 }
+
+// OpenWrong opens models that change their answers.
+func OpenWrong(answers func(line, answer string) string) store.Open {
+	return func() (store.Store, error) {
+		opened, err := Open()
+		opened.(*Model).Answers = answers
+		return opened, err
+	}
+}

@@ -9,7 +9,7 @@ import (
 // mostWordBytes is how many bytes a version or a digest may have.
 const mostWordBytes = 64
 
-// mostCount is more than a store has updates: how many lines a step stands for at most.
+// mostCount is as many updates as a store may have: what the steps of an entry count in sum at most.
 const mostCount = 1_000_000
 
 // Parse reads the text of an entry. Any bytes that are none have an error.
@@ -26,11 +26,14 @@ func Parse(text []byte) (*Entry, error) {
 		return nil, fmt.Errorf("an entry does not end with a line feed")
 	}
 	entry.Steps = make([]Step, 0, strings.Count(rest, "\n"))
-	for rest != "" {
+	for count := int64(0); rest != ""; {
 		var line string
 		line, rest, _ = strings.Cut(rest, "\n")
 		step, isStep := parseStep(line)
-		if !isStep || !fits(entry.Steps, &step) {
+		if step.Kind == Tell || step.Kind == Gone || step.Kind == Settle {
+			count += step.Count
+		}
+		if !isStep || !fits(entry.Steps, &step) || count > mostCount {
 			return nil, fmt.Errorf("%.60q is no line of an entry there", line)
 		}
 		entry.Steps = append(entry.Steps, step)

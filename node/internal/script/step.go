@@ -17,7 +17,7 @@ const (
 	Known
 	// Tell says that a site has applied more updates than it had told: Name, Count.
 	Tell
-	// Ask is the request of a client: Name, Number, Text (its changes).
+	// Ask is the request of a client: Name, Number, Text (its changes). Its Digest, where it is known, has no place in the line.
 	Ask
 	// Settle asks for acknowledgements: Count.
 	Settle

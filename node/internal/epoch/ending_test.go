@@ -17,6 +17,15 @@ func (world *world) next(declarations ...string) {
 	}
 }
 
+// count is how many lines of the script begin so.
+func (world *world) count(begins string) int {
+	count := 0
+	for _, text := range world.script {
+		count += strings.Count(string(text), "\n"+begins+" ")
+	}
+	return count
+}
+
 func (world *world) tellAll() {
 	world.t.Helper()
 	for _, site := range world.core.sites.all {
@@ -59,6 +68,21 @@ func TestAnEpochEndsOnceAllSitesAreThere(t *testing.T) {
 	is(t, Verdict{Kind: Differs}, world.ask("ann", 1, "add:tea:-2"))
 }
 
+func TestAnEpochDoesNotEndBeforeASiteThatIsHereHasToldAll(t *testing.T) {
+	world := newWorld(t, settings, shop)
+	world.ask("ann", 1, "add:tea:-1")
+	world.ask("ann", 2, "add:tea:-1")
+	world.tell("south", 1)
+	world.tell("north", 2)
+	world.next()
+	world.write()
+	is(t, int64(1), world.core.Epoch())
+	is(t, Verdict{Kind: NotNow}, world.ask("ann", 3, "add:tea:-1"))
+	world.tell("south", 2)
+	world.write()
+	is(t, int64(2), world.core.Epoch())
+}
+
 func TestAClientIsForgottenAtItsAge(t *testing.T) {
 	world := newWorld(t, settings, shop)
 	world.ask("ann", 1, "add:tea:-1")
@@ -78,6 +102,7 @@ func TestOneWishEndsOneEpoch(t *testing.T) {
 	world.next()
 	world.next()
 	is(t, 2, world.write()) // the wish, the beginning
+	is(t, 1, world.count("wish"))
 	is(t, int64(2), world.core.Epoch())
 	is(t, nil, world.core.AskNext(Wish{From: 1}))
 	is(t, ErrNotYet, world.core.AskNext(Wish{From: 3}))
@@ -215,6 +240,7 @@ func TestClientsAreCarriedOverByManyEntries(t *testing.T) {
 	is(t, 9000, len(world.core.clients))
 	is(t, entries+2, world.core.First())
 	is(t, 9000, len(world.replay(config("p3")).clients))
+	is(t, 9000, world.count("known"))
 	is(t, Verdict{Kind: Answered, Text: "refused 1 Syntax"}, world.ask("client-77-"+strings.Repeat("x", 40), 1, "x"))
 }
 

@@ -149,6 +149,27 @@ func TestEachNumberIsAnsweredOnce(t *testing.T) {
 	is(t, "ann 7 refused 11 Empty", world.answer())
 }
 
+func TestAClientThatDoesNotWait(t *testing.T) {
+	world := newWorld(t, settings, shop)
+	verdicts, err := world.core.Ask([]Request{{"ann", 1, "add:tea:-1"}, {"ann", 1, "add:tea:-1"}, {"ann", 2, "add:tea:-1"},
+		{"ann", 1, "add:tea:-1"}, {"ann", 2, "add:tea:-3"}}, world.now)
+	is(t, nil, err)
+	is(t, []Verdict{{Kind: Waits}, {Kind: Waits}, {Kind: Waits}, {Kind: Passed, Last: 2}, {Kind: Differs}}, verdicts)
+	world.ask("ann", 3, "add:tea:-1")
+	world.write()
+	is(t, 3, world.count("ask"))
+	world.tell("north", 2)
+	world.write()
+	is(t, "ann 3 ok acked 3 epoch 1", world.answer())
+	world.ask("ann", 4, "add:tea:-1")
+	world.ask("ann", 5, "add:milk:-1")
+	world.write()
+	world.tell("north", 4)
+	world.write()
+	is(t, "ann 4 ok acked 4 epoch 1", world.answer())
+	is(t, Verdict{Kind: Answered, Text: "refused 6 UnknownObject"}, world.ask("ann", 5, "add:milk:-1"))
+}
+
 func TestAnAnswerIsToldOnceItsEntryIsWritten(t *testing.T) {
 	world := newWorld(t, settings, shop)
 	world.ask("ann", 1, "add:tea:-1")

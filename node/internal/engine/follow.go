@@ -1,0 +1,112 @@
+package engine
+
+import (
+	"context"
+	"errors"
+	"time"
+
+	"go.etcd.io/etcd/clientv3"
+	"go.etcd.io/etcd/mvcc/mvccpb"
+)
+
+// lookAfter is after how long without an entry the engine is asked whether there is one. A watch whose member is away tells nothing.
+const lookAfter = time.Second
+
+// Follow gives the entries from a number on to a function, some at a time, as they come. It first reads what is there, and then watches
+// from that revision on. Where the past was compacted meanwhile, it reads again. It returns the error of the function, or an AwayError:
+// then it may be called again from the next number on.
+func (engine *Engine) Follow(ctx context.Context, from int64, take func([]Raw) error) error {
+	next := from
+	takes := func(entries []Raw) error {
+		fresh := entries[:0]
+		for _, entry := range entries {
+			if entry.Number >= next {
+				fresh, next = append(fresh, entry), entry.Number+1
+			}
+		}
+		if len(fresh) == 0 {
+			return nil
+		}
+		return take(fresh)
+	}
+	for {
+		entries, more, revision, err := engine.Entries(ctx, next, 0)
+		if err == nil {
+			err = takes(entries)
+		}
+		if err == nil && !more {
+			err = engine.watch(ctx, &next, revision+1, takes)
+		}
+		if err != nil && !errors.Is(err, errCompacted) {
+			return err
+		}
+	}
+}
+
+// watch gives what is put from a revision on.
+func (engine *Engine) watch(ctx context.Context, next *int64, revision int64, takes func([]Raw) error) error {
+	client, member, err := engine.connected()
+	if err != nil {
+		return errorOf(member, err)
+	}
+	watching, cancel := context.WithCancel(clientv3.WithRequireLeader(ctx))
+	defer cancel()
+	events := client.Watch(watching, entryKey(*next), clientv3.WithRange(scriptEnd), clientv3.WithRev(revision), clientv3.WithFragment())
+	look := time.NewTimer(lookAfter)
+	defer look.Stop()
+	for {
+		select {
+		case <-ctx.Done():
+			return ctx.Err()
+		case came, isOpen := <-events:
+			if !isOpen || came.Err() != nil {
+				return engine.watchEnded(ctx, client, member, came.Err())
+			}
+			if err := takes(putsOf(came.Events)); err != nil {
+				return err
+			}
+		case <-look.C:
+			// What the watch should have told and did not is read, and the watch begins anew.
+			if _, isThere, err := engine.Entry(ctx, *next); err != nil || isThere {
+				return orCompacted(err)
+			}
+		}
+		if !look.Stop() {
+			select {
+			case <-look.C:
+			default:
+			}
+		}
+		look.Reset(lookAfter)
+	}
+}
+
+func orCompacted(err error) error {
+	if err != nil {
+		return err
+	}
+	return errCompacted
+}
+
+func (engine *Engine) watchEnded(ctx context.Context, client *clientv3.Client, member string, err error) error {
+	if ctx.Err() != nil {
+		return ctx.Err()
+	}
+	if err == nil {
+		err = errors.New("a watch ended")
+	}
+	if err = errorOf(member, err); IsAway(err) {
+		engine.leave(client)
+	}
+	return err
+}
+
+func putsOf(events []*clientv3.Event) []Raw {
+	puts := make([]*mvccpb.KeyValue, 0, len(events))
+	for _, event := range events {
+		if event.Type == mvccpb.PUT {
+			puts = append(puts, event.Kv)
+		}
+	}
+	return entriesOf(puts)
+}

@@ -36,6 +36,8 @@ type Keeper struct {
 	Log    *logs.Log
 	// Ended tells that an epoch has ended.
 	Ended <-chan struct{}
+	// looked are the archives whose files this process has written or read.
+	looked map[engine.Archive]bool
 }
 
 // NameOf is the name of the file of an epoch.
@@ -93,7 +95,11 @@ func (keeper *Keeper) Pass(ctx context.Context) (waits bool, err error) {
 func (keeper *Keeper) own(ctx context.Context, archives map[int64]map[string]engine.Archive, from, end int64) (int64, engine.Archive, error) {
 	for epoch, hosts := range archives {
 		if own, isThere := hosts[keeper.Host]; isThere && own.From == from && own.Before <= end && from < own.Before {
+			if keeper.looked[own] {
+				return epoch, own, nil
+			}
 			if digest, err := digestOf(filepath.Join(keeper.Folder, NameOf(epoch))); err == nil && digest == own.Digest {
+				keeper.looks(own)
 				return epoch, own, nil
 			}
 		}
@@ -103,9 +109,17 @@ func (keeper *Keeper) own(ctx context.Context, archives map[int64]map[string]eng
 		err = keeper.Engine.PutArchive(ctx, epoch, keeper.Host, own)
 	}
 	if err == nil {
+		keeper.looks(own)
 		keeper.Log.Info("archived", "epoch", epoch, "entries", own.Before-own.From, "digest", own.Digest[:16])
 	}
 	return epoch, own, err
+}
+
+func (keeper *Keeper) looks(own engine.Archive) {
+	if keeper.looked == nil {
+		keeper.looked = map[engine.Archive]bool{}
+	}
+	keeper.looked[own] = true
 }
 
 // remove takes an epoch out of the engine, if enough hosts have the same archive as this one.
@@ -154,15 +168,23 @@ func (keeper *Keeper) write(ctx context.Context, from, end int64) (epoch int64, 
 	if err = os.Chmod(part.Name(), 0o644); err != nil {
 		return 0, own, err
 	}
-	if err = os.Rename(part.Name(), filepath.Join(keeper.Folder, NameOf(epoch))); err != nil {
-		return 0, own, err
+	return epoch, own, keeper.name(part.Name(), filepath.Join(keeper.Folder, NameOf(epoch)), own.Digest)
+}
+
+// name gives a file that is on the disk its name, and has that on the disk too. Another file of this name is not written over.
+func (keeper *Keeper) name(part, name, digest string) error {
+	if before, err := digestOf(name); err == nil && before != digest {
+		return fmt.Errorf("%s is there already, and of another script: move it away", name)
+	}
+	if err := os.Rename(part, name); err != nil {
+		return err
 	}
 	folder, err := os.Open(keeper.Folder)
 	if err != nil {
-		return 0, own, err
+		return err
 	}
 	defer folder.Close()
-	return epoch, own, folder.Sync()
+	return folder.Sync()
 }
 
 // copy copies the entries of one epoch, all of one revision.

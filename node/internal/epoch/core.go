@@ -44,8 +44,9 @@ type Core struct {
 	decided []script.Step
 	turn    openTurn
 	// When the last entry was sealed.
-	sealed time.Duration
-	lines  []byte
+	sealed  time.Duration
+	lines   []byte
+	failure error
 }
 
 // An openTurn is what was run and not sealed yet.

@@ -8,8 +8,15 @@ import (
 	"ordup-node/internal/script"
 )
 
-// run runs steps, and notes what comes of them.
+// run runs steps, and notes what comes of them. After an error the core is of no more use.
 func (core *Core) run(steps []script.Step) error {
+	if core.failure == nil {
+		core.failure = core.runAll(steps)
+	}
+	return core.failure
+}
+
+func (core *Core) runAll(steps []script.Step) error {
 	if len(steps) > 0 && steps[0].Kind == script.Begin {
 		if err := core.begin(steps[0].Settings); err != nil {
 			return err

@@ -55,3 +55,11 @@ func (core *Core) Status(now time.Duration) Status {
 	}
 	return status
 }
+
+// IsIdle is whether all that was run is in the script.
+func (core *Core) IsIdle() bool {
+	return len(core.turn.steps) == 0 && len(core.decided) == 0 && core.written == core.entries
+}
+
+// Failure is the error by which the core is of no more use, if there was one.
+func (core *Core) Failure() error { return core.failure }

@@ -1,0 +1,239 @@
+package primary
+
+import (
+	"context"
+	"errors"
+	"fmt"
+	"sync"
+	"sync/atomic"
+
+	"ordup-node/internal/clock"
+	"ordup-node/internal/epoch"
+)
+
+// MostQueued is how many requests wait to be taken at most.
+const MostQueued = 20_000
+
+// Why a request has no answer. Each but the last three may be asked again under the same number, here or at another primary: it is done
+// once.
+var (
+	// ErrBusy says that too many requests wait already.
+	ErrBusy = errors.New("too many requests wait")
+	// ErrFull says that the engine has no space for a write.
+	ErrFull = errors.New("the engine is full, and takes no write")
+	// ErrDiffers says that the client asked for other changes under this number before.
+	ErrDiffers = errors.New("the client asked for other changes under this number before")
+	// ErrMalformed says that the client, the number or the changes have not the form.
+	ErrMalformed = errors.New("the client, the number or the changes have not the form")
+)
+
+// A NotWriterError says that this process does not write, and which one does, as far as it knows.
+type NotWriterError struct{ Address string }
+
+func (err *NotWriterError) Error() string {
+	if err.Address == "" {
+		return "this primary does not write, and knows of none that does"
+	}
+	return fmt.Sprintf("this primary does not write: %s does", err.Address)
+}
+
+// A PassedError says that the client asked under a later number before.
+type PassedError struct{ Last int64 }
+
+func (err *PassedError) Error() string {
+	return fmt.Sprintf("the client asked under %d before", err.Last)
+}
+
+// An Answer is what the store answered to a request: `ok acked K epoch E`, or `refused N NAME`.
+type Answer struct{ Text string }
+
+// A call waits for what becomes of a request.
+type call struct {
+	request epoch.Request
+	done    chan outcome
+}
+
+type outcome struct {
+	text string
+	err  error
+}
+
+// A nextCall waits until a wish has come true.
+type nextCall struct {
+	wish epoch.Wish
+	done chan outcome
+}
+
+type asked struct {
+	client string
+	number int64
+}
+
+// calls are those of other goroutines, which Run takes.
+type calls struct {
+	lock sync.Mutex
+	// Whether this process writes, and else who does. Over is set once the process ends.
+	open, over bool
+	address    string
+	// What is not taken yet, who waits for a turn, and who for an epoch.
+	queue   []*call
+	waiting map[asked][]*call
+	nexts   []*nextCall
+	wishes  []*nextCall
+	wake    chan struct{}
+}
+
+func (calls *calls) init() {
+	calls.waiting, calls.wake = map[asked][]*call{}, make(chan struct{}, 1)
+}
+
+func (calls *calls) isOpen() bool {
+	calls.lock.Lock()
+	defer calls.lock.Unlock()
+	return calls.open
+}
+
+func (calls *calls) writer() string {
+	calls.lock.Lock()
+	defer calls.lock.Unlock()
+	return calls.address
+}
+
+func (calls *calls) sizes() (waiting, queued int) {
+	calls.lock.Lock()
+	defer calls.lock.Unlock()
+	return len(calls.waiting) + len(calls.queue), len(calls.queue)
+}
+
+// awaken has Run look at what came.
+func (calls *calls) awaken() {
+	select {
+	case calls.wake <- struct{}{}:
+	default:
+	}
+}
+
+// set says whether this process writes, and who does. Where it does no more, all who wait are told.
+func (calls *calls) set(open bool, address string) {
+	calls.lock.Lock()
+	defer calls.lock.Unlock()
+	calls.open, calls.address = open && !calls.over, address
+	if !calls.open {
+		calls.failAll(&NotWriterError{address})
+	}
+}
+
+// end tells all who wait, and takes no more.
+func (calls *calls) end() {
+	calls.lock.Lock()
+	defer calls.lock.Unlock()
+	calls.open, calls.over = false, true
+	calls.failAll(&NotWriterError{})
+}
+
+func (calls *calls) failAll(err error) {
+	for _, call := range calls.queue {
+		call.done <- outcome{err: err}
+	}
+	for _, waiters := range calls.waiting {
+		for _, call := range waiters {
+			call.done <- outcome{err: err}
+		}
+	}
+	for _, next := range append(calls.nexts, calls.wishes...) {
+		next.done <- outcome{err: err}
+	}
+	calls.queue, calls.waiting, calls.nexts, calls.wishes = nil, map[asked][]*call{}, nil, nil
+}
+
+// Submit asks for an update, and waits for its answer. While this process does not write it fails at once with a NotWriterError. After
+// any error but a PassedError, ErrDiffers and ErrMalformed, also that of the context, the request may be done or not: ask again.
+func (primary *Primary) Submit(ctx context.Context, request epoch.Request) (Answer, error) {
+	call := &call{request, make(chan outcome, 1)}
+	if err := primary.queue(call); err != nil {
+		return Answer{}, err
+	}
+	select {
+	case done := <-call.done:
+		return Answer{done.text}, done.err
+	case <-ctx.Done():
+		primary.calls.drop(call)
+		return Answer{}, ctx.Err()
+	}
+}
+
+func (primary *Primary) queue(call *call) error {
+	calls := &primary.calls
+	calls.lock.Lock()
+	defer calls.lock.Unlock()
+	switch {
+	case !calls.open:
+		return &NotWriterError{calls.address}
+	case atomic.LoadInt64(&primary.counts.Full) > 0:
+		return ErrFull
+	case len(calls.queue) >= MostQueued:
+		return ErrBusy
+	}
+	calls.queue = append(calls.queue, call)
+	calls.awaken()
+	return nil
+}
+
+// drop forgets a call for which nobody waits any more.
+func (calls *calls) drop(gone *call) {
+	calls.lock.Lock()
+	defer calls.lock.Unlock()
+	key := asked{gone.request.Client, gone.request.Number}
+	if left := without(calls.waiting[key], gone); len(left) > 0 {
+		calls.waiting[key] = left
+	} else {
+		delete(calls.waiting, key)
+	}
+	calls.queue = without(calls.queue, gone)
+}
+
+func without(all []*call, gone *call) []*call {
+	left := all[:0]
+	for _, call := range all {
+		if call != gone {
+			left = append(left, call)
+		}
+	}
+	return left
+}
+
+// Tell takes the place of a site, which the site has shown under its lease. After an error it may be told again, but for
+// epoch.ErrNoSite and an epoch.CannotBeError.
+func (primary *Primary) Tell(_ context.Context, place epoch.Place) error {
+	if !primary.calls.isOpen() {
+		return &NotWriterError{primary.calls.writer()}
+	}
+	err := primary.with(func(core *epoch.Core) error {
+		if core == nil {
+			return epoch.ErrBehind
+		}
+		return core.Tell(place, clock.Now())
+	})
+	primary.calls.awaken()
+	return err
+}
+
+// Next asks for the next epoch, and waits until it has begun. It returns the epoch that came after wish.From.
+func (primary *Primary) Next(ctx context.Context, wish epoch.Wish) (int64, error) {
+	next := &nextCall{wish, make(chan outcome, 1)}
+	calls := &primary.calls
+	calls.lock.Lock()
+	if !calls.open {
+		calls.lock.Unlock()
+		return 0, &NotWriterError{calls.address}
+	}
+	calls.nexts = append(calls.nexts, next)
+	calls.lock.Unlock()
+	calls.awaken()
+	select {
+	case done := <-next.done:
+		return wish.From + 1, done.err
+	case <-ctx.Done():
+		return 0, ctx.Err()
+	}
+}

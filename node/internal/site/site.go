@@ -1,0 +1,300 @@
+package site
+
+import (
+	"context"
+	"errors"
+	"fmt"
+	"os"
+	"sync"
+	"sync/atomic"
+	"time"
+
+	"ordup-node/internal/clock"
+	"ordup-node/internal/engine"
+	"ordup-node/internal/epoch"
+	"ordup-node/internal/exit"
+	"ordup-node/internal/logs"
+	"ordup-node/internal/script"
+	"ordup-node/internal/store"
+)
+
+const (
+	// afterFailure is how long the site waits after a failure before it asks again.
+	afterFailure = 200 * time.Millisecond
+	// tellAgain is after how long a place is told again that the script does not have.
+	tellAgain = 500 * time.Millisecond
+	// tellTime is how long telling a place may take.
+	tellTime = 3 * time.Second
+)
+
+// A Teller takes the place of a site to the primary that writes, or of a site of a fleet to whoever tells for the fleet.
+type Teller interface {
+	Tell(ctx context.Context, place epoch.Place) error
+}
+
+// A Config is what a site is made with.
+type Config struct {
+	Engine *engine.Engine
+	Open   store.Open
+	// Name is the site, and Fleet the name that it has in the script, where that is another one.
+	Name, Fleet string
+	// Host is one word that tells this process from others in the engine.
+	Host     string
+	Versions []string
+	Teller   Teller
+	Log      *logs.Log
+}
+
+// A Site is one process of a site. One of them serves its readers.
+type Site struct {
+	config Config
+	inName string
+	lease  *engine.Lease
+	// What is shown, of type *Shown, and from which entry on it is served. Changed is closed with each change.
+	lock    sync.Mutex
+	shown   *Shown
+	changed chan struct{}
+	first   int64
+	readers int64
+	toldAt  int64
+	replica *Replica
+	// The last entry that there was when the process first asked. From there on it wants the lease.
+	end int64
+}
+
+// New gives a site, which Run runs.
+func New(config Config) (*Site, error) {
+	site := &Site{config: config, inName: config.Fleet, changed: make(chan struct{})}
+	if site.inName == "" {
+		site.inName = config.Name
+	}
+	own := fmt.Sprintf("%s-%d-%d", config.Host, os.Getpid(), clock.Now())
+	if !script.IsName(site.inName) || !script.IsName(config.Name) || !script.IsWord(own, script.MostWriterBytes) {
+		return nil, exit.With(exit.Words, fmt.Errorf("%q of %q at %q is no site", config.Name, site.inName, config.Host))
+	}
+	site.lease = config.Engine.NewLease(engine.SiteKey(site.inName, config.Name), own, config.Log, site.mayServe)
+	return site, nil
+}
+
+// mayServe says from which entry on readers are served. The process before has told no place after this one.
+func (site *Site) mayServe(ctx context.Context) error {
+	site.lock.Lock()
+	next := int64(1)
+	if site.shown != nil {
+		next = site.shown.Entry + 1
+	}
+	site.lock.Unlock()
+	last, err := site.config.Engine.Last(ctx, next)
+	site.lock.Lock()
+	defer site.lock.Unlock()
+	if err == nil {
+		site.first = last
+	}
+	return err
+}
+
+// Run follows the script and serves, until the context ends or an error ends the process. Then the lease is given back.
+func (site *Site) Run(ctx context.Context) error {
+	beside, cancel := context.WithCancel(context.Background())
+	var others sync.WaitGroup
+	defer others.Wait()
+	defer cancel()
+	defer site.show(nil)
+	failed := make(chan error, 1)
+	following, stop := context.WithCancel(ctx)
+	defer stop()
+	others.Add(1)
+	go func() {
+		defer others.Done()
+		if err := site.tellAll(beside); err != nil {
+			failed <- err
+			stop()
+		}
+	}()
+	isLeased := false
+	for following.Err() == nil {
+		err := site.follow(following, func() {
+			if isLeased {
+				return
+			}
+			isLeased = true
+			others.Add(1)
+			go func() { defer others.Done(); site.lease.Run(beside) }()
+		})
+		if err = site.heed(following, err); err != nil {
+			return err
+		}
+	}
+	select {
+	case err := <-failed:
+		return err
+	default:
+		return nil
+	}
+}
+
+// heed is whether an error ends the process.
+func (site *Site) heed(ctx context.Context, err error) error {
+	var left *LeftError
+	var missing *engine.MissingError
+	var broken *epoch.BrokenError
+	var version *epoch.VersionError
+	var format *script.FormatError
+	switch {
+	case err == nil || ctx.Err() != nil:
+		return nil
+	case engine.IsAway(err):
+		site.config.Log.Warn("engine-away", "why", err)
+		pause(ctx, afterFailure)
+		return nil
+	case errors.Is(err, errLaterEpoch):
+		site.config.Log.Info("runs-again", "why", err)
+		site.replica.Close()
+		site.replica = nil
+		return nil
+	case errors.As(err, &left):
+		return exit.With(exit.NotInScript, err)
+	case errors.As(err, &missing) || errors.As(err, &broken):
+		return exit.With(exit.Gap, err)
+	case errors.As(err, &version) || errors.As(err, &format):
+		return exit.With(exit.Words, err)
+	case exit.Has(err):
+		return err
+	}
+	return exit.With(exit.Environment, err)
+}
+
+// errLaterEpoch says that the script begins with a later epoch than the one that was run.
+var errLaterEpoch = errors.New("the script begins with a later epoch now")
+
+// follow runs and shows the script as it comes. It says once that the site has reached the end that there was at first.
+func (site *Site) follow(ctx context.Context, reached func()) error {
+	if err := site.start(ctx); err != nil {
+		return err
+	}
+	err := site.config.Engine.Follow(ctx, site.replica.Next(), func(entries []engine.Raw) error {
+		for _, raw := range entries {
+			if err := site.run(raw); err != nil {
+				return err
+			}
+		}
+		shown, err := site.replica.Show()
+		if err != nil {
+			return err
+		}
+		site.show(shown)
+		if shown != nil && shown.Entry >= site.end {
+			reached()
+		}
+		return nil
+	})
+	var gap *epoch.GapError
+	if !errors.As(err, &gap) {
+		return err
+	}
+	_, first, failure := site.config.Engine.Epoch(ctx)
+	switch {
+	case failure != nil:
+		return failure
+	case first > gap.Number:
+		return errLaterEpoch
+	}
+	return exit.With(exit.Gap, err)
+}
+
+func (site *Site) run(raw engine.Raw) error {
+	entry, err := script.Parse(raw.Text)
+	if err != nil {
+		var format *script.FormatError
+		if errors.As(err, &format) {
+			return fmt.Errorf("the entry %d: %w", raw.Number, err)
+		}
+		return &epoch.BrokenError{Number: raw.Number, Why: err.Error()}
+	}
+	begun := site.replica.Epoch()
+	if err = site.replica.Replay(raw.Number, entry); err != nil {
+		return err
+	}
+	if site.replica.Epoch() > begun {
+		site.config.Log.Info("epoch", "epoch", site.replica.Epoch(), "entry", raw.Number)
+	}
+	return nil
+}
+
+// start gives a replica before the last epoch, where there is none. Else it looks whether the script still has what was run.
+func (site *Site) start(ctx context.Context) error {
+	_, first, err := site.config.Engine.Epoch(ctx)
+	if err != nil {
+		return err
+	}
+	if site.replica == nil {
+		site.replica = NewReplica(site.config.Open, site.config.Versions, site.inName, first)
+		site.end, err = site.config.Engine.Last(ctx, first)
+		return err
+	}
+	last := site.replica.Next() - 1
+	switch {
+	case first > last+1:
+		return errLaterEpoch
+	case first == last+1:
+		return nil
+	}
+	_, isThere, err := site.config.Engine.Entry(ctx, last)
+	if err == nil && !isThere {
+		err = exit.With(exit.Gap, fmt.Errorf("the script ends before the entry %d, which it had", last))
+	}
+	return err
+}
+
+// show shows values to readers, if they are served.
+func (site *Site) show(shown *Shown) {
+	site.lock.Lock()
+	defer site.lock.Unlock()
+	site.shown = shown
+	close(site.changed)
+	site.changed = make(chan struct{})
+}
+
+// tellAll tells each place that was shown under the lease, until the context ends. A place that cannot be ends the process.
+func (site *Site) tellAll(ctx context.Context) error {
+	var told epoch.Place
+	for ctx.Err() == nil {
+		shown, changed := site.served()
+		isNew := shown != nil && (shown.Epoch > told.Epoch || shown.Place > told.Applied)
+		if isNew || shown != nil && shown.Told < shown.Place {
+			place := epoch.Place{Site: site.inName, Epoch: shown.Epoch, Applied: shown.Place, Entry: shown.Entry}
+			err := site.tell(ctx, place)
+			var cannotBe *epoch.CannotBeError
+			if errors.As(err, &cannotBe) {
+				return exit.With(exit.NoPlace, err)
+			}
+			if err == nil {
+				told = place
+				atomic.StoreInt64(&site.toldAt, int64(clock.Now()))
+			} else if ctx.Err() == nil {
+				site.config.Log.Warn("place-not-told", "why", err)
+				pause(ctx, afterFailure)
+			}
+		}
+		select {
+		case <-ctx.Done():
+		case <-changed:
+		case <-time.After(tellAgain):
+		}
+	}
+	return nil
+}
+
+func (site *Site) tell(ctx context.Context, place epoch.Place) error {
+	limited, cancel := context.WithTimeout(ctx, tellTime)
+	defer cancel()
+	return site.config.Teller.Tell(limited, place)
+}
+
+// pause waits, or until the context ends.
+func pause(ctx context.Context, most time.Duration) {
+	select {
+	case <-ctx.Done():
+	case <-time.After(most):
+	}
+}

@@ -5,7 +5,6 @@ import (
 	"errors"
 	"fmt"
 	"sync"
-	"sync/atomic"
 	"time"
 
 	"go.etcd.io/etcd/clientv3"
@@ -31,25 +30,37 @@ const (
 type Lease struct {
 	engine     *Engine
 	key, value string
-	whenHeld   func(context.Context) error
+	whenHeld   func(context.Context, Term) error
 	log        *logs.Log
-	until      int64
 	lock       sync.Mutex
+	until      time.Duration
+	term       Term
 	id         clientv3.LeaseID
 	changed    chan struct{}
 }
 
+// A Term counts the times that a process got its key. Within one nobody else had it.
+type Term int64
+
 // NewLease gives a lease that Run takes. The value names the process, and no other one ever has the same. When the process has the key,
-// and before it relies on it, whenHeld is called; with an error the key is given up.
-func (engine *Engine) NewLease(key, value string, log *logs.Log, whenHeld func(context.Context) error) *Lease {
+// and before it relies on it, whenHeld is called with the term that begins; with an error the key is given up.
+func (engine *Engine) NewLease(key, value string, log *logs.Log, whenHeld func(context.Context, Term) error) *Lease {
 	return &Lease{engine: engine.Apart(), key: key, value: value, whenHeld: whenHeld, log: log, changed: make(chan struct{})}
 }
 
-// Lives is whether the process may rely on the lease now.
-func (lease *Lease) Lives() bool { return clock.Now() < lease.Until() }
+// Lives is whether this term of the lease goes on, and the process may rely on it now.
+func (lease *Lease) Lives(term Term) bool {
+	lease.lock.Lock()
+	defer lease.lock.Unlock()
+	return lease.term == term && clock.Now() < lease.until
+}
 
 // Until is until when the process may rely on the lease, as far as is known now.
-func (lease *Lease) Until() time.Duration { return time.Duration(atomic.LoadInt64(&lease.until)) }
+func (lease *Lease) Until() time.Duration {
+	lease.lock.Lock()
+	defer lease.lock.Unlock()
+	return lease.until
+}
 
 // Held is whether the process has the key, as far as it knows. It may be lost by now.
 func (lease *Lease) Held() bool {
@@ -68,7 +79,7 @@ func (lease *Lease) Changed() <-chan struct{} {
 func (lease *Lease) set(id clientv3.LeaseID, until time.Duration) {
 	lease.lock.Lock()
 	defer lease.lock.Unlock()
-	atomic.StoreInt64(&lease.until, int64(until))
+	lease.until = until
 	if (lease.id != 0) != (id != 0) {
 		close(lease.changed)
 		lease.changed = make(chan struct{})
@@ -189,8 +200,12 @@ func (lease *Lease) create(ctx context.Context) error {
 
 // take relies on the lease, once whenHeld has done its work.
 func (lease *Lease) take(ctx context.Context, id clientv3.LeaseID, asked time.Duration) error {
+	lease.lock.Lock()
+	lease.term++
+	term := lease.term
+	lease.lock.Unlock()
 	if lease.whenHeld != nil {
-		if err := lease.whenHeld(ctx); err != nil {
+		if err := lease.whenHeld(ctx, term); err != nil {
 			lease.revoke(id)
 			return err
 		}

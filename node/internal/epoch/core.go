@@ -98,7 +98,7 @@ func (core *Core) Close() {
 // Next is the number of the entry that comes next.
 func (core *Core) Next() int64 { return core.entries + 1 }
 
-// Epoch is the epoch, or 0 before the first one.
+// Epoch is the epoch, or 0 before the script was begun.
 func (core *Core) Epoch() int64 { return core.epoch }
 
 // First is the number of the first entry of the epoch.

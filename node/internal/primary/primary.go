@@ -82,6 +82,9 @@ func New(config Config) (*Primary, error) {
 	if !script.IsWord(own, script.MostWriterBytes) || strings.ContainsAny(config.Host, "/@") || len(config.Versions) == 0 {
 		return nil, exit.With(exit.Words, fmt.Errorf("%q and %q are not a host and an address", config.Host, config.Address))
 	}
+	if config.Copies < 1 {
+		return nil, exit.With(exit.Words, fmt.Errorf("archives lie at one host or more, and not at %d", config.Copies))
+	}
 	primary := &Primary{config: config, own: own, ended: make(chan struct{}, 1)}
 	primary.calls.init()
 	primary.lease = config.Engine.NewLease(engine.PrimaryKey, own, config.Log, nil)

@@ -111,11 +111,10 @@ func (primary *Primary) replay(entries []engine.Raw) error {
 			if err != nil {
 				return brokenBy(raw.Number, err)
 			}
-			begun := core.Epoch()
 			if err = core.Replay(raw.Number, entry); err != nil {
 				return err
 			}
-			if core.Epoch() == begun {
+			if !entry.Begins() {
 				continue
 			}
 			primary.noteEpoch()

@@ -34,9 +34,9 @@ type Reading struct {
 // values, so it lived when they were the last ones.
 func (site *Site) served() (*Shown, <-chan struct{}) {
 	site.lock.Lock()
-	shown, changed, first := site.shown, site.changed, site.first
+	shown, changed, first, term := site.shown, site.changed, site.first, site.term
 	site.lock.Unlock()
-	if shown == nil || first == 0 || shown.Entry < first || !site.lease.Lives() {
+	if shown == nil || shown.Entry < first || !site.lease.Lives(term) {
 		return nil, changed
 	}
 	return shown, changed

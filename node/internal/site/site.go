@@ -50,11 +50,12 @@ type Site struct {
 	config Config
 	inName string
 	lease  *engine.Lease
-	// What is shown, of type *Shown, and from which entry on it is served. Changed is closed with each change.
+	// What is shown, and from which entry on it is served in which term of the lease. Changed is closed with each change.
 	lock    sync.Mutex
 	shown   *Shown
 	changed chan struct{}
 	first   int64
+	term    engine.Term
 	readers int64
 	toldAt  int64
 	replica *Replica
@@ -77,7 +78,7 @@ func New(config Config) (*Site, error) {
 }
 
 // mayServe says from which entry on readers are served. The process before has told no place after this one.
-func (site *Site) mayServe(ctx context.Context) error {
+func (site *Site) mayServe(ctx context.Context, term engine.Term) error {
 	site.lock.Lock()
 	next := int64(1)
 	if site.shown != nil {
@@ -88,7 +89,7 @@ func (site *Site) mayServe(ctx context.Context) error {
 	site.lock.Lock()
 	defer site.lock.Unlock()
 	if err == nil {
-		site.first = last
+		site.first, site.term = last, term
 	}
 	return err
 }
@@ -260,8 +261,9 @@ func (site *Site) tellAll(ctx context.Context) error {
 	var told epoch.Place
 	for ctx.Err() == nil {
 		shown, changed := site.served()
-		isNew := shown != nil && (shown.Epoch > told.Epoch || shown.Place > told.Applied)
-		if isNew || shown != nil && shown.Told < shown.Place {
+		isNew := shown != nil && (shown.Epoch > told.Epoch || shown.Epoch == told.Epoch && shown.Place > told.Applied)
+		isLate := clock.Now() > time.Duration(atomic.LoadInt64(&site.toldAt))+tellAgain
+		if isNew || isLate && shown != nil && shown.Told < shown.Place {
 			place := epoch.Place{Site: site.inName, Epoch: shown.Epoch, Applied: shown.Place, Entry: shown.Entry}
 			err := site.tell(ctx, place)
 			var cannotBe *epoch.CannotBeError

@@ -1,0 +1,36 @@
+package etcdtest
+
+import (
+	"context"
+	"time"
+
+	"go.etcd.io/etcd/clientv3"
+	"go.uber.org/zap"
+)
+
+func (members *Members) context() context.Context {
+	ctx, cancel := context.WithTimeout(context.Background(), 30*time.Second)
+	members.t.Cleanup(cancel)
+	return ctx
+}
+
+// Client gives a client of etcd's own, as whoever writes keys by hand has one.
+func (members *Members) Client() *clientv3.Client {
+	members.t.Helper()
+	quiet := zap.NewProductionConfig()
+	quiet.Level = zap.NewAtomicLevelAt(zap.FatalLevel)
+	client, err := clientv3.New(clientv3.Config{Endpoints: members.Clients, DialTimeout: 5 * time.Second, LogConfig: &quiet})
+	if err != nil {
+		members.t.Fatal(err)
+	}
+	members.t.Cleanup(func() { client.Close() })
+	return client
+}
+
+// Put puts a key by hand.
+func (members *Members) Put(key, value string) {
+	members.t.Helper()
+	if _, err := members.Client().Put(members.context(), key, value); err != nil {
+		members.t.Fatal(err)
+	}
+}

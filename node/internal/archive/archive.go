@@ -14,6 +14,7 @@ import (
 	"os"
 	"path/filepath"
 	"sort"
+	"sync/atomic"
 	"time"
 
 	"ordup-node/internal/engine"
@@ -37,8 +38,12 @@ type Keeper struct {
 	// Ended tells that an epoch has ended.
 	Ended <-chan struct{}
 	// looked are the archives whose files this process has written or read.
-	looked map[engine.Archive]bool
+	looked  map[engine.Archive]bool
+	waiting int64
 }
+
+// Waiting is how many epochs have ended and are still in the engine, as of the last look.
+func (keeper *Keeper) Waiting() int64 { return atomic.LoadInt64(&keeper.waiting) }
 
 // NameOf is the name of the file of an epoch.
 func NameOf(epoch int64) string { return fmt.Sprintf("epoch-%d.ordup", epoch) }
@@ -73,6 +78,8 @@ func (keeper *Keeper) Pass(ctx context.Context) (waits bool, err error) {
 	if err != nil || from == 0 {
 		return false, err
 	}
+	left := int64(0)
+	defer func() { atomic.StoreInt64(&keeper.waiting, left) }()
 	for from < end {
 		archives, err := keeper.Engine.Archives(ctx)
 		if err != nil {
@@ -86,9 +93,11 @@ func (keeper *Keeper) Pass(ctx context.Context) (waits bool, err error) {
 		if err != nil {
 			return false, err
 		}
-		waits, from = waits || !removed, own.Before
+		if from = own.Before; !removed {
+			left++
+		}
 	}
-	return waits, nil
+	return left > 0, nil
 }
 
 // own is the archive of this host that begins with an entry. It is written, if it is not there yet.

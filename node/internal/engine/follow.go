@@ -14,20 +14,20 @@ const lookAfter = time.Second
 
 // Follow gives the entries from a number on to a function, some at a time, as they come. It first reads what is there, and then watches
 // from that revision on. Where the past was compacted meanwhile, it reads again. It returns the error of the function, or an AwayError:
-// then it may be called again from the next number on.
+// then it may be called again from the next number on. An entry that was there and is written again is a ChangedError.
 func (engine *Engine) Follow(ctx context.Context, from int64, take func([]Raw) error) error {
 	next := from
 	takes := func(entries []Raw) error {
-		fresh := entries[:0]
 		for _, entry := range entries {
-			if entry.Number >= next {
-				fresh, next = append(fresh, entry), entry.Number+1
+			if entry.Number < next {
+				return &ChangedError{entry.Number}
 			}
+			next = entry.Number + 1
 		}
-		if len(fresh) == 0 {
+		if len(entries) == 0 {
 			return nil
 		}
-		return take(fresh)
+		return take(entries)
 	}
 	for {
 		entries, more, revision, err := engine.Entries(ctx, next, 0)
@@ -51,7 +51,7 @@ func (engine *Engine) watch(ctx context.Context, next *int64, revision int64, ta
 	}
 	watching, cancel := context.WithCancel(clientv3.WithRequireLeader(ctx))
 	defer cancel()
-	events := client.Watch(watching, entryKey(*next), clientv3.WithRange(scriptEnd), clientv3.WithRev(revision), clientv3.WithFragment())
+	events := client.Watch(watching, scriptKeys, clientv3.WithRange(scriptEnd), clientv3.WithRev(revision), clientv3.WithFragment())
 	look := time.NewTimer(lookAfter)
 	defer look.Stop()
 	for {

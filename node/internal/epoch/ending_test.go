@@ -149,7 +149,7 @@ func TestASiteLeavesOnceItHasNoLease(t *testing.T) {
 	world.next(without...)
 	world.write()
 	is(t, []string{"north"}, world.core.Leaving())
-	is(t, ErrNoSite, world.core.Tell(Place{"north", 1, 2, 2}, world.now))
+	is(t, ErrNoSite, world.core.Tell(Place{Site: "north", Epoch: 1, Applied: 2, Entry: 2}, world.now))
 	is(t, int64(1), world.core.acknowledged) // Its limit holds as long as a process may serve.
 	is(t, 0, world.write())
 	is(t, nil, world.core.Gone("south"))

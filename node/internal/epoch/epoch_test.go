@@ -8,14 +8,18 @@ import (
 
 	"ordup-node/internal/modelstore"
 	"ordup-node/internal/script"
+	"ordup-node/internal/store"
 )
 
 var shop = []string{"object tea 100", "object till 0", "site north 1", "site south 1", "limit north count 1", "start"}
 
 var settings = script.Settings{Every: 1000, Remembers: 1, Origin: DigestOf(shop), Ordup: "1"}
 
+// openStore gives the stores of the tests. With the tag library it is that of the program.
+var openStore store.Open = modelstore.Open
+
 func config(writer string) Config {
-	return Config{Open: modelstore.Open, Writer: writer, Versions: []string{"1"}}
+	return Config{Open: openStore, Writer: writer, Versions: []string{"1"}}
 }
 
 // A world is a script, and a core that writes it.
@@ -105,7 +109,7 @@ func (world *world) ask(client string, number int64, changes string) Verdict {
 
 func (world *world) tell(site string, applied int64) {
 	world.t.Helper()
-	if err := world.core.Tell(Place{site, world.core.Epoch(), applied, world.core.written}, world.now); err != nil {
+	if err := world.core.Tell(Place{Site: site, Epoch: world.core.Epoch(), Applied: applied, Entry: world.core.written}, world.now); err != nil {
 		world.t.Fatal(err)
 	}
 }
@@ -196,18 +200,18 @@ func TestPlacesThatCannotBe(t *testing.T) {
 	world.ask("ann", 1, "add:tea:-1")
 	turn := world.seal()
 	core := world.core
-	is(t, nil, core.Tell(Place{"south", 1, 1, turn.Number}, world.now))
-	is(t, ErrBehind, core.Tell(Place{"north", 1, 2, turn.Number}, world.now))
-	is(t, ErrBehind, core.Tell(Place{"north", 2, 0, turn.Number + 9}, world.now))
+	is(t, nil, core.Tell(Place{Site: "south", Epoch: 1, Applied: 1, Entry: turn.Number}, world.now))
+	is(t, ErrBehind, core.Tell(Place{Site: "north", Epoch: 1, Applied: 2, Entry: turn.Number}, world.now))
+	is(t, ErrBehind, core.Tell(Place{Site: "north", Epoch: 2, Applied: 0, Entry: turn.Number + 9}, world.now))
 	world.keep(turn)
-	for _, place := range []Place{{"north", 1, 2, turn.Number}, {"north", 1, 1 << 62, 0}, {"north", 1, -1, 0}, {"north", 1, -1 << 63, 1 << 62}} {
+	for _, place := range []Place{{"north", "", 1, 2, turn.Number}, {"north", "", 1, 1 << 62, 0}, {"north", "", 1, -1, 0}, {"north", "", 1, -1 << 63, 1 << 62}} {
 		if _, cannotBe := core.Tell(place, world.now).(*CannotBeError); !cannotBe {
 			t.Errorf("%v is taken", place)
 		}
 	}
-	is(t, ErrNoSite, core.Tell(Place{"east", 1, 0, 1}, world.now))
-	is(t, ErrNoSite, core.Tell(Place{"\xff", 1, 0, 1}, world.now))
-	is(t, nil, core.Tell(Place{"north", 0, 77, 1}, world.now))
+	is(t, ErrNoSite, core.Tell(Place{Site: "east", Epoch: 1, Applied: 0, Entry: 1}, world.now))
+	is(t, ErrNoSite, core.Tell(Place{Site: "\xff", Epoch: 1, Applied: 0, Entry: 1}, world.now))
+	is(t, nil, core.Tell(Place{Site: "north", Epoch: 0, Applied: 77, Entry: 1}, world.now))
 	is(t, int64(0), core.Status(world.now).Sites[0].Applied)
 }
 

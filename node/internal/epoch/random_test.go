@@ -43,7 +43,7 @@ func (run *randomRun) step() {
 		run.askSome(client)
 	case dice < 55:
 		site := run.core.sites.all[run.chance.Intn(len(run.core.sites.all))]
-		run.core.Tell(Place{site.name, run.core.Epoch(), run.written(), run.core.written}, run.now)
+		run.core.Tell(Place{Site: site.name, Epoch: run.core.Epoch(), Applied: run.written(), Entry: run.core.written}, run.now)
 	case dice < 80:
 		run.fly()
 	case dice < 90:

@@ -14,7 +14,9 @@ const Away = 5 * time.Second
 
 // A Place is what a site told: how many updates of an epoch it has applied and shown, and the last entry that it has run.
 type Place struct {
-	Site    string
+	// Site is the name in the script. Member is the site itself, which has another name where Site is its fleet.
+	Site, Member string
+
 	Epoch   int64
 	Applied int64
 	Entry   int64

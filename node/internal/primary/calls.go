@@ -11,8 +11,8 @@ import (
 	"ordup-node/internal/epoch"
 )
 
-// MostQueued is how many requests wait to be taken at most.
-const MostQueued = 20_000
+// MostQueued is how many requests wait to be taken at most, and MostWaiting how many of those that were taken wait for an answer.
+const MostQueued, MostWaiting = 20_000, 100_000
 
 // Why a request has no answer. Each but the last three may be asked again under the same number, here or at another primary: it is done
 // once.
@@ -171,7 +171,7 @@ func (primary *Primary) queue(call *call) error {
 		return &NotWriterError{calls.address}
 	case atomic.LoadInt64(&primary.counts.Full) > 0:
 		return ErrFull
-	case len(calls.queue) >= MostQueued:
+	case len(calls.queue) >= MostQueued || len(calls.waiting) >= MostWaiting:
 		return ErrBusy
 	}
 	calls.queue = append(calls.queue, call)

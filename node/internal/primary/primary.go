@@ -67,6 +67,9 @@ type Primary struct {
 	agreed bool
 	calls  calls
 	counts Counts
+	// The last entry of the core that is in the script.
+	mark   engine.Mark
+	keeper *archive.Keeper
 }
 
 // Counts are what this process did. They are read by atomic loads.
@@ -87,6 +90,8 @@ func New(config Config) (*Primary, error) {
 	}
 	primary := &Primary{config: config, own: own, ended: make(chan struct{}, 1)}
 	primary.calls.init()
+	primary.keeper = &archive.Keeper{Engine: config.Engine.Apart(), Folder: config.Folder, Host: config.Host, Copies: config.Copies,
+		Log: config.Log, Ended: primary.ended}
 	primary.lease = config.Engine.NewLease(engine.PrimaryKey, own, config.Log, nil)
 	return primary, nil
 }
@@ -97,9 +102,7 @@ func (primary *Primary) Run(ctx context.Context) error {
 	var others sync.WaitGroup
 	defer others.Wait()
 	defer cancel()
-	keeper := &archive.Keeper{Engine: primary.config.Engine.Apart(), Folder: primary.config.Folder, Host: primary.config.Host,
-		Copies: primary.config.Copies, Log: primary.config.Log, Ended: primary.ended}
-	for _, run := range []func(context.Context){primary.lease.Run, keeper.Run} {
+	for _, run := range []func(context.Context){primary.lease.Run, primary.keeper.Run} {
 		others.Add(1)
 		go func(run func(context.Context)) { defer others.Done(); run(beside) }(run)
 	}
@@ -124,17 +127,13 @@ func (primary *Primary) heed(ctx context.Context, err error) error {
 	switch {
 	case err == nil || ctx.Err() != nil:
 		return nil
-	case errors.As(err, &taken) || errors.As(err, &served):
+	case errors.As(err, &taken) || errors.As(err, &served) || errors.Is(err, engine.ErrLaterEpoch):
 		primary.config.Log.Info("runs-again", "why", err)
 		primary.forget()
 		return nil
 	case engine.IsAway(err):
 		primary.config.Log.Warn("engine-away", "why", err)
 		pause(ctx, afterFailure)
-		return nil
-	case errors.Is(err, errLaterEpoch):
-		primary.config.Log.Info("runs-again", "why", err)
-		primary.forget()
 		return nil
 	}
 	return primary.ends(err)
@@ -143,13 +142,15 @@ func (primary *Primary) heed(ctx context.Context, err error) error {
 // ends gives an error the status with which the process ends.
 func (primary *Primary) ends(err error) error {
 	var missing *engine.MissingError
+	var changed *engine.ChangedError
+	var gap *epoch.GapError
 	var broken *epoch.BrokenError
 	var format *script.FormatError
 	var version *epoch.VersionError
 	switch {
 	case exit.Has(err):
 		return err
-	case errors.As(err, &missing) || errors.As(err, &broken):
+	case errors.As(err, &missing) || errors.As(err, &changed) || errors.As(err, &gap) || errors.As(err, &broken):
 		return exit.With(exit.Gap, err)
 	case errors.As(err, &version) || errors.As(err, &format):
 		return exit.With(exit.Words, err)
@@ -165,6 +166,7 @@ func (primary *Primary) forget() {
 		primary.core.Close()
 		primary.core = nil
 	}
+	primary.mark = engine.Mark{}
 }
 
 // with has the core looked at, or worked on, by one goroutine at a time.
@@ -186,7 +188,9 @@ type Status struct {
 	// Waiting is how many requests wait for an answer, and Queued how many of them were not taken yet.
 	Waiting, Queued int
 	Counts          Counts
-	EngineFailures  int64
+	// Archives is how many epochs have ended and are still in the engine.
+	Archives       int64
+	EngineFailures int64
 }
 
 // Status tells what there is.
@@ -196,6 +200,7 @@ func (primary *Primary) Status() Status {
 		status.Lease = left
 	}
 	status.Waiting, status.Queued = primary.calls.sizes()
+	status.Archives = primary.keeper.Waiting()
 	primary.with(func(core *epoch.Core) error {
 		if core != nil {
 			status.Core = core.Status(clock.Now())

@@ -25,7 +25,7 @@ import (
 
 var shop = []string{"object tea 1000000", "object till 0", "site north 1", "site south 1", "limit north count 3", "start"}
 
-// openStore gives the stores of the tests. With the library it is that of the program.
+// openStore gives the stores of the tests. With the tag library it is that of the program.
 var openStore store.Open = modelstore.Open
 
 // A deployment runs primaries and sites in this process, on an engine of its own.

@@ -12,9 +12,6 @@ import (
 	"ordup-node/internal/script"
 )
 
-// errLaterEpoch says that the script begins with a later epoch than the one that was run.
-var errLaterEpoch = errors.New("the script begins with a later epoch now")
-
 // standBy runs the script as it comes, until the lease names this process and the script was taken over.
 func (primary *Primary) standBy(ctx context.Context) error {
 	for !primary.lease.Held() {
@@ -73,30 +70,16 @@ func (primary *Primary) next() (next int64) {
 
 // start gives a core before the last epoch, where there is none. Else it looks whether the script still has what the core has run.
 func (primary *Primary) start(ctx context.Context) error {
-	_, first, err := primary.config.Engine.Epoch(ctx)
+	first, err := primary.config.Engine.Resume(ctx, &primary.mark)
 	if err != nil {
 		return err
 	}
-	last := int64(0)
-	primary.with(func(core *epoch.Core) error {
+	return primary.with(func(core *epoch.Core) error {
 		if core == nil {
 			primary.core = primary.newCore(first)
-		} else if core.Epoch() > 0 {
-			last = core.Next() - 1
 		}
 		return nil
 	})
-	switch {
-	case first > last+1 && last > 0:
-		return errLaterEpoch
-	case first == last+1 || last == 0:
-		return nil
-	}
-	_, isThere, err := primary.config.Engine.Entry(ctx, last)
-	if err == nil && !isThere {
-		err = exit.With(exit.Gap, fmt.Errorf("the script ends before the entry %d, which it had", last))
-	}
-	return err
 }
 
 func (primary *Primary) newCore(first int64) *epoch.Core {
@@ -113,6 +96,10 @@ func (primary *Primary) replay(entries []engine.Raw) error {
 			}
 			if err = core.Replay(raw.Number, entry); err != nil {
 				return err
+			}
+			primary.mark.Set(raw.Number, raw.Text)
+			if address := addressOf(entry.Writer); address != primary.calls.writer() {
+				primary.calls.set(false, address)
 			}
 			if !entry.Begins() {
 				continue
@@ -164,17 +151,10 @@ func (primary *Primary) agrees(core *epoch.Core) error {
 // gap tells what it means that an entry came out of order: that an epoch ended meanwhile and is archived, or a fault.
 func (primary *Primary) gap(ctx context.Context, err error) error {
 	var gap *epoch.GapError
-	if !errors.As(err, &gap) {
-		return err
+	if errors.As(err, &gap) {
+		return primary.config.Engine.WhyGap(ctx, gap.Number, err)
 	}
-	_, first, failure := primary.config.Engine.Epoch(ctx)
-	switch {
-	case failure != nil:
-		return failure
-	case first > gap.Number:
-		return errLaterEpoch
-	}
-	return exit.With(exit.Gap, err)
+	return err
 }
 
 // catchUp runs all that the script has.
@@ -221,6 +201,7 @@ func (primary *Primary) takeOver(ctx context.Context) error {
 			return err
 		}
 		primary.config.Log.Info("took-over", "entry", turn.Number, "writer", primary.own)
+		primary.mark.Set(turn.Number, turn.Text)
 		return primary.with(func(core *epoch.Core) error { return core.Replay(turn.Number, turn.Entry()) })
 	}
 }

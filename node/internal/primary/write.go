@@ -16,9 +16,8 @@ type writing struct {
 	// What is on its way to the engine, and what became of it.
 	flying *epoch.Turn
 	landed chan error
-	// What the turn had no room for, and when it is tried again.
-	deferred []*call
-	retry    time.Duration
+	// Until when no requests are taken, since the turn had no room for one, or the epoch ends.
+	retry time.Duration
 	// The sites that were found without a lease, and when it is looked again. At most one look is under way.
 	absent  chan string
 	looking bool
@@ -34,9 +33,6 @@ func (primary *Primary) writeAll(ctx context.Context) error {
 	primary.config.Log.Info("writes", "writer", primary.own)
 	err := writing.run(ctx)
 	isWhole := err == nil && ctx.Err() == nil && writing.isIdle()
-	for _, call := range writing.deferred {
-		call.done <- outcome{err: &NotWriterError{}}
-	}
 	primary.calls.set(false, "")
 	primary.config.Log.Info("stands-by", "writer", primary.own)
 	if !isWhole {
@@ -102,7 +98,7 @@ func (writing *writing) wait(ends bool) time.Duration {
 	for _, other := range []struct {
 		isDue bool
 		after time.Duration
-	}{{writing.again > 0, writing.again}, {len(writing.deferred) > 0, retryAfter}, {writing.look > 0, lookAfter}, {ends, retryAfter}} {
+	}{{writing.again > 0, writing.again}, {writing.retry > 0, retryAfter}, {writing.look > 0, lookAfter}, {ends, retryAfter}} {
 		if other.isDue && other.after < wait {
 			wait = other.after
 		}
@@ -112,15 +108,15 @@ func (writing *writing) wait(ends bool) time.Duration {
 
 // take hands the core what came, and has it work.
 func (writing *writing) take() error {
-	calls := &writing.calls
+	calls, now := &writing.calls, clock.Now()
+	var came []*call
 	calls.lock.Lock()
-	came, nexts := calls.queue, calls.nexts
-	calls.queue, calls.nexts = nil, nil
-	calls.lock.Unlock()
-	now := clock.Now()
-	if len(writing.deferred) > 0 && now >= writing.retry {
-		came, writing.deferred = append(writing.deferred, came...), nil
+	if now >= writing.retry {
+		came, calls.queue, writing.retry = calls.queue, nil, 0
 	}
+	nexts := calls.nexts
+	calls.nexts = nil
+	calls.lock.Unlock()
 	return writing.with(func(core *epoch.Core) (err error) {
 		for _, next := range nexts {
 			if err := core.AskNext(next.wish); err != nil {
@@ -161,6 +157,7 @@ func (writing *writing) ask(core *epoch.Core, came []*call, now time.Duration) e
 	calls := &writing.calls
 	calls.lock.Lock()
 	defer calls.lock.Unlock()
+	var later []*call
 	for at, verdict := range verdicts {
 		call := came[at]
 		switch verdict.Kind {
@@ -169,7 +166,7 @@ func (writing *writing) ask(core *epoch.Core, came []*call, now time.Duration) e
 			calls.waiting[key] = append(calls.waiting[key], call)
 		case epoch.NotNow:
 			atomic.AddInt64(&writing.counts.Requests, -1)
-			writing.deferred, writing.retry = append(writing.deferred, call), now+retryAfter
+			later = append(later, call)
 		case epoch.Answered:
 			call.done <- outcome{text: verdict.Text}
 		case epoch.Passed:
@@ -179,6 +176,9 @@ func (writing *writing) ask(core *epoch.Core, came []*call, now time.Duration) e
 		default:
 			call.done <- outcome{err: ErrMalformed}
 		}
+	}
+	if len(later) > 0 {
+		calls.queue, writing.retry = append(later, calls.queue...), now+retryAfter
 	}
 	return nil
 }
@@ -247,6 +247,7 @@ func (writing *writing) land(err error) error {
 		return err
 	}
 	writing.flying = nil
+	writing.mark.Set(turn.Number, turn.Text)
 	atomic.AddInt64(&writing.counts.Entries, 1)
 	atomic.AddInt64(&writing.counts.Bytes, int64(len(turn.Text)))
 	writing.with(func(core *epoch.Core) error {

@@ -59,6 +59,7 @@ type Site struct {
 	readers int64
 	toldAt  int64
 	replica *Replica
+	mark    engine.Mark
 	// The last entry that there was when the process first asked. From there on it wants the lease.
 	end int64
 }
@@ -100,6 +101,7 @@ func (site *Site) Run(ctx context.Context) error {
 	var others sync.WaitGroup
 	defer others.Wait()
 	defer cancel()
+	defer site.forget()
 	defer site.show(nil)
 	failed := make(chan error, 1)
 	following, stop := context.WithCancel(ctx)
@@ -137,7 +139,8 @@ func (site *Site) Run(ctx context.Context) error {
 // heed is whether an error ends the process.
 func (site *Site) heed(ctx context.Context, err error) error {
 	var left *LeftError
-	var missing *engine.MissingError
+	var changed *engine.ChangedError
+	var gap *epoch.GapError
 	var broken *epoch.BrokenError
 	var version *epoch.VersionError
 	var format *script.FormatError
@@ -148,14 +151,13 @@ func (site *Site) heed(ctx context.Context, err error) error {
 		site.config.Log.Warn("engine-away", "why", err)
 		pause(ctx, afterFailure)
 		return nil
-	case errors.Is(err, errLaterEpoch):
+	case errors.Is(err, engine.ErrLaterEpoch):
 		site.config.Log.Info("runs-again", "why", err)
-		site.replica.Close()
-		site.replica = nil
+		site.forget()
 		return nil
 	case errors.As(err, &left):
 		return exit.With(exit.NotInScript, err)
-	case errors.As(err, &missing) || errors.As(err, &broken):
+	case errors.As(err, &changed) || errors.As(err, &gap) || errors.As(err, &broken):
 		return exit.With(exit.Gap, err)
 	case errors.As(err, &version) || errors.As(err, &format):
 		return exit.With(exit.Words, err)
@@ -165,8 +167,13 @@ func (site *Site) heed(ctx context.Context, err error) error {
 	return exit.With(exit.Environment, err)
 }
 
-// errLaterEpoch says that the script begins with a later epoch than the one that was run.
-var errLaterEpoch = errors.New("the script begins with a later epoch now")
+// forget drops what was run.
+func (site *Site) forget() {
+	if site.replica != nil {
+		site.replica.Close()
+	}
+	site.replica, site.mark = nil, engine.Mark{}
+}
 
 // follow runs and shows the script as it comes. It says once that the site has reached the end that there was at first.
 func (site *Site) follow(ctx context.Context, reached func()) error {
@@ -190,17 +197,10 @@ func (site *Site) follow(ctx context.Context, reached func()) error {
 		return nil
 	})
 	var gap *epoch.GapError
-	if !errors.As(err, &gap) {
-		return err
+	if errors.As(err, &gap) {
+		return site.config.Engine.WhyGap(ctx, gap.Number, err)
 	}
-	_, first, failure := site.config.Engine.Epoch(ctx)
-	switch {
-	case failure != nil:
-		return failure
-	case first > gap.Number:
-		return errLaterEpoch
-	}
-	return exit.With(exit.Gap, err)
+	return err
 }
 
 func (site *Site) run(raw engine.Raw) error {
@@ -216,6 +216,7 @@ func (site *Site) run(raw engine.Raw) error {
 	if err = site.replica.Replay(raw.Number, entry); err != nil {
 		return err
 	}
+	site.mark.Set(raw.Number, raw.Text)
 	if site.replica.Epoch() > begun {
 		site.config.Log.Info("epoch", "epoch", site.replica.Epoch(), "entry", raw.Number)
 	}
@@ -224,25 +225,12 @@ func (site *Site) run(raw engine.Raw) error {
 
 // start gives a replica before the last epoch, where there is none. Else it looks whether the script still has what was run.
 func (site *Site) start(ctx context.Context) error {
-	_, first, err := site.config.Engine.Epoch(ctx)
-	if err != nil {
+	first, err := site.config.Engine.Resume(ctx, &site.mark)
+	if err != nil || site.replica != nil {
 		return err
 	}
-	if site.replica == nil {
+	if site.end, err = site.config.Engine.Last(ctx, first); err == nil {
 		site.replica = NewReplica(site.config.Open, site.config.Versions, site.inName, first)
-		site.end, err = site.config.Engine.Last(ctx, first)
-		return err
-	}
-	last := site.replica.Next() - 1
-	switch {
-	case first > last+1:
-		return errLaterEpoch
-	case first == last+1:
-		return nil
-	}
-	_, isThere, err := site.config.Engine.Entry(ctx, last)
-	if err == nil && !isThere {
-		err = exit.With(exit.Gap, fmt.Errorf("the script ends before the entry %d, which it had", last))
 	}
 	return err
 }
@@ -264,7 +252,7 @@ func (site *Site) tellAll(ctx context.Context) error {
 		isNew := shown != nil && (shown.Epoch > told.Epoch || shown.Epoch == told.Epoch && shown.Place > told.Applied)
 		isLate := clock.Now() > time.Duration(atomic.LoadInt64(&site.toldAt))+tellAgain
 		if isNew || isLate && shown != nil && shown.Told < shown.Place {
-			place := epoch.Place{Site: site.inName, Epoch: shown.Epoch, Applied: shown.Place, Entry: shown.Entry}
+			place := epoch.Place{Site: site.inName, Member: site.config.Name, Epoch: shown.Epoch, Applied: shown.Place, Entry: shown.Entry}
 			err := site.tell(ctx, place)
 			var cannotBe *epoch.CannotBeError
 			if errors.As(err, &cannotBe) {

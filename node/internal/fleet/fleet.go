@@ -1,0 +1,66 @@
+// Package fleet tells for sites that have one name in the script: the least place that each of them has told.
+//
+// So each site of the fleet has shown what the fleet tells, and the limits of the fleet hold at each. A fleet keeps nothing: a site tells
+// its place again while the script does not have it.
+package fleet
+
+import (
+	"context"
+	"fmt"
+	"sync"
+
+	"ordup-node/internal/epoch"
+	"ordup-node/internal/site"
+)
+
+// A Fleet takes the places of its members, and tells the least one.
+type Fleet struct {
+	name   string
+	teller site.Teller
+	lock   sync.Mutex
+	places map[string]epoch.Place
+}
+
+// New gives a fleet of these members, which tells by the teller.
+func New(name string, members []string, teller site.Teller) *Fleet {
+	fleet := &Fleet{name: name, teller: teller, places: map[string]epoch.Place{}}
+	for _, member := range members {
+		fleet.places[member] = epoch.Place{Site: name, Member: member}
+	}
+	return fleet
+}
+
+// Tell takes the place of a member, and tells the least of all, once each has told one. A place before one that the member told is
+// passed over.
+func (fleet *Fleet) Tell(ctx context.Context, place epoch.Place) error {
+	least, isThere, err := fleet.take(place)
+	if err != nil || !isThere {
+		return err
+	}
+	return fleet.teller.Tell(ctx, least)
+}
+
+func (fleet *Fleet) take(place epoch.Place) (least epoch.Place, isThere bool, err error) {
+	fleet.lock.Lock()
+	defer fleet.lock.Unlock()
+	before, isMember := fleet.places[place.Member]
+	if !isMember || place.Site != fleet.name {
+		return least, false, fmt.Errorf("%q is no site of the fleet %s", place.Member, fleet.name)
+	}
+	if isBefore(before, place) {
+		fleet.places[place.Member] = place
+	}
+	least, isThere = fleet.places[place.Member], true
+	for _, other := range fleet.places {
+		isThere = isThere && other.Epoch > 0
+		if isBefore(other, least) {
+			least = other
+		}
+	}
+	return least, isThere, nil
+}
+
+// isBefore is whether one place is before another.
+func isBefore(one, other epoch.Place) bool {
+	return one.Epoch < other.Epoch || one.Epoch == other.Epoch && one.Applied < other.Applied
+}

@@ -69,7 +69,14 @@ func (lease *Lease) Held() bool {
 	return lease.id != 0
 }
 
-// Changed is closed when Held changes after this call.
+// Relies is whether the process has the key, and may rely on it now.
+func (lease *Lease) Relies() bool {
+	lease.lock.Lock()
+	defer lease.lock.Unlock()
+	return lease.id != 0 && clock.Now() < lease.until
+}
+
+// Changed is closed when after this call Held changes, or Relies becomes true.
 func (lease *Lease) Changed() <-chan struct{} {
 	lease.lock.Lock()
 	defer lease.lock.Unlock()
@@ -79,8 +86,10 @@ func (lease *Lease) Changed() <-chan struct{} {
 func (lease *Lease) set(id clientv3.LeaseID, until time.Duration) {
 	lease.lock.Lock()
 	defer lease.lock.Unlock()
+	now := clock.Now()
+	isNew := now >= lease.until && now < until
 	lease.until = until
-	if (lease.id != 0) != (id != 0) {
+	if (lease.id != 0) != (id != 0) || isNew {
 		close(lease.changed)
 		lease.changed = make(chan struct{})
 	}

@@ -12,9 +12,10 @@ import (
 	"ordup-node/internal/script"
 )
 
-// standBy runs the script as it comes, until the lease names this process and the script was taken over.
+// standBy runs the script as it comes, until the lease names this process and the script was taken over. A process that slept may have
+// lost the lease, and not know it yet: so it takes over only while it may rely on it.
 func (primary *Primary) standBy(ctx context.Context) error {
-	for !primary.lease.Held() {
+	for !primary.lease.Relies() {
 		if err := primary.follow(ctx); err != nil {
 			return err
 		}
@@ -34,7 +35,7 @@ func (primary *Primary) follow(ctx context.Context) error {
 		case <-following.Done():
 		}
 	}()
-	if primary.lease.Held() {
+	if primary.lease.Relies() {
 		return nil
 	}
 	err := primary.start(following)

@@ -248,6 +248,7 @@ func (site *Site) show(shown *Shown) {
 func (site *Site) tellAll(ctx context.Context) error {
 	var told epoch.Place
 	for ctx.Err() == nil {
+		relies := site.lease.Changed()
 		shown, changed := site.served()
 		isNew := shown != nil && (shown.Epoch > told.Epoch || shown.Epoch == told.Epoch && shown.Place > told.Applied)
 		isLate := clock.Now() > time.Duration(atomic.LoadInt64(&site.toldAt))+tellAgain
@@ -269,6 +270,7 @@ func (site *Site) tellAll(ctx context.Context) error {
 		select {
 		case <-ctx.Done():
 		case <-changed:
+		case <-relies:
 		case <-time.After(tellAgain):
 		}
 	}

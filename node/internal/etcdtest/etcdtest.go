@@ -21,23 +21,35 @@ type Members struct {
 	cluster  string
 	Clients  []string
 	peers    []string
+	options  []string
 	commands []*exec.Cmd
+	// Config is how the members are reached.
+	Config engine.Config
 }
 
-// Start starts members, and stops them at the end of the test. Where there is no etcd the test is skipped.
-func Start(t *testing.T, count int) *Members {
+// Start starts members with some options, and stops them at the end of the test. Where there is no etcd the test is skipped.
+func Start(t *testing.T, count int, options ...string) *Members {
+	t.Helper()
+	return StartSecure(t, count, engine.Config{}, options...)
+}
+
+// StartSecure starts members that are reached by a TLS of the test.
+func StartSecure(t *testing.T, count int, config engine.Config, options ...string) *Members {
 	t.Helper()
 	if _, err := exec.LookPath("etcd"); err != nil {
 		t.Skip("there is no etcd here")
 	}
-	members := &Members{t: t, folder: t.TempDir()}
-	names := []string{}
+	members := &Members{t: t, folder: t.TempDir(), options: options, Config: config}
+	names, scheme := []string{}, "http://"
+	if config.TLS != nil {
+		scheme = "https://"
+	}
 	for at := 0; at < count; at++ {
-		members.Clients = append(members.Clients, "http://"+freePort(t))
+		members.Clients = append(members.Clients, scheme+freePort(t))
 		members.peers = append(members.peers, "http://"+freePort(t))
 		names = append(names, fmt.Sprintf("m%d=%s", at, members.peers[at]))
 	}
-	members.cluster = strings.Join(names, ",")
+	members.cluster, members.Config.Members = strings.Join(names, ","), members.Clients
 	members.commands = make([]*exec.Cmd, count)
 	for at := range members.commands {
 		members.Begin(at)
@@ -68,6 +80,7 @@ func (members *Members) Begin(at int) {
 		"--listen-client-urls", members.Clients[at], "--advertise-client-urls", members.Clients[at],
 		"--listen-peer-urls", members.peers[at], "--initial-advertise-peer-urls", members.peers[at],
 		"--initial-cluster", members.cluster, "--log-level", "fatal")
+	command.Args = append(command.Args, members.options...)
 	command.SysProcAttr = &syscall.SysProcAttr{Pdeathsig: syscall.SIGKILL}
 	if err := command.Start(); err != nil {
 		members.t.Fatal(err)
@@ -91,7 +104,7 @@ func (members *Members) Signal(at int, signal syscall.Signal) {
 
 // Engine gives an engine for all members, which is closed at the end of the test.
 func (members *Members) Engine() *engine.Engine {
-	opened := engine.Open(engine.Config{Members: members.Clients})
+	opened := engine.Open(members.Config)
 	members.t.Cleanup(opened.Close)
 	return opened
 }

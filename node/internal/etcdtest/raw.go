@@ -19,7 +19,8 @@ func (members *Members) Client() *clientv3.Client {
 	members.t.Helper()
 	quiet := zap.NewProductionConfig()
 	quiet.Level = zap.NewAtomicLevelAt(zap.FatalLevel)
-	client, err := clientv3.New(clientv3.Config{Endpoints: members.Clients, DialTimeout: 5 * time.Second, LogConfig: &quiet})
+	client, err := clientv3.New(clientv3.Config{Endpoints: members.Clients, DialTimeout: 5 * time.Second, LogConfig: &quiet,
+		TLS: members.Config.TLS, Username: members.Config.User, Password: members.Config.Password})
 	if err != nil {
 		members.t.Fatal(err)
 	}
@@ -31,6 +32,21 @@ func (members *Members) Client() *clientv3.Client {
 func (members *Members) Put(key, value string) {
 	members.t.Helper()
 	if _, err := members.Client().Put(members.context(), key, value); err != nil {
+		members.t.Fatal(err)
+	}
+}
+
+// Create creates a key where there is none, by one transaction.
+func (members *Members) Create(client *clientv3.Client, key string, value []byte) error {
+	_, err := client.Txn(context.Background()).If(clientv3.Compare(clientv3.CreateRevision(key), "=", 0)).
+		Then(clientv3.OpPut(key, string(value))).Commit()
+	return err
+}
+
+// Delete takes away the keys that begin so.
+func (members *Members) Delete(prefix string) {
+	members.t.Helper()
+	if _, err := members.Client().Delete(members.context(), prefix, clientv3.WithPrefix()); err != nil {
 		members.t.Fatal(err)
 	}
 }

@@ -2,6 +2,7 @@ package etcdtest
 
 import (
 	"context"
+	"fmt"
 	"time"
 
 	"go.etcd.io/etcd/clientv3"
@@ -47,6 +48,37 @@ func (members *Members) Create(client *clientv3.Client, key string, value []byte
 func (members *Members) Delete(prefix string) {
 	members.t.Helper()
 	if _, err := members.Client().Delete(members.context(), prefix, clientv3.WithPrefix()); err != nil {
+		members.t.Fatal(err)
+	}
+}
+
+// Fill puts keys until the engine is full.
+func (members *Members) Fill() {
+	client, value := members.Client(), make([]byte, 100_000)
+	for count := 0; ; count++ {
+		if _, err := client.Put(members.context(), fmt.Sprintf("fill/%d", count), string(value)); err != nil {
+			return
+		}
+	}
+}
+
+// Free has an engine that was filled take writes again, as docs/MACHINES.md says.
+func (members *Members) Free() {
+	members.t.Helper()
+	client, ctx := members.Client(), members.context()
+	done, err := client.Delete(ctx, "fill/", clientv3.WithPrefix())
+	if err == nil {
+		_, err = client.Compact(ctx, done.Header.Revision, clientv3.WithCompactPhysical())
+	}
+	for _, member := range members.Clients {
+		if err == nil {
+			_, err = client.Defragment(ctx, member)
+		}
+	}
+	if err == nil {
+		_, err = client.AlarmDisarm(ctx, &clientv3.AlarmMember{})
+	}
+	if err != nil {
 		members.t.Fatal(err)
 	}
 }

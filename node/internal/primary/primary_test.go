@@ -50,9 +50,9 @@ func (lines *lines) Write(text []byte) (int, error) {
 	return lines.text.Write(text)
 }
 
-func deploy(t *testing.T, members int) *deployment {
+func deploy(t *testing.T, members int, options ...string) *deployment {
 	lines := &lines{}
-	deployment := &deployment{t: t, members: etcdtest.Start(t, members), lines: lines, log: logs.New(lines)}
+	deployment := &deployment{t: t, members: etcdtest.Start(t, members, options...), lines: lines, log: logs.New(lines)}
 	t.Cleanup(func() {
 		if t.Failed() {
 			t.Log(lines.text.String())

@@ -56,40 +56,43 @@ func (writing *writing) run(ctx context.Context) error {
 	ends, ended := ctx.Done(), time.Duration(0)
 	for {
 		isHeld := writing.lease.Held()
-		if ended == 0 && isHeld {
-			if err := writing.take(); err != nil {
-				return err
-			}
-			writing.lookForLeases(sending)
-		}
-		if isHeld {
-			if err := writing.seal(sending); err != nil {
-				return err
-			}
+		if err := writing.work(sending, isHeld, ended > 0); err != nil {
+			return err
 		}
 		if (ended > 0 || !isHeld) && (writing.flying == nil || ended > 0 && clock.Now() > ended) {
 			return nil
 		}
 		timer := time.NewTimer(writing.wait(ended > 0))
+		var err error
 		select {
-		case err := <-writing.landed:
-			if err = writing.land(err); err != nil {
-				timer.Stop()
-				return err
-			}
+		case landed := <-writing.landed:
+			err = writing.land(landed)
 		case site := <-writing.absent:
-			if err := writing.goes(site); err != nil {
-				timer.Stop()
-				return err
-			}
+			err = writing.goes(site)
 		case <-writing.calls.wake:
 		case <-writing.lease.Changed():
 		case <-timer.C:
 		case <-ends:
 			ends, ended = nil, clock.Now()+endTime
 		}
-		timer.Stop()
+		if timer.Stop(); err != nil {
+			return err
+		}
 	}
+}
+
+// work takes what came, unless the process ends, and sends the open turn. Without the lease it does neither.
+func (writing *writing) work(sending context.Context, isHeld, ends bool) error {
+	if !isHeld {
+		return nil
+	}
+	if !ends {
+		if err := writing.take(); err != nil {
+			return err
+		}
+		writing.lookForLeases(sending)
+	}
+	return writing.seal(sending)
 }
 
 // wait is after how long there is something to do though nothing comes.
@@ -153,55 +156,12 @@ func (writing *writing) ask(core *epoch.Core, came []*call, now time.Duration) e
 		}
 		return err
 	}
-	atomic.AddInt64(&writing.counts.Requests, int64(len(came)))
-	calls := &writing.calls
-	calls.lock.Lock()
-	defer calls.lock.Unlock()
-	var later []*call
-	for at, verdict := range verdicts {
-		call := came[at]
-		switch verdict.Kind {
-		case epoch.Waits:
-			key := asked{call.request.Client, call.request.Number}
-			calls.waiting[key] = append(calls.waiting[key], call)
-		case epoch.NotNow:
-			atomic.AddInt64(&writing.counts.Requests, -1)
-			later = append(later, call)
-		case epoch.Answered:
-			call.done <- outcome{text: verdict.Text}
-		case epoch.Passed:
-			call.done <- outcome{err: &PassedError{verdict.Last}}
-		case epoch.Differs:
-			call.done <- outcome{err: ErrDiffers}
-		default:
-			call.done <- outcome{err: ErrMalformed}
-		}
-	}
-	if len(later) > 0 {
-		calls.queue, writing.retry = append(later, calls.queue...), now+retryAfter
+	later := writing.calls.sort(came, verdicts)
+	atomic.AddInt64(&writing.counts.Requests, int64(len(came)-later))
+	if later > 0 {
+		writing.retry = now + retryAfter
 	}
 	return nil
-}
-
-func (calls *calls) keepWish(next *nextCall) {
-	calls.lock.Lock()
-	defer calls.lock.Unlock()
-	calls.wishes = append(calls.wishes, next)
-}
-
-// tellWishes tells who waits for an epoch that has begun.
-func (calls *calls) tellWishes(begun int64) {
-	calls.lock.Lock()
-	defer calls.lock.Unlock()
-	left := calls.wishes[:0]
-	for _, next := range calls.wishes {
-		if next.wish.From < begun {
-			next.done <- outcome{}
-		} else {
-			left = append(left, next)
-		}
-	}
-	calls.wishes = left
 }
 
 // seal sends the open turn, where none is on its way.
@@ -258,17 +218,7 @@ func (writing *writing) land(err error) error {
 		writing.noteEpoch()
 		writing.config.Log.Info("epoch", "epoch", turn.Epoch, "entry", turn.Number)
 	}
-	calls := &writing.calls
-	calls.lock.Lock()
-	defer calls.lock.Unlock()
-	for at := range turn.Answers {
-		answer := &turn.Answers[at]
-		key := asked{answer.Name, answer.Number}
-		for _, call := range calls.waiting[key] {
-			call.done <- outcome{text: answer.Text}
-		}
-		delete(calls.waiting, key)
-	}
+	writing.calls.tell(turn.Answers)
 	atomic.AddInt64(&writing.counts.Answers, int64(len(turn.Answers)))
 	return nil
 }

@@ -1,5 +1,5 @@
-// Package store says what the rest of the program asks of a store of ordup. *ordup.Store of clients/go is one, and package modelstore has one for
-// tests, which links no library.
+// Package store says what the rest of the program asks of a store of ordup.
+// *ordup.Store of clients/go is one, and package modelstore has one for tests, which links no library.
 package store
 
 // A Store takes lines of ordup and gives their answers.

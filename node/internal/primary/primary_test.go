@@ -145,10 +145,10 @@ func (deployment *deployment) ask(client string, number int64, changes string) s
 			return err
 		})
 		var other *primary.NotWriterError
-		if !errors.As(err, &other) {
-			if err != nil {
-				return err.Error()
-			}
+		if err != nil && !errors.As(err, &other) && err != primary.ErrFull {
+			return err.Error()
+		}
+		if err == nil {
 			return answer.Text
 		}
 		time.Sleep(10 * time.Millisecond)

@@ -1,6 +1,10 @@
 package epoch
 
-import "ordup-node/internal/script"
+import (
+	"strings"
+
+	"ordup-node/internal/script"
+)
 
 // An asker is a request without its changes.
 type asker struct {
@@ -22,8 +26,11 @@ type client struct {
 // clients has the last request of each client.
 type clients map[string]client
 
-// take notes that a request is taken.
+// take notes that a request is taken. A new name is copied, since it may be a part of a whole entry, which would stay in memory.
 func (clients clients) take(asked asker, epoch int64) {
+	if _, isKnown := clients[asked.name]; !isKnown {
+		asked.name = strings.Clone(asked.name)
+	}
 	clients[asked.name] = client{number: asked.number, digest: asked.digest, epoch: epoch}
 }
 

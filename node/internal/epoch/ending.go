@@ -24,6 +24,9 @@ type Wish struct {
 	Settings script.Settings
 	// Declarations are those of the next epoch. Without any they stay, and with them an object that stays keeps its value.
 	Declarations []string
+	// Replaces is whether it takes the place of another wish for this epoch, which cannot come true while a site is away. Sites that the
+	// other one took out have left all the same, up to the next epoch.
+	Replaces bool
 }
 
 // Why a wish is not taken.
@@ -128,12 +131,14 @@ func (core *Core) AskNext(wish Wish) error {
 	switch {
 	case wish.From < core.epoch && wish.Settings == core.settings:
 		return nil
-	case wish.From < core.epoch || core.carry != nil || core.wish != nil && !wish.isLike(core.wish):
+	case wish.From < core.epoch || core.carry != nil:
 		return ErrOtherWish
 	case wish.From > core.epoch:
 		return ErrNotYet
-	case core.wish != nil:
+	case core.wish != nil && wish.Settings == core.wish.Settings:
 		return nil
+	case core.wish != nil && !wish.Replaces:
+		return ErrOtherWish
 	}
 	if err := core.mayWish(&wish); err != nil {
 		return err
@@ -143,14 +148,14 @@ func (core *Core) AskNext(wish Wish) error {
 		steps = append(steps, script.Step{Kind: script.Want, Text: line})
 	}
 	for _, site := range core.sites.all {
-		if len(wish.Declarations) > 0 && !declares(wish.Declarations, site.name) {
+		if len(wish.Declarations) > 0 && !site.leaves && !declares(wish.Declarations, site.name) {
 			steps = append(steps, script.Step{Kind: script.Leave, Name: site.name})
 		}
 	}
 	return core.add(steps)
 }
 
-// complete fills in what stays.
+// complete fills in what stays. Then two wishes are for the same if their settings are, since these have the digest of declarations.
 func (core *Core) complete(wish *Wish) {
 	if wish.Settings.Every == 0 {
 		wish.Settings.Every = core.settings.Every
@@ -166,9 +171,6 @@ func (core *Core) complete(wish *Wish) {
 		wish.Settings.Origin = DigestOf(wish.Declarations)
 	}
 }
-
-// isLike is whether two wishes are for the same. Origin is the digest of their declarations.
-func (wish *Wish) isLike(other *Wish) bool { return wish.Settings == other.Settings }
 
 // mayWish tells why the next epoch cannot be as it is wished.
 func (core *Core) mayWish(wish *Wish) error {

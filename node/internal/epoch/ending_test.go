@@ -122,6 +122,30 @@ func TestOneWishEndsOneEpoch(t *testing.T) {
 	is(t, int64(3), world.core.Epoch())
 }
 
+func TestAWishTakesThePlaceOfAnother(t *testing.T) {
+	world := newWorld(t, settings, append(shop[:4:4], "site east 1", "start"))
+	world.ask("ann", 1, "add:tea:-1")
+	world.next("object tea 1", "site north 1", "site south 1", "start")
+	world.write()
+	is(t, nil, world.core.Gone("east"))
+	world.tell("south", 1)
+	world.write() // North is away for good.
+	wish := Wish{From: 1, Declarations: []string{"object tea 1", "site south 1", "site east 1", "start"}}
+	is(t, ErrOtherWish, world.core.AskNext(wish))
+	wish.Replaces = true
+	is(t, nil, world.core.AskNext(wish))
+	is(t, nil, world.core.AskNext(wish))
+	world.write()
+	is(t, []int{2, 2}, []int{world.count("wish"), world.count("leave")})
+	is(t, nil, world.core.Gone("north"))
+	world.write()
+	is(t, int64(2), world.core.Epoch())
+	is(t, nil, world.core.AskNext(wish))
+	is(t, ErrOtherWish, world.core.AskNext(Wish{From: 1, Declarations: shop}))
+	is(t, []string{"south", "east"}, []string{world.core.sites.all[0].name, world.core.sites.all[1].name})
+	is(t, fmt.Sprint(world.core.clients), fmt.Sprint(world.replay(config("p2")).clients))
+}
+
 func TestWishesThatCannotBe(t *testing.T) {
 	world := newWorld(t, settings, shop)
 	for _, wish := range []Wish{

@@ -157,14 +157,14 @@ func (calls *calls) keepWish(next *nextCall) {
 	calls.wishes = append(calls.wishes, next)
 }
 
-// tellWishes tells who waits for an epoch that has begun.
-func (calls *calls) tellWishes(begun int64) {
+// tellWishes tells who waits for an epoch that has begun, whether it is as it was wished.
+func (calls *calls) tellWishes(core *epoch.Core) {
 	calls.lock.Lock()
 	defer calls.lock.Unlock()
 	left := calls.wishes[:0]
 	for _, next := range calls.wishes {
-		if next.wish.From < begun {
-			next.done <- outcome{}
+		if next.wish.From < core.Begun() {
+			next.done <- outcome{err: core.AskNext(next.wish)}
 		} else {
 			left = append(left, next)
 		}

@@ -132,7 +132,7 @@ func (writing *writing) take() error {
 			return err
 		}
 		writing.again, err = core.Work(now)
-		calls.tellWishes(core.Begun())
+		calls.tellWishes(core)
 		return err
 	})
 }

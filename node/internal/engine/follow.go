@@ -30,14 +30,11 @@ func (engine *Engine) Follow(ctx context.Context, from int64, take func([]Raw) e
 		return take(entries)
 	}
 	for {
-		entries, more, revision, err := engine.Entries(ctx, next, 0)
+		revision, err := engine.ReadAll(ctx, next, takes)
 		if err == nil {
-			err = takes(entries)
-		}
-		if err == nil && !more {
 			err = engine.watch(ctx, &next, revision+1, takes)
 		}
-		if err != nil && !errors.Is(err, errCompacted) {
+		if !errors.Is(err, errCompacted) {
 			return err
 		}
 	}

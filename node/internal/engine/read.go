@@ -74,6 +74,46 @@ func (engine *Engine) Entries(ctx context.Context, from, revision int64) (entrie
 	}
 }
 
+// A page is what Entries gives.
+type page struct {
+	entries  []Raw
+	more     bool
+	revision int64
+	err      error
+}
+
+// ReadAll gives all entries from a number on to a function, a page at a time. The next page is on its way while one is taken. It returns
+// the revision up to which all is read.
+func (engine *Engine) ReadAll(ctx context.Context, from int64, take func([]Raw) error) (revision int64, err error) {
+	reading, cancel := context.WithCancel(ctx)
+	defer cancel()
+	pages := make(chan page)
+	go func() {
+		defer close(pages)
+		for read := (page{more: true}); read.more && read.err == nil; {
+			read.entries, read.more, read.revision, read.err = engine.Entries(reading, from, 0)
+			if count := len(read.entries); count > 0 {
+				from = read.entries[count-1].Number + 1
+			}
+			select {
+			case pages <- read:
+			case <-reading.Done():
+				return
+			}
+		}
+	}()
+	for read := range pages {
+		if err = read.err; err == nil && len(read.entries) > 0 {
+			err = take(read.entries)
+		}
+		if err != nil {
+			return 0, err
+		}
+		revision = read.revision
+	}
+	return revision, ctx.Err()
+}
+
 func at0(revision, read int64) int64 {
 	if revision == 0 {
 		return read

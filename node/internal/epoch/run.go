@@ -101,7 +101,7 @@ func (core *Core) noteSettle(answers *answers) {
 	line := answers.next()
 	if place, isAcked := numberAfter(line, "ok acked "); isAcked && place == core.acknowledged+1 && place <= core.updates {
 		core.acknowledged, core.round = place, nil
-		core.decide(core.waiting.pop(), fmt.Sprintf("ok acked %d epoch %d", place, core.epoch))
+		core.decide(core.waiting.pop(), ackedText(place, core.epoch))
 		return
 	}
 	words := bytes.Split(line, []byte(" "))
@@ -117,6 +117,12 @@ func (core *Core) noteSettle(answers *answers) {
 			site.rounds++
 		}
 	}
+}
+
+// ackedText is the answer to a request whose update is acknowledged.
+func ackedText(place, epoch int64) string {
+	text := strconv.AppendInt(append(make([]byte, 0, 40), "ok acked "...), place, 10)
+	return string(strconv.AppendInt(append(text, " epoch "...), epoch, 10))
 }
 
 func (core *Core) noteTell(step *script.Step, answers *answers) {

@@ -163,18 +163,8 @@ func (primary *Primary) catchUp(ctx context.Context) error {
 	if err := primary.start(ctx); err != nil {
 		return err
 	}
-	for {
-		entries, more, _, err := primary.config.Engine.Entries(ctx, primary.next(), 0)
-		if err == nil {
-			err = primary.replay(entries)
-		}
-		if err != nil {
-			return primary.gap(ctx, err)
-		}
-		if len(entries) == 0 && !more {
-			return nil
-		}
-	}
+	_, err := primary.config.Engine.ReadAll(ctx, primary.next(), primary.replay)
+	return primary.gap(ctx, err)
 }
 
 // takeOver writes an entry after the last one. From then on no other primary that runs can write.

@@ -221,7 +221,7 @@ func (keeper *Keeper) copy(ctx context.Context, to io.Writer, from, end int64) (
 			if isSame = entry.Epoch == epoch && next < end; !isSame {
 				break
 			}
-			if _, err = lines.Write(entry.AppendArchive(nil)); err != nil {
+			if _, err = lines.Write(entry.AppendArchive(nil, next)); err != nil {
 				return 0, own, err
 			}
 			next++

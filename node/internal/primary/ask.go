@@ -68,7 +68,7 @@ func (primary *Primary) queue(call *call) error {
 		return &NotWriterError{calls.address}
 	case atomic.LoadInt64(&primary.counts.Full) > 0:
 		return ErrFull
-	case len(calls.queue) >= MostQueued || len(calls.waiting) >= MostWaiting:
+	case len(calls.queue) >= MostQueued || calls.waiters >= MostWaiting:
 		return ErrBusy
 	}
 	calls.queue = append(calls.queue, call)

@@ -41,6 +41,7 @@ type calls struct {
 	// What is not taken yet, who waits for a turn, and who for an epoch.
 	queue   []*call
 	waiting map[asked][]*call
+	waiters int
 	nexts   []*nextCall
 	wishes  []*nextCall
 	wake    chan struct{}
@@ -65,7 +66,7 @@ func (calls *calls) writer() string {
 func (calls *calls) sizes() (waiting, queued int) {
 	calls.lock.Lock()
 	defer calls.lock.Unlock()
-	return len(calls.waiting) + len(calls.queue), len(calls.queue)
+	return calls.waiters + len(calls.queue), len(calls.queue)
 }
 
 // awaken has Run look at what came.
@@ -106,7 +107,7 @@ func (calls *calls) failAll(err error) {
 	for _, next := range append(calls.nexts, calls.wishes...) {
 		next.done <- outcome{err: err}
 	}
-	calls.queue, calls.waiting, calls.nexts, calls.wishes = nil, map[asked][]*call{}, nil, nil
+	calls.queue, calls.waiting, calls.waiters, calls.nexts, calls.wishes = nil, map[asked][]*call{}, 0, nil, nil
 }
 
 // sort has each call wait for what its verdict says, or tells it. It returns how many wait to be taken, as before.
@@ -120,6 +121,7 @@ func (calls *calls) sort(came []*call, verdicts []epoch.Verdict) int {
 		case epoch.Waits:
 			key := asked{call.request.Client, call.request.Number}
 			calls.waiting[key] = append(calls.waiting[key], call)
+			calls.waiters++
 		case epoch.NotNow:
 			later = append(later, call)
 		case epoch.Answered:
@@ -146,6 +148,7 @@ func (calls *calls) tell(answers []script.Step) {
 		key := asked{answers[at].Name, answers[at].Number}
 		for _, call := range calls.waiting[key] {
 			call.done <- outcome{text: answers[at].Text}
+			calls.waiters--
 		}
 		delete(calls.waiting, key)
 	}
@@ -177,7 +180,9 @@ func (calls *calls) drop(gone *call) {
 	calls.lock.Lock()
 	defer calls.lock.Unlock()
 	key := asked{gone.request.Client, gone.request.Number}
-	if left := without(calls.waiting[key], gone); len(left) > 0 {
+	left := without(calls.waiting[key], gone)
+	calls.waiters -= len(calls.waiting[key]) - len(left)
+	if len(left) > 0 {
 		calls.waiting[key] = left
 	} else {
 		delete(calls.waiting, key)

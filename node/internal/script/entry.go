@@ -68,8 +68,9 @@ func (entry *Entry) Text() []byte {
 	return text
 }
 
-// AppendArchive appends the entry as an archive has it: its lines as comments, each with the lines of ordup behind it.
-func (entry *Entry) AppendArchive(to []byte) []byte {
+// AppendArchive appends the entry as an archive has it: its number and its lines as comments, each with the lines of ordup behind it.
+func (entry *Entry) AppendArchive(to []byte, number int64) []byte {
+	to = append(strconv.AppendInt(append(to, "# entry "...), number, 10), '\n')
 	header := Entry{Epoch: entry.Epoch, Ordup: entry.Ordup, Writer: entry.Writer}
 	to = append(append(to, "# "...), header.Text()...)
 	for at := range entry.Steps {

@@ -58,10 +58,10 @@ func TestAnArchiveHasTheLinesOfOrdup(t *testing.T) {
 		{Kind: Tell, Name: "south", Count: 2}, {Kind: Ask, Name: "ann", Number: 1, Text: "add:tea:1"}, {Kind: Settle, Count: 2},
 	}}
 	wants := strings.Join([]string{
-		"# ordup-node 1 epoch 1 ordup 0.2.0 writer p1",
+		"# entry 17", "# ordup-node 1 epoch 1 ordup 0.2.0 writer p1",
 		"# tell south 2", "send south", "apply south", "send south", "apply south", "report south",
 		"# ask ann 1 add:tea:1", "propose add:tea:1", "# settle 2", "settle", "settle", ""}, "\n")
-	if text := string(entry.AppendArchive(nil)); text != wants {
+	if text := string(entry.AppendArchive(nil, 17)); text != wants {
 		t.Errorf("the archive is\n%s", text)
 	}
 }

@@ -1,6 +1,7 @@
 package primary_test
 
 import (
+	"bufio"
 	"context"
 	"fmt"
 	"os"
@@ -33,17 +34,22 @@ func startAs(words []string) int {
 	begun, own := time.Now(), engine.Open(engine.Config{Members: words[1:]})
 	ctx, cancel := context.WithCancel(context.Background())
 	defer cancel()
+	var served *site.Site
 	isThere, run := func() bool { return false }, func(context.Context) error { return nil }
 	switch words[0] {
 	case "primary":
 		made, _ := primary.New(primary.Config{Engine: own, Open: openStore, Host: "p", Address: "a", Versions: []string{"1"}, Copies: 1, Folder: "/dev/null"})
 		isThere, run = func() bool { return made.Status().Writes }, made.Run
-	case "site":
-		made, _ := site.New(site.Config{Engine: own, Open: openStore, Name: "south", Host: "s", Versions: []string{"1"}, Teller: nowhere{}})
+	case "site", "reader":
+		made, _ := site.New(site.Config{Engine: own, Open: openStore, Name: "north", Host: "s", Versions: []string{"1"}, Teller: nowhere{}})
+		served = made
 		isThere, run = func() bool { return made.Status().Serves }, made.Run
 	}
 	done := make(chan error, 1)
 	go func() { done <- run(ctx) }()
+	if words[0] == "reader" {
+		return readLines(served)
+	}
 	for ; !isThere(); time.Sleep(time.Millisecond) {
 		if len(done) > 0 {
 			fmt.Println("fails", <-done)
@@ -58,6 +64,19 @@ func startAs(words []string) int {
 	}
 	cancel()
 	<-done
+	return 0
+}
+
+// readLines answers each line of the standard input with what a reader is told then.
+func readLines(at *site.Site) int {
+	for lines := bufio.NewScanner(os.Stdin); lines.Scan(); {
+		reading, err := at.Read(context.Background(), site.Seen{})
+		if err != nil {
+			fmt.Println("nobody")
+			continue
+		}
+		fmt.Println("place", reading.Place)
+	}
 	return 0
 }
 

@@ -48,8 +48,9 @@ func (keeper *Keeper) Waiting() int64 { return atomic.LoadInt64(&keeper.waiting)
 // NameOf is the name of the file of an epoch.
 func NameOf(epoch int64) string { return fmt.Sprintf("epoch-%d.ordup", epoch) }
 
-// Run archives what has ended, and what ends, until the context ends.
+// Run archives what has ended, and what ends, until the context ends. Then it closes its engine.
 func (keeper *Keeper) Run(ctx context.Context) {
+	defer keeper.Engine.Close()
 	for ctx.Err() == nil {
 		waits, err := keeper.Pass(ctx)
 		if err != nil && ctx.Err() == nil {

@@ -5,6 +5,8 @@ import (
 	"fmt"
 
 	"go.etcd.io/etcd/etcdserver/api/v3rpc/rpctypes"
+
+	"ordup-node/internal/exit"
 )
 
 // An AwayError says that a member could not be reached, was too slow, or has no majority. Whether a write was taken is not known. The
@@ -46,6 +48,9 @@ type MissingError struct{ Number int64 }
 func (err *MissingError) Error() string {
 	return fmt.Sprintf("the script lacks the entry %d", err.Number)
 }
+
+// ExitStatus is that of a process which meets it.
+func (*MissingError) ExitStatus() exit.Status { return exit.Gap }
 
 // errCompacted says that the past from which something was asked is gone.
 var errCompacted = errors.New("the past is compacted")

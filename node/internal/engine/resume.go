@@ -5,6 +5,8 @@ import (
 	"crypto/sha256"
 	"errors"
 	"fmt"
+
+	"ordup-node/internal/exit"
 )
 
 // ErrLaterEpoch says that the script begins with a later epoch than the one that was run: that one is archived. Whoever ran it begins
@@ -17,6 +19,9 @@ type ChangedError struct{ Number int64 }
 func (err *ChangedError) Error() string {
 	return fmt.Sprintf("the script has no more the entry %d that this process has run", err.Number)
 }
+
+// ExitStatus is that of a process which meets it.
+func (*ChangedError) ExitStatus() exit.Status { return exit.Gap }
 
 // A Mark is the last entry of a script that a process has run.
 type Mark struct {

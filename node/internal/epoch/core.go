@@ -1,9 +1,11 @@
 package epoch
 
 import (
+	"errors"
 	"fmt"
 	"time"
 
+	"ordup-node/internal/exit"
 	"ordup-node/internal/script"
 	"ordup-node/internal/store"
 )
@@ -63,6 +65,9 @@ func (err *GapError) Error() string {
 	return fmt.Sprintf("the script has the entry %d where %d comes", err.Instead, err.Number)
 }
 
+// ExitStatus is that of a process which meets it.
+func (*GapError) ExitStatus() exit.Status { return exit.Gap }
+
 // A BrokenError says that an entry cannot be of this script, or that a store gave other answers than the one that wrote it.
 type BrokenError struct {
 	Number int64
@@ -70,6 +75,9 @@ type BrokenError struct {
 }
 
 func (err *BrokenError) Error() string { return fmt.Sprintf("the entry %d: %s", err.Number, err.Why) }
+
+// ExitStatus is that of a process which meets it.
+func (*BrokenError) ExitStatus() exit.Status { return exit.Gap }
 
 // A VersionError says that an entry is run by a version of ordup which this program is not.
 type VersionError struct {
@@ -80,6 +88,19 @@ type VersionError struct {
 
 func (err *VersionError) Error() string {
 	return fmt.Sprintf("the entry %d is run by ordup %s, and this program has %v", err.Number, err.Version, err.Supported)
+}
+
+// ExitStatus is that of a process which meets it.
+func (*VersionError) ExitStatus() exit.Status { return exit.Words }
+
+// Parse reads an entry of the script. Where the text is none that is a BrokenError, and of another format a script.FormatError.
+func Parse(number int64, text []byte) (*script.Entry, error) {
+	entry, err := script.Parse(text)
+	var format *script.FormatError
+	if err == nil || errors.As(err, &format) {
+		return entry, err
+	}
+	return nil, &BrokenError{number, err.Error()}
 }
 
 // New gives a core before the entry of this number, which is the first one of an epoch.

@@ -4,6 +4,8 @@ import (
 	"errors"
 	"fmt"
 	"time"
+
+	"ordup-node/internal/exit"
 )
 
 // Near is how many updates a site may lack at the end of an epoch and still be here.
@@ -40,6 +42,9 @@ func (err *CannotBeError) Error() string {
 	return fmt.Sprintf("the site %s told %d updates of epoch %d up to the entry %d, and there are %d",
 		err.Place.Site, err.Place.Applied, err.Place.Epoch, err.Place.Entry, err.Updates)
 }
+
+// ExitStatus is that of a process which meets it.
+func (*CannotBeError) ExitStatus() exit.Status { return exit.NoPlace }
 
 // A site is what is known of a site of the epoch.
 type site struct {

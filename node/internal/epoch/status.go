@@ -35,13 +35,14 @@ type SiteStatus struct {
 func (core *Core) Status(now time.Duration) Status {
 	status := Status{
 		Epoch: core.epoch, Entries: core.entries, Written: core.written, Requests: core.asks, Updates: core.updates,
-		Acknowledged: core.acknowledged, Clients: len(core.clients), Due: core.isDue(), Ending: core.carry != nil,
+		Acknowledged: core.acknowledged, Clients: len(core.clients), Due: core.store != nil && core.isDue(), Ending: core.carry != nil,
 	}
 	if core.roundSince > 0 {
 		status.HeadWaits = now - core.roundSince
 	}
 	for _, site := range core.sites.all {
-		seen := SiteStatus{Name: site.name, Applied: site.known(), Rounds: site.rounds, HasTold: site.wasHeard, Leaves: site.leaves, Gone: site.gone}
+		seen := SiteStatus{Name: site.name, Applied: site.known(), Rounds: site.rounds, HasTold: site.wasHeard,
+			Leaves: site.leaves, Gone: site.gone}
 		if missing := core.acknowledged - site.known(); missing > 0 {
 			seen.Missing = missing
 		}

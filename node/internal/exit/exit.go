@@ -12,40 +12,41 @@ const (
 	Done Status = 0
 	// Environment says that something outside cannot be used: a file, a port, memory, the user of the engine.
 	Environment Status = 1
-	// Words says that words, settings or declarations are wrong, or not those of the script.
+	// Words says that words, settings or declarations are wrong, or not those of the script, also its version.
 	Words Status = 2
-	// Gap says that the script lacks an entry, or has one that is none.
+	// Gap says that the script lacks an entry, has one that is none, or comes to something else at this process.
 	Gap Status = 3
 	// NotInScript says that the site is not among those of the script.
 	NotInScript Status = 4
-	// NoPlace says that a site told a place that no site can have told.
+	// NoPlace says that the site told a place that no site can have told.
 	NoPlace Status = 5
 )
 
-type withStatus struct {
+// An Ending is an error that says with which status the process ends.
+type Ending interface {
+	error
+	ExitStatus() Status
+}
+
+type ending struct {
 	error
 	status Status
 }
 
-func (err *withStatus) Unwrap() error { return err.error }
+func (err *ending) Unwrap() error      { return err.error }
+func (err *ending) ExitStatus() Status { return err.status }
 
 // With is an error that ends the process with a status.
-func With(status Status, err error) error { return &withStatus{err, status} }
-
-// Has is whether an error says with which status the process ends.
-func Has(err error) bool {
-	var has *withStatus
-	return errors.As(err, &has)
-}
+func With(status Status, err error) error { return &ending{err, status} }
 
 // Of is the status of an error: Done without one, and Environment where it says none.
 func Of(err error) Status {
-	var has *withStatus
+	var ends Ending
 	switch {
 	case err == nil:
 		return Done
-	case errors.As(err, &has):
-		return has.status
+	case errors.As(err, &ends):
+		return ends.ExitStatus()
 	}
 	return Environment
 }

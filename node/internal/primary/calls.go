@@ -38,6 +38,7 @@ type calls struct {
 	// Whether this process writes, and else who does. Over is set once the process ends.
 	open, over bool
 	address    string
+	own        string
 	// What is not taken yet, who waits for a turn, and who for an epoch.
 	queue   []*call
 	waiting map[asked][]*call
@@ -47,8 +48,8 @@ type calls struct {
 	wake    chan struct{}
 }
 
-func (calls *calls) init() {
-	calls.waiting, calls.wake = map[asked][]*call{}, make(chan struct{}, 1)
+func (calls *calls) init(own string) {
+	calls.own, calls.waiting, calls.wake = own, map[asked][]*call{}, make(chan struct{}, 1)
 }
 
 func (calls *calls) isOpen() bool {
@@ -77,10 +78,14 @@ func (calls *calls) awaken() {
 	}
 }
 
-// set says whether this process writes, and who does. Where it does no more, all who wait are told.
+// set says whether this process writes, and who does. Where it does no more, all who wait are told. The address of another process is
+// never its own, which wrote the last entry and does no more.
 func (calls *calls) set(open bool, address string) {
 	calls.lock.Lock()
 	defer calls.lock.Unlock()
+	if !open && address == calls.own {
+		address = ""
+	}
 	calls.open, calls.address = open && !calls.over, address
 	if !calls.open {
 		calls.failAll(&NotWriterError{address})

@@ -89,7 +89,7 @@ func New(config Config) (*Primary, error) {
 		return nil, exit.With(exit.Words, fmt.Errorf("archives lie at one host or more, and not at %d", config.Copies))
 	}
 	primary := &Primary{config: config, own: own, ended: make(chan struct{}, 1)}
-	primary.calls.init()
+	primary.calls.init(config.Address)
 	primary.keeper = &archive.Keeper{Engine: config.Engine.Apart(), Folder: config.Folder, Host: config.Host, Copies: config.Copies,
 		Log: config.Log, Ended: primary.ended}
 	primary.lease = config.Engine.NewLease(engine.PrimaryKey, own, config.Log, nil)
@@ -136,26 +136,7 @@ func (primary *Primary) heed(ctx context.Context, err error) error {
 		pause(ctx, afterFailure)
 		return nil
 	}
-	return primary.ends(err)
-}
-
-// ends gives an error the status with which the process ends.
-func (primary *Primary) ends(err error) error {
-	var missing *engine.MissingError
-	var changed *engine.ChangedError
-	var gap *epoch.GapError
-	var broken *epoch.BrokenError
-	var format *script.FormatError
-	var version *epoch.VersionError
-	switch {
-	case exit.Has(err):
-		return err
-	case errors.As(err, &missing) || errors.As(err, &changed) || errors.As(err, &gap) || errors.As(err, &broken):
-		return exit.With(exit.Gap, err)
-	case errors.As(err, &version) || errors.As(err, &format):
-		return exit.With(exit.Words, err)
-	}
-	return exit.With(exit.Environment, err)
+	return err
 }
 
 // forget drops what was run.

@@ -91,9 +91,9 @@ func (primary *Primary) newCore(first int64) *epoch.Core {
 func (primary *Primary) replay(entries []engine.Raw) error {
 	return primary.with(func(core *epoch.Core) error {
 		for _, raw := range entries {
-			entry, err := script.Parse(raw.Text)
+			entry, err := epoch.Parse(raw.Number, raw.Text)
 			if err != nil {
-				return brokenBy(raw.Number, err)
+				return err
 			}
 			if err = core.Replay(raw.Number, entry); err != nil {
 				return err
@@ -112,15 +112,6 @@ func (primary *Primary) replay(entries []engine.Raw) error {
 		}
 		return nil
 	})
-}
-
-// brokenBy says of a text that is no entry which one it is.
-func brokenBy(number int64, err error) error {
-	var format *script.FormatError
-	if errors.As(err, &format) {
-		return fmt.Errorf("the entry %d: %w", number, err)
-	}
-	return &epoch.BrokenError{Number: number, Why: err.Error()}
 }
 
 // noteEpoch has the archives looked at.

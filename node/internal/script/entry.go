@@ -19,6 +19,8 @@ import (
 	"fmt"
 	"strconv"
 	"strings"
+
+	"ordup-node/internal/exit"
 )
 
 // Format is the version of the format of entries that this package writes, and the only one that it reads.
@@ -51,6 +53,9 @@ type FormatError struct{ Format string }
 func (err *FormatError) Error() string {
 	return fmt.Sprintf("an entry has the format %s, and this program reads %d", err.Format, Format)
 }
+
+// ExitStatus is that of a process which meets it.
+func (*FormatError) ExitStatus() exit.Status { return exit.Words }
 
 // Text is the text of the entry, as the engine keeps it.
 func (entry *Entry) Text() []byte {

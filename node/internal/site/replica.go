@@ -11,6 +11,7 @@ import (
 	"strings"
 
 	"ordup-node/internal/epoch"
+	"ordup-node/internal/exit"
 	"ordup-node/internal/script"
 	"ordup-node/internal/store"
 )
@@ -43,6 +44,9 @@ type LeftError struct {
 func (err *LeftError) Error() string {
 	return fmt.Sprintf("the script has no site %s in epoch %d", err.Site, err.Epoch)
 }
+
+// ExitStatus is that of a process which meets it.
+func (*LeftError) ExitStatus() exit.Status { return exit.NotInScript }
 
 // A Replica is what entries come to at a site.
 type Replica struct {

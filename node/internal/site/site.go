@@ -138,12 +138,6 @@ func (site *Site) Run(ctx context.Context) error {
 
 // heed is whether an error ends the process.
 func (site *Site) heed(ctx context.Context, err error) error {
-	var left *LeftError
-	var changed *engine.ChangedError
-	var gap *epoch.GapError
-	var broken *epoch.BrokenError
-	var version *epoch.VersionError
-	var format *script.FormatError
 	switch {
 	case err == nil || ctx.Err() != nil:
 		return nil
@@ -155,16 +149,8 @@ func (site *Site) heed(ctx context.Context, err error) error {
 		site.config.Log.Info("runs-again", "why", err)
 		site.forget()
 		return nil
-	case errors.As(err, &left):
-		return exit.With(exit.NotInScript, err)
-	case errors.As(err, &changed) || errors.As(err, &gap) || errors.As(err, &broken):
-		return exit.With(exit.Gap, err)
-	case errors.As(err, &version) || errors.As(err, &format):
-		return exit.With(exit.Words, err)
-	case exit.Has(err):
-		return err
 	}
-	return exit.With(exit.Environment, err)
+	return err
 }
 
 // forget drops what was run.
@@ -204,13 +190,9 @@ func (site *Site) follow(ctx context.Context, reached func()) error {
 }
 
 func (site *Site) run(raw engine.Raw) error {
-	entry, err := script.Parse(raw.Text)
+	entry, err := epoch.Parse(raw.Number, raw.Text)
 	if err != nil {
-		var format *script.FormatError
-		if errors.As(err, &format) {
-			return fmt.Errorf("the entry %d: %w", raw.Number, err)
-		}
-		return &epoch.BrokenError{Number: raw.Number, Why: err.Error()}
+		return err
 	}
 	begun := site.replica.Epoch()
 	if err = site.replica.Replay(raw.Number, entry); err != nil {
@@ -257,7 +239,7 @@ func (site *Site) tellAll(ctx context.Context) error {
 			err := site.tell(ctx, place)
 			var cannotBe *epoch.CannotBeError
 			if errors.As(err, &cannotBe) {
-				return exit.With(exit.NoPlace, err)
+				return err
 			}
 			if err == nil {
 				told = place

@@ -125,6 +125,42 @@ func TestFollowSurvivesCompaction(t *testing.T) {
 	is(t, context.Canceled, <-done)
 }
 
+// Entries come over a thin link too, those that are there and those that are written later, though one takes longer than a call may.
+func TestAThinLink(t *testing.T) {
+	members := etcdtest.Start(t, 1)
+	writer, link := members.Engine(), members.Link()
+	own := link.Engine(t)
+	large := strings.Repeat("x", 400_000)
+	is(t, nil, writer.Write(within(t, 10*time.Second), &engine.Write{Number: 1, Text: []byte(large), Epoch: 1, First: 1}))
+	for number := int64(2); number <= 20; number++ {
+		is(t, nil, write(t, writer, number, "small"))
+	}
+	link.Rate(100_000)
+	ctx, cancel := context.WithCancel(within(t, 60*time.Second))
+	defer cancel()
+	next := int64(1)
+	for next <= 22 && ctx.Err() == nil {
+		err := own.Follow(ctx, next, func(entries []engine.Raw) error {
+			for _, entry := range entries {
+				is(t, next, entry.Number)
+				next++
+			}
+			if next == 21 {
+				is(t, nil, write(t, writer, 21, large))
+				is(t, nil, write(t, writer, 22, "small"))
+			}
+			if next == 23 {
+				cancel()
+			}
+			return nil
+		})
+		is(t, true, engine.IsAway(err) || next == 23)
+	}
+	is(t, 23, next)
+	t.Logf("%d calls failed", own.Failures())
+	is(t, true, own.Failures() < 4)
+}
+
 func TestAMemberThatIsAwayIsLeft(t *testing.T) {
 	members := etcdtest.Start(t, 3)
 	own := members.Engine()

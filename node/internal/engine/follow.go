@@ -9,8 +9,12 @@ import (
 	"go.etcd.io/etcd/mvcc/mvccpb"
 )
 
-// lookAfter is after how long without an entry the engine is asked whether there is one. A watch whose member is away tells nothing.
-const lookAfter = time.Second
+const (
+	// lookAfter is after how long without an entry the engine is asked whether there is one. A watch whose member is away tells nothing.
+	lookAfter = time.Second
+	// mostLooks is how many times in a row there may be one that the watch does not tell. A thin link takes its time for a large entry.
+	mostLooks = 10
+)
 
 // Follow gives the entries from a number on to a function, some at a time, as they come. It first reads what is there, and then watches
 // from that revision on. Where the past was compacted meanwhile, it reads again. It returns the error of the function, or an AwayError:
@@ -40,7 +44,7 @@ func (engine *Engine) Follow(ctx context.Context, from int64, take func([]Raw) e
 	}
 }
 
-// watch gives what is put from a revision on.
+// watch gives what is put from a revision on. What it should have told and did not is to be read, which is said by errCompacted.
 func (engine *Engine) watch(ctx context.Context, next *int64, revision int64, takes func([]Raw) error) error {
 	client, member, err := engine.connected()
 	if err != nil {
@@ -49,9 +53,9 @@ func (engine *Engine) watch(ctx context.Context, next *int64, revision int64, ta
 	watching, cancel := context.WithCancel(clientv3.WithRequireLeader(ctx))
 	defer cancel()
 	events := client.Watch(watching, scriptKeys, clientv3.WithRange(scriptEnd), clientv3.WithRev(revision), clientv3.WithFragment())
-	look := time.NewTimer(lookAfter)
+	look := time.NewTicker(lookAfter)
 	defer look.Stop()
-	for {
+	for looks := 0; looks < mostLooks; {
 		select {
 		case <-ctx.Done():
 			return ctx.Err()
@@ -62,25 +66,16 @@ func (engine *Engine) watch(ctx context.Context, next *int64, revision int64, ta
 			if err := takes(putsOf(came.Events)); err != nil {
 				return err
 			}
+			looks = 0
 		case <-look.C:
-			// What the watch should have told and did not is read, and the watch begins anew.
-			if _, isThere, err := engine.Entry(ctx, *next); err != nil || isThere {
-				return orCompacted(err)
+			last, err := engine.Last(ctx, *next)
+			if err != nil {
+				return err
+			}
+			if looks++; last < *next {
+				looks = 0
 			}
 		}
-		if !look.Stop() {
-			select {
-			case <-look.C:
-			default:
-			}
-		}
-		look.Reset(lookAfter)
-	}
-}
-
-func orCompacted(err error) error {
-	if err != nil {
-		return err
 	}
 	return errCompacted
 }

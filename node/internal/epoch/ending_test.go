@@ -1,11 +1,13 @@
 package epoch
 
 import (
+	"errors"
 	"fmt"
 	"strings"
 	"testing"
 	"time"
 
+	"ordup-node/internal/exit"
 	"ordup-node/internal/modelstore"
 	"ordup-node/internal/script"
 )
@@ -266,6 +268,28 @@ func TestClientsAreCarriedOverByManyEntries(t *testing.T) {
 	is(t, 9000, len(world.replay(config("p3")).clients))
 	is(t, 9000, world.count("known"))
 	is(t, Verdict{Kind: Answered, Text: "refused 1 Syntax"}, world.ask("client-77-"+strings.Repeat("x", 40), 1, "x"))
+}
+
+// A program that has two versions runs the old one until an operator wishes for the new one. Who has the old one alone ends there.
+func TestAnotherVersionOfOrdup(t *testing.T) {
+	world := newWorld(t, settings, shop)
+	both := config("p2")
+	both.Versions = []string{"2", "1"}
+	world.core = world.replay(both)
+	world.next()
+	world.write()
+	is(t, []string{"1", "1"}, []string{world.core.Settings().Ordup, world.replay(config("p1")).Settings().Ordup})
+	wish := Wish{From: 2, Settings: script.Settings{Ordup: "2"}}
+	var version *VersionError
+	is(t, true, errors.As(world.replay(config("p1")).AskNext(wish), &version))
+	is(t, nil, world.core.AskNext(wish))
+	world.write()
+	is(t, []interface{}{"2", 3}, []interface{}{world.core.Settings().Ordup, world.core.Epoch()})
+	entry, err := script.Parse(world.script[len(world.script)-1])
+	is(t, []interface{}{"2", nil}, []interface{}{entry.Ordup, err})
+	err = New(config("p1"), int64(len(world.script))).Replay(int64(len(world.script)), entry)
+	is(t, true, errors.As(err, &version))
+	is(t, exit.Words, exit.Of(err))
 }
 
 func TestAStoreThatAnswersOtherwiseIsNoticed(t *testing.T) {

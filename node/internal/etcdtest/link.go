@@ -17,6 +17,7 @@ type Link struct {
 	isCut   bool
 	mended  chan struct{}
 	delay   time.Duration
+	rate    int
 	members []string
 }
 
@@ -65,6 +66,13 @@ func (link *Link) Delay(delay time.Duration) {
 	link.delay = delay
 }
 
+// Rate has the link carry so many bytes a second.
+func (link *Link) Rate(rate int) {
+	link.lock.Lock()
+	defer link.lock.Unlock()
+	link.rate = rate
+}
+
 func (link *Link) accept(listener net.Listener, to string) {
 	for {
 		near, err := listener.Accept()
@@ -72,7 +80,7 @@ func (link *Link) accept(listener net.Listener, to string) {
 			return
 		}
 		go func() {
-			link.pass()
+			link.pass(0)
 			far, err := net.Dial("tcp", to)
 			if err != nil {
 				near.Close()
@@ -84,11 +92,14 @@ func (link *Link) accept(listener net.Listener, to string) {
 	}
 }
 
-// pass waits while the link is cut.
-func (link *Link) pass() {
+// pass waits while the link is cut, and as long as so many bytes take.
+func (link *Link) pass(bytes int) {
 	for {
 		link.lock.Lock()
 		isCut, mended, delay := link.isCut, link.mended, link.delay
+		if link.rate > 0 {
+			delay += time.Second * time.Duration(bytes) / time.Duration(link.rate)
+		}
 		link.lock.Unlock()
 		if !isCut {
 			time.Sleep(delay)
@@ -101,13 +112,13 @@ func (link *Link) pass() {
 func (link *Link) carry(from, to net.Conn) {
 	defer from.Close()
 	defer to.Close()
-	room := make([]byte, 64<<10)
+	room := make([]byte, 16<<10)
 	for {
 		count, err := from.Read(room)
 		if err != nil && err != io.EOF || count == 0 {
 			return
 		}
-		link.pass()
+		link.pass(count)
 		if _, err = to.Write(room[:count]); err != nil {
 			return
 		}

@@ -36,6 +36,9 @@ func TestASiteThatIsCutOff(t *testing.T) {
 	deployment.site("south", "")
 	is(t, "ok acked 1 epoch 1", deployment.ask("ann", 1, "add:tea:-1"))
 	is(t, "epoch 1 place 1 tea=999999", deployment.read(north, site.Seen{Epoch: 1, Place: 1}))
+	// Another process of the site runs the script as well, and without the lease tells nothing.
+	other, process := deployment.site("north", "")
+	until(t, 5*time.Second, "the other process does not follow", func() bool { return other.Status().Place == 1 })
 	until(t, 5*time.Second, "it tells nothing", func() bool { return one.Status().Core.Sites[0].Applied == 1 })
 	link.Cut()
 	cut := time.Now()
@@ -52,8 +55,7 @@ func TestASiteThatIsCutOff(t *testing.T) {
 		t.Errorf("a fifth update is told %s", told)
 	default:
 	}
-	// Another process of the site takes over once the lease has run out.
-	other, process := deployment.site("north", "")
+	// The other process takes over once the lease has run out.
 	until(t, 8*time.Second, "the other process does not serve", func() bool { return serves(other) })
 	t.Logf("another one serves after %v", time.Since(cut))
 	is(t, false, serves(north))

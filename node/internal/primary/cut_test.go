@@ -52,7 +52,7 @@ func TestASiteThatIsCutOff(t *testing.T) {
 	t.Logf("it serves no more after %v", time.Since(cut))
 	select {
 	case told := <-answer:
-		t.Errorf("a fifth update is told %s", told)
+		t.Fatalf("a fifth update is told %s", told)
 	default:
 	}
 	// The other process takes over once the lease has run out.

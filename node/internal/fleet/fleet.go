@@ -6,12 +6,16 @@ package fleet
 
 import (
 	"context"
+	"errors"
 	"fmt"
 	"sync"
 
 	"ordup-node/internal/epoch"
 	"ordup-node/internal/site"
 )
+
+// ErrNoMember says that a site is none of the fleet.
+var ErrNoMember = errors.New("this is no site of the fleet")
 
 // A Fleet takes the places of its members, and tells the least one.
 type Fleet struct {
@@ -45,7 +49,7 @@ func (fleet *Fleet) take(place epoch.Place) (least epoch.Place, isThere bool, er
 	defer fleet.lock.Unlock()
 	before, isMember := fleet.places[place.Member]
 	if !isMember || place.Site != fleet.name {
-		return least, false, fmt.Errorf("%q is no site of the fleet %s", place.Member, fleet.name)
+		return least, false, fmt.Errorf("%w %s: %q", ErrNoMember, fleet.name, place.Member)
 	}
 	if isBefore(before, place) {
 		fleet.places[place.Member] = place

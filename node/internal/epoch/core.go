@@ -18,6 +18,8 @@ type Config struct {
 	Writer string
 	// Versions are the versions of ordup whose answers the stores give.
 	Versions []string
+	// Ended, if it is there, is told of each epoch that ends in this core, with the forced rounds of its sites.
+	Ended func(epoch int64, rounds map[string]int64)
 }
 
 // A Core is what the entries of a script come to, up to one of them, and an open turn after them.
@@ -37,8 +39,9 @@ type Core struct {
 	// The sites that the head waits for, and since when.
 	round      []string
 	roundSince time.Duration
-	// What an operator wishes of the next epoch.
-	wish *Wish
+	// What an operator wishes of the next epoch, and since when the next one is due.
+	wish     *Wish
+	dueSince time.Duration
 	// What is carried over to the next epoch, from which entry on, and which clients are still to come.
 	carry *carry
 	// The entry whose steps are run, and what was decided in it.

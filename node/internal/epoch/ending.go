@@ -242,7 +242,7 @@ func (core *Core) isOver(now time.Duration) bool {
 		return false
 	}
 	for _, site := range core.sites.all {
-		if site.applied < core.updates || site.leaves && !site.gone {
+		if site.holdsUp(core.updates) {
 			return false
 		}
 	}
@@ -332,8 +332,20 @@ func (core *Core) following() (script.Settings, []string, error) {
 	return core.wish.Settings, wanted, nil
 }
 
+// ended has the epoch that has ended, and the forced rounds of its sites.
+func (core *Core) ended() (epoch int64, rounds map[string]int64) {
+	rounds = map[string]int64{}
+	for _, site := range core.sites.all {
+		rounds[site.name] = site.rounds
+	}
+	return core.epoch, rounds
+}
+
 // begin forgets the epoch before, and begins the next one with the clients that were carried over.
 func (core *Core) begin(settings *script.Settings) error {
+	if core.store != nil && core.config.Ended != nil {
+		core.config.Ended(core.ended())
+	}
 	core.Close()
 	opened, err := core.config.Open()
 	if err != nil {
@@ -343,6 +355,6 @@ func (core *Core) begin(settings *script.Settings) error {
 	core.epoch, core.first, core.begun = core.epoch+1, core.carry.first, core.running
 	core.clients, core.carry, core.wish = core.carry.clients, nil, nil
 	core.sites, core.waiting, core.round = sites{}, queue{}, nil
-	core.asks, core.updates, core.acknowledged = 0, 0, 0
+	core.asks, core.updates, core.acknowledged, core.dueSince = 0, 0, 0, 0
 	return nil
 }

@@ -4,6 +4,7 @@ import (
 	"bytes"
 	"fmt"
 	"strconv"
+	"strings"
 
 	"ordup-node/internal/script"
 )
@@ -52,6 +53,9 @@ func (core *Core) note(step *script.Step, answers *answers) {
 	case script.Declare:
 		if name, isSite := answers.declared(); isSite {
 			core.sites.add(name)
+		} else if words := strings.Fields(step.Text); len(words) > 2 && words[0] == "limit" && core.sites.of(words[1]) != nil {
+			site := core.sites.of(words[1])
+			site.limits = append(site.limits, strings.Join(words[2:], " "))
 		}
 	case script.Known:
 		core.carry.clients[step.Name] = client{step.Number, step.Digest, step.Text, core.running, step.Count}

@@ -57,6 +57,7 @@ type site struct {
 	wasHeard bool
 	// Whether it is taken out, and whether no process serves it any more.
 	leaves, gone bool
+	limits       []string
 }
 
 // sites has the sites of an epoch, in the order of their declarations.
@@ -78,6 +79,11 @@ func (sites *sites) of(name string) *site {
 func (site *site) isHere(updates int64, now time.Duration) bool {
 	missing := updates - site.known()
 	return missing <= 0 || missing <= Near && site.wasHeard && now-site.heard < Away
+}
+
+// holdsUp is whether an epoch with so many updates cannot end yet for the site.
+func (site *site) holdsUp(updates int64) bool {
+	return site.applied < updates || site.leaves && !site.gone
 }
 
 // known is how many updates the site has applied, whether or not it stands in the script.

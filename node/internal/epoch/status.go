@@ -12,9 +12,11 @@ type Status struct {
 	Clients                         int
 	// For how long the head has waited for a round, as far as this core saw.
 	HeadWaits time.Duration
-	// Whether the next epoch is due, and whether its beginning is being written.
-	Due, Ending bool
-	Sites       []SiteStatus
+	// Whether the next epoch is due, since when, as far as this core saw, and whether its beginning is being written.
+	Due      bool
+	DueSince time.Duration
+	Ending   bool
+	Sites    []SiteStatus
 }
 
 // A SiteStatus is what is known of a site.
@@ -27,8 +29,12 @@ type SiteStatus struct {
 	HasTold bool
 	// Waited is whether the head waits for the site.
 	Waited bool
+	// JoinWaits is whether the next epoch waits for it.
+	JoinWaits bool
 	// Leaves is whether it is taken out, and Gone whether no process has a lease of it any more.
 	Leaves, Gone bool
+	// Limits are those of the epoch, as `count 3`.
+	Limits []string
 }
 
 // Status tells what there is.
@@ -37,12 +43,15 @@ func (core *Core) Status(now time.Duration) Status {
 		Epoch: core.epoch, Entries: core.entries, Written: core.written, Requests: core.asks, Updates: core.updates,
 		Acknowledged: core.acknowledged, Clients: len(core.clients), Due: core.store != nil && core.isDue(), Ending: core.carry != nil,
 	}
+	if status.Due && core.dueSince > 0 {
+		status.DueSince = now - core.dueSince
+	}
 	if core.roundSince > 0 {
 		status.HeadWaits = now - core.roundSince
 	}
 	for _, site := range core.sites.all {
 		seen := SiteStatus{Name: site.name, Applied: site.known(), Rounds: site.rounds, HasTold: site.wasHeard,
-			Leaves: site.leaves, Gone: site.gone}
+			Leaves: site.leaves, Gone: site.gone, Limits: site.limits, JoinWaits: status.Due && core.carry == nil && site.holdsUp(core.updates)}
 		if missing := core.acknowledged - site.known(); missing > 0 {
 			seen.Missing = missing
 		}

@@ -134,6 +134,9 @@ func (core *Core) Work(now time.Duration) (time.Duration, error) {
 	if core.epoch == 0 || core.carry != nil {
 		return 0, nil
 	}
+	if core.dueSince == 0 && core.isDue() {
+		core.dueSince = now
+	}
 	again, err := core.addTold(now)
 	if err != nil {
 		return 0, err

@@ -113,6 +113,13 @@ func Body(asked *http.Request, most int) (body []byte, err error) {
 	return body, nil
 }
 
+// Hurry gives what is left of a request some time, and no more. A body that is not read is passed over in that time.
+func Hurry(asked *http.Request) {
+	if member, isMember := asked.Context().Value(memberKey{}).(*member); isMember {
+		member.SetReadDeadline(time.Now().Add(bodyTime))
+	}
+}
+
 // Begin says that the request is read and is worked on, up to the call that it returns, which gives its answer some time from then on.
 func Begin(asked *http.Request) (end func()) {
 	member, isMember := asked.Context().Value(memberKey{}).(*member)

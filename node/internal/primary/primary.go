@@ -35,6 +35,9 @@ const (
 	retryAfter = 50 * time.Millisecond
 )
 
+// UsualEvery and UsualRemembers begin a script where the settings have none.
+const UsualEvery, UsualRemembers = 100_000, 10
+
 // A Config is what a primary is made with.
 type Config struct {
 	Engine *engine.Engine
@@ -43,7 +46,7 @@ type Config struct {
 	Host, Address string
 	// Versions are the versions of ordup whose answers the stores give. The first one begins an empty script.
 	Versions []string
-	// Every and Remembers are of an empty script. Of a script that is there they must be its own, or 0.
+	// Every and Remembers are of an empty script, where 0 stands for the usual number. Of a script that is there they must be its own, or 0.
 	Every, Remembers int64
 	// Declarations begin an empty script. With a script that is there they must be those that an operator gave last, or none.
 	Declarations []string
@@ -67,8 +70,10 @@ type Primary struct {
 	agreed bool
 	calls  calls
 	counts Counts
-	// The last entry of the core that is in the script.
+	// The last entry of the core that is in the script, and when it came.
 	mark   engine.Mark
+	markAt time.Duration
+	rounds rounds
 	keeper *archive.Keeper
 }
 
@@ -169,6 +174,11 @@ type Status struct {
 	// Waiting is how many requests wait for an answer, and Queued how many of them were not taken yet.
 	Waiting, Queued int
 	Counts          Counts
+	// Since is since when the last entry came that this process saw, if one did.
+	Since   time.Duration
+	HasSeen bool
+	// Rounds are the forced rounds of the sites, over all epochs that this process has run.
+	Rounds map[string]int64
 	// Archives is how many epochs have ended and are still in the engine.
 	Archives       int64
 	EngineFailures int64
@@ -186,6 +196,10 @@ func (primary *Primary) Status() Status {
 		if core != nil {
 			status.Core = core.Status(clock.Now())
 		}
+		if primary.markAt > 0 {
+			status.Since, status.HasSeen = clock.Now()-primary.markAt, true
+		}
+		status.Rounds = primary.rounds.over(&status.Core)
 		return nil
 	})
 	for _, count := range []struct{ to, from *int64 }{

@@ -6,6 +6,7 @@ import (
 	"fmt"
 	"strings"
 
+	"ordup-node/internal/clock"
 	"ordup-node/internal/engine"
 	"ordup-node/internal/epoch"
 	"ordup-node/internal/exit"
@@ -84,7 +85,8 @@ func (primary *Primary) start(ctx context.Context) error {
 }
 
 func (primary *Primary) newCore(first int64) *epoch.Core {
-	return epoch.New(epoch.Config{Open: primary.config.Open, Writer: primary.own, Versions: primary.config.Versions}, first)
+	return epoch.New(epoch.Config{Open: primary.config.Open, Writer: primary.own, Versions: primary.config.Versions,
+		Ended: primary.rounds.end}, first)
 }
 
 // replay runs entries of the script.
@@ -99,6 +101,7 @@ func (primary *Primary) replay(entries []engine.Raw) error {
 				return err
 			}
 			primary.mark.Set(raw.Number, raw.Text)
+			primary.markAt = clock.Now()
 			if address := addressOf(entry.Writer); address != primary.calls.writer() {
 				primary.calls.set(false, address)
 			}
@@ -193,6 +196,12 @@ func (primary *Primary) firstTurn() (*epoch.Turn, error) {
 	own := primary.config
 	if len(own.Declarations) == 0 {
 		return nil, exit.With(exit.Words, errors.New("the script is empty: start a primary with declarations"))
+	}
+	if own.Every == 0 {
+		own.Every = UsualEvery
+	}
+	if own.Remembers == 0 {
+		own.Remembers = UsualRemembers
 	}
 	settings := script.Settings{Every: own.Every, Remembers: own.Remembers, Origin: epoch.DigestOf(own.Declarations), Ordup: own.Versions[0]}
 	turn, err := epoch.FirstTurn(epoch.Config{Open: own.Open, Writer: primary.own, Versions: own.Versions}, settings, own.Declarations)

@@ -212,6 +212,7 @@ func (writing *writing) land(err error) error {
 	atomic.AddInt64(&writing.counts.Bytes, int64(len(turn.Text)))
 	writing.with(func(core *epoch.Core) error {
 		core.Written(turn.Number)
+		writing.markAt = clock.Now()
 		return nil
 	})
 	if turn.First > 0 {

@@ -33,6 +33,8 @@ type Shown struct {
 	Told int64
 	// Values are in the order of their declarations.
 	Values []Value
+	// Limits are those of the site, as `count 3`.
+	Limits []string
 }
 
 // A LeftError says that the site is not among those of the script.
@@ -58,9 +60,11 @@ type Replica struct {
 	entry int64
 	epoch int64
 	sites map[string]bool
-	place int64
-	told  int64
-	text  []byte
+	// The limits that the epoch declares for the site, as `count 3`.
+	limits []string
+	place  int64
+	told   int64
+	text   []byte
 }
 
 // NewReplica gives one before the entry of a number, which is the first one of an epoch.
@@ -124,7 +128,7 @@ func (replica *Replica) begin(number int64, entry *script.Entry) error {
 	if replica.store, err = replica.open(); err != nil {
 		return err
 	}
-	replica.epoch, replica.place, replica.told, replica.sites = entry.Epoch, 0, 0, map[string]bool{}
+	replica.epoch, replica.place, replica.told, replica.sites, replica.limits = entry.Epoch, 0, 0, map[string]bool{}, []string{}
 	lines := []byte{}
 	for at := range entry.Steps {
 		words := strings.Fields(entry.Steps[at].Text)
@@ -132,6 +136,8 @@ func (replica *Replica) begin(number int64, entry *script.Entry) error {
 		case entry.Steps[at].Kind != script.Declare || len(words) < 3:
 		case words[0] == "site":
 			replica.sites[words[1]] = true
+		case words[0] == "limit" && words[1] == replica.name:
+			replica.limits = append(replica.limits, strings.Join(words[2:], " "))
 		case words[0] == "object":
 			lines = append(append(lines, entry.Steps[at].Text...), '\n')
 			for _, value := range before {
@@ -255,7 +261,7 @@ func (replica *Replica) Show() (*Shown, error) {
 	if err != nil || replica.store == nil {
 		return nil, err
 	}
-	return &Shown{replica.entry, replica.epoch, replica.place, replica.told, values}, nil
+	return &Shown{replica.entry, replica.epoch, replica.place, replica.told, values, replica.limits}, nil
 }
 
 // values reads what the store shows: `ok show SITE sent A applied B reported C rounds D X=V ..`.

@@ -9,7 +9,9 @@ import (
 	"errors"
 	"fmt"
 	"sync"
+	"time"
 
+	"ordup-node/internal/clock"
 	"ordup-node/internal/epoch"
 	"ordup-node/internal/site"
 )
@@ -23,11 +25,30 @@ type Fleet struct {
 	teller site.Teller
 	lock   sync.Mutex
 	places map[string]epoch.Place
+	told   map[string]time.Duration
+	names  []string
+}
+
+// A MemberStatus is the last place of a member, of epoch 0 where it told none, and since when it told nothing.
+type MemberStatus struct {
+	Place epoch.Place
+	Told  time.Duration
+}
+
+// Status tells the places of the members, in their order.
+func (fleet *Fleet) Status() []MemberStatus {
+	fleet.lock.Lock()
+	defer fleet.lock.Unlock()
+	all, now := []MemberStatus{}, clock.Now()
+	for _, name := range fleet.names {
+		all = append(all, MemberStatus{fleet.places[name], now - fleet.told[name]})
+	}
+	return all
 }
 
 // New gives a fleet of these members, which tells by the teller.
 func New(name string, members []string, teller site.Teller) *Fleet {
-	fleet := &Fleet{name: name, teller: teller, places: map[string]epoch.Place{}}
+	fleet := &Fleet{name: name, teller: teller, places: map[string]epoch.Place{}, told: map[string]time.Duration{}, names: members}
 	for _, member := range members {
 		fleet.places[member] = epoch.Place{Site: name, Member: member}
 	}
@@ -51,6 +72,7 @@ func (fleet *Fleet) take(place epoch.Place) (least epoch.Place, isThere bool, er
 	if !isMember || place.Site != fleet.name {
 		return least, false, fmt.Errorf("%w %s: %q", ErrNoMember, fleet.name, place.Member)
 	}
+	fleet.told[place.Member] = clock.Now()
 	if isBefore(before, place) {
 		fleet.places[place.Member] = place
 	}

@@ -80,6 +80,9 @@ type Status struct {
 	Told      int64
 	ToldSince time.Duration
 	HasTold   bool
+	// Since is since when the last entry came that this process saw, if one did.
+	Since   time.Duration
+	HasSeen bool
 	// Lease is for how long the process may rely on its lease.
 	Lease          time.Duration
 	Readers        int64
@@ -92,6 +95,7 @@ func (site *Site) Status() Status {
 	status := Status{Serves: served != nil, Readers: atomic.LoadInt64(&site.readers), EngineFailures: site.config.Engine.Failures()}
 	site.lock.Lock()
 	if shown := site.shown; shown != nil {
+		status.Since, status.HasSeen = clock.Now()-site.shownAt, true
 		status.Entry, status.Epoch, status.Place, status.Told = shown.Entry, shown.Epoch, shown.Place, shown.Told
 	}
 	site.lock.Unlock()

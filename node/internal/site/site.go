@@ -53,6 +53,7 @@ type Site struct {
 	// What is shown, and from which entry on it is served in which term of the lease. Changed is closed with each change.
 	lock    sync.Mutex
 	shown   *Shown
+	shownAt time.Duration
 	changed chan struct{}
 	first   int64
 	term    engine.Term
@@ -221,7 +222,7 @@ func (site *Site) start(ctx context.Context) error {
 func (site *Site) show(shown *Shown) {
 	site.lock.Lock()
 	defer site.lock.Unlock()
-	site.shown = shown
+	site.shown, site.shownAt = shown, clock.Now()
 	close(site.changed)
 	site.changed = make(chan struct{})
 }

@@ -1,10 +1,12 @@
 package main
 
 import (
-	"fmt"
+	"context"
 	"os"
+	"os/signal"
+	"syscall"
 
-	"ordup-node/internal/exit"
+	"ordup-node/internal/command"
 	"ordup-node/internal/library"
 	"ordup-node/internal/logs"
 )
@@ -13,19 +15,9 @@ import (
 var version = "0.0.0"
 
 func main() {
-	os.Exit(int(run(os.Args[1:], logs.New(os.Stderr))))
-}
-
-// run does what the words say, and returns the status.
-func run(words []string, log *logs.Log) exit.Status {
-	if len(words) == 1 && words[0] == "--version" {
-		fmt.Println("ordup-node", version)
-		return exit.Done
-	}
-	if _, err := library.Open(); err != nil {
-		log.Error("ends", "why", err)
-		return exit.Environment
-	}
-	fmt.Fprintln(os.Stderr, "usage: ordup-node --version")
-	return exit.Words
+	ctx, cancel := signal.NotifyContext(context.Background(), syscall.SIGTERM, syscall.SIGINT)
+	program := &command.Program{Version: version, Open: library.Open, Out: os.Stdout, Err: os.Stderr, Log: logs.New(os.Stderr)}
+	status := program.Run(ctx, os.Args[1:])
+	cancel()
+	os.Exit(int(status))
 }

@@ -1,6 +1,7 @@
 package epoch
 
 import (
+	"fmt"
 	"strings"
 
 	"ordup-node/internal/script"
@@ -45,6 +46,27 @@ func (clients clients) answer(asked asker, text string, entry int64) {
 // remembered is whether the client is carried over to the epoch after this one.
 func (last *client) remembered(epoch int64, settings *script.Settings) bool {
 	return epoch-last.epoch < settings.Remembers
+}
+
+// checkCarried looks whether an entry carries over the last requests of clients, and whether none is missing where it begins the next epoch.
+func (core *Core) checkCarried(number int64, entry *script.Entry) error {
+	for at := range entry.Steps {
+		step := &entry.Steps[at]
+		last := core.clients[step.Name]
+		carried := client{step.Number, step.Digest, step.Text, last.entry, step.Count}
+		if step.Kind == script.Known && (carried != last || !last.remembered(core.epoch, &core.settings)) {
+			return &BrokenError{number, fmt.Sprintf("it does not carry over the last request of %s", step.Name)}
+		}
+	}
+	if !entry.Begins() {
+		return nil
+	}
+	for name, last := range core.clients {
+		if _, isCarried := core.carry.clients[name]; !isCarried && last.remembered(core.epoch, &core.settings) {
+			return &BrokenError{number, fmt.Sprintf("the client %s is not carried over", name)}
+		}
+	}
+	return nil
 }
 
 // A queue has who waits for acknowledgements, in the order of the log.

@@ -178,6 +178,9 @@ func (core *Core) enter(number int64, entry *script.Entry) error {
 			return &BrokenError{number, fmt.Sprintf("the step %s does not belong there", kind)}
 		}
 	}
+	if core.store != nil && core.carry != nil {
+		return core.checkCarried(number, entry)
+	}
 	return nil
 }
 

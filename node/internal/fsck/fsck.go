@@ -1,0 +1,201 @@
+package fsck
+
+import (
+	"context"
+	"crypto/sha256"
+	"errors"
+	"fmt"
+	"io"
+	"os"
+	"path/filepath"
+
+	"ordup-node/internal/archive"
+	"ordup-node/internal/engine"
+	"ordup-node/internal/epoch"
+	"ordup-node/internal/exit"
+	"ordup-node/internal/script"
+)
+
+// A RecordError says that the record of a site is not `yes`.
+type RecordError struct {
+	Epoch     int64
+	Site, Why string
+}
+
+func (err *RecordError) Error() string {
+	return fmt.Sprintf("the record of %s in the epoch %d: %s", err.Site, err.Epoch, err.Why)
+}
+
+// ExitStatus is that of a process which meets it.
+func (*RecordError) ExitStatus() exit.Status { return exit.Gap }
+
+// A LostError says that archives lack something, or differ.
+type LostError struct{ Why string }
+
+func (err *LostError) Error() string { return err.Why }
+
+// ExitStatus is that of a process which meets it.
+func (*LostError) ExitStatus() exit.Status { return exit.Gap }
+
+// A Config says what is checked.
+type Config struct {
+	// Folders have the archives of hosts. From is the first epoch that they have.
+	Folders []string
+	From    int64
+	// Engine has the script that is not archived yet, or is nil.
+	Engine   *engine.Engine
+	Versions []string
+	// Tell is told of each epoch that was found right.
+	Tell func(Epoch)
+}
+
+// Run checks all, up to the first fault. It returns how many archives and entries it has read.
+func Run(ctx context.Context, config Config) (archives, entries int64, err error) {
+	var audit *Audit
+	take := func(number int64, entry *script.Entry) error {
+		if ctx.Err() != nil {
+			return ctx.Err()
+		}
+		if audit == nil {
+			audit = New(config.Versions, number, config.Tell)
+		}
+		entries++
+		return audit.Take(number, entry)
+	}
+	defer func() {
+		if audit != nil {
+			audit.Close()
+		}
+	}()
+	number := config.From
+	for ; ; number++ {
+		name, err := fileOf(config.Folders, number)
+		if err != nil {
+			return archives, entries, err
+		}
+		if name == "" {
+			break
+		}
+		if err = readFile(name, number, take); err != nil {
+			return archives, entries, fmt.Errorf("%s: %w", name, err)
+		}
+		archives++
+	}
+	if later := laterThan(config.Folders, number); later != "" {
+		return archives, entries, &LostError{fmt.Sprintf("no folder has the archive of the epoch %d, and %s is there", number, later)}
+	}
+	if config.Engine != nil {
+		err = readEngine(ctx, config, &audit, take)
+	}
+	if err == nil && audit != nil {
+		err = audit.End()
+	}
+	if err == nil && entries == 0 {
+		err = exit.With(exit.Words, errors.New("there is no archive and no entry"))
+	}
+	return archives, entries, err
+}
+
+// fileOf is the archive of an epoch in the first folder that has it, or "". Those of all folders must be the same.
+func fileOf(folders []string, number int64) (string, error) {
+	found, digest := "", [sha256.Size]byte{}
+	for _, folder := range folders {
+		name := filepath.Join(folder, archive.NameOf(number))
+		file, err := os.Open(name)
+		if errors.Is(err, os.ErrNotExist) {
+			continue
+		}
+		if err != nil {
+			return "", err
+		}
+		sum := sha256.New()
+		_, err = io.Copy(sum, file)
+		file.Close()
+		if err != nil {
+			return "", err
+		}
+		var own [sha256.Size]byte
+		sum.Sum(own[:0])
+		if found != "" && own != digest {
+			return "", &LostError{fmt.Sprintf("%s and %s differ", found, name)}
+		}
+		if found == "" {
+			found, digest = name, own
+		}
+	}
+	return found, nil
+}
+
+// laterThan is an archive of a later epoch than this one, or "".
+func laterThan(folders []string, number int64) string {
+	for _, folder := range folders {
+		names, _ := filepath.Glob(filepath.Join(folder, "epoch-*.ordup"))
+		for _, name := range names {
+			var other int64
+			if count, _ := fmt.Sscanf(filepath.Base(name), "epoch-%d.ordup", &other); count == 1 && other > number {
+				return name
+			}
+		}
+	}
+	return ""
+}
+
+// readFile reads the archive of an epoch, which has entries of that epoch alone.
+func readFile(name string, number int64, take func(int64, *script.Entry) error) error {
+	file, err := os.Open(name)
+	if err != nil {
+		return err
+	}
+	defer file.Close()
+	var failure error
+	err = archive.Read(file, func(at int64, entry *script.Entry) error {
+		if entry.Epoch != number {
+			failure = &epoch.BrokenError{Number: at, Why: fmt.Sprintf("it is of epoch %d", entry.Epoch)}
+		} else {
+			failure = take(at, entry)
+		}
+		return failure
+	})
+	if err != nil && failure == nil {
+		return &LostError{err.Error()}
+	}
+	return err
+}
+
+// readEngine reads what the engine has after the archives, and looks whether the epoch that it names is that of the script.
+func readEngine(ctx context.Context, config Config, audit **Audit, take func(int64, *script.Entry) error) error {
+	next, err := config.Engine.First(ctx)
+	if err != nil {
+		return err
+	}
+	if *audit != nil {
+		if next > (*audit).Next() {
+			return &epoch.GapError{Number: (*audit).Next(), Instead: next}
+		}
+		next = (*audit).Next()
+	}
+	named, first, err := config.Engine.Epoch(ctx)
+	if err != nil {
+		return err
+	}
+	_, err = config.Engine.ReadAll(ctx, next, func(raws []engine.Raw) error {
+		for _, raw := range raws {
+			entry, err := epoch.Parse(raw.Number, raw.Text)
+			if err == nil {
+				err = take(raw.Number, entry)
+			}
+			if err != nil {
+				return err
+			}
+		}
+		return nil
+	})
+	if err != nil || *audit == nil {
+		return err
+	}
+	if core := (*audit).Core(); core.Epoch() < named || core.Epoch() == named && core.First() != first {
+		return &LostError{fmt.Sprintf("the engine names the epoch %d from the entry %d on, and the script has %d from %d on", named, first,
+			core.Epoch(), core.First())}
+	}
+	return nil
+}

@@ -141,15 +141,12 @@ func (client *Client) learn(address, writer string) {
 	}
 }
 
-// fail has the next call begin elsewhere.
+// fail has the next call begin elsewhere. Where the one that an address named does not answer, that is the next address.
 func (client *Client) fail(address string) {
 	client.lock.Lock()
 	defer client.lock.Unlock()
-	if client.named == address {
-		client.named = ""
-	}
-	if client.config.Addresses[client.at] == address {
-		client.at = (client.at + 1) % len(client.config.Addresses)
+	if client.named == address || client.named == "" && client.config.Addresses[client.at] == address {
+		client.named, client.at = "", (client.at+1)%len(client.config.Addresses)
 	}
 }
 

@@ -38,6 +38,7 @@
 //	422 Refused          the store refuses the update: `refused` has the number and `refusal` the name. This is its answer for good
 //	422 CannotBe         no site can have told this place
 //	422 NoWish           no next epoch can be as it is wished
+//	500 Failed           something else went wrong, and the message says what. Ask again
 //	503 NotWriter        this primary does not write. `writer` says which one does, if it is known. Ask again
 //	503 NotServing       this process of the site serves no reader now. Ask again, or another one
 //	503 NotYet           this process has not run the script as far yet. Tell the place again

@@ -91,7 +91,7 @@ func TestASiteShowsWhatTheScriptComesTo(t *testing.T) {
 	script.write()
 	shown, err := script.replay(at("south"))
 	is(t, nil, err)
-	is(t, "{3 1 2 1 [{tea 95} {till 7}]}", *shown)
+	is(t, "{3 1 2 1 [{tea 95} {till 7}] []}", *shown)
 	shown, err = script.replay(at("north"))
 	is(t, nil, err)
 	is(t, int64(0), shown.Told)

@@ -55,6 +55,9 @@ type site struct {
 	// When it told a place that was new, and whether it has.
 	heard    time.Duration
 	wasHeard bool
+	// When it told any place, and whether it has.
+	spoke     time.Duration
+	spokeOnce bool
 	// Whether it is taken out, and whether no process serves it any more.
 	leaves, gone bool
 	limits       []string
@@ -113,5 +116,6 @@ func (core *Core) Tell(place Place, now time.Duration) error {
 	case place.Applied > site.known():
 		site.told, site.heard, site.wasHeard = place.Applied, now, true
 	}
+	site.spoke, site.spokeOnce = now, true
 	return nil
 }

@@ -24,7 +24,7 @@ type SiteStatus struct {
 	Name string
 	// Applied is what the site told, and Missing how many updates are acknowledged beyond that.
 	Applied, Missing, Rounds int64
-	// Told is since when it told nothing new. Before it told this core anything that is false.
+	// Told is since when it told nothing. Before it told this core anything HasTold is false.
 	Told    time.Duration
 	HasTold bool
 	// Waited is whether the head waits for the site.
@@ -50,13 +50,13 @@ func (core *Core) Status(now time.Duration) Status {
 		status.HeadWaits = now - core.roundSince
 	}
 	for _, site := range core.sites.all {
-		seen := SiteStatus{Name: site.name, Applied: site.known(), Rounds: site.rounds, HasTold: site.wasHeard,
+		seen := SiteStatus{Name: site.name, Applied: site.known(), Rounds: site.rounds, HasTold: site.spokeOnce,
 			Leaves: site.leaves, Gone: site.gone, Limits: site.limits, JoinWaits: status.Due && core.carry == nil && site.holdsUp(core.updates)}
 		if missing := core.acknowledged - site.known(); missing > 0 {
 			seen.Missing = missing
 		}
-		if site.wasHeard {
-			seen.Told = now - site.heard
+		if site.spokeOnce {
+			seen.Told = now - site.spoke
 		}
 		for _, name := range core.round {
 			seen.Waited = seen.Waited || name == site.name && site.known() <= core.acknowledged

@@ -62,7 +62,7 @@ func ofSites(status *primary.Status) []sample {
 				of("site", site.Name),
 			gauge("site_has_told", "whether the site told this process a place", truth(site.HasTold)).of("site", site.Name))
 		if site.HasTold {
-			samples = append(samples, gauge("site_told_seconds", "since when the site told nothing new", site.Told.Seconds()).of("site", site.Name))
+			samples = append(samples, gauge("site_told_seconds", "since when the site told nothing", site.Told.Seconds()).of("site", site.Name))
 		}
 	}
 	return samples

@@ -23,6 +23,8 @@ const (
 	afterFailure = 200 * time.Millisecond
 	// tellAgain is after how long a place is told again that the script does not have.
 	tellAgain = 500 * time.Millisecond
+	// tellStill is after how long a place is told again that is nothing new, so that operators see that the site is there.
+	tellStill = 3 * time.Second
 	// tellTime is how long telling a place may take.
 	tellTime = 3 * time.Second
 )
@@ -234,8 +236,9 @@ func (site *Site) tellAll(ctx context.Context) error {
 		relies := site.lease.Changed()
 		shown, changed := site.served()
 		isNew := shown != nil && (shown.Epoch > told.Epoch || shown.Epoch == told.Epoch && shown.Place > told.Applied)
-		isLate := clock.Now() > time.Duration(atomic.LoadInt64(&site.toldAt))+tellAgain
-		if isNew || isLate && shown != nil && shown.Told < shown.Place {
+		since := clock.Now() - time.Duration(atomic.LoadInt64(&site.toldAt))
+		isDue := shown != nil && (since > tellAgain && shown.Told < shown.Place || since > tellStill)
+		if isNew || isDue {
 			place := epoch.Place{Site: site.inName, Member: site.config.Name, Epoch: shown.Epoch, Applied: shown.Place, Entry: shown.Entry}
 			err := site.tell(ctx, place)
 			var cannotBe *epoch.CannotBeError

@@ -6,7 +6,8 @@
 //
 // # The way of an update
 //
-//  1. A client asks the primary that writes: its name, a number, changes. The number is the client's own, and greater than its last one.
+//  1. A client asks a primary by HTTP: its name, a number, changes. The number is the client's own, and greater than its last one. A
+//     primary that does not write passes the request on to the one that does.
 //  2. The primary runs the request in its open turn, with what sites told, and asks the store for acknowledgements. Each step is run as
 //     it comes, while the turn before is on its way to the engine.
 //  3. It seals the turn as an entry, and creates the key script/NUMBER by one transaction. That is all that an update writes. Requests,
@@ -99,6 +100,14 @@
 //	site         the process that serves readers
 //	fleet        the place of several sites
 //	archive      the files of past epochs
+//	fsck         checks them and the script from the first epoch on
+//	wire         what travels by HTTP, with its table of statuses
+//	listen       a server of HTTP for whoever comes
+//	serve        the paths of a primary, a site and a fleet, and who may ask at them
+//	client       asks them
+//	numbers      what operators see: numbers for Prometheus, and a page
+//	settings     flags and a file
+//	command      the commands
 //	store        what is asked of a store; library has the one of libordup
 //	clock, exit, logs
 //

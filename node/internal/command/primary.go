@@ -25,13 +25,14 @@ func primarySettings(program *Program, set *settings.Set) func(context.Context, 
 	own := &primaryOwn{}
 	own.engine.add(set)
 	own.serving.add(set, "127.0.0.1:7002")
-	set.Text(&own.address, "address", "", "`ADDRESS` at which clients, sites and other primaries reach this process: that of listen, if it has a host")
+	set.Text(&own.address, "address", "", "`ADDRESS` at which others reach this process: that of listen, if it has a host")
 	set.Text(&own.authority, "authority", "", "`FILE` in PEM with the authority of the certificates of other primaries")
 	set.Text(&own.archive, "archive", "", "`FOLDER` for the scripts of epochs that have ended")
 	set.Number(&own.copies, "copies", 2, 1, 16, "`NUMBER` of hosts that have such a script before the engine drops it")
 	set.Text(&own.declarations, "declarations", "", "`FILE` with the declarations that begin an empty script")
 	set.Number(&own.every, "every", 0, 0, epoch.MostEvery, "`NUMBER` of requests that an epoch takes: 0 stands for that of the script, or 100,000")
-	set.Number(&own.remembers, "remembers", 0, 0, epoch.MostEvery, "`NUMBER` of epochs that a client is remembered: 0 stands for that of the script, or 10")
+	set.Number(&own.remembers, "remembers", 0, 0, epoch.MostEvery,
+		"`NUMBER` of epochs that a client is remembered: 0 stands for that of the script, or 10")
 	return func(ctx context.Context, _ []string) error { return own.run(ctx, program) }
 }
 

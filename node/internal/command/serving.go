@@ -126,7 +126,7 @@ func (own *servingSettings) run(ctx context.Context, log *logs.Log, handler http
 	if err != nil {
 		return err
 	}
-	own.server, err = listen.Start(own.listen, secure, own.most(), handler)
+	own.server, err = listen.Start(own.listen, secure, own.most(), handler, log)
 	if err != nil {
 		return exit.With(exit.Environment, err)
 	}

@@ -121,7 +121,8 @@ func (audit *Audit) follows(number int64, entry *script.Entry) error {
 		begins = append(begins, step.Text)
 		words := strings.Fields(step.Text)
 		if len(words) == 3 && words[0] == "object" && values[words[1]] != "" && values[words[1]] != step.Text {
-			return &epoch.BrokenError{Number: number, Why: fmt.Sprintf("it begins with `%s`, and the epoch before ended with `%s`", step.Text, values[words[1]])}
+			return &epoch.BrokenError{Number: number,
+				Why: fmt.Sprintf("it begins with `%s`, and the epoch before ended with `%s`", step.Text, values[words[1]])}
 		}
 	}
 	if isSame(audit.core, entry) && strings.Join(begins, "\n") != strings.Join(ends, "\n") {

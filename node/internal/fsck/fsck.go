@@ -49,51 +49,64 @@ type Config struct {
 	Tell func(Epoch)
 }
 
+// A reader gives an audit what it reads, and counts it.
+type reader struct {
+	Config
+	ctx               context.Context
+	audit             *Audit
+	archives, entries int64
+}
+
 // Run checks all, up to the first fault. It returns how many archives and entries it has read.
 func Run(ctx context.Context, config Config) (archives, entries int64, err error) {
-	var audit *Audit
-	take := func(number int64, entry *script.Entry) error {
-		if ctx.Err() != nil {
-			return ctx.Err()
-		}
-		if audit == nil {
-			audit = New(config.Versions, number, config.Tell)
-		}
-		entries++
-		return audit.Take(number, entry)
+	reader := &reader{Config: config, ctx: ctx}
+	if err = reader.readFolders(); err == nil && config.Engine != nil {
+		err = reader.readEngine()
 	}
-	defer func() {
-		if audit != nil {
-			audit.Close()
+	if reader.audit != nil {
+		if err == nil {
+			err = reader.audit.End()
 		}
-	}()
-	number := config.From
+		reader.audit.Close()
+	}
+	if err == nil && reader.entries == 0 {
+		err = exit.With(exit.Words, errors.New("there is no archive and no entry"))
+	}
+	return reader.archives, reader.entries, err
+}
+
+// take has an entry checked. The first one begins the audit.
+func (reader *reader) take(number int64, entry *script.Entry) error {
+	if reader.ctx.Err() != nil {
+		return reader.ctx.Err()
+	}
+	if reader.audit == nil {
+		reader.audit = New(reader.Versions, number, reader.Tell)
+	}
+	reader.entries++
+	return reader.audit.Take(number, entry)
+}
+
+// readFolders reads the archives of all epochs, one after another.
+func (reader *reader) readFolders() error {
+	number := reader.From
 	for ; ; number++ {
-		name, err := fileOf(config.Folders, number)
+		name, err := fileOf(reader.Folders, number)
 		if err != nil {
-			return archives, entries, err
+			return err
 		}
 		if name == "" {
 			break
 		}
-		if err = readFile(name, number, take); err != nil {
-			return archives, entries, fmt.Errorf("%s: %w", name, err)
+		if err = readFile(name, number, reader.take); err != nil {
+			return fmt.Errorf("%s: %w", name, err)
 		}
-		archives++
+		reader.archives++
 	}
-	if later := laterThan(config.Folders, number); later != "" {
-		return archives, entries, &LostError{fmt.Sprintf("no folder has the archive of the epoch %d, and %s is there", number, later)}
+	if later := laterThan(reader.Folders, number); later != "" {
+		return &LostError{fmt.Sprintf("no folder has the archive of the epoch %d, and %s is there", number, later)}
 	}
-	if config.Engine != nil {
-		err = readEngine(ctx, config, &audit, take)
-	}
-	if err == nil && audit != nil {
-		err = audit.End()
-	}
-	if err == nil && entries == 0 {
-		err = exit.With(exit.Words, errors.New("there is no archive and no entry"))
-	}
-	return archives, entries, err
+	return nil
 }
 
 // fileOf is the archive of an epoch in the first folder that has it, or "". Those of all folders must be the same.
@@ -163,39 +176,40 @@ func readFile(name string, number int64, take func(int64, *script.Entry) error) 
 }
 
 // readEngine reads what the engine has after the archives, and looks whether the epoch that it names is that of the script.
-func readEngine(ctx context.Context, config Config, audit **Audit, take func(int64, *script.Entry) error) error {
-	next, err := config.Engine.First(ctx)
+func (reader *reader) readEngine() error {
+	next, err := reader.Engine.First(reader.ctx)
 	if err != nil {
 		return err
 	}
-	if *audit != nil {
-		if next > (*audit).Next() {
-			return &epoch.GapError{Number: (*audit).Next(), Instead: next}
+	if reader.audit != nil {
+		if next > reader.audit.Next() {
+			return &epoch.GapError{Number: reader.audit.Next(), Instead: next}
 		}
-		next = (*audit).Next()
+		next = reader.audit.Next()
 	}
-	named, first, err := config.Engine.Epoch(ctx)
+	named, first, err := reader.Engine.Epoch(reader.ctx)
 	if err != nil {
 		return err
 	}
-	_, err = config.Engine.ReadAll(ctx, next, func(raws []engine.Raw) error {
-		for _, raw := range raws {
-			entry, err := epoch.Parse(raw.Number, raw.Text)
-			if err == nil {
-				err = take(raw.Number, entry)
-			}
-			if err != nil {
-				return err
-			}
-		}
-		return nil
-	})
-	if err != nil || *audit == nil {
+	if _, err = reader.Engine.ReadAll(reader.ctx, next, reader.takeAll); err != nil || reader.audit == nil {
 		return err
 	}
-	if core := (*audit).Core(); core.Epoch() < named || core.Epoch() == named && core.First() != first {
+	if core := reader.audit.Core(); core.Epoch() < named || core.Epoch() == named && core.First() != first {
 		return &LostError{fmt.Sprintf("the engine names the epoch %d from the entry %d on, and the script has %d from %d on", named, first,
 			core.Epoch(), core.First())}
+	}
+	return nil
+}
+
+func (reader *reader) takeAll(raws []engine.Raw) error {
+	for _, raw := range raws {
+		entry, err := epoch.Parse(raw.Number, raw.Text)
+		if err == nil {
+			err = reader.take(raw.Number, entry)
+		}
+		if err != nil {
+			return err
+		}
 	}
 	return nil
 }

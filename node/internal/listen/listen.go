@@ -4,6 +4,7 @@
 package listen
 
 import (
+	"bytes"
 	"context"
 	"crypto/tls"
 	"errors"
@@ -13,6 +14,8 @@ import (
 	"net/http"
 	"strings"
 	"time"
+
+	"ordup-node/internal/logs"
 )
 
 const (
@@ -40,7 +43,7 @@ type Server struct {
 type memberKey struct{}
 
 // Start serves at an address, with TLS or without, and at most so many connections.
-func Start(address string, secure *tls.Config, most int, handler http.Handler) (*Server, error) {
+func Start(address string, secure *tls.Config, most int, handler http.Handler, events *logs.Log) (*Server, error) {
 	listener, err := net.Listen("tcp", address)
 	if err != nil {
 		return nil, err
@@ -50,8 +53,7 @@ func Start(address string, secure *tls.Config, most int, handler http.Handler) (
 		Handler: handler, ReadHeaderTimeout: headerTime, IdleTimeout: idleTime, MaxHeaderBytes: mostHeader, TLSConfig: secure,
 		// Without HTTP/2 a connection has one request under way, and no more.
 		TLSNextProto: map[string]func(*http.Server, *tls.Conn, http.Handler){},
-		// What a connection from outside does is no event.
-		ErrorLog: log.New(io.Discard, "", 0),
+		ErrorLog:     log.New(faults{events}, "", 0),
 		ConnContext: func(ctx context.Context, connection net.Conn) context.Context {
 			if secured, isSecured := connection.(*tls.Conn); isSecured {
 				connection = secured.NetConn()
@@ -120,15 +122,26 @@ func Hurry(asked *http.Request) {
 	}
 }
 
-// Begin says that the request is read and is worked on, up to the call that it returns, which gives its answer some time from then on.
+// Begin says that the request is read and is worked on, up to the call that it returns. The answer has some time from either call on.
 func Begin(asked *http.Request) (end func()) {
 	member, isMember := asked.Context().Value(memberKey{}).(*member)
 	if !isMember {
 		return func() {}
 	}
 	member.begin()
+	member.SetWriteDeadline(time.Now().Add(answerTime))
 	return func() {
 		member.SetWriteDeadline(time.Now().Add(answerTime))
 		member.end()
 	}
+}
+
+// faults tells of a handler that failed. What else a server has to say is of connections from outside, which are no events.
+type faults struct{ log *logs.Log }
+
+func (faults faults) Write(text []byte) (int, error) {
+	if line, _, _ := bytes.Cut(text, []byte("\n")); bytes.Contains(line, []byte("panic")) {
+		faults.log.Warn("handler-failed", "why", string(line))
+	}
+	return len(text), nil
 }

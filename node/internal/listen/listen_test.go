@@ -2,6 +2,7 @@ package listen_test
 
 import (
 	"bufio"
+	"bytes"
 	"errors"
 	"fmt"
 	"io"
@@ -12,6 +13,7 @@ import (
 	"time"
 
 	"ordup-node/internal/listen"
+	"ordup-node/internal/logs"
 )
 
 // start serves a handler that waits at /wait, and answers what it read.
@@ -30,7 +32,7 @@ func start(t *testing.T, most int) (*listen.Server, chan struct{}) {
 			<-goOn
 		}
 		fmt.Fprintf(to, "%s", body)
-	}))
+	}), nil)
 	if err != nil {
 		t.Fatal(err)
 	}
@@ -108,6 +110,24 @@ func TestABodyHasASizeAndATime(t *testing.T) {
 	}
 }
 
+func TestAHandlerThatFailsIsTold(t *testing.T) {
+	var said bytes.Buffer
+	server, err := listen.Start("127.0.0.1:0", nil, 8, http.HandlerFunc(func(http.ResponseWriter, *http.Request) { panic("no way\nout") }), logs.New(&said))
+	if err != nil {
+		t.Fatal(err)
+	}
+	if answer, err := http.Get("http://" + server.Address()); err == nil {
+		t.Error(answer.StatusCode)
+	}
+	connection := dial(t, server)
+	fmt.Fprint(connection, "nonsense\r\n\r\n")
+	io.ReadAll(connection)
+	server.Stop(time.Second)
+	if text := said.String(); strings.Count(text, "\n") != 1 || !strings.Contains(text, "warn handler-failed why=") {
+		t.Error(text)
+	}
+}
+
 func TestStopWaitsForAnswers(t *testing.T) {
 	server, goOn := start(t, 8)
 	waits := make(chan int)
@@ -124,7 +144,7 @@ func TestStopWaitsForAnswers(t *testing.T) {
 	if _, err := net.Dial("tcp", server.Address()); err == nil {
 		t.Error("it still listens")
 	}
-	if _, err := listen.Start("127.0.0.1:99999", nil, 1, nil); err == nil {
+	if _, err := listen.Start("127.0.0.1:99999", nil, 1, nil, nil); err == nil {
 		t.Error("a port is there that is none")
 	}
 }

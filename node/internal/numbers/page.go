@@ -8,6 +8,7 @@ import (
 	"strings"
 	"time"
 
+	"ordup-node/internal/epoch"
 	"ordup-node/internal/fleet"
 	"ordup-node/internal/primary"
 	"ordup-node/internal/site"
@@ -68,25 +69,29 @@ func PageOfPrimary(host string, lag *Lag, status func() primary.Status) http.Han
 			shown.Heads = append(shown.Heads, cell{Text: name, N: name == "applied" || name == "misses" || name == "rounds" || name == "told"})
 		}
 		for _, site := range now.Core.Sites {
-			told := "not yet"
-			if site.HasTold {
-				told = ago(site.Told)
-			}
-			waits := []string{}
-			for _, each := range []struct {
-				is   bool
-				text string
-			}{{site.Waited, "by the head"}, {site.JoinWaits, "by the next epoch"}, {site.Leaves, "taken out"}, {site.Gone, "gone"}} {
-				if each.is {
-					waits = append(waits, each.text)
-				}
-			}
-			shown.Rows = append(shown.Rows, []cell{{Text: site.Name}, {Text: fmt.Sprint(site.Applied), N: true}, {Text: fmt.Sprint(site.Missing), N: true},
-				{Text: strings.Join(site.Limits, ", ")}, {Text: fmt.Sprint(now.Rounds[site.Name]), N: true}, {Text: told, N: true},
-				{Text: strings.Join(waits, ", "), Bad: site.Waited || site.JoinWaits}})
+			shown.Rows = append(shown.Rows, rowOf(&site, now.Rounds[site.Name]))
 		}
 		return shown
 	})
+}
+
+// rowOf has what is known of a site.
+func rowOf(site *epoch.SiteStatus, rounds int64) []cell {
+	told, waits := "not yet", []string{}
+	if site.HasTold {
+		told = ago(site.Told)
+	}
+	for _, each := range []struct {
+		is   bool
+		text string
+	}{{site.Waited, "by the head"}, {site.JoinWaits, "by the next epoch"}, {site.Leaves, "taken out"}, {site.Gone, "gone"}} {
+		if each.is {
+			waits = append(waits, each.text)
+		}
+	}
+	return []cell{{Text: site.Name}, {Text: fmt.Sprint(site.Applied), N: true}, {Text: fmt.Sprint(site.Missing), N: true},
+		{Text: strings.Join(site.Limits, ", ")}, {Text: fmt.Sprint(rounds), N: true}, {Text: told, N: true},
+		{Text: strings.Join(waits, ", "), Bad: site.Waited || site.JoinWaits}}
 }
 
 // saysOf says in words what a primary does, and what it waits for.
@@ -108,13 +113,15 @@ func saysOf(status *primary.Status) []cell {
 		}
 	}
 	if len(waited) > 0 {
-		says = append(says, cell{Text: fmt.Sprintf("The update %d waits since %s for %s.", core.Acknowledged+1, ago(core.HeadWaits), strings.Join(waited, ", ")), Bad: true})
+		says = append(says, cell{Bad: true, Text: fmt.Sprintf("The update %d waits since %s for %s.", core.Acknowledged+1, ago(core.HeadWaits),
+			strings.Join(waited, ", "))})
 	}
 	switch {
 	case core.Ending:
 		says = append(says, cell{Text: "The next epoch is being written."})
 	case core.Due && len(join) > 0:
-		says = append(says, cell{Text: fmt.Sprintf("The next epoch is due since %s, and waits for %s.", ago(core.DueSince), strings.Join(join, ", ")), Bad: true})
+		says = append(says, cell{Bad: true, Text: fmt.Sprintf("The next epoch is due since %s, and waits for %s.", ago(core.DueSince),
+			strings.Join(join, ", "))})
 	}
 	if status.Counts.Full > 0 {
 		says = append(says, cell{Text: "The engine is full, and takes no write.", Bad: true})
@@ -136,7 +143,8 @@ func PageOfSite(name string, status func() site.Status) http.Handler {
 // PageOfFleet is the page of a fleet.
 func PageOfFleet(name string, status func() []fleet.MemberStatus) http.Handler {
 	return serve(func() content {
-		shown := content{Title: "ordup: the fleet " + name, Heads: []cell{{Text: "site"}, {Text: "epoch", N: true}, {Text: "applied", N: true}, {Text: "told", N: true}}}
+		shown := content{Title: "ordup: the fleet " + name,
+			Heads: []cell{{Text: "site"}, {Text: "epoch", N: true}, {Text: "applied", N: true}, {Text: "told", N: true}}}
 		for _, member := range status() {
 			told := "not yet"
 			if member.Place.Epoch > 0 {

@@ -78,7 +78,7 @@ func (own *primaryOwn) run(ctx context.Context, program *Program) error {
 	}
 	lag := &numbers.Lag{}
 	seen := numbers.OfPrimary(program.Version, own.serving.open, process.Status)
-	handler := serve.NewPrimary(serve.Config{Guard: &own.serving.guard, Requests: int(own.serving.requests),
+	handler := serve.NewPrimary(serve.Config{Guard: &own.serving.guard, Requests: own.serving.mostRequests(),
 		Ready: func() error { return isReady(process.Status()) }, Numbers: seen.Handler(),
 		Page: numbers.PageOfPrimary(config.Host, lag, process.Status)}, process, serve.NewPasser(config.Address, secure), seen.Waited)
 	program.Log.Info("starts", "command", "primary", "version", program.Version, "host", config.Host, "address", config.Address)

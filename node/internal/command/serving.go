@@ -120,6 +120,14 @@ func (own *servingSettings) most() int {
 	return int(own.connections)
 }
 
+// mostRequests is how many requests may be under way: at most on half of the connections, so that there are others which can make room.
+func (own *servingSettings) mostRequests() int {
+	if half := own.most() / 2; half < int(own.requests) {
+		return half
+	}
+	return int(own.requests)
+}
+
 // run listens, and runs the process until the context ends or the process does. Then what is under way is answered.
 func (own *servingSettings) run(ctx context.Context, log *logs.Log, handler http.Handler, run func(context.Context) error) error {
 	secure, err := own.secure()

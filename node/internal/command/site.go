@@ -62,7 +62,7 @@ func (own *siteOwn) run(ctx context.Context, program *Program) error {
 		return err
 	}
 	seen := numbers.OfSite(program.Version, own.name, own.serving.open, process.Status)
-	handler := serve.NewSite(serve.Config{Guard: &own.serving.guard, Requests: int(own.serving.requests),
+	handler := serve.NewSite(serve.Config{Guard: &own.serving.guard, Requests: own.serving.mostRequests(),
 		Ready: func() error {
 			if !process.Status().Serves {
 				return site.ErrNotServing
@@ -108,7 +108,7 @@ func (own *fleetOwn) run(ctx context.Context, program *Program) error {
 	}
 	process := fleet.New(own.name, own.members, teller)
 	seen := numbers.OfFleet(program.Version, own.serving.open, process.Status)
-	handler := serve.NewFleet(serve.Config{Guard: &own.serving.guard, Requests: int(own.serving.requests),
+	handler := serve.NewFleet(serve.Config{Guard: &own.serving.guard, Requests: own.serving.mostRequests(),
 		Ready: func() error { return haveTold(process.Status()) }, Numbers: seen.Handler(),
 		Page: numbers.PageOfFleet(own.name, process.Status)}, process)
 	program.Log.Info("starts", "command", "fleet", "version", program.Version, "host", own.serving.host, "fleet", own.name)

@@ -17,8 +17,7 @@ type Fleet struct {
 // NewFleet gives the handler of a fleet.
 func NewFleet(config Config, teller site.Teller) *Fleet {
 	served := &Fleet{newServer(config), teller}
-	room := &room{most: int64(config.Requests)}
-	served.answers(wire.PlacePath, route{http.MethodPost, Sites, wire.MostBody, room, served.place})
+	served.answers(wire.PlacePath, route{http.MethodPost, Sites, wire.MostBody, &room{most: mostPlaces}, served.place})
 	return served
 }
 

@@ -32,15 +32,14 @@ type Primary struct {
 // NewPrimary gives the handler of a primary. Waited is told how long each update waited that has its answer.
 func NewPrimary(config Config, writer Writer, pass *Passer, waited func(time.Duration)) *Primary {
 	served := &Primary{newServer(config), writer, pass, waited}
-	room := &room{most: int64(config.Requests)}
-	served.answers(wire.UpdatePath, route{http.MethodPost, Clients, wire.MostBody, room, served.update})
-	served.answers(wire.PlacePath, route{http.MethodPost, Sites, wire.MostBody, room, served.place})
-	served.answers(wire.NextPath, route{http.MethodPost, Operators, wire.MostNextBody, &roomOfNexts, served.next})
-	served.answers(wire.EpochPath, route{http.MethodGet, Operators, 0, room, served.epoch})
+	// Updates wait for places, so they never take the room of these.
+	updates, places := &room{most: int64(config.Requests)}, &room{most: mostPlaces}
+	served.answers(wire.UpdatePath, route{http.MethodPost, Clients, wire.MostBody, updates, served.update})
+	served.answers(wire.PlacePath, route{http.MethodPost, Sites, wire.MostBody, places, served.place})
+	served.answers(wire.NextPath, route{http.MethodPost, Operators, wire.MostNextBody, &room{most: mostNexts}, served.next})
+	served.answers(wire.EpochPath, route{http.MethodGet, Operators, 0, &room{most: mostLooks}, served.epoch})
 	return served
 }
-
-var roomOfNexts = room{most: mostNexts}
 
 func (served *Primary) update(ctx context.Context, asked *request) (interface{}, error) {
 	var update wire.Update

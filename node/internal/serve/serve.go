@@ -15,14 +15,15 @@ import (
 )
 
 const (
-	// mostNexts is how many requests for an epoch are under way at most, and mostLooks how many for numbers, pages and health.
-	mostNexts, mostLooks = 4, 32
+	// mostNexts is how many requests for an epoch are under way at most, mostPlaces how many places, and mostLooks how many requests for
+	// numbers, pages and health.
+	mostNexts, mostPlaces, mostLooks = 4, 1000, 32
 )
 
 // A Config is what the servers of all kinds are made with.
 type Config struct {
 	Guard *Guard
-	// Requests is how many requests of clients, readers and sites are under way at most.
+	// Requests is how many requests of clients or readers are under way at most.
 	Requests int
 	// Ready tells why the process takes no requests now, or nil.
 	Ready func() error

@@ -340,6 +340,8 @@ func TestTooManyRequestsAreRefused(t *testing.T) {
 	}
 	status, text := ask(t, "POST", address+"/update", good)
 	is(t, "one more", status, text, 503, "Busy")
+	status, text = ask(t, "POST", address+"/place", `{"site":"north","member":"north","epoch":1,"applied":1,"entry":1}`)
+	is(t, "a place, for which the others may wait", status, text, 200, "{}")
 	status, text = ask(t, "GET", address+"/healthz", "")
 	is(t, "health", status, text, 200, "ok")
 	waiting.Wait()

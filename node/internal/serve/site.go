@@ -2,6 +2,7 @@ package serve
 
 import (
 	"context"
+	"errors"
 	"net/http"
 	"strings"
 
@@ -19,11 +20,13 @@ type Site struct {
 	*server
 	name   string
 	reader Reader
+	// Waiting are the readers that wait for what they have seen. They take half of the room at most.
+	waiting room
 }
 
 // NewSite gives the handler of a site.
 func NewSite(config Config, name string, reader Reader) *Site {
-	served := &Site{newServer(config), name, reader}
+	served := &Site{newServer(config), name, reader, room{most: int64(config.Requests) / 2}}
 	room := &room{most: int64(config.Requests)}
 	served.answers(wire.ValuePath, route{http.MethodGet, Clients, 0, room, served.value})
 	served.answers(wire.ValuesPath, route{http.MethodGet, Clients, 0, room, served.values})
@@ -62,9 +65,22 @@ func (served *Site) read(ctx context.Context, asked *request) (reading site.Read
 			return reading, showing, malformed(err)
 		}
 	}
-	if reading, err = served.reader.Read(ctx, seen); err != nil {
+	if reading, err = served.readOrWait(ctx, seen); err != nil {
 		return reading, showing, err
 	}
 	return reading, wire.Showing{Site: served.name, Epoch: reading.Epoch, Place: reading.Place, Seen: wire.SeenText(reading.Epoch, reading.Place),
 		Lease: reading.Lease.Seconds(), Limits: reading.Limits}, nil
+}
+
+// readOrWait waits where the site is behind what was seen, and too many do not wait yet.
+func (served *Site) readOrWait(ctx context.Context, seen site.Seen) (site.Reading, error) {
+	now, cancel := context.WithCancel(ctx)
+	cancel()
+	reading, err := served.reader.Read(now, seen)
+	var behind *site.BehindError
+	if !errors.As(err, &behind) || !served.waiting.enter() {
+		return reading, err
+	}
+	defer served.waiting.leave()
+	return served.reader.Read(ctx, seen)
 }

@@ -15,7 +15,7 @@
 // names the primary that writes, for whoever asks again. A request that was passed on has the header Ordup-Passed, and goes no further.
 //
 // `?wait=SECONDS` says how long an answer is waited for, at most MostWait. `?seen=EPOCH.PLACE` of a reader says what it has seen. It is
-// shown no less: where the site does not get there in that time, it says how far it is.
+// shown no less: where the site does not get there in that time, or too many wait already, it says how far it is.
 //
 // Where tokens are asked for, a request has the header `Authorization: Bearer TOKEN`. A token may also be the password of `Basic`.
 //

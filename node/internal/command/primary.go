@@ -93,6 +93,8 @@ func isReady(status primary.Status) error {
 	switch {
 	case status.Counts.Full > 0:
 		return primary.ErrFull
+	case status.Writes && status.Lease == 0:
+		return errors.New("the lease of this primary is over: the engine does not answer")
 	case status.Writes || status.Writer != "" && status.Core.Epoch > 0:
 		return nil
 	}

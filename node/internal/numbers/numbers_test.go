@@ -35,7 +35,7 @@ func has(t *testing.T, text string, wants ...string) {
 	}
 }
 
-var status = primary.Status{Writes: true, Writer: "http://p1:1", Rounds: map[string]int64{"north": 9, "south": 0}, Counts: primary.Counts{Requests: 5, Answers: 4},
+var status = primary.Status{Writes: true, Lease: time.Second, Writer: "http://p1:1", Rounds: map[string]int64{"north": 9, "south": 0}, Counts: primary.Counts{Requests: 5, Answers: 4},
 	Since: 2 * time.Second, HasSeen: true, Archives: 1,
 	Core: epoch.Status{Epoch: 3, Entries: 40, Updates: 8, Acknowledged: 6, Clients: 2, HeadWaits: 12 * time.Second, Due: true, DueSince: 3 * time.Second,
 		Sites: []epoch.SiteStatus{{Name: "north", Applied: 4, Missing: 2, Rounds: 1, Waited: true, JoinWaits: true, HasTold: true, Told: time.Second,
@@ -66,6 +66,8 @@ func TestThePageOfAPrimary(t *testing.T) {
 		t.Error("a name is not quoted")
 	}
 	other := status
+	other.Lease = 0
+	has(t, get(t, PageOfPrimary("p1", lag, func() primary.Status { return other })), "the engine does not answer")
 	other.Writes, other.Writer, other.Counts.Full = false, "", 1
 	has(t, get(t, PageOfPrimary("p1", lag, func() primary.Status { return other })), "knows of no primary that writes", "The engine is full")
 }

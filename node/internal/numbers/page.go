@@ -97,6 +97,9 @@ func rowOf(site *epoch.SiteStatus, rounds int64) []cell {
 // saysOf says in words what a primary does, and what it waits for.
 func saysOf(status *primary.Status) []cell {
 	says := []cell{{Text: "It writes the script."}}
+	if status.Writes && status.Lease == 0 {
+		says[0] = cell{Text: "It writes the script, but its lease is over: the engine does not answer.", Bad: true}
+	}
 	if !status.Writes {
 		says[0] = cell{Text: "It stands by for " + status.Writer + ", which writes the script."}
 		if status.Writer == "" {

@@ -38,6 +38,8 @@ type Server struct {
 	crowd  *crowd
 	server *http.Server
 	ended  chan error
+	// Hasten ends the contexts of all requests.
+	hasten context.CancelFunc
 }
 
 type memberKey struct{}
@@ -48,12 +50,14 @@ func Start(address string, secure *tls.Config, most int, handler http.Handler, e
 	if err != nil {
 		return nil, err
 	}
-	server := &Server{crowd: &crowd{Listener: listener, most: most}, ended: make(chan error, 1)}
+	all, cancel := context.WithCancel(context.Background())
+	server := &Server{crowd: &crowd{Listener: listener, most: most}, ended: make(chan error, 1), hasten: cancel}
 	server.server = &http.Server{
 		Handler: handler, ReadHeaderTimeout: headerTime, IdleTimeout: idleTime, MaxHeaderBytes: mostHeader, TLSConfig: secure,
 		// Without HTTP/2 a connection has one request under way, and no more.
 		TLSNextProto: map[string]func(*http.Server, *tls.Conn, http.Handler){},
 		ErrorLog:     log.New(faults{events}, "", 0),
+		BaseContext:  func(net.Listener) context.Context { return all },
 		ConnContext: func(ctx context.Context, connection net.Conn) context.Context {
 			if secured, isSecured := connection.(*tls.Conn); isSecured {
 				connection = secured.NetConn()
@@ -80,10 +84,13 @@ func (server *Server) Connections() int { return server.crowd.size() }
 // Ended tells why the server ended by itself.
 func (server *Server) Ended() <-chan error { return server.ended }
 
-// Stop takes no more requests, and waits so long for the answers of those that are under way.
+// Stop takes no more requests, and waits so long for the answers of those that are under way. After half of that their contexts end, so
+// that they answer that there is no answer yet.
 func (server *Server) Stop(most time.Duration) {
 	ctx, cancel := context.WithTimeout(context.Background(), most)
 	defer cancel()
+	defer server.hasten()
+	defer time.AfterFunc(most/2, server.hasten).Stop()
 	if server.server.Shutdown(ctx) != nil {
 		server.server.Close()
 	}

@@ -30,6 +30,8 @@ func start(t *testing.T, most int) (*listen.Server, chan struct{}) {
 			to.WriteHeader(http.StatusRequestTimeout)
 		case asked.URL.Path == "/wait":
 			<-goOn
+		case asked.URL.Path == "/context":
+			<-asked.Context().Done()
 		}
 		fmt.Fprintf(to, "%s", body)
 	}), nil)
@@ -141,6 +143,15 @@ func TestStopWaitsForAnswers(t *testing.T) {
 		t.Error(status)
 	}
 	<-stopped
+	// Who waits for something that does not come is answered too.
+	other, _ := start(t, 8)
+	go func() { status, _ := ask(t, other, "/context", ""); waits <- status }()
+	time.Sleep(100 * time.Millisecond)
+	began := time.Now()
+	other.Stop(2 * time.Second)
+	if status, took := <-waits, time.Since(began); status != 200 || took > 1800*time.Millisecond {
+		t.Error(status, took)
+	}
 	if _, err := net.Dial("tcp", server.Address()); err == nil {
 		t.Error("it still listens")
 	}

@@ -8,6 +8,8 @@ import (
 	"testing"
 	"time"
 
+	"github.com/prometheus/client_golang/prometheus/testutil"
+
 	"ordup-node/internal/epoch"
 	"ordup-node/internal/fleet"
 	"ordup-node/internal/primary"
@@ -50,6 +52,17 @@ func TestNumbersOfAPrimary(t *testing.T) {
 		`ordup_site_missing_updates{site="north"} 2`, `ordup_site_rounds_total{site="north"} 9`, `ordup_site_told_seconds{site="north"} 1`,
 		`ordup_site_has_told{site="south"} 0`, "ordup_last_entry_seconds 2", "ordup_archives_waiting 1", "ordup_requests_total 5", "# TYPE ordup_requests_total counter",
 		`ordup_update_wait_seconds_bucket{le="0.005"} 1`, "ordup_connections 7", "go_goroutines", "process_resident_memory_bytes")
+}
+
+func TestNumbersHaveTheFormOfPrometheus(t *testing.T) {
+	members := func() []fleet.MemberStatus { return []fleet.MemberStatus{{Place: epoch.Place{Member: "east", Epoch: 2}}} }
+	for _, numbers := range []*Numbers{OfPrimary("1", zero, func() primary.Status { return status }),
+		OfSite("1", "north", zero, func() site.Status { return site.Status{HasTold: true, HasSeen: true} }), OfFleet("1", zero, members)} {
+		problems, err := testutil.GatherAndLint(numbers.registry)
+		if err != nil || len(problems) > 0 {
+			t.Error(err, problems)
+		}
+	}
 }
 
 func TestThePageOfAPrimary(t *testing.T) {

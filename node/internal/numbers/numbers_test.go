@@ -55,7 +55,9 @@ func TestNumbersOfAPrimary(t *testing.T) {
 }
 
 func TestNumbersHaveTheFormOfPrometheus(t *testing.T) {
-	members := func() []fleet.MemberStatus { return []fleet.MemberStatus{{Place: epoch.Place{Member: "east", Epoch: 2}}} }
+	members := func() []fleet.MemberStatus {
+		return []fleet.MemberStatus{{Place: epoch.Place{Member: "east", Epoch: 2}}}
+	}
 	for _, numbers := range []*Numbers{OfPrimary("1", zero, func() primary.Status { return status }),
 		OfSite("1", "north", zero, func() site.Status { return site.Status{HasTold: true, HasSeen: true} }), OfFleet("1", zero, members)} {
 		problems, err := testutil.GatherAndLint(numbers.registry)

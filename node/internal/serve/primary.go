@@ -90,8 +90,8 @@ func (served *Primary) next(ctx context.Context, asked *request) (interface{}, e
 	if err := asked.read(&next); err != nil {
 		return nil, err
 	}
-	if next.Every < 0 || next.Remembers < 0 || next.Ordup != "" && !script.IsWord(next.Ordup, 64) {
-		return nil, malformed(errors.New("these are no settings"))
+	if next.From < 1 || next.Every < 0 || next.Remembers < 0 || next.Ordup != "" && !script.IsWord(next.Ordup, 64) {
+		return nil, malformed(errors.New("from is the epoch that is to end, and the settings are no less than 0"))
 	}
 	wish := epoch.Wish{From: next.From, Declarations: epoch.Declarations(next.Declarations), Replaces: next.Replaces,
 		Settings: script.Settings{Every: next.Every, Remembers: next.Remembers, Ordup: next.Ordup}}

@@ -181,6 +181,7 @@ func TestWhatIsNoRequestIsRefused(t *testing.T) {
 		{"POST", "/place", `{"site":"\u0000","member":"north","epoch":1,"applied":1,"entry":1}`, 400, "Malformed"},
 		{"POST", "/place", `{"site":"north","member":"north","epoch":1,"applied":-1,"entry":1}`, 400, "Malformed"},
 		{"POST", "/next", `{"from":1,"every":-1}`, 400, "Malformed"},
+		{"POST", "/next", `{"every":1}`, 400, "Malformed"},
 		{"POST", "/next", `[]`, 400, "Malformed"},
 		{"POST", "/healthz", ``, 405, "NoSuchMethod"},
 		{"GET", "/values", ``, 404, "NoSuchPath"},

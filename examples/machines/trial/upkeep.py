@@ -1,0 +1,69 @@
+"""What an operator does with the engine while the trial runs."""
+
+import time
+from functools import partial
+from typing import Callable, TypeVar
+
+from addresses import MEMBERS, address_of
+from asking import PATIENCE
+from etcd import Away, Engine, Full, until, until_done
+
+T = TypeVar("T")
+
+
+class Upkeep:
+    def __init__(self, engine: Engine, note: Callable[[str], None]) -> None:
+        self.engine, self.note = engine, note
+        # Whether the engine is to be full.
+        self.fills = False
+
+    def ask(self, call: Callable[[], T]) -> T:
+        """What a call of the engine gives, as soon as it gives something."""
+        while True:
+            try:
+                return call()
+            except Away:
+                time.sleep(0.1)
+
+    def leader(self) -> str:
+        found = self.ask(self.engine.leader)
+        return found if found in MEMBERS else MEMBERS[0]
+
+    def replace_member(self, name: str) -> bool:
+        """As `etcdctl member remove` and `etcdctl member add` do."""
+        return until_done(partial(self.engine.replace_member, name, f"http://{address_of(name)}:2380"), PATIENCE)
+
+    def has_joined(self, name: str) -> bool:
+        return until(Engine([address_of(name)]).leader, PATIENCE, 0.3)
+
+    def size_of_script(self) -> int:
+        """The bytes of the epoch."""
+        return self.ask(lambda: sum(len(text) for _, text in self.engine.entries()))
+
+    def fill(self) -> None:
+        number, ends = 0, time.monotonic() + PATIENCE
+        while time.monotonic() < ends:
+            try:
+                number += 1
+                self.engine.put(f"junk/{number}".encode(), b"x" * 1_000_000)
+            except Full:
+                return
+            except Away:
+                pass
+
+    def look_at_alarms(self) -> None:
+        """A member on an empty disk goes through what was written since the others made a snapshot. So it may be full."""
+        while True:
+            time.sleep(0.3)
+            try:
+                if not self.fills and self.engine.alarms() and self.free_space():
+                    self.note("times that space was freed")
+            except Away:
+                pass
+
+    def free_space(self) -> bool:
+        """As `etcdctl del`, `etcdctl compaction`, `etcdctl defrag` and `etcdctl alarm disarm` do."""
+        made = until_done(partial(self.engine.remove, "junk/"), PATIENCE)
+        for name in MEMBERS:
+            made = made and until_done(Engine([address_of(name)], 10).defragment, PATIENCE)
+        return made and until_done(self.engine.disarm, PATIENCE)

@@ -133,12 +133,15 @@ class NodeForm(Form):
         own = ["--host", name, "--listen", f"{address_of(name)}:{PORT}", "--archive", str(archive), "--every", str(every)]
         return [*self.words("primary"), *own, "--declarations", str(declarations)]
 
+    def primaries(self) -> list[str]:
+        return ["--primaries", ",".join(f"{address_of(name)}:{PORT}" for name in PRIMARIES)]
+
     def words_of_site(self, name: str) -> list[str]:
         fleet = ["--fleet", SITES[name], "--tell", f"{address_of(USERS)}:{PORT}"] if SITES[name] != name else []
-        return [*self.words("site"), "--listen", f":{PORT}", *fleet, name]
+        return [*self.words("site"), "--listen", f":{PORT}", *self.primaries(), *fleet, name]
 
     def words_of_fleet(self) -> list[str]:
-        return [*self.words("fleet"), "--listen", f"{address_of(USERS)}:{PORT}", FLEET, *(site for site in SITES if SITES[site] == FLEET)]
+        return [*self.words("fleet"), "--listen", f"{address_of(USERS)}:{PORT}", *self.primaries(), FLEET, *(site for site in SITES if SITES[site] == FLEET)]
 
     def words_of_reader(self) -> list[str]:
         return [f"http://127.0.0.1:{PORT}/values"]

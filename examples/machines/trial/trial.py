@@ -170,6 +170,7 @@ class Trial:
 
     def ask_late(self) -> None:
         """Under a number that is before the last one. The client is told so, until its next answer. Other changes are refused."""
+        self.asking.propose_alone("add:tea:1")
         last = self.asking.asked[0]
         self.upkeep.ask(lambda: self.form.ask_late("client0", 1))
         told = self.soon(lambda: self.form.is_told_late("client0", 1, last))

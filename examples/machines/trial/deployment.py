@@ -4,13 +4,10 @@ import subprocess
 from pathlib import Path
 from typing import IO
 
-from addresses import FLEET, HOSTS, MEMBERS, NET, PRIMARIES, USERS, address_of
+from addresses import DECLARATIONS, FLEET, HOSTS, MACHINES, MEMBERS, NET, PRIMARIES, USERS, address_of
 from form import Form
 
 HERE = Path(__file__).resolve().parent
-# Where the scripts of the hosts and of a member lie, and the declarations.
-MACHINES = HERE.parent
-DECLARATIONS = MACHINES / "shop.ordup"
 # What the engine may hold, and what the disk of the last member has, in MB.
 QUOTA, DISK = 64, 768
 
@@ -52,7 +49,9 @@ class Deployment:
             words = [str(MACHINES / "member"), name, address_of(name), str(self.disk(name) / "data"), *members]
             return [*words, "--quota-backend-bytes", str(QUOTA << 20), *more]
         if name in PRIMARIES:
-            return self.form.words_of_primary(name, self.archive(name), self.every, DECLARATIONS)
+            # An operator may have given others since the first start.
+            declarations = None if name in self.processes else DECLARATIONS
+            return self.form.words_of_primary(name, self.archive(name), self.every, declarations)
         return self.form.words_of_fleet() if name == FLEET else self.form.words_of_site(name)
 
     def start(self, name: str, *more: str) -> None:

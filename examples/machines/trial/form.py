@@ -43,8 +43,8 @@ class Form(ABC):
     # How its processes are started.
 
     @abstractmethod
-    def words_of_primary(self, name: str, archive: Path, every: int, declarations: Path) -> list[str]:
-        """Of a primary on the host of this name."""
+    def words_of_primary(self, name: str, archive: Path, every: int, declarations: Path | None) -> list[str]:
+        """Of a primary on the host of this name. Without declarations it takes those of the script."""
 
     @abstractmethod
     def words_of_site(self, name: str) -> list[str]:

@@ -129,9 +129,9 @@ class NodeForm(Form):
         engine = ",".join(f"http://{address_of(member)}:{etcd.PORT}" for member in MEMBERS)
         return [str(self.node), command, "--engine", engine]
 
-    def words_of_primary(self, name: str, archive: Path, every: int, declarations: Path) -> list[str]:
+    def words_of_primary(self, name: str, archive: Path, every: int, declarations: Path | None) -> list[str]:
         own = ["--host", name, "--listen", f"{address_of(name)}:{PORT}", "--archive", str(archive), "--every", str(every)]
-        return [*self.words("primary"), *own, "--declarations", str(declarations)]
+        return [*self.words("primary"), *own, *(["--declarations", str(declarations)] if declarations else [])]
 
     def primaries(self) -> list[str]:
         return ["--primaries", ",".join(f"{address_of(name)}:{PORT}" for name in PRIMARIES)]

@@ -3,9 +3,8 @@
 import subprocess
 import time
 
-from addresses import FLEET, PRIMARIES, SITES, SPARE
+from addresses import DECLARATIONS, FLEET, PRIMARIES, SITES, SPARE
 from asking import PATIENCE
-from deployment import DECLARATIONS
 from failing import LONG, Failing
 
 
@@ -48,7 +47,7 @@ class PrimaryFaults(Failing):
         declarations = self.deployment.folder / "other.ordup"
         declarations.write_text(DECLARATIONS.read_text().replace("limit north count 3", "limit north count 4"))
         every = self.deployment.every
-        for settings in ((every + 1, DECLARATIONS), (every, declarations)):
+        for settings in ((every + 1, None), (every, declarations)):
             words = self.trial.form.words_of_primary(SPARE, self.deployment.archive(SPARE), *settings)
             other = self.deployment.begin(SPARE, words)
             try:

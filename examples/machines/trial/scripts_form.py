@@ -8,7 +8,7 @@ from pathlib import Path
 from typing import Any
 
 import etcd
-from addresses import FLEET, MEMBERS, SITES, address_of
+from addresses import DECLARATIONS, FLEET, MEMBERS, SITES, address_of
 from form import Clients, Form, Place, Refused
 
 ENGINE = ",".join(map(address_of, MEMBERS))
@@ -47,8 +47,9 @@ class ScriptsForm(Form):
         self.program, self.files = program, files
         self.propose: Any = None
 
-    def words_of_primary(self, name: str, archive: Path, every: int, declarations: Path) -> list[str]:
-        return [*self.words("primary.py"), "--archive", str(archive), "--every", str(every), str(declarations)]
+    def words_of_primary(self, name: str, archive: Path, every: int, declarations: Path | None) -> list[str]:
+        """They are always named, and looked at where the script is empty."""
+        return [*self.words("primary.py"), "--archive", str(archive), "--every", str(every), str(declarations or DECLARATIONS)]
 
     def words(self, script: str) -> list[str]:
         return [str(self.files / script), "--engine", ENGINE, "--program", str(self.program)]

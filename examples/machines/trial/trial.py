@@ -7,9 +7,9 @@ import time
 from contextlib import contextmanager
 from typing import Callable, Iterator
 
-from addresses import FLEET, MEMBERS, PRIMARIES, SITES
+from addresses import DECLARATIONS, FLEET, MEMBERS, PRIMARIES, SITES
 from asking import CLIENTS, PATIENCE, Asking
-from deployment import DECLARATIONS, Deployment
+from deployment import Deployment
 from etcd import Away, Engine
 from faults import Faults
 from form import Form, Place

@@ -1,4 +1,7 @@
-"""What a form of the deployment is to the trial: how it is started, asked and read. There are two, `scripts_form.py` and `node_form.py`."""
+"""What a form of the deployment is to the trial: how it is started, asked and read.
+
+There are two, `scripts_form.py` and `node_form.py`.
+"""
 
 from abc import ABC, abstractmethod
 from pathlib import Path

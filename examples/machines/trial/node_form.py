@@ -141,7 +141,8 @@ class NodeForm(Form):
         return [*self.words("site"), "--listen", f":{PORT}", *self.primaries(), *fleet, name]
 
     def words_of_fleet(self) -> list[str]:
-        return [*self.words("fleet"), "--listen", f"{address_of(USERS)}:{PORT}", *self.primaries(), FLEET, *(site for site in SITES if SITES[site] == FLEET)]
+        sites = [site for site in SITES if SITES[site] == FLEET]
+        return [*self.words("fleet"), "--listen", f"{address_of(USERS)}:{PORT}", *self.primaries(), FLEET, *sites]
 
     def words_of_reader(self) -> list[str]:
         return [f"http://127.0.0.1:{PORT}/values"]

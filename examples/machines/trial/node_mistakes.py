@@ -14,7 +14,11 @@ MISTAKES: Mistakes = {
     "reports_what_no_site_told": [("internal/epoch/turn.go", "		places := site.known()\n", "		places := core.updates\n")],
     # The client is told once the update has a number.
     "answers_before_it_settles": [
-        ("internal/epoch/run.go", "		core.waiting.push(asked)\n", "		core.waiting.push(asked)\n		core.decide(asked, ackedText(place, core.epoch))\n"),
+        (
+            "internal/epoch/run.go",
+            "		core.waiting.push(asked)\n",
+            "		core.waiting.push(asked)\n		core.decide(asked, ackedText(place, core.epoch))\n",
+        ),
         ("internal/epoch/run.go", "		core.decide(core.waiting.pop(), ackedText(place, core.epoch))\n", "		core.waiting.pop()\n"),
     ],
     # Each page that is read of the engine has all that is left, and no more time after a failure.
@@ -118,7 +122,11 @@ MISTAKES: Mistakes = {
     "relies_on_a_lease_that_is_over": [("internal/engine/lease.go", "	Relied = 3 * time.Second\n", "	Relied = 30 * time.Second\n")],
     # A process of a site tells its place though another one serves the readers.
     "tells_without_the_lease": [
-        ("internal/site/site.go", "		shown, changed := site.served()\n", "		site.lock.Lock()\n		shown, changed := site.shown, site.changed\n		site.lock.Unlock()\n"),
+        (
+            "internal/site/site.go",
+            "		shown, changed := site.served()\n",
+            "		site.lock.Lock()\n		shown, changed := site.shown, site.changed\n		site.lock.Unlock()\n",
+        ),
     ],
     # Other changes under a number that was taken have the answer to those before.
     "answers_other_changes": [("internal/epoch/turn.go", "	case script.DigestOf(request.Changes) != last.digest:\n", "	case false:\n")],

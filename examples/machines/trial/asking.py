@@ -60,12 +60,10 @@ class Asking:
         for thread in self.threads:
             thread.start()
 
-    def end(self) -> None:
-        """Each hears the answer to what it asked last."""
+    def has_ended(self) -> bool:
+        """Asks for no more. Returns whether each has heard the answer to what it asked last."""
         self.rests.set()
-        ends = time.monotonic() + PATIENCE
-        for thread in self.threads:
-            thread.join(max(0, ends - time.monotonic()))
+        return not any(thread.is_alive() for thread in self.threads)
 
     def run(self, index: int, seed: float) -> None:
         chance, client = random.Random(seed), self.clients[index]

@@ -23,6 +23,10 @@ WAIT, LONGER = 4, 6.0
 Json = dict[str, Any]
 
 
+def url_of(name: str) -> str:
+    return f"http://{address_of(name)}:{PORT}"
+
+
 class Http:
     """One connection to a process, as long as that lasts. Where it fails, the status is 0."""
 
@@ -125,24 +129,26 @@ class NodeForm(Form):
         super().__init__(engine)
         self.node, self.wish, self.wishing = node, Wish(engine, ""), threading.Lock()
 
-    def words(self, command: str) -> list[str]:
-        engine = ",".join(f"http://{address_of(member)}:{etcd.PORT}" for member in MEMBERS)
-        return [str(self.node), command, "--engine", engine]
+    def words(self, command: str, host: str, listen: str) -> list[str]:
+        return [str(self.node), command, "--host", host, "--listen", f"{listen}:{PORT}"]
+
+    def engine_words(self) -> list[str]:
+        return ["--engine", ",".join(f"http://{address_of(member)}:{etcd.PORT}" for member in MEMBERS)]
 
     def words_of_primary(self, name: str, archive: Path, every: int, declarations: Path | None) -> list[str]:
-        own = ["--host", name, "--listen", f"{address_of(name)}:{PORT}", "--archive", str(archive), "--every", str(every)]
-        return [*self.words("primary"), *own, *(["--declarations", str(declarations)] if declarations else [])]
+        own = [*self.words("primary", name, address_of(name)), *self.engine_words(), "--archive", str(archive), "--every", str(every)]
+        return [*own, *(["--declarations", str(declarations)] if declarations else [])]
 
     def primaries(self) -> list[str]:
-        return ["--primaries", ",".join(f"{address_of(name)}:{PORT}" for name in PRIMARIES)]
+        return ["--primaries", ",".join(map(url_of, PRIMARIES))]
 
     def words_of_site(self, name: str) -> list[str]:
-        fleet = ["--fleet", SITES[name], "--tell", f"{address_of(USERS)}:{PORT}"] if SITES[name] != name else []
-        return [*self.words("site"), "--listen", f":{PORT}", *self.primaries(), *fleet, name]
+        tells = ["--fleet", SITES[name], "--teller", url_of(FLEET)] if SITES[name] != name else self.primaries()
+        return [*self.words("site", name, "0.0.0.0"), *self.engine_words(), "--site", name, *tells]
 
     def words_of_fleet(self) -> list[str]:
         sites = [site for site in SITES if SITES[site] == FLEET]
-        return [*self.words("fleet"), "--listen", f"{address_of(USERS)}:{PORT}", *self.primaries(), FLEET, *sites]
+        return [*self.words("fleet", USERS, address_of(USERS)), *self.primaries(), "--fleet", FLEET, "--members", ",".join(sites)]
 
     def words_of_reader(self) -> list[str]:
         return [f"http://127.0.0.1:{PORT}/values"]
@@ -206,7 +212,7 @@ class NodeForm(Form):
         connection = Http(address_of(host), LONGER)
         status, told = connection.ask(method, path, body)
         connection.connection.close()
-        if 400 <= status < 600 or status == 0 and len(body) > 10_000:
+        if 300 <= status < 600 or status == 0 and len(body) > 10_000:
             return []
         return [f"{host} answered {status} {told} to {method} {path} {body[:40]!r}"]
 

@@ -3,7 +3,7 @@
 from recipe import Mistakes
 
 TAKEN = "case request.Number > last.number:\n"
-OVER = "if site.applied < core.updates || site.leaves && !site.gone {\n"
+OVER = "	return site.applied < updates || site.leaves && !site.gone\n"
 SERVED = "	shown, changed, first, term := site.shown, site.changed, site.first, site.term\n"
 SERVES = "	if shown == nil || shown.Entry < first || !site.lease.Lives(term) {\n"
 SHOWS = "		site.show(shown)\n		if shown != nil && shown.Entry >= site.end {\n"
@@ -55,9 +55,9 @@ MISTAKES: Mistakes = {
         ("internal/epoch/ending.go", "	text, err := core.store.NextDeclarations()\n", "	text, err := core.firsts, error(nil)\n"),
     ],
     # The next epoch begins once all is acknowledged.
-    "goes_over_before_all_have_told": [("internal/epoch/ending.go", OVER, "if site.leaves && !site.gone {\n")],
+    "goes_over_before_all_have_told": [("internal/epoch/sites.go", OVER, "	return site.leaves && !site.gone\n")],
     # The next epoch begins while a process of a site that is taken out may still serve readers.
-    "goes_over_before_a_site_is_gone": [("internal/epoch/ending.go", OVER, "if site.applied < core.updates {\n")],
+    "goes_over_before_a_site_is_gone": [("internal/epoch/sites.go", OVER, "	return site.applied < updates\n")],
     # What the operator asked for once is done twice.
     "begins_one_epoch_after_another": [
         (
@@ -113,8 +113,8 @@ MISTAKES: Mistakes = {
         ("internal/site/replica.go", "			delete(replica.sites, step.Name)\n", ""),
         (
             "internal/site/replica.go",
-            "	replica.epoch, replica.place, replica.told, replica.sites = entry.Epoch, 0, 0, map[string]bool{}\n",
-            "	replica.epoch, replica.place, replica.told = entry.Epoch, 0, 0\n"
+            "	replica.epoch, replica.place, replica.told, replica.sites, replica.limits = entry.Epoch, 0, 0, map[string]bool{}, []string{}\n",
+            "	replica.epoch, replica.place, replica.told, replica.limits = entry.Epoch, 0, 0, []string{}\n"
             "	if replica.sites == nil {\n		replica.sites = map[string]bool{}\n	}\n",
         ),
     ],

@@ -95,6 +95,7 @@ class Trial:
         """Whether the site serves readers in time."""
         ends = time.monotonic() + PATIENCE
         while not self.serves(site) and time.monotonic() < ends:
+            self.faults.revive(f"the wait for {site}")
             time.sleep(0.1)
         return time.monotonic() < ends
 
@@ -148,7 +149,7 @@ class Trial:
         self.faults.run(lambda: time.monotonic() < began + seconds or self.asking.acknowledged() < updates)
         self.seconds = time.monotonic() - began
         self.bring_back()
-        self.asking.end()
+        self.soon(self.asking.has_ended)
         self.wait_for_sites(time.monotonic() + PATIENCE)
         self.start_again()
         self.ask_late()

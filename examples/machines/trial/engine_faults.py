@@ -37,6 +37,21 @@ class EngineFaults(Failing):
         else:
             self.wrong.append(f"the member {name} could not be replaced")
 
+    def lose_all_disks(self) -> None:
+        """What all members have is brought back from a backup that has all that was acknowledged."""
+        backup = self.deployment.folder / "backup"
+        with self.trial.alone():
+            self.check(self.trial.upkeep.save(backup), "there was no backup")
+            self.deployment.kill(*MEMBERS)
+            for name in MEMBERS:
+                shutil.rmtree(self.deployment.disk(name) / "data")
+                self.trial.upkeep.restore(backup, name, self.deployment.disk(name) / "data")
+            for name in MEMBERS:
+                self.deployment.start(name)
+            for name in MEMBERS:
+                self.check(self.trial.upkeep.has_joined(name), f"the member {name} was not restored")
+        backup.unlink()
+
     def cut_minority_with_primary(self) -> None:
         self.cut([self.writer(), self.member()], 1, LONG + 3, "part")
 

@@ -21,6 +21,18 @@ class PrimaryFaults(Failing):
         self.check(not held or self.trial.form.pid_of(held) != process.pid, f"{writer} has ended, and has its lease")
         self.deployment.start(writer)
 
+    def end_each_in_turn(self) -> None:
+        """As for an upgrade, while clients ask. Each ends when it is asked to, and the next one does once this one serves again."""
+        for name in [*SITES, FLEET, *PRIMARIES]:
+            if name in self.trial.out:
+                continue
+            process = self.deployment.processes[name]
+            process.terminate()
+            self.check(process.wait() == 0, f"{name} ended with {process.returncode} when it was asked to")
+            self.deployment.start(name)
+            if name in SITES:
+                self.check(self.trial.waits_for_reader(name), f"{name} does not serve after it was started again")
+
     def ask_for_an_epoch_from_afar(self) -> None:
         """A member is far, so a primary may hear late of what it wrote itself. The observer counts what began."""
         with self.trial.alone():

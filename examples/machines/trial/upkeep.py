@@ -1,7 +1,9 @@
 """What an operator does with the engine while the trial runs."""
 
+import subprocess
 import time
 from functools import partial
+from pathlib import Path
 from typing import Callable, TypeVar
 
 from addresses import MEMBERS, address_of
@@ -35,6 +37,22 @@ class Upkeep:
 
     def has_joined(self, name: str) -> bool:
         return until(Engine([address_of(name)]).leader, PATIENCE, 0.3)
+
+    def save(self, to: Path) -> bool:
+        """Makes a backup, as an operator does."""
+
+        def saves() -> bool:
+            words = ["etcdctl", "--endpoints", f"http://{address_of(MEMBERS[0])}:2379", "snapshot", "save", str(to)]
+            return subprocess.run(words, stdout=subprocess.DEVNULL, stderr=subprocess.DEVNULL).returncode == 0
+
+        return until(saves, PATIENCE, 0.3)
+
+    def restore(self, backup: Path, name: str, to: Path) -> None:
+        """Makes the folder of a member of a backup, as an operator does."""
+        peers = {member: f"http://{address_of(member)}:2380" for member in MEMBERS}
+        words = ["--name", name, "--data-dir", str(to), "--initial-advertise-peer-urls", peers[name]]
+        words += ["--initial-cluster", ",".join(f"{member}={url}" for member, url in peers.items())]
+        subprocess.run(["etcdctl", "snapshot", "restore", backup, *words], check=True, stdout=subprocess.DEVNULL, stderr=subprocess.DEVNULL)
 
     def size_of_script(self) -> int:
         """The bytes of the epoch."""

@@ -12,7 +12,8 @@ KINDS = ("kill_", "stop_", "cut_", "start_", "lose_", "fill_", "slow_", "ask_", 
 
 
 class Faults(SiteFaults, PrimaryFaults, EngineFaults):
-    # Those that come.
+    # Those that come, and whether these are all.
+    are_all = True
     names = sorted(name for kind in (SiteFaults, PrimaryFaults, EngineFaults) for name in vars(kind) if name.startswith(KINDS))
 
     def run(self, goes_on: Callable[[], bool]) -> None:

@@ -112,6 +112,10 @@ class Form(ABC):
     def lines_of_archive(self, text: str) -> list[str]:
         """The lines of the archive of an epoch, as those of its entries."""
 
+    def audit(self, archives: list[Path]) -> list[str]:
+        """What the deployment itself finds to be wrong in these folders and in the engine."""
+        return []
+
     @abstractmethod
     def numbers_of(self, primary: str, epoch: int, updates: int) -> list[tuple[str, float | None, float]]:
         """Numbers that a primary gives to operators at the end of the trial: the name, what it is, and what it is to be."""

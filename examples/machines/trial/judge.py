@@ -5,7 +5,7 @@ import subprocess
 from pathlib import Path
 from typing import Iterator
 
-from addresses import SITES
+from addresses import PRIMARIES, SITES
 from asking import PATIENCE, Answer
 from observer import Observer
 from trial import Trial
@@ -21,7 +21,8 @@ def judge(trial: Trial, program: Path, scripts: list[list[str]]) -> Observer:
         observer.judge_readings(site, SITES[site], list(readings_in(path)), answers, to_the_end=is_first)
     judge_by_program(observer, program, scripts, answers)
     judge_numbers(observer, trial)
-    for wrong in trial.faults.wrong + trial.form.wrong:
+    archives = [trial.deployment.archive(name) for name in PRIMARIES if trial.deployment.archive(name).is_dir()]
+    for wrong in trial.faults.wrong + trial.form.wrong + trial.form.audit(archives):
         observer.check("what failed", False, wrong)
     observer.check("starts within seconds", trial.start < PATIENCE / 2, f"it took {trial.start:.1f} seconds")
     if trial.faults.are_all:

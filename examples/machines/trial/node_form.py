@@ -7,6 +7,7 @@ import http.client
 import json
 import random
 import re
+import subprocess
 import threading
 import time
 from concurrent.futures import ThreadPoolExecutor
@@ -16,6 +17,7 @@ from typing import Any
 import etcd
 from addresses import FLEET, MEMBERS, PRIMARIES, SITES, SPARE, USERS, address_of
 from form import Clients, Form, Place, Refused
+from safety import Safety
 
 PORT = 7070
 # For so many seconds a process may look for an answer, and the client waits a little longer for the process.
@@ -23,19 +25,19 @@ WAIT, LONGER = 4, 6.0
 Json = dict[str, Any]
 
 
-def url_of(name: str) -> str:
-    return f"http://{address_of(name)}:{PORT}"
-
-
 class Http:
     """One connection to a process, as long as that lasts. Where it fails, the status is 0."""
 
-    def __init__(self, host: str, seconds: float) -> None:
+    def __init__(self, name: str, seconds: float, role: str, safety: Safety | None) -> None:
+        host, self.headers = address_of(name), {}
         self.connection = http.client.HTTPConnection(host, PORT, timeout=seconds)
+        if safety:
+            self.connection = http.client.HTTPSConnection(host, PORT, timeout=seconds, context=safety.context)
+            self.headers = {"Authorization": f"Bearer {safety.tokens[role]}"} if role else {}
 
     def ask(self, method: str, path: str, body: bytes | None = None) -> tuple[int, Json]:
         try:
-            self.connection.request(method, path, body)
+            self.connection.request(method, path, body, self.headers)
             answer = self.connection.getresponse()
             text = answer.read()
             told = json.loads(text) if text[:1] == b"{" else {"text": text.decode("utf-8", "replace")}
@@ -48,12 +50,12 @@ class Http:
 class NodeClient:
     """One client. It asks a primary until that fails, and then another one, which may be the same."""
 
-    def __init__(self, name: str) -> None:
-        self.name = name
+    def __init__(self, name: str, safety: Safety | None) -> None:
+        self.name, self.safety = name, safety
         self.next()
 
     def next(self) -> None:
-        self.http = Http(address_of(random.choice(PRIMARIES)), LONGER)
+        self.http = Http(random.choice(PRIMARIES), LONGER, "client", self.safety)
 
     def propose(self, number: int, changes: str) -> str:
         """The answer in the words of the store."""
@@ -73,8 +75,8 @@ class NodeClient:
 
 
 class NodeClients:
-    def __init__(self, names: list[str]) -> None:
-        self.names, self.own = names, {name: NodeClient(name) for name in names}
+    def __init__(self, names: list[str], safety: Safety | None) -> None:
+        self.names, self.own = names, {name: NodeClient(name, safety) for name in names}
         self.threads = ThreadPoolExecutor(len(names)) if len(names) > 1 else None
 
     def propose(self, number: int, changes: dict[str, str]) -> dict[str, str]:
@@ -94,9 +96,9 @@ class NodeClients:
 class Wish(threading.Thread):
     """Asks for the next epoch until it has begun, under the number of the one that is to end. So it is done once."""
 
-    def __init__(self, engine: etcd.Engine, declarations: str) -> None:
+    def __init__(self, engine: etcd.Engine, declarations: str, safety: Safety | None) -> None:
         super().__init__(daemon=True)
-        self.engine, self.declarations, self.wrong = engine, declarations, ""
+        self.engine, self.declarations, self.safety, self.wrong = engine, declarations, safety, ""
 
     def run(self) -> None:
         since = 0
@@ -104,7 +106,7 @@ class Wish(threading.Thread):
             try:
                 since = since or self.engine.epoch()[0]
                 wish = json.dumps({"from": since, "declarations": self.declarations}).encode()
-                host = Http(address_of(random.choice(PRIMARIES)), LONGER)
+                host = Http(random.choice(PRIMARIES), LONGER, "operator", self.safety)
                 status, told = host.ask("POST", f"/next?wait={WAIT}", wish)
                 host.connection.close()
                 if status == 200:
@@ -125,12 +127,20 @@ class NodeForm(Form):
     odd_keys = [f"{begin}{end}".encode("latin-1") for begin in ("script/", "site/", "archive/", "epoch", "primary", "request/", "next")
                 for end in ("\xff\xfe/1", "ann/9\xff", "\xff", "0", "abc", "~\n/", "000000000002x")]
 
-    def __init__(self, engine: etcd.Engine, node: Path) -> None:
+    def __init__(self, engine: etcd.Engine, node: Path, safety: Safety | None) -> None:
         super().__init__(engine)
-        self.node, self.wish, self.wishing = node, Wish(engine, ""), threading.Lock()
+        self.node, self.safety = node, safety
+        self.wish, self.wishing = Wish(engine, "", safety), threading.Lock()
+
+    def http(self, name: str, role: str, seconds: float = LONGER) -> Http:
+        return Http(name, seconds, role, self.safety)
+
+    def url_of(self, name: str) -> str:
+        return f"http{'s' if self.safety else ''}://{address_of(name)}:{PORT}"
 
     def words(self, command: str, host: str, listen: str) -> list[str]:
-        return [str(self.node), command, "--host", host, "--listen", f"{listen}:{PORT}"]
+        own = [str(self.node), command, "--host", host, "--listen", f"{listen}:{PORT}"]
+        return own + (self.safety.words_of_server() if self.safety else [])
 
     def engine_words(self) -> list[str]:
         return ["--engine", ",".join(f"http://{address_of(member)}:{etcd.PORT}" for member in MEMBERS)]
@@ -140,10 +150,14 @@ class NodeForm(Form):
         return [*own, *(["--declarations", str(declarations)] if declarations else [])]
 
     def primaries(self) -> list[str]:
-        return ["--primaries", ",".join(map(url_of, PRIMARIES))]
+        return ["--primaries", ",".join(map(self.url_of, PRIMARIES)), *self.token()]
+
+    def token(self) -> list[str]:
+        return self.safety.words_of_site() if self.safety else []
 
     def words_of_site(self, name: str) -> list[str]:
-        tells = ["--fleet", SITES[name], "--teller", url_of(FLEET)] if SITES[name] != name else self.primaries()
+        fleet = ["--fleet", SITES[name], "--teller", self.url_of(FLEET), *self.token()]
+        tells = fleet if SITES[name] != name else self.primaries()
         return [*self.words("site", name, "0.0.0.0"), *self.engine_words(), "--site", name, *tells]
 
     def words_of_fleet(self) -> list[str]:
@@ -151,16 +165,18 @@ class NodeForm(Form):
         return [*self.words("fleet", USERS, address_of(USERS)), *self.primaries(), "--fleet", FLEET, "--members", ",".join(sites)]
 
     def words_of_reader(self) -> list[str]:
+        if self.safety:
+            return [f"https://127.0.0.1:{PORT}/values", self.safety.tokens["client"], self.safety.certificate]
         return [f"http://127.0.0.1:{PORT}/values"]
 
     def clients(self, names: list[str]) -> Clients:
-        return NodeClients(names)
+        return NodeClients(names, self.safety)
 
     def want(self, declarations: str) -> bool:
         with self.wishing:
             if self.wish.is_alive():
                 return False
-            self.wish = Wish(self.engine, declarations)
+            self.wish = Wish(self.engine, declarations, self.safety)
             self.wish.start()
             return True
 
@@ -174,11 +190,11 @@ class NodeForm(Form):
 
     def is_told_late(self, client: str, number: int, last: int) -> bool:
         update = json.dumps({"client": client, "number": number, "changes": ["add:tea:1"]}).encode()
-        status, told = Http(address_of(random.choice(PRIMARIES)), LONGER).ask("POST", f"/update?wait={WAIT}", update)
+        status, told = self.http(random.choice(PRIMARIES), "client").ask("POST", f"/update?wait={WAIT}", update)
         return status == 409 and told.get("error") == "Passed" and told.get("last") == last
 
     def place_at(self, site: str) -> Place | None:
-        reader = Http(address_of(site), 1)
+        reader = self.http(site, "client", 1)
         status, shown = reader.ask("GET", "/values")
         reader.connection.close()
         return (shown["epoch"], shown["place"]) if status == 200 else None
@@ -188,7 +204,7 @@ class NodeForm(Form):
     def put_odd(self, values: list[bytes]) -> list[str]:
         wrong = super().put_odd(values)
         for host in (*PRIMARIES, *SITES, FLEET):
-            idle = [Http(address_of(host), LONGER).connection for _ in range(50)]
+            idle = [self.http(host, "").connection for _ in range(50)]
             for connection in idle:
                 connection.connect()
             wrong += [words for method, path, body in self.odd_requests() for words in self.send_odd(host, method, path, body)]
@@ -209,12 +225,19 @@ class NodeForm(Form):
 
     def send_odd(self, host: str, method: str, path: str, body: bytes) -> list[str]:
         """What is odd is answered, and is no answer. A body that is too large may end the connection."""
-        connection = Http(address_of(host), LONGER)
-        status, told = connection.ask(method, path, body)
-        connection.connection.close()
+        role = {"/update": "client", "/place": "site", "/next": "operator"}.get(path, "client")
+        if self.safety and self.ask_once(host, "", method, path, body[:1000])[0] == 200:
+            return [f"{host} answered without a token to {method} {path}"]
+        status, told = self.ask_once(host, role, method, path, body)
         if 300 <= status < 600 or status == 0 and len(body) > 10_000:
             return []
         return [f"{host} answered {status} {told} to {method} {path} {body[:40]!r}"]
+
+    def ask_once(self, host: str, role: str, method: str, path: str, body: bytes) -> tuple[int, Json]:
+        asked = self.http(host, role)
+        told = asked.ask(method, path, body)
+        asked.connection.close()
+        return told
 
     # What it keeps.
 
@@ -246,10 +269,17 @@ class NodeForm(Form):
             lines += made
         return lines
 
+    def audit(self, archives: list[Path]) -> list[str]:
+        """Its own look at all that it keeps."""
+        words = [str(self.node), "fsck", *self.engine_words(), *map(str, archives)]
+        ran = subprocess.run(words, stdout=subprocess.PIPE, stderr=subprocess.STDOUT, text=True)
+        last = ran.stdout.strip().rpartition("\n")[2]
+        return [] if ran.returncode == 0 and last.startswith("ok ") else [f"fsck ended with {ran.returncode}: {last}"]
+
     def numbers_of(self, primary: str, epoch: int, updates: int) -> list[tuple[str, float | None, float]]:
         wanted = {"ordup_epoch": epoch, "ordup_log_updates": updates, "ordup_acknowledged_updates": updates,
                   'ordup_site_applied_updates{site="far"}': updates}
-        _, told = Http(address_of(primary), LONGER).ask("GET", "/metrics")
+        _, told = self.ask_once(primary, "operator", "GET", "/metrics", b"")
         pairs = [line.rsplit(" ", 1) for line in told.get("text", "").splitlines() if line[:1] not in ("#", "")]
         has = {name: float(value) for name, value in pairs}
         return [(name, has.get(name), value) for name, value in wanted.items()]

@@ -2,8 +2,8 @@
 """The observer of the test. It shares no code with what it observes: it computes values and weights by itself.
 
 `observer.py PORT` reads the site of this host again and again, and writes a line for each reading: when it began, by the clock
-that all hosts of one computer share, and what the site sent. `observer.py http://HOST:PORT/PATH` does so by HTTP. `Observer` judges
-the readings, and what clients were answered, by the script.
+that all hosts of one computer share, and what the site sent. `observer.py URL [TOKEN AUTHORITY]` does so by HTTP. `Observer` judges the
+readings, and what clients were answered, by the script.
 """
 
 from __future__ import annotations
@@ -12,6 +12,7 @@ import http.client
 import json
 import re
 import socket
+import ssl
 import sys
 import time
 import urllib.parse
@@ -231,13 +232,18 @@ def read_line(port: int) -> str:
 class Reader:
     """Reads by HTTP, by one connection as long as that lasts."""
 
-    def __init__(self, url: str) -> None:
+    def __init__(self, url: str, token: str, authority: str) -> None:
         where = urllib.parse.urlsplit(url)
-        self.path, self.connection = where.path, http.client.HTTPConnection(where.hostname or "", where.port, timeout=1)
+        host, self.path, self.headers = where.hostname or "", where.path, {}
+        self.connection = http.client.HTTPConnection(host, where.port, timeout=1)
+        if token:
+            self.headers = {"Authorization": f"Bearer {token}"}
+            context = ssl.create_default_context(cafile=authority)
+            self.connection = http.client.HTTPSConnection(host, where.port, timeout=1, context=context)
 
     def read(self) -> str:
         try:
-            self.connection.request("GET", self.path)
+            self.connection.request("GET", self.path, headers=self.headers)
             answer = self.connection.getresponse()
             text = answer.read()
         except (OSError, http.client.HTTPException):
@@ -253,8 +259,8 @@ def line_of(shown: dict[str, object]) -> str:
     return f"epoch {shown['epoch']} place {shown['place']} {' '.join(f'{name}={value}' for name, value in values.items())}\n"
 
 
-def read_often(where: str) -> NoReturn:
-    reader = None if where.isdigit() else Reader(where)
+def read_often(where: str, token: str = "", authority: str = "") -> NoReturn:
+    reader = None if where.isdigit() else Reader(where, token, authority)
     while True:
         began = time.monotonic()
         try:
@@ -267,4 +273,4 @@ def read_often(where: str) -> NoReturn:
 
 
 if __name__ == "__main__":
-    read_often(sys.argv[1])
+    read_often(*sys.argv[1:])

@@ -41,7 +41,7 @@ class Asking:
     """The clients. The first one is the trial's own, some ask alone, and the others in crowds."""
 
     def __init__(self, form: Form, crowds: int, note: Callable[[str], None], wrong: Callable[[str], None]) -> None:
-        self.note, self.wrong = note, wrong
+        self.form, self.note, self.wrong = form, note, wrong
         self.answers: list[Answer] = []
         # How long each of them waited.
         self.waits: list[float] = []
@@ -59,6 +59,13 @@ class Asking:
         self.threads = [threading.Thread(target=self.run, args=one, daemon=True) for one in seeds]
         for thread in self.threads:
             thread.start()
+
+    def add(self, names: list[str]) -> int:
+        """More clients, which ask when they are told to, by this index."""
+        self.clients.append(self.form.clients(names))
+        self.asked.append(0)
+        self.turns.append(threading.Lock())
+        return len(self.clients) - 1
 
     def has_ended(self) -> bool:
         """Asks for no more. Returns whether each has heard the answer to what it asked last."""

@@ -43,6 +43,16 @@ class PrimaryFaults(Failing):
                 self.pause(0.2, 0.4)
                 self.deployment.hosts("mend", member)
 
+    def ask_under_many_names(self) -> None:
+        """New clients, each once. In the next epoch, and of another primary, they have the same answers."""
+        asking, names = self.trial.asking, [f"many{self.times['ask_under_many_names']}_{one}" for one in range(150)]
+        index, changes = asking.add(names), {name: "add:till:1" for name in names}
+        answers = asking.propose(index, changes)
+        self.begins_next("by many names")
+        self.restart(self.writer(), 0, 0.1)
+        if wrong := asking.clients[index].again(1, changes, answers):
+            self.wrong.append(wrong[:500])
+
     def put_what_is_odd(self) -> None:
         """What is no key of the deployment, and no request, stops nobody, also who takes over."""
         form = self.trial.form

@@ -215,11 +215,11 @@ class NodeForm(Form):
     def odd_requests(self) -> list[tuple[str, str, bytes]]:
         epoch = self.engine.epoch()[0]
         place = {"site": "north", "member": "north", "epoch": epoch, "applied": 999_999, "entry": 1}
-        bodies = [b"", b"{", b"\xff" * 100, b"[" * 10_000, b'{"client":"a b","number":1,"changes":[]}', b"x" * 2_000_000,
+        bodies = [b"", b"{", b"\xff" * 100, b"[" * 10_000, b'{"client":"a b","number":1,"changes":[]}',
                   b'{"client":"odd","number":-1,"changes":["add:tea:1"]}', b'{"client":"odd","number":1e30,"changes":["add:tea:1"]}',
                   b'{"client":"odd","number":1,"changes":["add:tea:1\\n"]}', json.dumps({"from": 10**18, "declarations": "\0"}).encode()]
         odd = [("POST", path, body) for path in ("/update", "/next", "/place") for body in bodies]
-        odd += [("POST", "/place", json.dumps(place).encode()), ("GET", "/values?seen=1", b""), ("GET", "/values?seen=-1.-1", b""),
+        odd += [("POST", "/update", b"x" * 2_000_000), ("POST", "/place", json.dumps(place).encode()), ("GET", "/values?seen=1", b""), ("GET", "/values?seen=-1.-1", b""),
                 ("GET", "/value/%ff%00", b""), ("GET", "/values?wait=nan", b""), ("PUT", "/update", b""), ("GET", "/%2e%2e/x", b"")]
         return odd
 

@@ -219,7 +219,8 @@ class NodeForm(Form):
                   b'{"client":"odd","number":-1,"changes":["add:tea:1"]}', b'{"client":"odd","number":1e30,"changes":["add:tea:1"]}',
                   b'{"client":"odd","number":1,"changes":["add:tea:1\\n"]}', json.dumps({"from": 10**18, "declarations": "\0"}).encode()]
         odd = [("POST", path, body) for path in ("/update", "/next", "/place") for body in bodies]
-        odd += [("POST", "/update", b"x" * 2_000_000), ("POST", "/place", json.dumps(place).encode()), ("GET", "/values?seen=1", b""), ("GET", "/values?seen=-1.-1", b""),
+        odd += [("POST", "/update", b"x" * 2_000_000), ("POST", "/place", json.dumps(place).encode()),
+                ("GET", "/values?seen=1", b""), ("GET", "/values?seen=-1.-1", b""),
                 ("GET", "/value/%ff%00", b""), ("GET", "/values?wait=nan", b""), ("PUT", "/update", b""), ("GET", "/%2e%2e/x", b"")]
         return odd
 

@@ -3,6 +3,7 @@
 from __future__ import annotations
 
 import signal
+import sys
 import time
 from typing import TYPE_CHECKING
 
@@ -24,10 +25,15 @@ class Failing:
         self.times: dict[str, int] = {}
         self.wrong: list[str] = []
         self.found: dict[str, int] = {}
+        # Whether the trial ends as soon as something is wrong.
+        self.ends_early = False
         # The processes that were started while their site was taken out.
         self.may_leave: set[Process] = set()
 
     def revive(self, after: str) -> None:
+        """Starts again what has ended."""
+        if self.ends_early and self.wrong:
+            sys.exit(self.wrong[0])
         for name, process in [*self.deployment.processes.items()]:
             if process.poll() is not None:
                 # A site that is taken out ends, and so does a process of it that was started before it is a site again.

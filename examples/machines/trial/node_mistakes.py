@@ -44,7 +44,7 @@ MISTAKES: Mistakes = {
             "internal/primary/write.go",
             "		go func() { writing.landed <- writing.send(ctx, turn) }()\n",
             "		writing.calls.tell(turn.Answers)\n"
-            "		go func() { time.Sleep(50 * time.Millisecond); writing.landed <- writing.send(ctx, turn) }()\n",
+            "		go func() { time.Sleep(200 * time.Millisecond); writing.landed <- writing.send(ctx, turn) }()\n",
         ),
     ],
     # The next epoch begins with the values that the last one began with.

@@ -40,8 +40,9 @@ class Answer(NamedTuple):
 class Asking:
     """The clients. The first one is the trial's own, some ask alone, and the others in crowds."""
 
-    def __init__(self, form: Form, crowds: int, note: Callable[[str], None], wrong: Callable[[str], None]) -> None:
-        self.form, self.note, self.wrong = form, note, wrong
+    def __init__(self, form: Form, crowds: int, note: Callable[[str], None], wrong: Callable[[str], None], look: Callable[[], None]) -> None:
+        """`look` is called again and again while somebody waits."""
+        self.form, self.note, self.wrong, self.look = form, note, wrong, look
         self.answers: list[Answer] = []
         # How long each of them waited.
         self.waits: list[float] = []
@@ -107,9 +108,12 @@ class Asking:
     def propose_alone(self, changes: str) -> None:
         asks = threading.Thread(target=self.propose, args=(0, {"client0": changes}), daemon=True)
         asks.start()
-        asks.join(PATIENCE)
-        if asks.is_alive():
-            sys.exit(f"client0 has no answer to `{changes[:80]}` after {PATIENCE} seconds")
+        ends = time.monotonic() + PATIENCE
+        while asks.is_alive():
+            asks.join(0.2)
+            self.look()
+            if time.monotonic() > ends:
+                sys.exit(f"client0 has no answer to `{changes[:80]}` after {PATIENCE} seconds")
 
     def propose_other(self, changes: str) -> str | None:
         """The answer to other changes under the last number, or nothing where they are refused."""
@@ -123,8 +127,11 @@ class Asking:
         """The clients wait meanwhile. All that they asked is answered."""
         with contextlib.ExitStack() as stack:
             for client, turn in zip(self.clients[1:], self.turns[1:]):
-                if not turn.acquire(timeout=PATIENCE):
-                    sys.exit(f"{client.names[0]} has no answer after {PATIENCE} seconds")
+                ends = time.monotonic() + PATIENCE
+                while not turn.acquire(timeout=0.2):
+                    self.look()
+                    if time.monotonic() > ends:
+                        sys.exit(f"{client.names[0]} has no answer after {PATIENCE} seconds")
                 stack.callback(turn.release)
             yield
 

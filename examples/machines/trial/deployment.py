@@ -19,6 +19,8 @@ class Deployment:
         self.form, self.folder, self.every = form, folder, every
         self.processes: dict[str, Process] = {}
         self.others: list[Process] = []
+        # What was killed, and is started when its fault ends.
+        self.down: set[str] = set()
         # Of each reader the site, whether it is on the site's own host, and where its readings go.
         self.readings: list[tuple[str, bool, Path]] = []
         self.log = open(folder / "log", "w")
@@ -56,6 +58,7 @@ class Deployment:
 
     def start(self, name: str, *more: str) -> None:
         """Starts a member, a primary, the fleet or a site, on its host."""
+        self.down.discard(name)
         self.processes[name] = self.begin({FLEET: USERS}.get(name, name), self.words_of(name, *more))
 
     def start_reader(self, site: str, host: str | None = None) -> Process:
@@ -66,6 +69,7 @@ class Deployment:
         return self.others[-1]
 
     def kill(self, *names: str) -> None:
+        self.down.update(names)
         for name in names:
             self.processes[name].kill()
         for name in names:

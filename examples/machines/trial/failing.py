@@ -35,7 +35,7 @@ class Failing:
         if self.ends_early and self.wrong:
             sys.exit(self.wrong[0])
         for name, process in [*self.deployment.processes.items()]:
-            if process.poll() is not None:
+            if process.poll() is not None and name not in self.deployment.down:
                 # A site that is taken out ends, and so does a process of it that was started before it is a site again.
                 if process.returncode != 4 or name not in self.trial.out and process not in self.may_leave:
                     self.wrong.append(f"{name} ended by itself with {process.returncode} after {after}")

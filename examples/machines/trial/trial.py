@@ -22,7 +22,7 @@ class Trial:
         self.form: Form = deployment.form
         self.faults = Faults(self)
         self.upkeep = Upkeep(engine, self.faults.note)
-        self.asking = Asking(self.form, crowds, self.faults.note, self.faults.wrong.append)
+        self.asking = Asking(self.form, crowds, self.faults.note, self.faults.wrong.append, lambda: self.faults.revive("a wait"))
         # How long the faults went on, and a start at the end took.
         self.seconds = self.start = 0.0
         # The sites that are to be taken out, those that may be, and how often declarations were wanted.

@@ -205,8 +205,12 @@ class NodeForm(Form):
         wrong = super().put_odd(values)
         for host in (*PRIMARIES, *SITES, FLEET):
             idle = [self.http(host, "").connection for _ in range(50)]
-            for connection in idle:
-                connection.connect()
+            try:
+                for connection in idle:
+                    connection.connect()
+            except OSError as error:
+                wrong.append(f"{host} takes no connection: {error}")
+                continue
             wrong += [words for method, path, body in self.odd_requests() for words in self.send_odd(host, method, path, body)]
             for connection in idle:
                 connection.close()

@@ -55,6 +55,9 @@ class PrimaryFaults(Failing):
 
     def put_what_is_odd(self) -> None:
         """What is no key of the deployment, and no request, stops nobody, also who takes over."""
+        self.trial.bring_back()
+        for site in SITES:
+            self.check(self.trial.waits_for_reader(site), f"{site} does not serve")
         form = self.trial.form
         values = [bytes([self.chance.randrange(256)] * 3) for _ in form.odd_keys]
         self.wrong += self.trial.upkeep.ask(lambda: form.put_odd(values))

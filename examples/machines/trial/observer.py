@@ -2,27 +2,52 @@
 """The observer of the test. It shares no code with what it observes: it computes values and weights by itself.
 
 `observer.py PORT` reads the site of this host again and again, and writes a line for each reading: when it began, by the clock
-that all hosts of one computer share, and what the site sent. `Observer` judges the readings, and what clients were
-answered, by the script.
+that all hosts of one computer share, and what the site sent. `observer.py URL [TOKEN AUTHORITY]` does so by HTTP. `Observer` judges the
+readings, and what clients were answered, by the script.
 """
 
+from __future__ import annotations
+
+import http.client
+import json
 import re
 import socket
+import ssl
 import sys
 import time
+import urllib.parse
 from collections import Counter
+from typing import Iterable, NoReturn, Protocol, Sequence
+
+Place = tuple[int, int]
+# A limit: its words, its objects or None for the count, and its amount.
+Limit = tuple[str, "Iterable[str] | None", int]
 
 MOST = 1_000_000_000
 REFUSALS = {1: "Syntax", 6: "UnknownObject", 9: "OutOfRange", 10: "TooMany", 11: "Empty", 12: "Repeated", 13: "LogFull"}
 
 
+class Answered(Protocol):
+    """What a client was answered: when, who, the number, the changes, and what came."""
+
+    @property
+    def when(self) -> float: ...
+    @property
+    def client(self) -> str: ...
+    @property
+    def number(self) -> int: ...
+    @property
+    def changes(self) -> str: ...
+    @property
+    def text(self) -> str: ...
+
+
 class Refused(Exception):
-    def __str__(self):
+    def __str__(self) -> str:
         return f"refused {self.args[0]} {REFUSALS[self.args[0]]}"
 
 
-def changed(values, words):
-    """The values after a message set, or why it is refused."""
+def read_changes(words: Sequence[str]) -> list[list[str]]:
     changes = [word.split(":") for word in words]
     for change in changes:
         number = r"-?(0|[1-9][0-9]{0,18})"
@@ -30,6 +55,12 @@ def changed(values, words):
             raise Refused(1)
         if change[0] != "take" and (not re.fullmatch(number, change[2]) or change[2] == "-0"):
             raise Refused(1)
+    return changes
+
+
+def changed(values: dict[str, int], words: Sequence[str]) -> dict[str, int]:
+    """The values after a message set, or why it is refused."""
+    changes = read_changes(words)
     if any(x not in values or what == "take" and y not in values for what, x, y in changes):
         raise Refused(6)
     if any(what != "take" and abs(int(n)) > MOST for what, _, n in changes):
@@ -56,31 +87,24 @@ def changed(values, words):
 class Epoch:
     """What the script of an epoch comes to."""
 
-    def __init__(self, observer, number, lines, before):
-        self.observer, self.number = observer, number
-        # The values after each update.
-        self.values = [{}]
-        # The limits of each site: the words of each, its objects or None for the count, and its amount.
-        self.limits = {}
-        groups, asker, started = {}, None, False
+    def __init__(self, observer: Observer, number: int, lines: list[str], before: Epoch | None) -> None:
+        self.observer, self.number, self.asked = observer, number, 0
+        # The values after each update, the groups, and the limits of each site.
+        self.values: list[dict[str, int]] = [{}]
+        self.groups: dict[str, list[str]] = {}
+        self.limits: dict[str, list[Limit]] = {}
+        asker, started = None, False
         for line in lines:
             words = line.split()
             if words[:2] == ["#", "request"]:
                 asker = (words[2], int(words[3]))
-            elif words and words[0] == "object" and not started:
-                self.values[0][words[1]] = int(words[2])
-            elif words and words[0] == "group" and not started:
-                groups[words[1]] = words[2:]
-            elif words and words[0] == "site" and not started:
-                self.limits[words[1]] = []
-            elif words and words[0] == "limit" and not started:
-                scopes = {"object": words[3:4], "group": groups.get(words[3]), "all": self.values[0], "count": None}
-                self.limits[words[1]].append((" ".join(words[2:]), scopes[words[2]], int(words[-1])))
             elif words[:1] == ["start"]:
                 started = True
             elif words[:1] == ["propose"]:
                 self.propose(asker, words[1:])
                 asker = None
+            elif words and not started:
+                self.declare(words)
         if before:
             last = before.values[-1]
             goes_on = all(last[x] == value for x, value in self.values[0].items() if x in last)
@@ -88,7 +112,19 @@ class Epoch:
         # For each limit what the updates up to each place weigh on it.
         self.weights = {id(limit): self.sums(limit[1]) for limits in self.limits.values() for limit in limits}
 
-    def propose(self, asker, words):
+    def declare(self, words: list[str]) -> None:
+        if words[0] == "object":
+            self.values[0][words[1]] = int(words[2])
+        elif words[0] == "group":
+            self.groups[words[1]] = words[2:]
+        elif words[0] == "site":
+            self.limits[words[1]] = []
+        elif words[0] == "limit":
+            scopes = {"object": words[3:4], "group": self.groups.get(words[3]), "all": self.values[0], "count": None}
+            self.limits[words[1]].append((" ".join(words[2:]), scopes[words[2]], int(words[-1])))
+
+    def propose(self, asker: tuple[str, int] | None, words: list[str]) -> None:
+        self.asked += 1
         is_new = asker is not None and asker not in self.observer.came
         self.observer.check("requests taken once", is_new, f"{asker} was proposed again, or by nobody")
         try:
@@ -96,45 +132,54 @@ class Epoch:
             came = f"ok acked {len(self.values) - 1} epoch {self.number}"
         except Refused as refused:
             came = str(refused)
-        self.observer.came[asker] = (" ".join(words), came)
+        if asker:
+            self.observer.came[asker] = (" ".join(words), came)
 
-    def sums(self, members):
+    def sums(self, members: Iterable[str] | None) -> list[int]:
         total = [0]
         for before, after in zip(self.values, self.values[1:]):
             moved = 1 if members is None else sum(abs(after[x] - before[x]) for x in members)
             total.append(total[-1] + moved)
         return total
 
-    def end(self):
+    def end(self) -> int:
         return len(self.values) - 1
 
 
 class Observer:
     """What the script comes to, of all epochs."""
 
-    def __init__(self, scripts):
+    def __init__(self, scripts: list[list[str]]) -> None:
         """`scripts` has the lines of each epoch."""
-        self.passed, self.failed, self.seen = Counter(), [], Counter()
-        self.came, self.epochs = {}, [None]
+        self.passed: Counter[str] = Counter()
+        self.seen: Counter[str] = Counter()
+        self.failed: list[str] = []
+        # Of each request the changes, and what comes of them.
+        self.came: dict[tuple[str, int], tuple[str, str]] = {}
+        # Before the first epoch there is nothing.
+        self.epochs = [Epoch(self, 0, [], None)]
         for number, lines in enumerate(scripts, 1):
             self.check("numbers of epochs", lines[:1] == [f"# epoch {number}"], f"epoch {number} begins with {lines[:1]}")
-            self.epochs.append(Epoch(self, number, lines, self.epochs[-1]))
+            self.epochs.append(Epoch(self, number, lines, self.epochs[-1] if number > 1 else None))
 
-    def check(self, what, good, words):
+    def check(self, what: str, good: bool, words: str) -> None:
         if good:
             self.passed[what] += 1
         else:
             self.failed.append(f"{what}: {words}")
 
-    def judge_answers(self, answers):
-        """`answers`: when, who, the number, the changes, and what came. Each must be what the script makes of the request."""
-        for _, client, number, changes, answer in answers:
-            wanted = self.came.get((client, number), ("", "nothing"))
-            self.check("answers", wanted == (changes, answer), f"{client} {number} `{changes}`: `{answer}`, not `{wanted[1]}`")
+    def judge_answers(self, answers: Sequence[Answered]) -> None:
+        """Each must be what the script makes of the request."""
+        for one in answers:
+            wanted = self.came.get((one.client, one.number), ("", "nothing"))
+            words = f"{one.client} {one.number} `{one.changes}`: `{one.text}`, not `{wanted[1]}`"
+            self.check("answers", wanted == (one.changes, one.text), words)
 
-    def judge_readings(self, site, known_as, readings, answers, to_the_end=True):
-        """`known_as` is the site's name in the script. `readings`: when each began, and what the site sent. `answers` as above."""
-        acknowledged = sorted((when, place_of(answer)) for when, _, _, _, answer in answers if answer.startswith("ok acked"))
+    def judge_readings(
+        self, site: str, known_as: str, readings: list[tuple[float, str]], answers: Sequence[Answered], to_the_end: bool = True
+    ) -> None:
+        """`known_as` is the site's name in the script. `readings`: when each began, and what the site sent."""
+        acknowledged = sorted((answer.when, place_of(answer.text)) for answer in answers if answer.text.startswith("ok acked"))
         at, next_answer, known = (0, 0), 0, (1, 0)
         for when, line in readings:
             while next_answer < len(acknowledged) and acknowledged[next_answer][0] < when:
@@ -143,7 +188,7 @@ class Observer:
             words = line.split()
             last, at = at, (int(words[1]), int(words[3]))
             shown = {name: int(value) for name, value in (word.split("=") for word in words[4:])}
-            good = at[0] < len(self.epochs) and at[1] <= self.epochs[at[0]].end() and shown == self.epochs[at[0]].values[at[1]]
+            good = 0 < at[0] < len(self.epochs) and at[1] <= self.epochs[at[0]].end() and shown == self.epochs[at[0]].values[at[1]]
             self.check("values of a prefix", good, f"{site} at {at} shows {line}")
             self.check("never back", at >= last, f"{site} goes back from {last} to {at}")
             if good and at < known:
@@ -154,7 +199,7 @@ class Observer:
         if to_the_end:
             self.check("all applied at the end", at == (len(self.epochs) - 1, self.epochs[-1].end()), f"{site} has {at}")
 
-    def judge_lag(self, site, known_as, at, known):
+    def judge_lag(self, site: str, known_as: str, at: Place, known: Place) -> None:
         """A reading at a place, begun as a later one was known as acknowledged."""
         self.seen["readings behind an acknowledged update"] += 1
         epoch = self.epochs[known[0]] if known[0] < len(self.epochs) else None
@@ -173,18 +218,53 @@ class Observer:
             self.check("within the limits", weight <= limit[2], f"{site} at {at} of {known} lags by {weight}: {limit[0]}")
 
 
-def place_of(answer):
+def place_of(answer: str) -> Place:
     """The epoch and the place of an update that is acknowledged."""
     words = answer.split()
     return int(words[4]), int(words[2])
 
 
-def read_often(port):
+def read_line(port: int) -> str:
+    with socket.create_connection(("127.0.0.1", port), timeout=1) as reader:
+        return reader.makefile().read()
+
+
+class Reader:
+    """Reads by HTTP, by one connection as long as that lasts."""
+
+    def __init__(self, url: str, token: str, authority: str) -> None:
+        where = urllib.parse.urlsplit(url)
+        host, self.path, self.headers = where.hostname or "", where.path, {}
+        self.connection = http.client.HTTPConnection(host, where.port, timeout=1)
+        if token:
+            self.headers = {"Authorization": f"Bearer {token}"}
+            context = ssl.create_default_context(cafile=authority)
+            self.connection = http.client.HTTPSConnection(host, where.port, timeout=1, context=context)
+
+    def read(self) -> str:
+        try:
+            self.connection.request("GET", self.path, headers=self.headers)
+            answer = self.connection.getresponse()
+            text = answer.read()
+        except (OSError, http.client.HTTPException):
+            self.connection.close()
+            return ""
+        return line_of(json.loads(text)) if answer.status == 200 else ""
+
+
+def line_of(shown: dict[str, object]) -> str:
+    """What a site shows, as one line."""
+    values = shown["values"]
+    assert isinstance(values, dict)
+    return f"epoch {shown['epoch']} place {shown['place']} {' '.join(f'{name}={value}' for name, value in values.items())}\n"
+
+
+def read_often(where: str, token: str = "", authority: str = "") -> NoReturn:
+    reader = None if where.isdigit() else Reader(where, token, authority)
     while True:
         began = time.monotonic()
         try:
-            with socket.create_connection(("127.0.0.1", port), timeout=1) as reader:
-                line = reader.makefile().read()
+            line = reader.read() if reader else read_line(int(where))
             if line.endswith("\n"):
                 print(f"{began:.6f} {line}", end="", flush=True)
         except OSError:
@@ -193,4 +273,4 @@ def read_often(port):
 
 
 if __name__ == "__main__":
-    read_often(int(sys.argv[1]))
+    read_often(*sys.argv[1:])

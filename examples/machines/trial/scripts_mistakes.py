@@ -1,6 +1,8 @@
-"""Mistakes of a deployment that its test must tell. An edit is of a file, what stands there once, and what takes its place."""
+"""Mistakes of the deployment of scripts that its test must tell."""
 
-MISTAKES = {
+from recipe import Mistakes
+
+MISTAKES: Mistakes = {
     # The primary reports what is in the log, whether a site told it or not.
     "reports_what_no_site_told": [
         ("primary.py", "            if self.is_gone(site):\n", "            if self.is_gone(site) or True:\n"),

@@ -11,6 +11,7 @@ said. A line of the account is one of these, in this order; DIGEST is by SHA-256
     verdict NAME WORDS..      the kit's last line on the program and on the library, without what it trusts of earlier runs
     axiom NAME FUNCTION       a function of C that NAME reaches, whose contract is assumed
     file NAME DIGEST          what is installed
+    unproved NAME DIGEST ..   in the package of ordup-node alone: a program that has the library in it, and no proof of its own code
 
 FUNCTIONS is how many functions are proved in the crate: all, since the kit makes nothing of a crate that has a hole. Closures are
 counted with their functions, as the kit does. DIGEST of a crate is that of the lines `DIGEST  FILE` for its files in src/ and

@@ -71,10 +71,25 @@ tells_of_proof() {
         { [[ $aim == library ]] || cmp -s -- "$folder/$crate/crates/$crate/out/$crate" "$program"; }
 } 2>/dev/null
 
-# Builds the packages of the program and of the library, which have the date of the commit. Where it is not told any more what was
-# proved of these, as of a program that the gate handed over, they are proved once more.
+# Builds ordup-node over the library, if Go is there, and names the program: `node`.
+build_node() {
+    local said status
+    node=()
+    rm -f -- "$out/ordup-node"
+    export GOCACHE=${GOCACHE:-$folder/go}
+    said=$("$top/node/build" "$out" "$out/ordup-node" 2>&1)
+    status=$?
+    case $status in
+    0) node=("$out/ordup-node") ;;
+    77) say "the package of ordup-node is not built: $said" ;;
+    *) printf '%s\n' "$said" >&2 && give_up "ordup-node was not built, so there are no packages" ;;
+    esac
+}
+
+# Builds the packages of the program, of the library and of ordup-node, which have the date of the commit. Where it is not told any more
+# what was proved of the first two, as of a program that the gate handed over, they are proved once more.
 build_packages() {
-    local made
+    local made node
     need_kit
     SOURCE_DATE_EPOCH=${SOURCE_DATE_EPOCH:-$(git -C "$top" log -1 --format=%ct 2>/dev/null)}
     [[ $SOURCE_DATE_EPOCH == +([0-9]) ]] || give_up "there is no commit whose date the packages could have: set SOURCE_DATE_EPOCH"
@@ -88,7 +103,8 @@ build_packages() {
     build_library
     flock --shared "$folder/lock" python3 -IS "$top/launcher/account.py" "$top" "$folder" >"$out/proof.new" &&
         mv -f -- "$out/proof.new" "$out/proof" || give_up "so there are no packages"
-    made=$(python3 -IS "$top/packages/build" "$program" "$out" "$out/proof" "$out") || give_up "so there are no packages"
+    build_node
+    made=$(python3 -IS "$top/packages/build" "$program" "$out" "$out/proof" "$out" "${node[@]}") || give_up "so there are no packages"
     say "the packages are in $out: ${made//$'\n'/, }"
 }
 

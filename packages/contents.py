@@ -29,10 +29,10 @@ def said_by(*words):
     return subprocess.run(words, stdin=subprocess.DEVNULL, stdout=subprocess.PIPE, check=True, encoding="utf-8").stdout
 
 
-def version_of(program):
-    """The version that the program says: the one that the packages have."""
+def version_of(program, name="ordup"):
+    """The version that a program says: the one that its packages have."""
     said = said_by(program, "--version")
-    found = re.fullmatch(r"ordup (\d+(?:\.\d+)*)\n", said)
+    found = re.fullmatch(rf"{name} (\d+(?:\.\d+)*)\n", said)
     if not found:
         raise ValueError(f"{program} --version says {said!r}, and no version")
     return found[1]
@@ -41,6 +41,12 @@ def version_of(program):
 def summary_of(header):
     """What ordup is, in the words of the first line of its header."""
     return re.match(r"/\* ordup: an? ([^,]*),", header)[1]
+
+
+def first_paragraph(page):
+    """What something is, in the first paragraph of its page that is no heading; its last sentence leads to another page."""
+    text = (TOP / page).read_text(encoding="utf-8").split("\n\n")[1]
+    return re.split(r" (?:The )?\[", text)[0]
 
 
 def glibc_of(*binaries):

@@ -1,34 +1,39 @@
-"""Makes the package for Debian."""
+"""Makes packages for Debian."""
 
 import hashlib
 import textwrap
 import time
 
 from archives import Entry, ar, gzip, tar
-from contents import TOP, glibc_of
+from contents import TOP, first_paragraph, glibc_of
 
 # Whom a package names that nobody has taken over yet: whoever gives packages out puts a name of theirs here.
 MAINTAINER = "The owner of ordup <owner@ordup.invalid>"
 LIBRARIES = "lib/x86_64-linux-gnu"
+ENDS_OF_NODE = """It needs etcd, which may be on other hosts: that of Debian 12 was tried. Nothing is started before an operator starts it.
+
+The library of ordup that is linked into it is proved. Its own code is tested alone, and nothing of it is proved."""
 
 
-def first_paragraph():
-    """What ordup is, in the first paragraph of the README that is no heading; its last sentence leads to another page."""
-    text = (TOP / "README.md").read_text(encoding="utf-8").split("\n\n")[1]
-    return text[: text.index(" The [")]
+def described(text):
+    """Paragraphs as a control file has them."""
+    parts = ("\n".join(" " + line for line in textwrap.wrap(part, 78)) for part in text.split("\n\n"))
+    return "\n .\n".join(parts)
 
 
-def control(contents, size):
-    needs = ".".join(map(str, glibc_of(contents.program, contents.shared)))
-    said = "\n".join(" " + line for line in textwrap.wrap(first_paragraph(), 78))
-    return (f"Package: ordup\nVersion: {contents.version}\nArchitecture: amd64\nMaintainer: {MAINTAINER}\n"
-            f"Installed-Size: {size}\nDepends: libc6 (>= {needs})\nSection: utils\nPriority: optional\n"
-            f"Description: {contents.summary}\n{said}\n")
+def control(name, version, size, needs, section, summary, text):
+    return (f"Package: {name}\nVersion: {version}\nArchitecture: amd64\nMaintainer: {MAINTAINER}\n"
+            f"Installed-Size: {size}\n{needs}\nSection: {section}\nPriority: optional\nDescription: {summary}\n{described(text)}\n")
 
 
-def changelog(contents):
-    date = time.strftime("%a, %d %b %Y %H:%M:%S +0000", time.gmtime(contents.epoch))
-    return f"ordup ({contents.version}) unstable; urgency=medium\n\n  * CHANGELOG.md has what a user sees.\n\n -- {MAINTAINER}  {date}\n"
+def libc(*binaries):
+    return f"libc6 (>= {'.'.join(map(str, glibc_of(*binaries)))})"
+
+
+def changelog(name, version, epoch):
+    date = time.strftime("%a, %d %b %Y %H:%M:%S +0000", time.gmtime(epoch))
+    text = f"{name} ({version}) unstable; urgency=medium\n\n  * CHANGELOG.md has what a user sees.\n\n -- {MAINTAINER}  {date}\n"
+    return Entry(f"usr/share/doc/{name}/changelog.gz", 0o644, gzip(text.encode("utf-8")))
 
 
 # Why lintian may find an error: nothing is stripped from what was proved.
@@ -37,21 +42,41 @@ ordup: unstripped-binary-or-object [usr/bin/ordup]
 """
 
 
-def package(contents):
-    """The name of the package, and its bytes."""
-    below = contents.below(LIBRARIES, ("/usr", "${prefix}/" + LIBRARIES), gzip)
-    below.append(Entry("share/doc/ordup/changelog.gz", 0o644, gzip(changelog(contents).encode("utf-8"))))
-    if b"\0.symtab\0" in contents.program:
-        below.append(Entry("share/lintian/overrides/ordup", 0o644, OVERRIDE.encode("utf-8")))
-    files = [it._replace(path=f"usr/{it.path}") for it in below]
+def put_together(name, version, epoch, files, about):
+    """The name of a package, and its bytes, of its files and of what dpkg is told: `about` has texts, and as `control` what makes one."""
     plain = [it for it in files if not isinstance(it.data, str)]
     texts = {
-        "control": control(contents, sum((len(it.data) + 1023) // 1024 for it in plain)),
+        **about,
+        "control": about["control"](sum((len(it.data) + 1023) // 1024 for it in plain)),
         "md5sums": "".join(f"{hashlib.md5(it.data).hexdigest()}  {it.path}\n" for it in sorted(plain)),
+    }
+    told = [Entry(it, 0o755 if text.startswith("#!") else 0o644, text.encode("utf-8")) for it, text in texts.items()]
+    members = [("debian-binary", b"2.0\n")]
+    members += [(it, gzip(tar(entries, epoch, "./"))) for it, entries in (("control.tar.gz", told), ("data.tar.gz", files))]
+    return f"{name}_{version}_amd64.deb", ar(members, epoch)
+
+
+def package(contents):
+    """The package of the program and the library."""
+    below = contents.below(LIBRARIES, ("/usr", "${prefix}/" + LIBRARIES), gzip)
+    if b"\0.symtab\0" in contents.program:
+        below.append(Entry("share/lintian/overrides/ordup", 0o644, OVERRIDE.encode("utf-8")))
+    files = [it._replace(path=f"usr/{it.path}") for it in below] + [changelog("ordup", contents.version, contents.epoch)]
+    needs = f"Depends: {libc(contents.program, contents.shared)}"
+    return put_together("ordup", contents.version, contents.epoch, files, {
+        "control": lambda size: control("ordup", contents.version, size, needs, "utils", contents.summary, first_paragraph("README.md")),
         "shlibs": f"libordup {contents.soname.rsplit('.', 1)[1]} ordup (>= {contents.version})\n",
         "triggers": "activate-noawait ldconfig\n",
-    }
-    about = [Entry(name, 0o644, text.encode("utf-8")) for name, text in texts.items()]
-    members = [("debian-binary", b"2.0\n")]
-    members += [(name, gzip(tar(entries, contents.epoch, "./"))) for name, entries in (("control.tar.gz", about), ("data.tar.gz", files))]
-    return f"ordup_{contents.version}_amd64.deb", ar(members, contents.epoch)
+    })
+
+
+def package_of_node(node):
+    """The package of ordup-node."""
+    files = [*node.files(gzip), changelog("ordup-node", node.version, node.epoch)]
+    needs = f"Depends: adduser, {libc(node.program)}\nSuggests: etcd-server, ordup"
+    text = f"{first_paragraph('docs/MACHINES.md').replace('`', '')}\n\n{ENDS_OF_NODE}"
+    return put_together("ordup-node", node.version, node.epoch, files, {
+        "control": lambda size: control("ordup-node", node.version, size, needs, "database", node.summary, text),
+        "conffiles": "".join(f"/{it.path}\n" for it in files if it.path.startswith("etc/")),
+        **{it: (TOP / "packages/ordup-node" / it).read_text(encoding="utf-8") for it in ("postinst", "prerm", "postrm")},
+    })

@@ -46,7 +46,7 @@ def paragraphs(text):
 
 def head(name, section, epoch, version, summary):
     date = time.strftime("%Y-%m-%d", time.gmtime(epoch))
-    return f'.TH {name.upper()} {section} "{date}" "ordup {version}" "ordup"\n.SH NAME\n{name} \\- {roff(summary)}\n'
+    return f'.TH {name.upper()} {section} "{date}" "ordup {version}" "ordup"\n.SH NAME\n{roff(name)} \\- {roff(summary)}\n'
 
 
 def parts_of(help_text):
@@ -89,6 +89,21 @@ def page_of_program(helps, commands, epoch, version, summary):
     made += ".SH OPTIONS\n" + items(headed.get("Options", "\\-\\-help"))
     made += ".SH EXIT STATUS\n" + paragraphs("\n\n".join(statuses))
     return made + ".SH FILES\nThe pages and the examples that are named here lie in share/doc/ordup.\n.SH SEE ALSO\n.BR ordup (3)\n"
+
+
+def page_of_node(helped, helps, text, statuses, epoch, version, summary):
+    """ordup-node(1): `helped` is the help of the program, `helps` has that of each command, and `statuses` what each says."""
+    closing = helped.strip("\n").split("\n\n")[-1]
+    made, commands = head("ordup-node", 1, epoch, version, summary) + ".SH SYNOPSIS\n", ""
+    for said in helps.values():
+        words, what, options = re.fullmatch(r"(.*?) *\n(.*)\n\n(.*)", said.rstrip("\n"), re.S).groups()
+        made += f".B {roff(words)}\n.br\n"
+        commands += f".SS {roff(words)}\n{paragraphs(what[0].upper() + what[1:])}{items(options)}"
+    made += f".SH DESCRIPTION\n{paragraphs(text)}{paragraphs(closing)}.SH COMMANDS\n{commands}.SH EXIT STATUS\n"
+    made += "".join(f".TP\n.B {status}\n{roff(meaning)}\n" for status, meaning in statuses)
+    return made + (".SH FILES\n.TP\n.I /etc/ordup\\-node/settings\nthe settings that the units of systemd name\n"
+                   ".TP\n.I /usr/share/doc/ordup\\-node/MACHINES.md\nwhat operators do and see, and what users see of what fails\n"
+                   ".SH SEE ALSO\n.BR ordup (1)\n")
 
 
 def comment_of(text):

@@ -18,18 +18,19 @@ import time
 TUNSETIFF, IFF_TAP, IFF_NO_PI = 0x400454CA, 0x0002, 0x1000
 
 
-def tap(name):
+def tap(name: str) -> int:
     file = os.open("/dev/net/tun", os.O_RDWR | os.O_NONBLOCK)
     fcntl.ioctl(file, TUNSETIFF, struct.pack("16sH22x", name.encode(), IFF_TAP | IFF_NO_PI))
     return file
 
 
-def main():
+def main() -> None:
     one, other = tap(sys.argv[1]), tap(sys.argv[2])
     delay, loss = float(sys.argv[3]) / 1000, float(sys.argv[4]) / 100
     # What a frame of one byte takes, and until when the frames that came from each side take.
-    byte, until = 8 / 1000 / float(sys.argv[5]) if len(sys.argv) > 5 else 0, {one: 0, other: 0}
-    to, late, order = {one: other, other: one}, [], 0
+    byte, until = 8 / 1000 / float(sys.argv[5]) if len(sys.argv) > 5 else 0, {one: 0.0, other: 0.0}
+    to, order = {one: other, other: one}, 0
+    late: list[tuple[float, int, int, bytes]] = []
     while True:
         wait = max(0, late[0][0] - time.monotonic()) if late else None
         for file in select.select([one, other], [], [], wait)[0]:

@@ -1,0 +1,139 @@
+"""Mistakes of ordup-node that its trial must tell."""
+
+# An edit is of a file, what stands there once, and what takes its place.
+Edit = tuple[str, str, str]
+Mistakes = dict[str, list[Edit]]
+
+TAKEN = "case request.Number > last.number:\n"
+OVER = "	return site.applied < updates || site.leaves && !site.gone\n"
+SERVED = "	shown, changed, first, term := site.shown, site.changed, site.first, site.term\n"
+SERVES = "	if shown == nil || shown.Entry < first || !site.lease.Lives(term) {\n"
+SHOWS = "		site.show(shown)\n		if shown != nil && shown.Entry >= site.end {\n"
+RUNS = "			if err := site.run(raw); err != nil {\n				return err\n			}\n"
+
+MISTAKES: Mistakes = {
+    # The primary writes that sites told what is in the log, whether they did or not.
+    "reports_what_no_site_told": [("internal/epoch/turn.go", "		places := site.known()\n", "		places := core.updates\n")],
+    # The client is told once the update has a number.
+    "answers_before_it_settles": [
+        (
+            "internal/epoch/run.go",
+            "		core.waiting.push(asked)\n",
+            "		core.waiting.push(asked)\n		core.decide(asked, ackedText(place, core.epoch))\n",
+        ),
+        ("internal/epoch/run.go", "		core.decide(core.waiting.pop(), ackedText(place, core.epoch))\n", "		core.waiting.pop()\n"),
+    ],
+    # Each page that is read of the engine has all that is left, and no more time after a failure.
+    "reads_all_at_once": [
+        ("internal/engine/read.go", "	count, most := engine.pages.next()\n", "	_, most := engine.pages.next()\n"),
+        ("internal/engine/read.go", "clientv3.WithLimit(count), clientv3.WithRev(revision)", "clientv3.WithRev(revision)"),
+        ("internal/engine/pages.go", "mostTime = 30 * time.Second", "mostTime = CallTime"),
+    ],
+    # A request that comes again is proposed again.
+    "takes_requests_again": [("internal/epoch/turn.go", TAKEN, "case request.Number >= last.number:\n")],
+    # A primary that was replaced writes after the entries of the other one.
+    "goes_on_after_another": [
+        (
+            "internal/primary/write.go",
+            "	for {\n		err := primary.config.Engine.Write(ctx, write)\n",
+            "	for {\n		if last, err := primary.config.Engine.Last(ctx, 1); err == nil {\n			write.Number = last + 1\n		}\n"
+            "		err := primary.config.Engine.Write(ctx, write)\n",
+        ),
+    ],
+    # Answers are told before the entry is written that has them. A primary that dies then loses the requests.
+    "takes_requests_before_it_writes": [
+        (
+            "internal/primary/write.go",
+            "		go func() { writing.landed <- writing.send(ctx, turn) }()\n",
+            "		writing.calls.tell(turn.Answers)\n"
+            "		go func() { time.Sleep(200 * time.Millisecond); writing.landed <- writing.send(ctx, turn) }()\n",
+        ),
+    ],
+    # The next epoch begins with the values that the last one began with.
+    "begins_again_with_the_first_values": [
+        ("internal/epoch/core.go", "	failure error\n", "	failure error\n	firsts string\n"),
+        ("internal/epoch/run.go", "	case script.Declare:\n", "	case script.Declare:\n		core.firsts += step.Text + \"\\n\"\n"),
+        ("internal/epoch/ending.go", "	core.Close()\n", "	core.Close()\n	core.firsts = \"\"\n"),
+        ("internal/epoch/ending.go", "	text, err := core.store.NextDeclarations()\n", "	text, err := core.firsts, error(nil)\n"),
+    ],
+    # The next epoch begins once all is acknowledged.
+    "goes_over_before_all_have_told": [("internal/epoch/sites.go", OVER, "	return site.leaves && !site.gone\n")],
+    # The next epoch begins while a process of a site that is taken out may still serve readers.
+    "goes_over_before_a_site_is_gone": [("internal/epoch/sites.go", OVER, "	return site.applied < updates\n")],
+    # What the operator asked for once is done twice.
+    "begins_one_epoch_after_another": [
+        (
+            "internal/epoch/ending.go",
+            "	core.clients, core.carry, core.wish = core.carry.clients, nil, nil\n",
+            "	core.clients, core.carry = core.carry.clients, nil\n"
+            "	if core.wish != nil && core.wish.From < core.epoch-1 {\n		core.wish = nil\n	}\n",
+        ),
+    ],
+    # The next epoch waits for a site of a fleet that is away.
+    "waits_for_a_fleet_that_is_away": [
+        ("internal/epoch/sites.go", "missing <= Near && site.wasHeard && now-site.heard < Away\n", "missing <= Near\n"),
+    ],
+    # Who asks under a number that is before the last one waits for ever.
+    "tells_nothing_of_late_requests": [
+        ("internal/epoch/turn.go", "		return Verdict{Kind: Passed, Last: last.number}\n", "		return Verdict{Kind: Waits}\n"),
+    ],
+    # Two processes of a site serve readers, since neither looks at the lease.
+    "serves_without_the_lease": [
+        ("internal/site/read.go", SERVED, "	shown, changed, first := site.shown, site.changed, site.first\n"),
+        ("internal/site/read.go", SERVES, "	if shown == nil || shown.Entry < first {\n"),
+    ],
+    # A site shows old values to readers while it applies the script from the beginning.
+    "serves_before_it_has_caught_up": [
+        ("internal/site/read.go", SERVED, "	shown, changed := site.shown, site.changed\n"),
+        ("internal/site/read.go", SERVES, "	if shown == nil {\n"),
+        (
+            "internal/site/site.go",
+            RUNS,
+            RUNS + "			if early, err := site.replica.Show(); err == nil {\n				site.show(early)\n			}\n",
+        ),
+    ],
+    # A site tells its place, and shows it to readers a little later.
+    "tells_before_it_shows": [
+        (
+            "internal/site/site.go",
+            SHOWS,
+            "		if shown != nil && site.lease.Held() {\n"
+            "			site.tell(ctx, epoch.Place{Site: site.inName, Member: site.config.Name, Epoch: shown.Epoch, Applied: shown.Place,\n"
+            "				Entry: shown.Entry})\n			time.Sleep(300 * time.Millisecond)\n		}\n" + SHOWS,
+        ),
+    ],
+    # A site that lost its connection takes the next entry as read.
+    "skips_what_came_while_it_was_away": [
+        (
+            "internal/site/site.go",
+            '		site.config.Log.Warn("engine-away", "why", err)\n',
+            "		if site.replica != nil {\n			site.replica.entry++\n		}\n",
+        ),
+    ],
+    # A site that is taken out goes on.
+    "serves_after_it_was_taken_out": [
+        ("internal/site/replica.go", "			delete(replica.sites, step.Name)\n", ""),
+        (
+            "internal/site/replica.go",
+            "	replica.epoch, replica.place, replica.told, replica.sites, replica.limits = entry.Epoch, 0, 0, map[string]bool{}, []string{}\n",
+            "	replica.epoch, replica.place, replica.told, replica.limits = entry.Epoch, 0, 0, []string{}\n"
+            "	if replica.sites == nil {\n		replica.sites = map[string]bool{}\n	}\n",
+        ),
+    ],
+    # A process relies on its lease for longer than the engine keeps it.
+    "relies_on_a_lease_that_is_over": [("internal/engine/lease.go", "	Relied = 3 * time.Second\n", "	Relied = 30 * time.Second\n")],
+    # A process of a site tells its place though another one serves the readers.
+    "tells_without_the_lease": [
+        (
+            "internal/site/site.go",
+            "		shown, changed := site.served()\n",
+            "		site.lock.Lock()\n		shown, changed := site.shown, site.changed\n		site.lock.Unlock()\n",
+        ),
+    ],
+    # Other changes under a number that was taken have the answer to those before.
+    "answers_other_changes": [("internal/epoch/turn.go", "	case script.DigestOf(request.Changes) != last.digest:\n", "	case false:\n")],
+    # A primary stands by though it was started with other settings.
+    "stands_by_with_other_settings": [
+        ("internal/primary/standby.go", "			if err = primary.agrees(core); err != nil {\n", "			if false {\n"),
+    ],
+}

@@ -1,0 +1,57 @@
+#!/usr/bin/env python3
+"""How ordup-node is built that has a mistake: some edits of a copy. The trial must tell it.
+
+`recipe.py` sees that each mistake can be made of the files as they are, and says how many there are.
+"""
+
+import shutil
+import subprocess
+import sys
+from pathlib import Path
+
+from node_mistakes import MISTAKES, Edit
+
+TOP = Path(__file__).resolve().parents[3]
+NODE = Path("node")
+
+
+class Unmade(Exception):
+    """Why a copy with a mistake cannot be made."""
+
+
+def has_once(file: Path, text: str) -> bool:
+    return (file.read_text() if file.is_file() else "").count(text) == 1
+
+
+def edit(folder: Path, edits: list[Edit]) -> None:
+    for name, old, new in edits:
+        file = folder / name
+        if not has_once(file, old):
+            raise Unmade(f"{name} does not have this once: {old}")
+        file.write_text(file.read_text().replace(old, new))
+
+
+def build(sources: Path, library: Path, to: Path, edits: list[Edit]) -> Path:
+    """The program ordup-node, of a copy of the sources with these edits."""
+    shutil.copytree(sources / NODE, to / NODE)
+    for folder in ("clients/go", "clients/rust"):
+        shutil.copytree(sources / folder, to / folder)
+    edit(to / NODE, edits)
+    program = to / "ordup-node"
+    made = subprocess.run([to / NODE / "build", library, program], stdout=subprocess.PIPE, stderr=subprocess.STDOUT, text=True)
+    if made.returncode:
+        raise Unmade(made.stdout)
+    return program
+
+
+def main() -> int:
+    folder = (Path(sys.argv[1]) if sys.argv[1:] else TOP) / NODE
+    wrong = [f"{mistake}: {name} does not have this once: {old}" for mistake, edits in MISTAKES.items()
+             for name, old, _ in edits if not has_once(folder / name, old)]
+    print("".join(line + "\n" for line in wrong), end="", file=sys.stderr)
+    print(f"{len(MISTAKES)} mistakes, of which {len(wrong) or 'none'} cannot be made")
+    return 1 if wrong or not MISTAKES else 0
+
+
+if __name__ == "__main__":
+    sys.exit(main())

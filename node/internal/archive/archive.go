@@ -1,0 +1,246 @@
+// Package archive keeps the scripts of epochs that have ended, each as a file that `ordup run` reads.
+//
+// Each primary writes one into its folder, whole and on the disk, and says so in the engine with its digest. The entries stay in the
+// engine until so many hosts have the same archive. So a disk that is lost loses no script.
+package archive
+
+import (
+	"bufio"
+	"context"
+	"crypto/sha256"
+	"encoding/hex"
+	"fmt"
+	"io"
+	"os"
+	"path/filepath"
+	"sort"
+	"sync/atomic"
+	"time"
+
+	"ordup-node/internal/engine"
+	"ordup-node/internal/logs"
+	"ordup-node/internal/script"
+)
+
+// tryAfter is after how long archives that wait are looked at again.
+const tryAfter = 2 * time.Second
+
+// A Keeper archives the epochs that have ended.
+type Keeper struct {
+	// Engine is of the keeper alone.
+	Engine *engine.Engine
+	Folder string
+	// Host names the disk of the folder. It is no more than a file name.
+	Host string
+	// Copies is how many hosts have an archive before its entries leave the engine.
+	Copies int
+	Log    *logs.Log
+	// Ended tells that an epoch has ended.
+	Ended <-chan struct{}
+	// looked are the archives whose files this process has written or read.
+	looked  map[engine.Archive]bool
+	waiting int64
+}
+
+// Waiting is how many epochs have ended and are still in the engine, as of the last look.
+func (keeper *Keeper) Waiting() int64 { return atomic.LoadInt64(&keeper.waiting) }
+
+// NameOf is the name of the file of an epoch.
+func NameOf(epoch int64) string { return fmt.Sprintf("epoch-%d.ordup", epoch) }
+
+// Run archives what has ended, and what ends, until the context ends. Then it closes its engine.
+func (keeper *Keeper) Run(ctx context.Context) {
+	defer keeper.Engine.Close()
+	for ctx.Err() == nil {
+		waits, err := keeper.Pass(ctx)
+		if err != nil && ctx.Err() == nil {
+			keeper.Log.Warn("archive", "why", err)
+		}
+		var again <-chan time.Time
+		if waits || err != nil {
+			again = time.After(tryAfter)
+		}
+		select {
+		case <-ctx.Done():
+		case <-keeper.Ended:
+		case <-again:
+		}
+	}
+}
+
+// Pass archives each epoch that has ended and is still in the engine, and takes it out of there once enough hosts have it. It returns
+// whether one of them waits for another host.
+func (keeper *Keeper) Pass(ctx context.Context) (waits bool, err error) {
+	_, end, err := keeper.Engine.Epoch(ctx)
+	if err != nil {
+		return false, err
+	}
+	from, err := keeper.Engine.First(ctx)
+	if err != nil || from == 0 {
+		return false, err
+	}
+	left := int64(0)
+	defer func() { atomic.StoreInt64(&keeper.waiting, left) }()
+	for from < end {
+		archives, err := keeper.Engine.Archives(ctx)
+		if err != nil {
+			return false, err
+		}
+		epoch, own, err := keeper.own(ctx, archives, from, end)
+		if err != nil {
+			return false, err
+		}
+		removed, err := keeper.remove(ctx, epoch, own)
+		if err != nil {
+			return false, err
+		}
+		if from = own.Before; !removed {
+			left++
+		}
+	}
+	return left > 0, nil
+}
+
+// own is the archive of this host that begins with an entry. It is written, if it is not there yet.
+func (keeper *Keeper) own(ctx context.Context, archives map[int64]map[string]engine.Archive, from, end int64) (int64, engine.Archive, error) {
+	for epoch, hosts := range archives {
+		if own, isThere := hosts[keeper.Host]; isThere && own.From == from && own.Before <= end && from < own.Before {
+			if keeper.looked[own] {
+				return epoch, own, nil
+			}
+			if digest, err := digestOf(filepath.Join(keeper.Folder, NameOf(epoch))); err == nil && digest == own.Digest {
+				keeper.looks(own)
+				return epoch, own, nil
+			}
+		}
+	}
+	epoch, own, err := keeper.write(ctx, from, end)
+	if err == nil {
+		err = keeper.Engine.PutArchive(ctx, epoch, keeper.Host, own)
+	}
+	if err == nil {
+		keeper.looks(own)
+		keeper.Log.Info("archived", "epoch", epoch, "entries", own.Before-own.From, "digest", own.Digest[:16])
+	}
+	return epoch, own, err
+}
+
+func (keeper *Keeper) looks(own engine.Archive) {
+	if keeper.looked == nil {
+		keeper.looked = map[engine.Archive]bool{}
+	}
+	keeper.looked[own] = true
+}
+
+// remove takes an epoch out of the engine, if enough hosts have the same archive as this one.
+func (keeper *Keeper) remove(ctx context.Context, epoch int64, own engine.Archive) (bool, error) {
+	archives, err := keeper.Engine.Archives(ctx)
+	if err != nil {
+		return false, err
+	}
+	hosts := []string{}
+	for host, archive := range archives[epoch] {
+		if archive == own {
+			hosts = append(hosts, host)
+		} else {
+			keeper.Log.Warn("archives-differ", "epoch", epoch, "host", host, "own", own.Digest, "other", archive.Digest)
+		}
+	}
+	if len(hosts) < keeper.Copies {
+		return false, nil
+	}
+	sort.Strings(hosts)
+	removed, err := keeper.Engine.RemoveEpoch(ctx, epoch, hosts, own)
+	if removed {
+		keeper.Log.Info("removed", "epoch", epoch, "hosts", len(hosts))
+	}
+	return removed, err
+}
+
+// write writes the archive of the epoch that begins with an entry, whole or not at all.
+func (keeper *Keeper) write(ctx context.Context, from, end int64) (epoch int64, own engine.Archive, err error) {
+	if err = os.MkdirAll(keeper.Folder, 0o755); err != nil {
+		return 0, own, err
+	}
+	part, err := os.CreateTemp(keeper.Folder, "epoch-*.part")
+	if err != nil {
+		return 0, own, err
+	}
+	defer os.Remove(part.Name())
+	defer part.Close()
+	epoch, own, err = keeper.copy(ctx, part, from, end)
+	if err != nil {
+		return 0, own, err
+	}
+	if err = part.Sync(); err != nil {
+		return 0, own, err
+	}
+	if err = os.Chmod(part.Name(), 0o644); err != nil {
+		return 0, own, err
+	}
+	return epoch, own, keeper.name(part.Name(), filepath.Join(keeper.Folder, NameOf(epoch)), own.Digest)
+}
+
+// name gives a file that is on the disk its name, and has that on the disk too. Another file of this name is not written over.
+func (keeper *Keeper) name(part, name, digest string) error {
+	if before, err := digestOf(name); err == nil && before != digest {
+		return fmt.Errorf("%s is there already, and of another script: move it away", name)
+	}
+	if err := os.Rename(part, name); err != nil {
+		return err
+	}
+	folder, err := os.Open(keeper.Folder)
+	if err != nil {
+		return err
+	}
+	defer folder.Close()
+	return folder.Sync()
+}
+
+// copy copies the entries of one epoch, all of one revision.
+func (keeper *Keeper) copy(ctx context.Context, to io.Writer, from, end int64) (epoch int64, own engine.Archive, err error) {
+	sum, revision, next := sha256.New(), int64(0), from
+	lines := bufio.NewWriterSize(io.MultiWriter(to, sum), 1<<16)
+	var raws []engine.Raw
+	for isSame := true; isSame && next < end; {
+		if raws, _, revision, err = keeper.Engine.Entries(ctx, next, revision); err != nil {
+			return 0, own, err
+		}
+		if len(raws) == 0 {
+			return 0, own, &engine.MissingError{Number: next}
+		}
+		for _, raw := range raws {
+			entry, err := script.Parse(raw.Text)
+			switch {
+			case err != nil:
+				return 0, own, fmt.Errorf("the entry %d: %w", raw.Number, err)
+			case raw.Number != next:
+				return 0, own, &engine.MissingError{Number: next}
+			case epoch == 0:
+				epoch = entry.Epoch
+			}
+			if isSame = entry.Epoch == epoch && next < end; !isSame {
+				break
+			}
+			if _, err = lines.Write(entry.AppendArchive(nil, next)); err != nil {
+				return 0, own, err
+			}
+			next++
+		}
+	}
+	own = engine.Archive{From: from, Before: next}
+	err = lines.Flush()
+	own.Digest = hex.EncodeToString(sum.Sum(nil))
+	return epoch, own, err
+}
+
+func digestOf(name string) (string, error) {
+	file, err := os.Open(name)
+	if err != nil {
+		return "", err
+	}
+	defer file.Close()
+	sum := sha256.New()
+	_, err = io.Copy(sum, file)
+	return hex.EncodeToString(sum.Sum(nil)), err
+}

@@ -1,0 +1,58 @@
+package archive_test
+
+import (
+	"bytes"
+	"errors"
+	"reflect"
+	"strings"
+	"testing"
+
+	"ordup-node/internal/archive"
+	"ordup-node/internal/script"
+)
+
+func TestAnArchiveIsReadAsItWasWritten(t *testing.T) {
+	entries := []*script.Entry{
+		{Epoch: 1, Ordup: "1", Writer: "p1", Steps: []script.Step{
+			{Kind: script.Begin, Settings: &script.Settings{Every: 1, Remembers: 1, Origin: "a", Ordup: "1", Began: script.Began{Every: 1, Remembers: 1, Origin: "a"}}}, {Kind: script.Declare, Text: "start"}}},
+		{Epoch: 1, Ordup: "1", Writer: "p2", Steps: []script.Step{}},
+		{Epoch: 1, Ordup: "1", Writer: "p2", Steps: []script.Step{{Kind: script.Tell, Name: "south", Count: 3},
+			{Kind: script.Ask, Name: "ann", Number: 7, Text: "# ordup-node 1"}, {Kind: script.Settle, Count: 2}}},
+	}
+	text := []byte{}
+	for at, entry := range entries {
+		text = entry.AppendArchive(text, int64(at+7))
+	}
+	read := []*script.Entry{}
+	keep := func(number int64, entry *script.Entry) error {
+		if number != int64(len(read)%len(entries)+7) {
+			t.Error(number)
+		}
+		read = append(read, entry)
+		return nil
+	}
+	if err := archive.Read(bytes.NewReader(text), keep); err != nil || !reflect.DeepEqual(read, entries) {
+		t.Error(err, read)
+	}
+	if err := archive.Read(strings.NewReader(""), keep); err != nil {
+		t.Error(err)
+	}
+	stop := errors.New("stop")
+	if err := archive.Read(bytes.NewReader(text), func(int64, *script.Entry) error { return stop }); err != stop {
+		t.Error(err)
+	}
+	keep = func(int64, *script.Entry) error { return nil }
+	// No line may be missing, added or changed.
+	lines := strings.SplitAfter(string(text), "\n")
+	for at := range lines[:len(lines)-1] {
+		for _, other := range []string{"", lines[at] + "settle\n", "# " + lines[at], "\xff\n", "settle\n"} {
+			changed := strings.Join(lines[:at], "") + other + strings.Join(lines[at+1:], "")
+			if err := archive.Read(strings.NewReader(changed), keep); err == nil && changed != string(text) {
+				t.Errorf("%q for %q is read", other, lines[at])
+			}
+		}
+	}
+	if err := archive.Read(bytes.NewReader(text[:len(text)-1]), keep); err == nil {
+		t.Error("a line that is not whole is read")
+	}
+}

@@ -1,0 +1,89 @@
+package client
+
+import (
+	"context"
+	"encoding/json"
+	"errors"
+	"fmt"
+	"net/http"
+	"net/url"
+	"time"
+
+	"ordup-node/internal/epoch"
+	"ordup-node/internal/wire"
+)
+
+// Update asks for an update until there is an answer, or the context ends. What the store refuses is a *wire.Error.
+func (client *Client) Update(ctx context.Context, update wire.Update) (acked wire.Acked, err error) {
+	return acked, client.post(ctx, wire.UpdatePath+waiting(tryWait), update, &acked)
+}
+
+// Next asks for the next epoch until it has begun, or the context ends.
+func (client *Client) Next(ctx context.Context, next wire.Next) (begun wire.Begun, err error) {
+	return begun, client.post(ctx, wire.NextPath+waiting(tryWait), next, &begun)
+}
+
+// Epoch asks for the epoch.
+func (client *Client) Epoch(ctx context.Context) (begun wire.Begun, err error) {
+	return begun, client.ask(ctx, http.MethodGet, wire.EpochPath, nil, &begun)
+}
+
+// Value reads a value. Where the site does not get in time to what was seen, that is a *wire.Error.
+func (client *Client) Value(ctx context.Context, object, seen string, wait time.Duration) (value wire.Value, err error) {
+	path := wire.ValuePath + url.PathEscape(object) + waiting(wait) + "&seen=" + url.QueryEscape(seen)
+	return value, client.ask(ctx, http.MethodGet, path, nil, &value)
+}
+
+// Values reads all values.
+func (client *Client) Values(ctx context.Context, seen string, wait time.Duration) (values wire.Values, err error) {
+	path := wire.ValuesPath + waiting(wait) + "&seen=" + url.QueryEscape(seen)
+	return values, client.ask(ctx, http.MethodGet, path, nil, &values)
+}
+
+// Tell tells a place, at each address once.
+func (client *Client) Tell(ctx context.Context, place epoch.Place) error {
+	body, err := json.Marshal(wire.Place(place))
+	if err != nil {
+		return err
+	}
+	for try := 0; try <= len(client.config.Addresses) && ctx.Err() == nil; try++ {
+		limited, cancel := context.WithTimeout(ctx, tellTime)
+		err = client.try(limited, client.address(), http.MethodPost, wire.PlacePath+waiting(tellTime), body, &wire.Done{})
+		cancel()
+		if err == nil || isForGood(err) {
+			return refusalOf(err, place)
+		}
+	}
+	if err == nil {
+		err = ctx.Err()
+	}
+	return err
+}
+
+// tellTime is how long one address may take for a place.
+const tellTime = time.Second
+
+// refusalOf gives the errors of a place the types that they had at the primary.
+func refusalOf(err error, place epoch.Place) error {
+	var told *wire.Error
+	if !errors.As(err, &told) {
+		return err
+	}
+	switch told.Name {
+	case "CannotBe":
+		return &epoch.CannotBeError{Place: place, Updates: told.Updates}
+	case "NoSite":
+		return epoch.ErrNoSite
+	}
+	return err
+}
+
+func (client *Client) post(ctx context.Context, path string, value, to interface{}) error {
+	body, err := json.Marshal(value)
+	if err != nil {
+		return err
+	}
+	return client.ask(ctx, http.MethodPost, path, body, to)
+}
+
+func waiting(wait time.Duration) string { return fmt.Sprintf("?wait=%g", wait.Seconds()) }

@@ -1,0 +1,103 @@
+package client_test
+
+import (
+	"context"
+	"errors"
+	"net/http"
+	"net/http/httptest"
+	"sync/atomic"
+	"testing"
+	"time"
+
+	"ordup-node/internal/client"
+	"ordup-node/internal/exit"
+	"ordup-node/internal/wire"
+)
+
+// A server answers each request by the next of some functions, and by the last one from then on.
+func server(t *testing.T, count *int64, answers ...func(http.ResponseWriter)) string {
+	t.Helper()
+	server := httptest.NewServer(http.HandlerFunc(func(to http.ResponseWriter, _ *http.Request) {
+		at := int(atomic.AddInt64(count, 1)) - 1
+		if at >= len(answers) {
+			at = len(answers) - 1
+		}
+		answers[at](to)
+	}))
+	t.Cleanup(server.Close)
+	return server.URL
+}
+
+func acked(to http.ResponseWriter) {
+	wire.Write(to, 200, wire.Acked{Client: "ann", Number: 1, Epoch: 1, Place: 3, Seen: "1.3"})
+}
+
+func failing(status int, name string) func(http.ResponseWriter) {
+	return func(to http.ResponseWriter) { wire.Write(to, status, wire.Error{Name: name, Message: name}) }
+}
+
+// naming says that another primary writes.
+func naming(writer string) func(http.ResponseWriter) {
+	return func(to http.ResponseWriter) { wire.Write(to, 503, wire.Error{Name: "NotWriter", Writer: writer}) }
+}
+
+func noNode(to http.ResponseWriter) { to.WriteHeader(502) }
+
+func update(t *testing.T, most time.Duration, addresses ...string) (wire.Acked, error) {
+	t.Helper()
+	asker, err := client.New(client.Config{Addresses: addresses})
+	if err != nil {
+		t.Fatal(err)
+	}
+	ctx, cancel := context.WithTimeout(context.Background(), most)
+	defer cancel()
+	return asker.Update(ctx, wire.Update{Client: "ann", Number: 1, Changes: []string{"add:tea:-5"}})
+}
+
+func TestItAsksAgainElsewhere(t *testing.T) {
+	var one, other int64
+	nobody := "http://127.0.0.1:1"
+	right := server(t, &other, failing(503, "Busy"), failing(504, "NoAnswer"), acked)
+	for _, addresses := range [][]string{{nobody, right}, {right}, {server(t, &one, noNode), right}, {server(t, &one, naming("")), right},
+		{server(t, &one, naming(right))}, {server(t, &one, naming(nobody)), right}, {server(t, &one, failing(503, "NotServing")), right}} {
+		atomic.StoreInt64(&other, 0)
+		if answer, err := update(t, 10*time.Second, addresses...); err != nil || answer.Seen != "1.3" || atomic.LoadInt64(&other) != 3 {
+			t.Errorf("%v: %v, %v, %d", addresses, answer, err, other)
+		}
+	}
+}
+
+func TestWhatIsForGoodIsNotAskedAgain(t *testing.T) {
+	for name, status := range map[string]int{"Refused": 422, "Passed": 409, "Differs": 409, "Malformed": 400, "NoToken": 401, "Full": 507} {
+		var count int64
+		_, err := update(t, 10*time.Second, server(t, &count, failing(status, name)))
+		var told *wire.Error
+		if !errors.As(err, &told) || told.Name != name || told.Status != status || count != 1 {
+			t.Error(name, err, count)
+		}
+	}
+}
+
+func TestItTellsTheLastReason(t *testing.T) {
+	var count int64
+	_, err := update(t, time.Second, server(t, &count, failing(503, "Busy")), "http://127.0.0.1:1")
+	var none *client.NoAnswerError
+	if !errors.As(err, &none) || none.Last == nil || count < 2 || count > 20 {
+		t.Error(err, count)
+	}
+	hangs := server(t, &count, func(http.ResponseWriter) { time.Sleep(300 * time.Millisecond) })
+	if _, err = update(t, 100*time.Millisecond, hangs); !errors.As(err, &none) {
+		t.Error(err)
+	}
+}
+
+func TestAnAddressHasAForm(t *testing.T) {
+	for _, address := range []string{"", "127.0.0.1:7002", "ftp://a:1", "http://a", "http://a:1/", "http://u@a:1", "http://:1", "http://a:1?b"} {
+		if _, err := client.New(client.Config{Addresses: []string{address}}); exit.Of(err) != exit.Words {
+			t.Errorf("%q: %v", address, err)
+		}
+	}
+	if _, err := client.New(client.Config{}); exit.Of(err) != exit.Words {
+		t.Error(err)
+	}
+}

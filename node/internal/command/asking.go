@@ -1,0 +1,186 @@
+package command
+
+import (
+	"context"
+	"errors"
+	"fmt"
+	"os"
+	"sort"
+	"strconv"
+	"strings"
+	"time"
+
+	"ordup-node/internal/client"
+	"ordup-node/internal/engine"
+	"ordup-node/internal/exit"
+	"ordup-node/internal/logs"
+	"ordup-node/internal/reload"
+	"ordup-node/internal/serve"
+	"ordup-node/internal/settings"
+	"ordup-node/internal/wire"
+)
+
+// askingSettings say who is asked, and how.
+type askingSettings struct {
+	key              string
+	addresses        []string
+	authority, token string
+	patience         time.Duration
+}
+
+// add adds the settings of one who asks primaries or sites, as the key says.
+func (own *askingSettings) add(set *settings.Set, key, help string) {
+	own.key = key
+	set.List(&own.addresses, key, help)
+	set.Text(&own.authority, "authority", "", "`FILE` in PEM with the authority of their certificates")
+	set.Text(&own.token, "token", "", "`FILE` with the own token")
+}
+
+func (own *askingSettings) addPatience(set *settings.Set) {
+	set.Seconds(&own.patience, "patience", time.Minute, 24*time.Hour, "`SECONDS` up to which it asks again")
+}
+
+func (own *askingSettings) client(log *logs.Log) (*client.Client, error) {
+	config := client.Config{Addresses: own.addresses}
+	var err error
+	if len(own.addresses) == 0 {
+		return nil, wrong("%s: the addresses are missing", own.key)
+	}
+	if config.TLS, err = engine.TLSOf(own.authority, "", "", log); err != nil {
+		return nil, err
+	}
+	if own.token != "" {
+		tokens, err := reload.New(log, func() ([]string, error) { return serve.TokensOf(own.token) }, own.token)
+		if err != nil {
+			return nil, err
+		}
+		config.Token = func() string { return tokens.Now()[0] }
+	}
+	return client.New(config)
+}
+
+// asks gives what runs a command that asks for the time that it has patience.
+func (own *askingSettings) asks(log *logs.Log, ask func(context.Context, *client.Client, []string) error) func(context.Context, []string) error {
+	return func(ctx context.Context, words []string) error {
+		asker, err := own.client(log)
+		if err != nil {
+			return err
+		}
+		limited, cancel := context.WithTimeout(ctx, own.patience)
+		defer cancel()
+		return endingOf(ask(limited, asker, words))
+	}
+}
+
+// endingOf gives an answer that is an error its status: 2 where the request can never be done as it is.
+func endingOf(err error) error {
+	var told *wire.Error
+	var none *client.NoAnswerError
+	if err == nil || errors.As(err, &none) || !errors.As(err, &told) {
+		return err
+	}
+	switch told.Name {
+	case "Malformed", "NoToken", "NoSuchPath", "NoSuchObject", "NoSuchMethod", "Passed", "Differs", "TooLarge", "NoWish":
+		return exit.With(exit.Words, err)
+	}
+	return err
+}
+
+func updateSettings(program *Program, set *settings.Set) func(context.Context, []string) error {
+	own := &askingSettings{}
+	own.add(set, "primaries", "`ADDRESS,..` of the primaries, as http://10.0.0.1:7002")
+	own.addPatience(set)
+	return own.asks(program.Log, func(ctx context.Context, asker *client.Client, words []string) error {
+		if len(words) < 3 {
+			return wrong("say a client, a number and at least one change")
+		}
+		number, err := strconv.ParseInt(words[1], 10, 64)
+		if err != nil {
+			return wrong("%.40q is no number", words[1])
+		}
+		changes := strings.Fields(strings.Join(words[2:], " "))
+		acked, err := asker.Update(ctx, wire.Update{Client: words[0], Number: number, Changes: changes})
+		var told *wire.Error
+		switch {
+		case errors.As(err, &told) && told.Name == "Refused":
+			fmt.Fprintf(program.Out, "refused %d %s\n", told.Refused, told.Refusal)
+			return nil
+		case err != nil:
+			return err
+		}
+		fmt.Fprintf(program.Out, "ok acked %d epoch %d\n", acked.Place, acked.Epoch)
+		return nil
+	})
+}
+
+func valueSettings(program *Program, set *settings.Set) func(context.Context, []string) error {
+	own, seen, wait := &askingSettings{}, "", time.Duration(0)
+	own.add(set, "sites", "`ADDRESS,..` of processes of the site, as http://10.0.0.1:7001")
+	own.addPatience(set)
+	set.Text(&seen, "seen", "", "`EPOCH.PLACE` that is the least that is shown")
+	set.Seconds(&wait, "wait", 4*time.Second, 5*time.Second, "`SECONDS` for which the site may wait until it is there")
+	return own.asks(program.Log, func(ctx context.Context, asker *client.Client, words []string) error {
+		if len(words) > 1 {
+			return wrong("say one object, or none")
+		}
+		values, err := readAll(ctx, asker, words, seen, wait)
+		if err != nil {
+			return err
+		}
+		fmt.Fprintf(program.Out, "epoch %d place %d%s\n", values.Epoch, values.Place, textOf(values.Values))
+		return nil
+	})
+}
+
+func readAll(ctx context.Context, asker *client.Client, words []string, seen string, wait time.Duration) (wire.Values, error) {
+	if len(words) == 0 {
+		return asker.Values(ctx, seen, wait)
+	}
+	value, err := asker.Value(ctx, words[0], seen, wait)
+	return wire.Values{Values: map[string]int64{value.Object: value.Value}, Showing: value.Showing}, err
+}
+
+func textOf(values map[string]int64) string {
+	words := []string{}
+	for name, value := range values {
+		words = append(words, fmt.Sprintf(" %s=%d", name, value))
+	}
+	sort.Strings(words)
+	return strings.Join(words, "")
+}
+
+func nextSettings(program *Program, set *settings.Set) func(context.Context, []string) error {
+	own, next := &askingSettings{}, wire.Next{}
+	own.add(set, "primaries", "`ADDRESS,..` of the primaries, as http://10.0.0.1:7002")
+	own.addPatience(set)
+	set.Number(&next.From, "from", 0, 0, 1<<53, "`EPOCH` that is to end: 0 stands for the one that there is")
+	set.Number(&next.Every, "every", 0, 0, 1_000_000, "`NUMBER` of requests that an epoch takes from then on: 0 leaves it")
+	set.Number(&next.Remembers, "remembers", 0, 0, 1_000_000, "`NUMBER` of epochs that a client is remembered: 0 leaves it")
+	set.Text(&next.Ordup, "ordup", "", "`VERSION` of ordup that runs the script from then on")
+	set.Switch(&next.Replaces, "replaces", "take the place of what was asked for before and has not come")
+	return own.asks(program.Log, func(ctx context.Context, asker *client.Client, words []string) error {
+		if len(words) > 1 {
+			return wrong("say one file with declarations, or none")
+		}
+		if len(words) == 1 {
+			text, err := os.ReadFile(words[0])
+			if err != nil {
+				return exit.With(exit.Words, err)
+			}
+			next.Declarations = string(text)
+		}
+		if next.From == 0 {
+			now, err := asker.Epoch(ctx)
+			if err != nil {
+				return err
+			}
+			next.From = now.Epoch
+		}
+		begun, err := asker.Next(ctx, next)
+		if err != nil {
+			return err
+		}
+		fmt.Fprintf(program.Out, "epoch %d\n", begun.Epoch)
+		return nil
+	})
+}

@@ -1,0 +1,113 @@
+// Package command has the commands of the program: their settings, and what each does with the other packages.
+package command
+
+import (
+	"context"
+	"errors"
+	"flag"
+	"fmt"
+	"io"
+
+	"ordup-node/internal/exit"
+	"ordup-node/internal/logs"
+	"ordup-node/internal/settings"
+	"ordup-node/internal/store"
+)
+
+// A Program is what the commands share.
+type Program struct {
+	Version string
+	Open    store.Open
+	// Out is for what was asked for, and Err for help. Events go to Log.
+	Out, Err io.Writer
+	Log      *logs.Log
+}
+
+// A command is one of the program. Settings adds its settings to a set, and gives what runs it with the words that are no flags.
+type command struct {
+	name, words, help string
+	settings          func(*Program, *settings.Set) func(context.Context, []string) error
+}
+
+// commands are those of the program.
+func commands() []command {
+	return []command{
+		{"primary", "", "takes updates and writes the script, or stands by for the primary that does", primarySettings},
+		{"site", "", "shows the values of a site to its readers", siteSettings},
+		{"fleet", "", "tells the place of several sites that have one name in the script", fleetSettings},
+		{"update", "CLIENT NUMBER CHANGE..", "asks for an update, and prints its answer", updateSettings},
+		{"value", "[OBJECT]", "reads a value at a site, or all", valueSettings},
+		{"next", "[DECLARATIONS]", "asks for the next epoch, of a file with other declarations or as it is, and waits until it has begun", nextSettings},
+		{"fsck", "FOLDER..", "checks the archives of hosts, and the script if it is told the engine", fsckSettings},
+	}
+}
+
+// Run does what the words say, until the context ends, and returns the status.
+func (program *Program) Run(ctx context.Context, words []string) exit.Status {
+	name := ""
+	if len(words) > 0 {
+		name = words[0]
+	}
+	switch name {
+	case "--version", "version":
+		fmt.Fprintln(program.Out, "ordup-node", program.Version)
+		return exit.Done
+	case "--help", "-h", "help":
+		program.help(program.Out)
+		return exit.Done
+	}
+	for _, each := range commands() {
+		if each.name == name {
+			return program.run(ctx, &each, words[1:])
+		}
+	}
+	fmt.Fprintf(program.Err, "ordup-node: there is no command %.40q\n", name)
+	program.help(program.Err)
+	return exit.Words
+}
+
+func (program *Program) run(ctx context.Context, command *command, words []string) exit.Status {
+	set := settings.New(command.name)
+	run := command.settings(program, set)
+	rest, err := set.Read(words, program.isKnown)
+	if errors.Is(err, flag.ErrHelp) {
+		fmt.Fprintf(program.Out, "ordup-node %s %s\n%s.\n\n%s", command.name, command.words, command.help, set.Help())
+		return exit.Done
+	}
+	if err != nil {
+		err = exit.With(exit.Words, err)
+	} else if command.words == "" && len(rest) > 0 {
+		err = exit.With(exit.Words, fmt.Errorf("%.60q is no setting", rest[0]))
+	} else {
+		err = run(ctx, rest)
+	}
+	if err != nil {
+		program.Log.Error("ends", "command", command.name, "status", int(exit.Of(err)), "why", err)
+	}
+	return exit.Of(err)
+}
+
+// isKnown is whether a command has a setting of this key.
+func (program *Program) isKnown(key string) bool {
+	for _, each := range commands() {
+		set := settings.New(each.name)
+		each.settings(program, set)
+		if set.Has(key) {
+			return true
+		}
+	}
+	return false
+}
+
+func (program *Program) help(to io.Writer) {
+	fmt.Fprint(to, "usage: ordup-node COMMAND [--SETTING VALUE].. [WORD..]\n\n")
+	for _, each := range commands() {
+		fmt.Fprintf(to, "  %-8s %-23s %s\n", each.name, each.words, each.help)
+	}
+	fmt.Fprint(to, "\nordup-node COMMAND --help has the settings of a command. Each may stand in a file too, as SETTING = VALUE.\n")
+}
+
+// wrong is an error of words or settings.
+func wrong(format string, words ...interface{}) error {
+	return exit.With(exit.Words, fmt.Errorf(format, words...))
+}

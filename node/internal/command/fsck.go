@@ -1,0 +1,35 @@
+package command
+
+import (
+	"context"
+	"fmt"
+
+	"ordup-node/internal/fsck"
+	"ordup-node/internal/settings"
+)
+
+func fsckSettings(program *Program, set *settings.Set) func(context.Context, []string) error {
+	own, from := &engineSettings{}, int64(0)
+	own.add(set)
+	set.Number(&from, "from", 1, 1, 1<<53, "`EPOCH` of the first archive")
+	return func(ctx context.Context, folders []string) error {
+		if len(folders) == 0 && len(own.members) == 0 {
+			return wrong("say the folders with archives, or the engine")
+		}
+		config := fsck.Config{Folders: folders, From: from, Versions: []string{program.Version},
+			Tell: func(checked fsck.Epoch) { fmt.Fprintln(program.Out, checked) }}
+		if len(own.members) > 0 {
+			opened, err := own.open(program.Log)
+			if err != nil {
+				return err
+			}
+			defer opened.Close()
+			config.Engine = opened
+		}
+		archives, entries, err := fsck.Run(ctx, config)
+		if err == nil {
+			fmt.Fprintf(program.Out, "ok %d archives %d entries\n", archives, entries)
+		}
+		return err
+	}
+}

@@ -1,0 +1,102 @@
+package command
+
+import (
+	"context"
+	"errors"
+	"os"
+
+	"ordup-node/internal/engine"
+	"ordup-node/internal/epoch"
+	"ordup-node/internal/numbers"
+	"ordup-node/internal/primary"
+	"ordup-node/internal/serve"
+	"ordup-node/internal/settings"
+)
+
+// primaryOwn are the settings of a primary.
+type primaryOwn struct {
+	engine                                    engineSettings
+	serving                                   servingSettings
+	address, authority, archive, declarations string
+	copies, every, remembers                  int64
+}
+
+func primarySettings(program *Program, set *settings.Set) func(context.Context, []string) error {
+	own := &primaryOwn{}
+	own.engine.add(set)
+	own.serving.add(set, "127.0.0.1:7002")
+	set.Text(&own.address, "address", "", "`ADDRESS` at which others reach this process: that of listen, if it has a host")
+	set.Text(&own.authority, "authority", "", "`FILE` in PEM with the authority of the certificates of other primaries")
+	set.Text(&own.archive, "archive", "", "`FOLDER` for the scripts of epochs that have ended")
+	set.Number(&own.copies, "copies", 2, 1, 16, "`NUMBER` of hosts that have such a script before the engine drops it")
+	set.Text(&own.declarations, "declarations", "", "`FILE` with the declarations that begin an empty script")
+	set.Number(&own.every, "every", 0, 0, epoch.MostEvery, "`NUMBER` of requests that an epoch takes: 0 stands for that of the script, or 100,000")
+	set.Number(&own.remembers, "remembers", 0, 0, epoch.MostEvery,
+		"`NUMBER` of epochs that a client is remembered: 0 stands for that of the script, or 10")
+	return func(ctx context.Context, _ []string) error { return own.run(ctx, program) }
+}
+
+func (own *primaryOwn) config(program *Program) (config primary.Config, err error) {
+	if err = own.serving.check(program.Log); err != nil {
+		return config, err
+	}
+	if own.archive == "" {
+		return config, wrong("archive: the folder is missing")
+	}
+	config = primary.Config{Open: program.Open, Host: own.serving.host, Versions: []string{program.Version}, Every: own.every,
+		Remembers: own.remembers, Folder: own.archive, Copies: int(own.copies), Log: program.Log}
+	if config.Address, err = own.serving.address(own.address); err != nil {
+		return config, err
+	}
+	if own.declarations != "" {
+		text, err := os.ReadFile(own.declarations)
+		if err != nil {
+			return config, err
+		}
+		config.Declarations = epoch.Declarations(string(text))
+	}
+	if err = os.MkdirAll(own.archive, 0o755); err != nil {
+		return config, err
+	}
+	config.Engine, err = own.engine.open(program.Log)
+	return config, err
+}
+
+func (own *primaryOwn) run(ctx context.Context, program *Program) error {
+	config, err := own.config(program)
+	if err != nil {
+		return err
+	}
+	defer config.Engine.Close()
+	process, err := primary.New(config)
+	if err != nil {
+		return err
+	}
+	secure, err := engine.TLSOf(own.authority, "", "", program.Log)
+	if err != nil {
+		return err
+	}
+	lag := &numbers.Lag{}
+	seen := numbers.OfPrimary(program.Version, own.serving.open, process.Status)
+	handler := serve.NewPrimary(serve.Config{Guard: &own.serving.guard, Requests: own.serving.mostRequests(),
+		Ready: func() error { return isReady(process.Status()) }, Numbers: seen.Handler(),
+		Page: numbers.PageOfPrimary(config.Host, lag, process.Status)}, process, serve.NewPasser(config.Address, secure), seen.Waited)
+	program.Log.Info("starts", "command", "primary", "version", program.Version, "host", config.Host, "address", config.Address)
+	return own.serving.run(ctx, program.Log, handler, func(ctx context.Context) error {
+		go lag.Run(ctx, process.Status)
+		return process.Run(ctx)
+	})
+}
+
+// isReady is why a primary takes no requests now, or nil.
+func isReady(status primary.Status) error {
+	switch {
+	case status.Counts.Full > 0:
+		return primary.ErrFull
+	case status.Writes && status.Lease == 0:
+		return errors.New("the lease of this primary is over: the engine does not answer")
+	case status.Writes || status.Writer != "" && status.Core.Epoch > 0:
+		return nil
+	}
+	return errors.New("no primary writes, as far as this one knows")
+}

@@ -1,0 +1,88 @@
+package command_test
+
+import (
+	"context"
+	"crypto/tls"
+	"fmt"
+	"net/http"
+	"os"
+	"strings"
+	"testing"
+	"time"
+
+	"ordup-node/internal/exit"
+)
+
+// A process that goes on takes another certificate and other tokens from its files. With a broken file it keeps what it has.
+func TestCertificatesAndTokensAreReadAgain(t *testing.T) {
+	own, key := certificate(t)
+	other, otherKey := certificate(t)
+	tokens, address := file(t, "tokens", "operator-token-1\n"), freePort(t)
+	ctx, cancel := context.WithCancel(context.Background())
+	defer cancel()
+	type end struct {
+		status exit.Status
+		log    string
+	}
+	ended := make(chan end, 1)
+	go func() {
+		status, _, log := run(ctx, "fleet", "--fleet", "far", "--members", "east", "--listen", address, "--primaries", "http://127.0.0.1:1",
+			"--certificate", own, "--key", key, "--operator-tokens", tokens)
+		ended <- end{status, log}
+	}()
+	look := func(token string) (serial string, status int) {
+		asker := &http.Client{Transport: &http.Transport{TLSClientConfig: &tls.Config{InsecureSkipVerify: true}, DisableKeepAlives: true}}
+		request, _ := http.NewRequest("GET", "https://"+address+"/metrics", nil)
+		request.Header.Set("Authorization", "Bearer "+token)
+		answer, err := asker.Do(request)
+		if err != nil {
+			return err.Error(), 0
+		}
+		defer answer.Body.Close()
+		return fmt.Sprintf("%x", answer.TLS.PeerCertificates[0].Signature), answer.StatusCode
+	}
+	becomes := func(what, token string, isSo func(serial string, status int) bool) {
+		t.Helper()
+		serial, status := "", 0
+		for end := time.Now().Add(8 * time.Second); time.Now().Before(end); time.Sleep(100 * time.Millisecond) {
+			if serial, status = look(token); isSo(serial, status) {
+				return
+			}
+		}
+		t.Errorf("%s: %.20s %d", what, serial, status)
+	}
+	put := func(from, to string) {
+		t.Helper()
+		text, err := os.ReadFile(from)
+		if err == nil {
+			err = os.WriteFile(to+".new", text, 0o600)
+		}
+		if err == nil {
+			err = os.Rename(to+".new", to)
+		}
+		if err != nil {
+			t.Fatal(err)
+		}
+	}
+	becomes("it listens", "operator-token-1", func(_ string, status int) bool { return status == 200 })
+	first, _ := look("operator-token-1")
+	put(file(t, "more", "operator-token-1\noperator-token-2\n"), tokens)
+	becomes("a new token", "operator-token-2", func(_ string, status int) bool { return status == 200 })
+	put(file(t, "broken", "short\n"), tokens)
+	put(other, own) // Its key is another one as yet.
+	time.Sleep(3 * time.Second)
+	if serial, status := look("operator-token-1"); serial != first || status != 200 {
+		t.Errorf("%.20s %d", serial, status)
+	}
+	put(file(t, "less", "operator-token-2\n"), tokens)
+	put(otherKey, key)
+	becomes("a new certificate", "operator-token-2", func(serial string, status int) bool { return serial != first && status == 200 })
+	becomes("an old token", "operator-token-1", func(_ string, status int) bool { return status == 401 })
+	cancel()
+	was := <-ended
+	for _, say := range []string{"warn not-read-again file=" + own, "warn not-read-again file=" + tokens, "info read-again file=" + own} {
+		if was.status != exit.Done || !strings.Contains(was.log, say) {
+			t.Errorf("%d: there is no %q in %s", was.status, say, was.log)
+		}
+	}
+}

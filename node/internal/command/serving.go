@@ -1,0 +1,161 @@
+package command
+
+import (
+	"context"
+	"crypto/tls"
+	"fmt"
+	"net"
+	"net/http"
+	"os"
+	"regexp"
+	"strings"
+	"time"
+
+	"golang.org/x/sys/unix"
+
+	"ordup-node/internal/client"
+	"ordup-node/internal/exit"
+	"ordup-node/internal/listen"
+	"ordup-node/internal/logs"
+	"ordup-node/internal/reload"
+	"ordup-node/internal/serve"
+	"ordup-node/internal/settings"
+)
+
+const (
+	// answersTime is how long a process that ends waits for its last answers.
+	answersTime = 3 * time.Second
+	// beside is how many files a process has open beside its connections.
+	beside = 256
+)
+
+// servingSettings say where a process listens, and to whom it answers.
+type servingSettings struct {
+	listen, host                             string
+	certificate, key                         string
+	clientTokens, siteTokens, operatorTokens string
+	connections, requests                    int64
+	server                                   *listen.Server
+	guard                                    serve.Guard
+}
+
+func (own *servingSettings) add(set *settings.Set, usual string) {
+	name, _ := os.Hostname()
+	set.Text(&own.listen, "listen", usual, "`HOST:PORT` to listen at")
+	set.Text(&own.host, "host", regexp.MustCompile(`[^A-Za-z0-9._-]`).ReplaceAllString(name, "-"), "`NAME` of this host among those of the deployment")
+	set.Text(&own.certificate, "certificate", "", "`FILE` in PEM with the certificate of this process: so it listens with TLS")
+	set.Text(&own.key, "key", "", "`FILE` in PEM with the key of this certificate")
+	set.Text(&own.clientTokens, "client-tokens", "", "`FILE` with the tokens of clients and readers, one a line")
+	set.Text(&own.siteTokens, "site-tokens", "", "`FILE` with the tokens of sites and fleets")
+	set.Text(&own.operatorTokens, "operator-tokens", "", "`FILE` with the tokens of operators")
+	set.Number(&own.connections, "connections", 10_000, 16, 1_000_000, "`NUMBER` of connections at most")
+	set.Number(&own.requests, "requests", 5_000, 1, 1_000_000, "`NUMBER` of requests under way at most")
+}
+
+// isSecure is whether the process listens with TLS.
+func (own *servingSettings) isSecure() bool { return own.certificate != "" || own.key != "" }
+
+func (own *servingSettings) secure(log *logs.Log) (*tls.Config, error) {
+	if !own.isSecure() {
+		return nil, nil
+	}
+	pair, err := reload.Pair(own.certificate, own.key, log)
+	if err != nil {
+		return nil, err
+	}
+	return &tls.Config{MinVersion: tls.VersionTLS12,
+		GetCertificate: func(*tls.ClientHelloInfo) (*tls.Certificate, error) { return pair.Now(), nil }}, nil
+}
+
+// check looks at the settings, before the process does anything.
+func (own *servingSettings) check(log *logs.Log) error {
+	own.guard.Log = log
+	if _, _, err := net.SplitHostPort(own.listen); err != nil {
+		return wrong("listen: %.80q is not HOST:PORT", own.listen)
+	}
+	for _, each := range []struct {
+		role serve.Role
+		file string
+	}{{serve.Clients, own.clientTokens}, {serve.Sites, own.siteTokens}, {serve.Operators, own.operatorTokens}} {
+		if each.file == "" {
+			continue
+		}
+		if err := own.guard.Load(each.role, each.file); err != nil {
+			return err
+		}
+	}
+	return nil
+}
+
+// address is where others reach the process, by a setting or by where it listens.
+func (own *servingSettings) address(given string) (string, error) {
+	if given != "" {
+		if !client.IsAddress(given) || strings.HasPrefix(given, "https://") != own.isSecure() {
+			return "", wrong("address: %.80q is no address as http://10.0.0.1:7002, or https:// where there is a certificate", given)
+		}
+		return given, nil
+	}
+	host, _, _ := net.SplitHostPort(own.listen)
+	if ip := net.ParseIP(host); host == "" || ip != nil && ip.IsUnspecified() {
+		return "", wrong("address: say where others reach this process, since it listens at %s", own.listen)
+	}
+	scheme := "http://"
+	if own.isSecure() {
+		scheme = "https://"
+	}
+	return scheme + own.listen, nil
+}
+
+// open is how many connections there are.
+func (own *servingSettings) open() int {
+	if own.server == nil {
+		return 0
+	}
+	return own.server.Connections()
+}
+
+// most is how many connections there may be: fewer than the system allows files.
+func (own *servingSettings) most() int {
+	var files unix.Rlimit
+	if unix.Getrlimit(unix.RLIMIT_NOFILE, &files) == nil && files.Max < uint64(own.connections)+beside && files.Max > 2*beside {
+		return int(files.Max - beside)
+	}
+	return int(own.connections)
+}
+
+// mostRequests is how many requests may be under way: at most on half of the connections, so that there are others which can make room.
+func (own *servingSettings) mostRequests() int {
+	if half := own.most() / 2; half < int(own.requests) {
+		return half
+	}
+	return int(own.requests)
+}
+
+// run listens, and runs the process until the context ends or the process does. Then what is under way is answered.
+func (own *servingSettings) run(ctx context.Context, log *logs.Log, handler http.Handler, run func(context.Context) error) error {
+	secure, err := own.secure(log)
+	if err != nil {
+		return err
+	}
+	own.server, err = listen.Start(own.listen, secure, own.most(), handler, log)
+	if err != nil {
+		return exit.With(exit.Environment, err)
+	}
+	log.Info("listens", "address", own.server.Address(), "tls", own.isSecure(), "connections", own.most())
+	running, stop := context.WithCancel(ctx)
+	defer stop()
+	ended := make(chan error, 1)
+	go func() { ended <- run(running) }()
+	select {
+	case err = <-ended:
+	case failure := <-own.server.Ended():
+		stop()
+		<-ended
+		err = fmt.Errorf("it cannot listen any more: %w", failure)
+	}
+	own.server.Stop(answersTime)
+	if err == nil {
+		log.Info("ended")
+	}
+	return err
+}

@@ -1,0 +1,129 @@
+package command
+
+import (
+	"context"
+	"errors"
+
+	"ordup-node/internal/fleet"
+	"ordup-node/internal/numbers"
+	"ordup-node/internal/script"
+	"ordup-node/internal/serve"
+	"ordup-node/internal/settings"
+	"ordup-node/internal/site"
+)
+
+// siteOwn are the settings of a site.
+type siteOwn struct {
+	engine            engineSettings
+	serving           servingSettings
+	telling           askingSettings
+	name, fleet, tell string
+}
+
+func siteSettings(program *Program, set *settings.Set) func(context.Context, []string) error {
+	own := &siteOwn{}
+	own.engine.add(set)
+	own.serving.add(set, "127.0.0.1:7001")
+	own.telling.add(set, "primaries", "`ADDRESS,..` of the primaries, as http://10.0.0.1:7002")
+	set.Text(&own.name, "site", "", "`NAME` of the site")
+	set.Text(&own.fleet, "fleet", "", "`NAME` of its fleet in the script, where it is of one")
+	set.Text(&own.tell, "teller", "", "`ADDRESS` of the process of the fleet, which the site tells its places then")
+	return func(ctx context.Context, _ []string) error { return own.run(ctx, program) }
+}
+
+func (own *siteOwn) config(program *Program) (config site.Config, err error) {
+	if err = own.serving.check(program.Log); err != nil {
+		return config, err
+	}
+	if (own.fleet == "") != (own.tell == "") {
+		return config, wrong("fleet and teller belong together")
+	}
+	if own.tell != "" {
+		own.telling.key, own.telling.addresses = "teller", []string{own.tell}
+	}
+	teller, err := own.telling.client(program.Log)
+	if err != nil {
+		return config, err
+	}
+	config = site.Config{Open: program.Open, Name: own.name, Fleet: own.fleet, Host: own.serving.host, Versions: []string{program.Version},
+		Teller: teller, Log: program.Log}
+	config.Engine, err = own.engine.open(program.Log)
+	return config, err
+}
+
+func (own *siteOwn) run(ctx context.Context, program *Program) error {
+	config, err := own.config(program)
+	if err != nil {
+		return err
+	}
+	defer config.Engine.Close()
+	process, err := site.New(config)
+	if err != nil {
+		return err
+	}
+	seen := numbers.OfSite(program.Version, own.name, own.serving.open, process.Status)
+	handler := serve.NewSite(serve.Config{Guard: &own.serving.guard, Requests: own.serving.mostRequests(),
+		Ready: func() error {
+			if !process.Status().Serves {
+				return site.ErrNotServing
+			}
+			return nil
+		}, Numbers: seen.Handler(), Page: numbers.PageOfSite(own.name, process.Status)}, own.name, process)
+	program.Log.Info("starts", "command", "site", "version", program.Version, "host", config.Host, "site", own.name)
+	return own.serving.run(ctx, program.Log, handler, process.Run)
+}
+
+// fleetOwn are the settings of a fleet.
+type fleetOwn struct {
+	serving servingSettings
+	telling askingSettings
+	name    string
+	members []string
+}
+
+func fleetSettings(program *Program, set *settings.Set) func(context.Context, []string) error {
+	own := &fleetOwn{}
+	own.serving.add(set, "127.0.0.1:7003")
+	own.telling.add(set, "primaries", "`ADDRESS,..` of the primaries, as http://10.0.0.1:7002")
+	set.Text(&own.name, "fleet", "", "`NAME` of the fleet in the script")
+	set.List(&own.members, "members", "`NAME,..` of its sites")
+	return func(ctx context.Context, _ []string) error { return own.run(ctx, program) }
+}
+
+func (own *fleetOwn) run(ctx context.Context, program *Program) error {
+	if err := own.serving.check(program.Log); err != nil {
+		return err
+	}
+	for _, name := range append([]string{own.name}, own.members...) {
+		if !script.IsName(name) {
+			return wrong("fleet and members: %.40q is no name of a site", name)
+		}
+	}
+	if len(own.members) == 0 {
+		return wrong("members: the sites of the fleet are missing")
+	}
+	teller, err := own.telling.client(program.Log)
+	if err != nil {
+		return err
+	}
+	process := fleet.New(own.name, own.members, teller)
+	seen := numbers.OfFleet(program.Version, own.serving.open, process.Status)
+	handler := serve.NewFleet(serve.Config{Guard: &own.serving.guard, Requests: own.serving.mostRequests(),
+		Ready: func() error { return haveTold(process.Status()) }, Numbers: seen.Handler(),
+		Page: numbers.PageOfFleet(own.name, process.Status)}, process)
+	program.Log.Info("starts", "command", "fleet", "version", program.Version, "host", own.serving.host, "fleet", own.name)
+	return own.serving.run(ctx, program.Log, handler, func(ctx context.Context) error {
+		<-ctx.Done()
+		return nil
+	})
+}
+
+// haveTold is nil once each site of a fleet has told a place.
+func haveTold(members []fleet.MemberStatus) error {
+	for _, member := range members {
+		if member.Place.Epoch == 0 {
+			return errors.New("the site " + member.Place.Member + " has told nothing yet")
+		}
+	}
+	return nil
+}

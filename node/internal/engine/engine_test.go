@@ -1,0 +1,243 @@
+package engine_test
+
+import (
+	"context"
+	"errors"
+	"fmt"
+	"strings"
+	"syscall"
+	"testing"
+	"time"
+
+	"ordup-node/internal/engine"
+	"ordup-node/internal/etcdtest"
+)
+
+func within(t *testing.T, most time.Duration) context.Context {
+	ctx, cancel := context.WithTimeout(context.Background(), most)
+	t.Cleanup(cancel)
+	return ctx
+}
+
+func is(t *testing.T, wants, has interface{}) {
+	t.Helper()
+	if fmt.Sprint(wants) != fmt.Sprint(has) {
+		t.Errorf("%v instead of %v", has, wants)
+	}
+}
+
+func write(t *testing.T, to *engine.Engine, number int64, text string, absent ...string) error {
+	return to.Write(within(t, 10*time.Second), &engine.Write{Number: number, Text: []byte(text), Absent: absent})
+}
+
+func TestAnEntryIsWrittenOnce(t *testing.T) {
+	members := etcdtest.Start(t, 1)
+	one, other := members.Engine(), members.Engine()
+	ctx := within(t, 20*time.Second)
+	var taken *engine.TakenError
+	var missing *engine.MissingError
+	var served *engine.ServedError
+	is(t, true, errors.As(write(t, one, 2, "b"), &missing))
+	is(t, nil, one.Write(ctx, &engine.Write{Number: 1, Text: []byte("a"), Epoch: 1, First: 1}))
+	is(t, nil, one.Write(ctx, &engine.Write{Number: 1, Text: []byte("a"), Epoch: 1, First: 1})) // The answer was lost.
+	is(t, true, errors.As(write(t, other, 1, "x"), &taken))
+	is(t, nil, write(t, one, 2, "b"))
+	is(t, true, errors.As(write(t, other, 4, "d"), &missing))
+	members.Put("site/south/south", "by hand")
+	is(t, true, errors.As(write(t, one, 3, "c", "south"), &served))
+	is(t, nil, write(t, one, 3, "c", "sout", "south2", "north"))
+	is(t, nil, one.Write(ctx, &engine.Write{Number: 4, Text: []byte("d"), Epoch: 2, First: 4}))
+	epoch, first, err := other.Epoch(ctx)
+	is(t, []interface{}{2, 4, nil}, []interface{}{epoch, first, err})
+	removed, err := one.RemoveEpoch(ctx, 1, nil, engine.Archive{From: 1, Before: 4})
+	is(t, []interface{}{true, nil}, []interface{}{removed, err})
+	is(t, true, errors.As(write(t, other, 1, "x"), &taken))
+	is(t, true, errors.As(write(t, other, 3, "x"), &taken))
+	is(t, nil, write(t, other, 5, "e"))
+	found, err := one.First(ctx)
+	is(t, []interface{}{4, nil}, []interface{}{found, err})
+}
+
+func TestKeysOfAnyBytesArePassedOver(t *testing.T) {
+	members := etcdtest.Start(t, 1)
+	own := members.Engine()
+	ctx := within(t, 20*time.Second)
+	for _, key := range []string{"script/\xff\xfe", "script/0", "script/00000000000a", "script/0000000000001", "script/abc", "script/",
+		"archive/\xff", "archive/000000000001/", "site/\xff/\xff"} {
+		members.Put(key, "\xff\x00")
+	}
+	for number := int64(1); number <= 30; number++ {
+		is(t, nil, own.Write(ctx, &engine.Write{Number: number, Text: []byte(strings.Repeat("x", 1000)), Epoch: 1, First: 1}))
+		members.Put(fmt.Sprintf("script/%012dx", number), "foreign")
+	}
+	next, revision := int64(1), int64(0)
+	for more := true; more; {
+		entries, goesOn, at, err := own.Entries(ctx, next, revision)
+		if err != nil {
+			t.Fatal(err)
+		}
+		for _, entry := range entries {
+			is(t, next, entry.Number)
+			next++
+		}
+		more, revision = goesOn, at
+	}
+	is(t, 31, next)
+	last, err := own.Last(ctx, 7)
+	is(t, []interface{}{30, nil}, []interface{}{last, err})
+	first, err := own.First(ctx)
+	is(t, []interface{}{1, nil}, []interface{}{first, err})
+	archives, err := own.Archives(ctx)
+	is(t, []interface{}{0, nil}, []interface{}{len(archives), err})
+	members.Put("epoch", "\xff")
+	_, _, err = own.Epoch(ctx)
+	var wrong *engine.WrongError
+	is(t, true, errors.As(err, &wrong))
+}
+
+func TestFollowSurvivesCompaction(t *testing.T) {
+	members := etcdtest.Start(t, 1)
+	own, writer := members.Engine(), members.Engine()
+	ctx, stop := context.WithCancel(within(t, 30*time.Second))
+	is(t, nil, writer.Write(ctx, &engine.Write{Number: 1, Text: []byte("1"), Epoch: 1, First: 1}))
+	came, done := make(chan int64, 1000), make(chan error, 1)
+	go func() {
+		done <- own.Follow(ctx, 1, func(entries []engine.Raw) error {
+			for _, entry := range entries {
+				came <- entry.Number
+			}
+			return nil
+		})
+	}()
+	for number := int64(2); number <= 60; number++ {
+		is(t, nil, write(t, writer, number, "x"))
+		if number%20 == 0 {
+			status, err := members.Client().Get(ctx, "epoch")
+			is(t, nil, err)
+			_, err = members.Client().Compact(ctx, status.Header.Revision)
+			is(t, nil, err)
+		}
+	}
+	for number := int64(1); number <= 60; number++ {
+		is(t, number, <-came)
+	}
+	stop()
+	is(t, context.Canceled, <-done)
+}
+
+// Entries come over a thin link too, those that are there and those that are written later, though one takes longer than a call may.
+func TestAThinLink(t *testing.T) {
+	members := etcdtest.Start(t, 1)
+	writer, link := members.Engine(), members.Link()
+	own := link.Engine(t)
+	large := strings.Repeat("x", 400_000)
+	is(t, nil, writer.Write(within(t, 10*time.Second), &engine.Write{Number: 1, Text: []byte(large), Epoch: 1, First: 1}))
+	for number := int64(2); number <= 20; number++ {
+		is(t, nil, write(t, writer, number, "small"))
+	}
+	link.Rate(100_000)
+	ctx, cancel := context.WithCancel(within(t, 60*time.Second))
+	defer cancel()
+	next := int64(1)
+	for next <= 22 && ctx.Err() == nil {
+		err := own.Follow(ctx, next, func(entries []engine.Raw) error {
+			for _, entry := range entries {
+				is(t, next, entry.Number)
+				next++
+			}
+			if next == 21 {
+				is(t, nil, write(t, writer, 21, large))
+				is(t, nil, write(t, writer, 22, "small"))
+			}
+			if next == 23 {
+				cancel()
+			}
+			return nil
+		})
+		is(t, true, engine.IsAway(err) || next == 23)
+	}
+	is(t, 23, next)
+	t.Logf("%d calls failed", own.Failures())
+	is(t, true, own.Failures() < 4)
+}
+
+func TestAMemberThatIsAwayIsLeft(t *testing.T) {
+	members := etcdtest.Start(t, 3)
+	own := members.Engine()
+	ctx := within(t, 60*time.Second)
+	is(t, nil, own.Write(ctx, &engine.Write{Number: 1, Text: []byte("1"), Epoch: 1, First: 1}))
+	members.Kill(0)
+	members.Signal(1, syscall.SIGSTOP)
+	_, _, err := own.Epoch(ctx)
+	is(t, true, engine.IsAway(err)) // There is no majority.
+	members.Signal(1, syscall.SIGCONT)
+	asked := time.Now()
+	for err = errors.New("not asked"); err != nil; err = write(t, own, 2, "2") {
+		if time.Since(asked) > 30*time.Second {
+			t.Fatal(err)
+		}
+	}
+	is(t, true, own.Failures() > 0)
+	stopped, cancel := context.WithCancel(ctx)
+	cancel()
+	_, _, err = own.Epoch(stopped)
+	is(t, context.Canceled, err)
+}
+
+func TestOneProcessHasALease(t *testing.T) {
+	members := etcdtest.Start(t, 1)
+	own := members.Engine()
+	run := func(name string) (*engine.Lease, context.CancelFunc, chan struct{}) {
+		lease := own.NewLease(engine.SiteKey("far", "east"), name, nil, nil)
+		ctx, cancel := context.WithCancel(within(t, 60*time.Second))
+		done := make(chan struct{})
+		go func() { lease.Run(ctx); close(done) }()
+		return lease, cancel, done
+	}
+	holds := func(lease *engine.Lease, most time.Duration) bool {
+		for until := time.Now().Add(most); time.Now().Before(until); time.Sleep(10 * time.Millisecond) {
+			if lease.Lives(1) {
+				return true
+			}
+		}
+		return false
+	}
+	one, stopOne, doneOne := run("one")
+	is(t, true, holds(one, 5*time.Second))
+	other, stopOther, doneOther := run("other")
+	is(t, false, holds(other, time.Second))
+	held, err := own.Holds(within(t, 5*time.Second), "far")
+	is(t, []interface{}{1, true, "site/far/east", nil}, []interface{}{len(held), held[0].IsLeased, held[0].Key, err})
+	stopOne()
+	<-doneOne
+	is(t, false, one.Lives(1))
+	is(t, true, holds(other, 2*time.Second)) // It was given back, and need not run out.
+	// A key that is taken away by hand is lost. Then the process takes it again, in another term.
+	if _, err := members.Client().Delete(within(t, 5*time.Second), engine.SiteKey("far", "east")); err != nil {
+		t.Fatal(err)
+	}
+	for until := time.Now().Add(10 * time.Second); !other.Lives(2) && time.Now().Before(until); time.Sleep(10 * time.Millisecond) {
+	}
+	is(t, []bool{false, true}, []bool{other.Lives(1), other.Lives(2)})
+	stopOther()
+	<-doneOther
+	held, err = own.Holds(within(t, 5*time.Second), "far")
+	is(t, []interface{}{0, nil}, []interface{}{len(held), err})
+}
+
+func TestAHoldIsRemovedAsItIs(t *testing.T) {
+	members := etcdtest.Start(t, 1)
+	own, ctx := members.Engine(), within(t, 20*time.Second)
+	for _, key := range []string{"site/far/\xff", "site/far/", "site/far0", "site/fas/a", "site/fa/r"} {
+		members.Put(key, "by hand")
+	}
+	holds, err := own.Holds(ctx, "far")
+	is(t, []interface{}{2, "site/far/", false, "site/far/\xff", nil}, []interface{}{len(holds), holds[0].Key, holds[0].IsLeased, holds[1].Key, err})
+	members.Put("site/far/", "again")
+	for at, hold := range holds {
+		removed, err := own.RemoveHold(ctx, hold)
+		is(t, []interface{}{at == 1, nil}, []interface{}{removed, err})
+	}
+	holds, err = own.Holds(ctx, "far")
+	is(t, []interface{}{1, nil}, []interface{}{len(holds), err})
+}

@@ -1,0 +1,270 @@
+package engine
+
+import (
+	"context"
+	"errors"
+	"fmt"
+	"sync"
+	"time"
+
+	"go.etcd.io/etcd/clientv3"
+	pb "go.etcd.io/etcd/etcdserver/etcdserverpb"
+
+	"ordup-node/internal/clock"
+	"ordup-node/internal/logs"
+)
+
+const (
+	// LeaseTime is after how long without renewal the engine drops a lease.
+	LeaseTime = 5 * time.Second
+	// Relied is for how long its holder relies on it, from before it asked. So two never rely on it at once while the clocks of the
+	// engine and of the holder run at rates that differ by less than two fifths.
+	Relied = 3 * time.Second
+	// renewAfter is after how long a lease is renewed, and leaseCall how long a call for it may take.
+	renewAfter, leaseCall = Relied / 4, time.Second
+	// afterFailure is how long whoever was failed waits before it asks again.
+	afterFailure = 200 * time.Millisecond
+)
+
+// A Lease is a key that one process holds at a time, under a lease of the engine.
+type Lease struct {
+	engine     *Engine
+	key, value string
+	whenHeld   func(context.Context, Term) error
+	log        *logs.Log
+	lock       sync.Mutex
+	until      time.Duration
+	term       Term
+	id         clientv3.LeaseID
+	changed    chan struct{}
+}
+
+// A Term counts the times that a process got its key. Within one nobody else had it.
+type Term int64
+
+// NewLease gives a lease that Run takes. The value names the process, and no other one ever has the same. When the process has the key,
+// and before it relies on it, whenHeld is called with the term that begins; with an error the key is given up.
+func (engine *Engine) NewLease(key, value string, log *logs.Log, whenHeld func(context.Context, Term) error) *Lease {
+	return &Lease{engine: engine.Apart(), key: key, value: value, whenHeld: whenHeld, log: log, changed: make(chan struct{})}
+}
+
+// Lives is whether this term of the lease goes on, and the process may rely on it now.
+func (lease *Lease) Lives(term Term) bool {
+	lease.lock.Lock()
+	defer lease.lock.Unlock()
+	return lease.term == term && clock.Now() < lease.until
+}
+
+// Until is until when the process may rely on the lease, as far as is known now.
+func (lease *Lease) Until() time.Duration {
+	lease.lock.Lock()
+	defer lease.lock.Unlock()
+	return lease.until
+}
+
+// Held is whether the process has the key, as far as it knows. It may be lost by now.
+func (lease *Lease) Held() bool {
+	lease.lock.Lock()
+	defer lease.lock.Unlock()
+	return lease.id != 0
+}
+
+// Relies is whether the process has the key, and may rely on it now.
+func (lease *Lease) Relies() bool {
+	lease.lock.Lock()
+	defer lease.lock.Unlock()
+	return lease.id != 0 && clock.Now() < lease.until
+}
+
+// Changed is closed when after this call Held changes, or Relies becomes true.
+func (lease *Lease) Changed() <-chan struct{} {
+	lease.lock.Lock()
+	defer lease.lock.Unlock()
+	return lease.changed
+}
+
+func (lease *Lease) set(id clientv3.LeaseID, until time.Duration) {
+	lease.lock.Lock()
+	defer lease.lock.Unlock()
+	now := clock.Now()
+	isNew := now >= lease.until && now < until
+	lease.until = until
+	if (lease.id != 0) != (id != 0) || isNew {
+		close(lease.changed)
+		lease.changed = make(chan struct{})
+	}
+	lease.id = id
+}
+
+func (lease *Lease) held() clientv3.LeaseID {
+	lease.lock.Lock()
+	defer lease.lock.Unlock()
+	return lease.id
+}
+
+// Run takes the key, renews its lease, and takes it again where it was lost, until the context ends. Then it gives it up.
+func (lease *Lease) Run(ctx context.Context) {
+	defer lease.engine.Close()
+	defer lease.giveUp()
+	for ctx.Err() == nil {
+		err := lease.step(ctx)
+		if err == nil || ctx.Err() != nil {
+			continue
+		}
+		// The lease may be there still. If it is, nobody else had the key meanwhile.
+		lease.log.Warn("lease", "key", lease.key, "why", err)
+		pause(ctx, afterFailure)
+	}
+}
+
+func (lease *Lease) step(ctx context.Context) error {
+	id := lease.held()
+	if id == 0 {
+		return lease.acquire(ctx)
+	}
+	asked := clock.Now()
+	isOurs, err := lease.renew(ctx, id)
+	switch {
+	case err != nil:
+		return err
+	case !isOurs:
+		lease.giveUp()
+		return errors.New("it was lost")
+	}
+	lease.set(id, asked+Relied)
+	pause(ctx, renewAfter)
+	return nil
+}
+
+// renew is whether the lease is still there, and its key.
+func (lease *Lease) renew(ctx context.Context, id clientv3.LeaseID) (isOurs bool, err error) {
+	err = lease.engine.call(ctx, leaseCall, func(ctx context.Context, client *clientv3.Client) error {
+		stream, err := pb.NewLeaseClient(client.ActiveConnection()).LeaseKeepAlive(ctx)
+		if err != nil {
+			return err
+		}
+		if err = stream.Send(&pb.LeaseKeepAliveRequest{ID: int64(id)}); err != nil {
+			return err
+		}
+		kept, err := stream.Recv()
+		if err != nil || kept.TTL <= 0 {
+			return err
+		}
+		found, err := client.Get(ctx, lease.key)
+		isOurs = err == nil && len(found.Kvs) == 1 && string(found.Kvs[0].Value) == lease.value && found.Kvs[0].Lease == int64(id)
+		return err
+	})
+	return isOurs, err
+}
+
+func (lease *Lease) acquire(ctx context.Context) error {
+	asked := clock.Now()
+	var found *clientv3.GetResponse
+	err := lease.engine.call(ctx, leaseCall, func(ctx context.Context, client *clientv3.Client) (err error) {
+		found, err = client.Get(ctx, lease.key)
+		return err
+	})
+	switch {
+	case err != nil:
+		return err
+	case len(found.Kvs) == 0:
+		return lease.create(ctx)
+	case found.Kvs[0].Lease == 0:
+		return fmt.Errorf("the key %s has no lease, so it was put by hand: take it away", lease.key)
+	case string(found.Kvs[0].Value) != lease.value:
+		return lease.awaitEnd(ctx, found.Header.Revision+1)
+	}
+	// An earlier call created it, whose answer was lost.
+	id := clientv3.LeaseID(found.Kvs[0].Lease)
+	if isOurs, err := lease.renew(ctx, id); err != nil || !isOurs {
+		return err
+	}
+	return lease.take(ctx, id, asked)
+}
+
+func (lease *Lease) create(ctx context.Context) error {
+	asked := clock.Now()
+	var id clientv3.LeaseID
+	isOurs := false
+	err := lease.engine.call(ctx, leaseCall, func(ctx context.Context, client *clientv3.Client) error {
+		granted, err := client.Grant(ctx, int64(LeaseTime/time.Second))
+		if err != nil {
+			return err
+		}
+		id = granted.ID
+		done, err := client.Txn(ctx).If(clientv3.Compare(clientv3.CreateRevision(lease.key), "=", 0)).
+			Then(clientv3.OpPut(lease.key, lease.value, clientv3.WithLease(id))).Commit()
+		isOurs = err == nil && done.Succeeded
+		return err
+	})
+	if err != nil {
+		return err
+	}
+	if !isOurs {
+		lease.revoke(id)
+		return nil
+	}
+	return lease.take(ctx, id, asked)
+}
+
+// take relies on the lease, once whenHeld has done its work.
+func (lease *Lease) take(ctx context.Context, id clientv3.LeaseID, asked time.Duration) error {
+	lease.lock.Lock()
+	lease.term++
+	term := lease.term
+	lease.lock.Unlock()
+	if lease.whenHeld != nil {
+		if err := lease.whenHeld(ctx, term); err != nil {
+			lease.revoke(id)
+			return err
+		}
+	}
+	lease.set(id, asked+Relied)
+	return nil
+}
+
+// awaitEnd waits until something becomes of the key, or a short time.
+func (lease *Lease) awaitEnd(ctx context.Context, revision int64) error {
+	client, _, err := lease.engine.connected()
+	if err != nil {
+		return err
+	}
+	watching, cancel := context.WithTimeout(clientv3.WithRequireLeader(ctx), lookAfter)
+	defer cancel()
+	for came := range client.Watch(watching, lease.key, clientv3.WithRev(revision)) {
+		if came.Err() != nil || len(came.Events) > 0 {
+			break
+		}
+	}
+	return nil
+}
+
+// giveUp lets another process have the key at once.
+func (lease *Lease) giveUp() {
+	id := lease.held()
+	lease.set(0, 0)
+	if id != 0 {
+		lease.revoke(id)
+	}
+}
+
+// revoke gives a lease back, by any member.
+func (lease *Lease) revoke(id clientv3.LeaseID) {
+	for range lease.engine.config.Members {
+		err := lease.engine.call(context.Background(), leaseCall, func(ctx context.Context, client *clientv3.Client) error {
+			_, err := client.Revoke(ctx, id)
+			return err
+		})
+		if !IsAway(err) {
+			return
+		}
+	}
+}
+
+// pause waits, or until the context ends.
+func pause(ctx context.Context, most time.Duration) {
+	select {
+	case <-ctx.Done():
+	case <-time.After(most):
+	}
+}

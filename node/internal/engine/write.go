@@ -1,0 +1,78 @@
+package engine
+
+import (
+	"bytes"
+	"context"
+	"fmt"
+
+	"go.etcd.io/etcd/clientv3"
+	pb "go.etcd.io/etcd/etcdserver/etcdserverpb"
+)
+
+// A Write is an entry that is to be created.
+type Write struct {
+	Number int64
+	Text   []byte
+	// Absent are sites, or fleets, of which no process may have a lease.
+	Absent []string
+	// Where the entry begins an epoch: the epoch, and its first entry.
+	Epoch, First int64
+}
+
+// Write creates an entry by one transaction, where there is none of its number and the one before it is there. It is written, also by
+// an earlier call whose answer was lost, or the error says why it is not: a TakenError, a ServedError or a MissingError. After an
+// AwayError that is not known, and Write may be called again.
+func (engine *Engine) Write(ctx context.Context, write *Write) error {
+	key := entryKey(write.Number)
+	holds := []clientv3.Cmp{clientv3.Compare(clientv3.CreateRevision(key), "=", 0)}
+	if write.Number > 1 {
+		holds = append(holds, clientv3.Compare(clientv3.CreateRevision(entryKey(write.Number-1)), ">", 0))
+	} else {
+		holds = append(holds, clientv3.Compare(clientv3.CreateRevision(epochKey), "=", 0))
+	}
+	for _, fleet := range write.Absent {
+		from, to := keysOf(fleet)
+		holds = append(holds, clientv3.Compare(clientv3.CreateRevision(from), "=", 0).WithRange(to))
+	}
+	puts := []clientv3.Op{clientv3.OpPut(key, string(write.Text))}
+	if write.First > 0 {
+		puts = append(puts, clientv3.OpPut(epochKey, fmt.Sprintf("%d %d", write.Epoch, write.First)))
+	}
+	looks := []clientv3.Op{clientv3.OpGet(key), clientv3.OpGet(epochKey), clientv3.OpGet(entryKey(write.Number-1), clientv3.WithKeysOnly())}
+	var done *clientv3.TxnResponse
+	err := engine.call(ctx, CallTime, func(ctx context.Context, client *clientv3.Client) (err error) {
+		done, err = client.Txn(ctx).If(holds...).Then(puts...).Else(looks...).Commit()
+		return err
+	})
+	if err != nil || done.Succeeded {
+		return err
+	}
+	return write.refusal(done.Responses)
+}
+
+// refusal is why nothing was written, by what is there instead.
+func (write *Write) refusal(found []*pb.ResponseOp) error {
+	entry, epoch, before := found[0].GetResponseRange().Kvs, found[1].GetResponseRange().Kvs, found[2].GetResponseRange().Kvs
+	if len(entry) > 0 {
+		if bytes.Equal(entry[0].Value, write.Text) {
+			return nil
+		}
+		return &TakenError{fmt.Sprintf("another primary wrote the entry %d", write.Number)}
+	}
+	if len(epoch) > 0 {
+		_, first, err := epochOf(epoch[0].Value)
+		if err != nil {
+			return err
+		}
+		if first > write.Number {
+			return &TakenError{fmt.Sprintf("another primary went over to a later epoch, with the entry %d", first)}
+		}
+	}
+	if write.Number > 1 && len(before) == 0 {
+		return &MissingError{write.Number - 1}
+	}
+	if len(write.Absent) > 0 {
+		return &ServedError{write.Absent}
+	}
+	return &TakenError{"the script is not empty any more"}
+}

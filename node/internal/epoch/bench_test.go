@@ -1,0 +1,128 @@
+package epoch
+
+import (
+	"bytes"
+	"fmt"
+	"strconv"
+	"testing"
+	"time"
+
+	"ordup-node/internal/script"
+	"ordup-node/internal/store"
+)
+
+// A plain store answers as one without limits does, and computes nothing: what is measured is the core.
+type plain struct {
+	proposed, acked int64
+	places          map[string]int64
+	answers         []byte
+}
+
+func (plain *plain) Run(lines []byte) ([]byte, error) {
+	plain.answers = plain.answers[:0]
+	for len(lines) > 0 {
+		end := bytes.IndexByte(lines, '\n')
+		plain.answer(lines[:end])
+		lines = lines[end+1:]
+	}
+	return plain.answers, nil
+}
+
+func (plain *plain) answer(line []byte) {
+	say := func(words string, number int64) {
+		plain.answers = append(strconv.AppendInt(append(plain.answers, words...), number, 10), '\n')
+	}
+	switch line[1] {
+	case 'r': // propose
+		plain.proposed++
+		say("ok proposed ", plain.proposed)
+	case 'e':
+		switch line[0] {
+		case 's':
+			if line[2] == 't' {
+				plain.acked++
+				say("ok acked ", plain.acked)
+			} else {
+				say("ok sent south ", 1)
+			}
+		case 'r':
+			name := string(line[len("report "):])
+			say("ok reported "+name+" ", plain.places[name])
+		}
+	case 'p':
+		plain.places[string(line[len("apply "):])]++
+		say("ok applied south ", 1)
+	case 'i':
+		plain.answers = append(append(append(plain.answers, "ok site "...), bytes.Fields(line)[1]...), '\n')
+	default:
+		plain.answers = append(plain.answers, "ok start\n"...)
+	}
+}
+
+func (plain *plain) NextDeclarations() (string, error) { return "", nil }
+func (plain *plain) Close() error                      { return nil }
+
+// written gives the entries of so many updates, a thousand a turn, with four sites.
+func written(b *testing.B, updates int) []*script.Entry {
+	config := Config{Open: func() (store.Store, error) { return &plain{places: map[string]int64{}}, nil }, Writer: "p1", Versions: []string{"1"}}
+	begin := &script.Entry{Epoch: 1, Ordup: "1", Writer: "p1", Steps: beginning(script.Settings{Every: MostEvery, Remembers: 1, Origin: "0", Ordup: "1"},
+		[]string{"object tea 1", "site north 1", "site south 1", "site east 1", "site west 1", "start"})}
+	core, entries := New(config, 1), []*script.Entry{begin}
+	if err := core.Replay(1, begin); err != nil {
+		b.Fatal(err)
+	}
+	for count := 0; count < updates; {
+		requests := []Request{}
+		for client := 0; client < 1000 && count < updates; client++ {
+			requests = append(requests, Request{fmt.Sprintf("client-%d", client), int64(count/1000 + 1), "add:tea:-1 add:till:2"})
+			count++
+		}
+		for _, site := range core.sites.all {
+			if err := core.Tell(Place{Site: site.name, Epoch: 1, Applied: core.updates}, time.Hour); err != nil {
+				b.Fatal(err)
+			}
+		}
+		if _, err := core.Ask(requests, time.Hour); err != nil {
+			b.Fatal(err)
+		}
+		if _, err := core.Work(time.Hour); err != nil {
+			b.Fatal(err)
+		}
+		turn, err := core.Seal(time.Hour)
+		if err != nil {
+			b.Fatal(err)
+		}
+		core.Written(turn.Number)
+		entries = append(entries, turn.Entry())
+	}
+	return entries
+}
+
+// BenchmarkTurns is an update from its request to the text of its entry.
+func BenchmarkTurns(b *testing.B) {
+	b.ReportAllocs()
+	written(b, b.N)
+}
+
+// BenchmarkReplay is an update as a process that starts runs it, from the text of its entry.
+func BenchmarkReplay(b *testing.B) {
+	texts := [][]byte{}
+	bytes := 0
+	for _, entry := range written(b, b.N) {
+		texts = append(texts, entry.Text())
+		bytes += len(texts[len(texts)-1])
+	}
+	core := New(Config{Open: func() (store.Store, error) { return &plain{places: map[string]int64{}}, nil }, Versions: []string{"1"}}, 1)
+	b.ReportAllocs()
+	b.ReportMetric(float64(bytes)/float64(b.N), "bytes/update")
+	b.ResetTimer()
+	for at, text := range texts {
+		entry, err := script.Parse(text)
+		if err == nil {
+			err = core.Replay(int64(at+1), entry)
+		}
+		if err != nil {
+			b.Fatal(err)
+		}
+	}
+}

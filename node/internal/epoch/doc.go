@@ -1,0 +1,33 @@
+// Package epoch has what a script comes to: a core that is stepped by entries, requests and places, and gives the next entry.
+//
+// It has no engine, no threads and no clock. Whoever has these calls it, from one goroutine at a time, with the time where it matters:
+//
+//	core := epoch.New(config, first)
+//	core.Replay(number, entry)        for each entry of the script, in order
+//
+// At the end of the script a primary may write:
+//
+//	verdicts, err := core.Ask(requests, now)   what clients ask goes into the open turn, or has its answer, or waits
+//	err = core.Tell(place, now)                what a site has shown
+//	again, err := core.Work(now)               adds what sites told, and asks for acknowledgements
+//	turn, err := core.Seal(now)                the open turn as an entry, or nil where there is nothing to write
+//	core.Written(turn.Number)                  the entry is in the script, so its answers may be told
+//
+// A turn is run as its steps come, before it is written. The open turn takes requests while the turn before is on its way, and no
+// answer is told before its own entry is written. Where an entry cannot be written, the core is dropped, and a new one runs the script.
+//
+// # The clients
+//
+// A client numbers its requests. Its last number, the digest of its changes and its answer are in a table, which follows from the
+// entries: requests and answers stand in them. A number that was taken is never taken again: it has its answer, or waits for it, or with
+// other changes it is refused. A number before the last one is refused. At the end of an epoch the table is carried over by entries
+// that have nothing else, before the one that begins the next epoch, but for clients that did not ask for so many epochs.
+//
+// # The end of an epoch
+//
+// It is due after so many requests, or when an operator wishes it. The wish is a step of the script too, with the epoch that it ends:
+// so one wish ends one epoch, whoever writes and however often it is asked for. While each site is here, no more requests are taken.
+// Once all is acknowledged and each site has told the last place, or is gone, the table is carried over and the next epoch begins. A
+// site is gone once the engine has no lease of it, by a compare in the transaction of the entry that says so. The entry that took it out
+// stands before that one. So a process that gets a lease later reads it first, and serves nobody.
+package epoch

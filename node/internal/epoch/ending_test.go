@@ -1,0 +1,343 @@
+package epoch
+
+import (
+	"errors"
+	"fmt"
+	"strings"
+	"testing"
+	"time"
+
+	"ordup-node/internal/exit"
+	"ordup-node/internal/modelstore"
+	"ordup-node/internal/script"
+)
+
+func (world *world) next(declarations ...string) {
+	world.t.Helper()
+	if err := world.core.AskNext(Wish{From: world.core.Epoch(), Declarations: declarations}); err != nil {
+		world.t.Fatal(err)
+	}
+}
+
+// count is how many lines of the script begin so.
+func (world *world) count(begins string) int {
+	count := 0
+	for _, text := range world.script {
+		count += strings.Count(string(text), "\n"+begins+" ")
+	}
+	return count
+}
+
+func (world *world) tellAll() {
+	world.t.Helper()
+	for _, site := range world.core.sites.all {
+		if !site.leaves {
+			world.tell(site.name, world.core.updates)
+		}
+	}
+}
+
+func TestAnEpochEndsOnceAllSitesAreThere(t *testing.T) {
+	short := settings
+	short.Every = 2
+	world := newWorld(t, short, shop)
+	world.ask("ann", 1, "add:tea:-1")
+	world.ask("bob", 1, "add:tea:-1")
+	is(t, Verdict{Kind: Waits}, world.ask("cec", 1, "add:tea:-1")) // Since sites have told nothing, it goes on.
+	world.write()
+	is(t, int64(1), world.core.Epoch())
+	world.tell("north", 1)
+	world.tell("south", 2)
+	world.write()
+	is(t, Verdict{Kind: NotNow}, world.ask("dan", 1, "add:tea:-1"))
+	is(t, Verdict{Kind: Answered, Text: "ok acked 1 epoch 1"}, world.ask("ann", 1, "add:tea:-1"))
+	world.now += Away // Nobody is here any more, so it goes on.
+	is(t, Verdict{Kind: Waits}, world.ask("dan", 1, "add:coffee:-1"))
+	world.write()
+	world.tellAll()
+	is(t, 3, world.write()) // the places, the clients, the beginning
+	is(t, []int64{2, 2}, []int64{world.core.Epoch(), world.core.Begun()})
+	is(t, "cec 1 ok acked 3 epoch 1", world.answer())
+	entry, err := script.Parse(world.script[len(world.script)-1])
+	is(t, nil, err)
+	is(t, "object tea 97", entry.Steps[1].Text)
+	is(t, int64(2), entry.Epoch)
+	other := world.replay(config("p2"))
+	is(t, len(world.script)-1, other.First())
+	is(t, fmt.Sprint(world.core.clients), fmt.Sprint(other.clients))
+	is(t, Verdict{Kind: Answered, Text: "ok acked 1 epoch 1"}, world.ask("ann", 1, "add:tea:-1"))
+	is(t, Verdict{Kind: Answered, Text: "refused 6 UnknownObject"}, world.ask("dan", 1, "add:coffee:-1"))
+	is(t, Verdict{Kind: Differs}, world.ask("ann", 1, "add:tea:-2"))
+}
+
+func TestAnEpochDoesNotEndBeforeASiteThatIsHereHasToldAll(t *testing.T) {
+	world := newWorld(t, settings, shop)
+	world.ask("ann", 1, "add:tea:-1")
+	world.ask("ann", 2, "add:tea:-1")
+	world.tell("south", 1)
+	world.tell("north", 2)
+	world.next()
+	world.write()
+	is(t, int64(1), world.core.Epoch())
+	is(t, Verdict{Kind: NotNow}, world.ask("ann", 3, "add:tea:-1"))
+	world.tell("south", 2)
+	world.write()
+	is(t, int64(2), world.core.Epoch())
+}
+
+func TestAClientIsForgottenAtItsAge(t *testing.T) {
+	world := newWorld(t, settings, shop)
+	world.ask("ann", 1, "add:tea:-1")
+	for _, kind := range []VerdictKind{Answered, Answered, Waits} {
+		world.write()
+		is(t, kind, world.ask("ann", 1, "add:tea:-1").Kind)
+		world.next()
+		world.write()
+		world.tellAll()
+		world.write()
+	}
+	is(t, int64(4), world.core.Epoch())
+}
+
+func TestOneWishEndsOneEpoch(t *testing.T) {
+	world := newWorld(t, settings, shop)
+	world.next()
+	world.next()
+	is(t, 2, world.write()) // the wish, the beginning
+	is(t, 1, world.count("wish"))
+	is(t, int64(2), world.core.Epoch())
+	is(t, nil, world.core.AskNext(Wish{From: 1}))
+	is(t, ErrNotYet, world.core.AskNext(Wish{From: 3}))
+	is(t, ErrOtherWish, world.core.AskNext(Wish{From: 1, Declarations: shop[1:]}))
+	is(t, 0, world.write())
+	world.ask("ann", 1, "add:tea:-1")
+	world.write()
+	world.next()
+	is(t, ErrOtherWish, world.core.AskNext(Wish{From: 2, Declarations: shop[1:]}))
+	is(t, ErrOtherWish, world.core.AskNext(Wish{From: 2, Settings: script.Settings{Every: 7}}))
+	is(t, 1, world.write())
+	is(t, int64(2), world.core.Epoch())
+	// Another writer has the wish from the script.
+	world.core = world.replay(config("p2"))
+	world.tellAll()
+	world.write()
+	is(t, int64(3), world.core.Epoch())
+}
+
+// A wish is over once its epoch has begun, for whoever writes then.
+func TestAWishIsMetOnce(t *testing.T) {
+	world := newWorld(t, settings, shop)
+	world.next()
+	world.keep(world.seal()) // the wish
+	is(t, true, world.core.Status(world.now).Due)
+	world.keep(world.seal()) // the beginning
+	for _, core := range []*Core{world.core, world.replay(config("p2"))} {
+		is(t, []interface{}{int64(2), false}, []interface{}{core.Epoch(), core.Status(world.now).Due})
+		if turn, err := core.Seal(world.now); turn != nil || err != nil {
+			t.Errorf("%s is written, %v", turn.Text, err)
+		}
+	}
+}
+
+func TestEachEpochTellsWithWhatTheScriptBegan(t *testing.T) {
+	world := newWorld(t, settings, shop)
+	is(t, nil, world.core.AskNext(Wish{From: 1, Settings: script.Settings{Every: 7}, Declarations: append(shop[:5:5], "object milk 1", "start")}))
+	world.write()
+	is(t, []int64{2, 7}, []int64{world.core.Epoch(), world.core.Settings().Every})
+	is(t, script.Began{Every: settings.Every, Remembers: settings.Remembers, Origin: DigestOf(shop)}, world.core.Settings().Began)
+	core, last := New(config("p2"), 1), len(world.script)-1
+	for at, text := range world.script {
+		entry, _ := script.Parse(text)
+		if at == last {
+			entry.Steps[0].Settings.Began.Every++
+		}
+		err := core.Replay(int64(at+1), entry)
+		var broken *BrokenError
+		is(t, at == last, errors.As(err, &broken))
+	}
+}
+
+func TestAWishTakesThePlaceOfAnother(t *testing.T) {
+	world := newWorld(t, settings, append(shop[:4:4], "site east 1", "start"))
+	world.ask("ann", 1, "add:tea:-1")
+	world.next("object tea 1", "site north 1", "site south 1", "start")
+	world.write()
+	is(t, nil, world.core.Gone("east"))
+	world.tell("south", 1)
+	world.write() // North is away for good.
+	wish := Wish{From: 1, Declarations: []string{"object tea 1", "site south 1", "site east 1", "start"}}
+	is(t, ErrOtherWish, world.core.AskNext(wish))
+	wish.Replaces = true
+	is(t, nil, world.core.AskNext(wish))
+	is(t, nil, world.core.AskNext(wish))
+	world.write()
+	is(t, []int{2, 2}, []int{world.count("wish"), world.count("leave")})
+	is(t, nil, world.core.Gone("north"))
+	world.write()
+	is(t, int64(2), world.core.Epoch())
+	is(t, nil, world.core.AskNext(wish))
+	is(t, ErrOtherWish, world.core.AskNext(Wish{From: 1, Declarations: shop}))
+	is(t, []string{"south", "east"}, []string{world.core.sites.all[0].name, world.core.sites.all[1].name})
+	is(t, fmt.Sprint(world.core.clients), fmt.Sprint(world.replay(config("p2")).clients))
+}
+
+func TestWishesThatCannotBe(t *testing.T) {
+	world := newWorld(t, settings, shop)
+	for _, wish := range []Wish{
+		{From: 1, Declarations: []string{"start"}}, {From: 1, Declarations: shop[:5]}, {From: 1, Declarations: []string{"\xff"}},
+		{From: 1, Declarations: append([]string{"propose add:tea:1"}, shop...)}, {From: 1, Declarations: append(shop[:6:6], "settle")},
+		{From: 1, Declarations: []string{strings.Repeat("x ", 3000)}}, {From: 1, Settings: script.Settings{Every: -1}},
+		{From: 1, Settings: script.Settings{Every: MostEvery + 1}}, {From: 1, Settings: script.Settings{Ordup: "2"}},
+	} {
+		if world.core.AskNext(wish) == nil {
+			t.Errorf("%v is taken", wish)
+		}
+	}
+	is(t, 0, world.write())
+	_, err := FirstTurn(config("p1"), script.Settings{Every: 0, Remembers: 1, Origin: "0", Ordup: "1"}, shop)
+	is(t, true, err != nil)
+}
+
+func TestASiteLeavesOnceItHasNoLease(t *testing.T) {
+	world := newWorld(t, settings, shop)
+	world.ask("ann", 1, "add:tea:-1")
+	world.ask("ann", 2, "add:tea:-1")
+	world.write()
+	world.tell("south", 2)
+	without := []string{"object tea 5", "object milk 7", "site south 1", "start"}
+	world.next(without...)
+	world.write()
+	is(t, []string{"north"}, world.core.Leaving())
+	is(t, ErrNoSite, world.core.Tell(Place{Site: "north", Epoch: 1, Applied: 2, Entry: 2}, world.now))
+	is(t, int64(1), world.core.acknowledged) // Its limit holds as long as a process may serve.
+	is(t, 0, world.write())
+	is(t, nil, world.core.Gone("south"))
+	is(t, nil, world.core.Gone("east"))
+	is(t, 0, world.write())
+	is(t, nil, world.core.Gone("north"))
+	turn := world.seal()
+	is(t, []string{"north"}, turn.Absent)
+	world.keep(turn)
+	is(t, "ann 2 ok acked 2 epoch 1", world.answer())
+	world.write()
+	is(t, []string{"north"}, world.absent)
+	is(t, int64(2), world.core.Epoch())
+	entry, _ := script.Parse(world.script[len(world.script)-1])
+	is(t, "object tea 98", entry.Steps[1].Text)
+	is(t, "object milk 7", entry.Steps[2].Text)
+	is(t, DigestOf(without), world.core.Settings().Origin)
+}
+
+func TestASiteThatLeavesIdleWaitsForItsLeaseToo(t *testing.T) {
+	world := newWorld(t, settings, shop)
+	world.next("object tea 5", "site south 1", "start")
+	is(t, 1, world.write())
+	world.now += time.Hour
+	is(t, 0, world.write())
+	is(t, int64(1), world.core.Epoch())
+	is(t, nil, world.core.Gone("north"))
+	world.write()
+	is(t, int64(2), world.core.Epoch())
+	is(t, []string{"north"}, world.absent)
+}
+
+func TestAfterASiteIsGoneTheEpochMayGoOn(t *testing.T) {
+	world := newWorld(t, settings, shop)
+	world.ask("ann", 1, "add:tea:-1")
+	world.write()
+	world.next("object tea 5", "site south 1", "start")
+	is(t, nil, world.core.Gone("north"))
+	world.write()
+	for number := int64(2); number < 9; number++ {
+		is(t, Verdict{Kind: Waits}, world.ask("ann", number, "add:tea:-1")) // South is away.
+		world.write()
+	}
+	is(t, "ann 8 ok acked 8 epoch 1", world.answer())
+	world.tellAll()
+	world.write()
+	is(t, int64(2), world.core.Epoch())
+}
+
+func TestClientsAreCarriedOverByManyEntries(t *testing.T) {
+	world := newWorld(t, script.Settings{Every: MostEvery, Remembers: 1, Origin: "0", Ordup: "1"}, []string{"object tea 0", "site a 1", "start"})
+	requests := []Request{}
+	for client := 0; client < 9000; client++ {
+		requests = append(requests, Request{fmt.Sprintf("client-%d-%s", client, strings.Repeat("x", 40)), 1, "x"})
+	}
+	for len(requests) > 0 {
+		verdicts, err := world.core.Ask(requests, world.now)
+		is(t, nil, err)
+		left := []Request{}
+		for at, verdict := range verdicts {
+			if verdict.Kind == NotNow {
+				left = append(left, requests[at])
+			}
+		}
+		requests = left
+		world.write()
+	}
+	largest := 0
+	for _, text := range world.script {
+		if len(text) > largest {
+			largest = len(text)
+		}
+	}
+	is(t, true, largest < script.MostEntryBytes && largest > turnBytes/2)
+	world.next()
+	entries := len(world.script)
+	world.keep(world.seal())
+	world.keep(world.seal())
+	is(t, true, world.core.Status(world.now).Ending)
+	is(t, int64(1), world.core.Begun())
+	// Another writer goes on with what is carried over.
+	world.core = world.replay(config("p2"))
+	over := world.core.TakeOver()
+	is(t, nil, world.core.Replay(over.Number, over.Entry()))
+	world.keep(over)
+	world.write()
+	is(t, int64(2), world.core.Epoch())
+	is(t, 9000, len(world.core.clients))
+	is(t, entries+2, world.core.First())
+	is(t, 9000, len(world.replay(config("p3")).clients))
+	is(t, 9000, world.count("known"))
+	is(t, Verdict{Kind: Answered, Text: "refused 1 Syntax"}, world.ask("client-77-"+strings.Repeat("x", 40), 1, "x"))
+}
+
+// A program that has two versions runs the old one until an operator wishes for the new one. Who has the old one alone ends there.
+func TestAnotherVersionOfOrdup(t *testing.T) {
+	world := newWorld(t, settings, shop)
+	both := config("p2")
+	both.Versions = []string{"2", "1"}
+	world.core = world.replay(both)
+	world.next()
+	world.write()
+	is(t, []string{"1", "1"}, []string{world.core.Settings().Ordup, world.replay(config("p1")).Settings().Ordup})
+	wish := Wish{From: 2, Settings: script.Settings{Ordup: "2"}}
+	var version *VersionError
+	is(t, true, errors.As(world.replay(config("p1")).AskNext(wish), &version))
+	is(t, nil, world.core.AskNext(wish))
+	world.write()
+	is(t, []interface{}{"2", 3}, []interface{}{world.core.Settings().Ordup, world.core.Epoch()})
+	entry, err := script.Parse(world.script[len(world.script)-1])
+	is(t, []interface{}{"2", nil}, []interface{}{entry.Ordup, err})
+	err = New(config("p1"), int64(len(world.script))).Replay(int64(len(world.script)), entry)
+	is(t, true, errors.As(err, &version))
+	is(t, exit.Words, exit.Of(err))
+}
+
+func TestAStoreThatAnswersOtherwiseIsNoticed(t *testing.T) {
+	world := newWorld(t, settings, shop)
+	world.ask("ann", 1, "add:tea:-1")
+	world.write()
+	wrong := Config{Writer: "p2", Versions: []string{"1"}, Open: modelstore.OpenWrong(func(line, answer string) string {
+		return strings.Replace(answer, "acked 1", "waiting 1 north", 1)
+	})}
+	core := New(wrong, 1)
+	for at, text := range world.script {
+		entry, _ := script.Parse(text)
+		if err := core.Replay(int64(at+1), entry); err != nil {
+			return
+		}
+	}
+	t.Error("nothing is noticed")
+}

@@ -1,0 +1,288 @@
+package epoch
+
+import (
+	"fmt"
+	"strings"
+	"testing"
+	"time"
+
+	"ordup-node/internal/modelstore"
+	"ordup-node/internal/script"
+	"ordup-node/internal/store"
+)
+
+var shop = []string{"object tea 100", "object till 0", "site north 1", "site south 1", "limit north count 1", "start"}
+
+var settings = script.Settings{Every: 1000, Remembers: 1, Origin: DigestOf(shop), Ordup: "1"}
+
+// openStore gives the stores of the tests. With the tag library it is that of the program.
+var openStore store.Open = modelstore.Open
+
+func config(writer string) Config {
+	return Config{Open: openStore, Writer: writer, Versions: []string{"1"}}
+}
+
+// A world is a script, and a core that writes it.
+type world struct {
+	t      *testing.T
+	script [][]byte
+	first  int64
+	core   *Core
+	now    time.Duration
+	absent []string
+	told   []string
+}
+
+func newWorld(t *testing.T, settings script.Settings, declarations []string) *world {
+	t.Helper()
+	turn, err := FirstTurn(config("p1"), settings, declarations)
+	if err != nil {
+		t.Fatal(err)
+	}
+	world := &world{t: t, script: [][]byte{turn.Text}, first: 1, now: time.Hour}
+	world.core = world.replay(config("p1"))
+	return world
+}
+
+// replay gives a core that has run the script.
+func (world *world) replay(config Config) *Core {
+	world.t.Helper()
+	core := New(config, world.first)
+	for at, text := range world.script[world.first-1:] {
+		entry, err := script.Parse(text)
+		if err != nil {
+			world.t.Fatal(err)
+		}
+		if err = core.Replay(world.first+int64(at), entry); err != nil {
+			world.t.Fatal(err)
+		}
+	}
+	return core
+}
+
+// seal closes the open turn, and returns the turn.
+func (world *world) seal() *Turn {
+	world.t.Helper()
+	if _, err := world.core.Work(world.now); err != nil {
+		world.t.Fatal(err)
+	}
+	turn, err := world.core.Seal(world.now)
+	if err != nil {
+		world.t.Fatal(err)
+	}
+	return turn
+}
+
+// keep writes a turn into the script.
+func (world *world) keep(turn *Turn) {
+	world.script = append(world.script, turn.Text)
+	world.core.Written(turn.Number)
+	world.absent = append(world.absent, turn.Absent...)
+	if turn.First > 0 {
+		world.first = turn.First
+	}
+	for _, answer := range turn.Answers {
+		world.told = append(world.told, fmt.Sprintf("%s %d %s", answer.Name, answer.Number, answer.Text))
+	}
+}
+
+// mostTurns is more than any test has in a row.
+const mostTurns = 1000
+
+// write writes turns until there is nothing to write, and returns how many.
+func (world *world) write() int {
+	world.t.Helper()
+	for count := 0; count < mostTurns; count++ {
+		turn := world.seal()
+		if turn == nil {
+			return count
+		}
+		world.keep(turn)
+	}
+	world.t.Fatal("there is always one more turn")
+	return 0
+}
+
+func (world *world) ask(client string, number int64, changes string) Verdict {
+	world.t.Helper()
+	verdicts, err := world.core.Ask([]Request{{client, number, changes}}, world.now)
+	if err != nil {
+		world.t.Fatal(err)
+	}
+	return verdicts[0]
+}
+
+func (world *world) tell(site string, applied int64) {
+	world.t.Helper()
+	if err := world.core.Tell(Place{Site: site, Epoch: world.core.Epoch(), Applied: applied, Entry: world.core.written}, world.now); err != nil {
+		world.t.Fatal(err)
+	}
+}
+
+// answer is what the client was told last.
+func (world *world) answer() string {
+	if len(world.told) == 0 {
+		return ""
+	}
+	return world.told[len(world.told)-1]
+}
+
+func is(t *testing.T, wants, has interface{}) {
+	t.Helper()
+	if fmt.Sprint(wants) != fmt.Sprint(has) {
+		t.Errorf("%v instead of %v", has, wants)
+	}
+}
+
+func TestEachNumberIsAnsweredOnce(t *testing.T) {
+	world := newWorld(t, settings, shop)
+	is(t, Verdict{Kind: Waits}, world.ask("ann", 5, "add:tea:-1"))
+	is(t, Verdict{Kind: Waits}, world.ask("ann", 5, "add:tea:-1"))
+	is(t, Verdict{Kind: Differs}, world.ask("ann", 5, "add:tea:-2"))
+	is(t, 1, world.write())
+	is(t, "ann 5 ok acked 1 epoch 1", world.answer())
+	is(t, Verdict{Kind: Answered, Text: "ok acked 1 epoch 1"}, world.ask("ann", 5, "add:tea:-1"))
+	is(t, Verdict{Kind: Differs}, world.ask("ann", 5, "add:tea:-2"))
+	is(t, Verdict{Kind: Passed, Last: 5}, world.ask("ann", 4, "add:tea:-1"))
+	is(t, 0, world.write())
+	is(t, Verdict{Kind: Waits}, world.ask("bob", 1, "add:coffee:1"))
+	is(t, 1, world.write())
+	is(t, "bob 1 refused 6 UnknownObject", world.answer())
+	is(t, Verdict{Kind: Answered, Text: "refused 6 UnknownObject"}, world.ask("bob", 1, "add:coffee:1"))
+	for _, request := range []Request{{"Ann", 1, "x"}, {"", 1, "x"}, {"ann", 0, "x"}, {"ann", -1, "x"}, {"ann", 7, "\xff"},
+		{"ann", 7, "add:tea:1\nsettle"}, {"\xff/1", 7, "x"}, {"ann", 7, strings.Repeat("x", 4001)}} {
+		is(t, Verdict{Kind: Malformed}, world.ask(request.Client, request.Number, request.Changes))
+	}
+	is(t, Verdict{Kind: Waits}, world.ask("ann", 7, ""))
+	world.write()
+	is(t, "ann 7 refused 11 Empty", world.answer())
+}
+
+func TestAClientThatDoesNotWait(t *testing.T) {
+	world := newWorld(t, settings, shop)
+	verdicts, err := world.core.Ask([]Request{{"ann", 1, "add:tea:-1"}, {"ann", 1, "add:tea:-1"}, {"ann", 2, "add:tea:-1"},
+		{"ann", 1, "add:tea:-1"}, {"ann", 2, "add:tea:-3"}}, world.now)
+	is(t, nil, err)
+	is(t, []Verdict{{Kind: Waits}, {Kind: Waits}, {Kind: Waits}, {Kind: Passed, Last: 2}, {Kind: Differs}}, verdicts)
+	world.ask("ann", 3, "add:tea:-1")
+	world.write()
+	is(t, 3, world.count("ask"))
+	world.tell("north", 2)
+	world.write()
+	is(t, "ann 3 ok acked 3 epoch 1", world.answer())
+	world.ask("ann", 4, "add:tea:-1")
+	world.ask("ann", 5, "add:milk:-1")
+	world.write()
+	world.tell("north", 4)
+	world.write()
+	is(t, "ann 4 ok acked 4 epoch 1", world.answer())
+	is(t, Verdict{Kind: Answered, Text: "refused 6 UnknownObject"}, world.ask("ann", 5, "add:milk:-1"))
+}
+
+func TestAnAnswerIsToldOnceItsEntryIsWritten(t *testing.T) {
+	world := newWorld(t, settings, shop)
+	world.ask("ann", 1, "add:tea:-1")
+	first := world.seal()
+	is(t, 1, len(first.Answers))
+	is(t, Verdict{Kind: Waits}, world.ask("ann", 1, "add:tea:-1"))
+	// The next turn is run while the first is on its way.
+	world.tell("south", 0)
+	is(t, Verdict{Kind: Waits}, world.ask("bob", 1, "add:tea:-1"))
+	world.keep(first)
+	is(t, Verdict{Kind: Answered, Text: "ok acked 1 epoch 1"}, world.ask("ann", 1, "add:tea:-1"))
+	is(t, Verdict{Kind: Waits}, world.ask("bob", 1, "add:tea:-1"))
+	second := world.seal()
+	is(t, 0, len(second.Answers)) // The limit of north is 1, and it told nothing.
+	world.keep(second)
+	is(t, "ann 1 ok acked 1 epoch 1", world.answer())
+	world.tell("north", 2)
+	is(t, 1, world.write())
+	is(t, "bob 1 ok acked 2 epoch 1", world.answer())
+}
+
+func TestPlacesThatCannotBe(t *testing.T) {
+	world := newWorld(t, settings, shop)
+	world.ask("ann", 1, "add:tea:-1")
+	turn := world.seal()
+	core := world.core
+	is(t, nil, core.Tell(Place{Site: "south", Epoch: 1, Applied: 1, Entry: turn.Number}, world.now))
+	is(t, ErrBehind, core.Tell(Place{Site: "north", Epoch: 1, Applied: 2, Entry: turn.Number}, world.now))
+	is(t, ErrBehind, core.Tell(Place{Site: "north", Epoch: 2, Applied: 0, Entry: turn.Number + 9}, world.now))
+	world.keep(turn)
+	for _, place := range []Place{{"north", "", 1, 2, turn.Number}, {"north", "", 1, 1 << 62, 0}, {"north", "", 1, -1, 0}, {"north", "", 1, -1 << 63, 1 << 62}} {
+		if _, cannotBe := core.Tell(place, world.now).(*CannotBeError); !cannotBe {
+			t.Errorf("%v is taken", place)
+		}
+	}
+	is(t, ErrNoSite, core.Tell(Place{Site: "east", Epoch: 1, Applied: 0, Entry: 1}, world.now))
+	is(t, ErrNoSite, core.Tell(Place{Site: "\xff", Epoch: 1, Applied: 0, Entry: 1}, world.now))
+	is(t, nil, core.Tell(Place{Site: "north", Epoch: 0, Applied: 77, Entry: 1}, world.now))
+	is(t, int64(0), core.Status(world.now).Sites[0].Applied)
+}
+
+func TestWhatNobodyWaitsForIsWrittenLater(t *testing.T) {
+	world := newWorld(t, settings, shop)
+	world.ask("ann", 1, "add:tea:-1")
+	world.write()
+	world.tell("south", 1)
+	again, err := world.core.Work(world.now)
+	is(t, []interface{}{Later, nil}, []interface{}{again, err})
+	is(t, 0, world.write())
+	world.now += Later
+	is(t, 1, world.write())
+	// With a request it comes at once.
+	world.tell("north", 1)
+	world.ask("ann", 2, "add:tea:-1")
+	is(t, 1, world.write())
+	is(t, int64(1), world.core.sites.of("north").applied)
+}
+
+func TestAnotherCoreComesToTheSame(t *testing.T) {
+	world := newWorld(t, settings, shop)
+	for number := int64(1); number < 20; number++ {
+		world.ask("ann", number, "add:tea:-1 add:till:2")
+		world.ask("bob", number, fmt.Sprintf("set:tea:%d", number%3*1_000_000_000))
+		world.tell("south", world.core.updates/2)
+		if number%3 == 0 {
+			world.tell("north", world.core.updates)
+		}
+		world.write()
+	}
+	other := world.replay(config("p2"))
+	is(t, fmt.Sprint(world.core.clients), fmt.Sprint(other.clients))
+	is(t, world.core.waiting.askers[world.core.waiting.front:], other.waiting.askers[other.waiting.front:])
+	is(t, []int64{world.core.updates, world.core.acknowledged, world.core.asks, world.core.entries},
+		[]int64{other.updates, other.acknowledged, other.asks, other.entries})
+	is(t, world.core.round, other.round)
+}
+
+func TestWhatIsNoScript(t *testing.T) {
+	world := newWorld(t, settings, shop)
+	world.ask("ann", 1, "add:tea:-1")
+	world.write()
+	core, entry := New(config("p2"), 1), func(at int) *script.Entry {
+		entry, _ := script.Parse(world.script[at])
+		return entry
+	}
+	if _, isGap := core.Replay(2, entry(1)).(*GapError); !isGap {
+		t.Error("no gap")
+	}
+	if _, isBroken := New(config("p2"), 2).Replay(2, entry(1)).(*BrokenError); !isBroken {
+		t.Error("an epoch begins without declarations")
+	}
+	if _, isOther := New(Config{Open: modelstore.Open, Versions: []string{"2"}}, 1).Replay(1, entry(0)).(*VersionError); !isOther {
+		t.Error("another version")
+	}
+	is(t, nil, core.Replay(1, entry(0)))
+	if _, isBroken := core.Replay(2, entry(0)).(*BrokenError); !isBroken {
+		t.Error("an epoch begins twice")
+	}
+	wrong := *entry(1)
+	wrong.Steps = append([]script.Step{}, wrong.Steps...)
+	wrong.Steps[len(wrong.Steps)-1].Text = "ok acked 2 epoch 1"
+	core = New(config("p2"), 1)
+	is(t, nil, core.Replay(1, entry(0)))
+	if _, isBroken := core.Replay(2, &wrong).(*BrokenError); !isBroken {
+		t.Error("an answer differs")
+	}
+}

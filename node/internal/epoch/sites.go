@@ -1,0 +1,121 @@
+package epoch
+
+import (
+	"errors"
+	"fmt"
+	"time"
+
+	"ordup-node/internal/exit"
+)
+
+// Near is how many updates a site may lack at the end of an epoch and still be here.
+const Near = 1000
+
+// Away is after how long a site that lacks updates and tells nothing is away.
+const Away = 5 * time.Second
+
+// A Place is what a site told: how many updates of an epoch it has applied and shown, and the last entry that it has run.
+type Place struct {
+	// Site is the name in the script. Member is the site itself, which has another name where Site is its fleet.
+	Site, Member string
+
+	Epoch   int64
+	Applied int64
+	Entry   int64
+}
+
+// Why a place is not taken.
+var (
+	// ErrNoSite says that the script has no such site, or that it is taken out.
+	ErrNoSite = errors.New("the script has no such site")
+	// ErrBehind says that this core has not run the script as far as the site has. It may tell the place again.
+	ErrBehind = errors.New("the script was not run as far yet")
+)
+
+// A CannotBeError says that no site can have applied so many updates.
+type CannotBeError struct {
+	Place   Place
+	Updates int64
+}
+
+func (err *CannotBeError) Error() string {
+	return fmt.Sprintf("the site %s told %d updates of epoch %d up to the entry %d, and there are %d",
+		err.Place.Site, err.Place.Applied, err.Place.Epoch, err.Place.Entry, err.Updates)
+}
+
+// ExitStatus is that of a process which meets it.
+func (*CannotBeError) ExitStatus() exit.Status { return exit.NoPlace }
+
+// A site is what is known of a site of the epoch.
+type site struct {
+	name string
+	// What stands in the script, and what the site told and does not stand there yet.
+	applied, told int64
+	rounds        int64
+	// When it told a place that was new, and whether it has.
+	heard    time.Duration
+	wasHeard bool
+	// When it told any place, and whether it has.
+	spoke     time.Duration
+	spokeOnce bool
+	// Whether it is taken out, and whether no process serves it any more.
+	leaves, gone bool
+	limits       []string
+}
+
+// sites has the sites of an epoch, in the order of their declarations.
+type sites struct{ all []*site }
+
+func (sites *sites) add(name string) { sites.all = append(sites.all, &site{name: name}) }
+
+// of is the site of a name, or nil. There are at most 16.
+func (sites *sites) of(name string) *site {
+	for _, site := range sites.all {
+		if site.name == name {
+			return site
+		}
+	}
+	return nil
+}
+
+// isHere is whether a site has told all of so many updates, or has told much of it, and something a short time ago.
+func (site *site) isHere(updates int64, now time.Duration) bool {
+	missing := updates - site.known()
+	return missing <= 0 || missing <= Near && site.wasHeard && now-site.heard < Away
+}
+
+// holdsUp is whether an epoch with so many updates cannot end yet for the site.
+func (site *site) holdsUp(updates int64) bool {
+	return site.applied < updates || site.leaves && !site.gone
+}
+
+// known is how many updates the site has applied, whether or not it stands in the script.
+func (site *site) known() int64 {
+	if site.told > site.applied {
+		return site.told
+	}
+	return site.applied
+}
+
+// Tell takes the place of a site, which has shown it under its lease. It goes into an entry by Work.
+func (core *Core) Tell(place Place, now time.Duration) error {
+	if place.Epoch > core.epoch {
+		return ErrBehind
+	}
+	if place.Epoch < core.epoch {
+		return nil
+	}
+	site := core.sites.of(place.Site)
+	switch {
+	case site == nil || site.leaves:
+		return ErrNoSite
+	case place.Applied < 0 || place.Applied > core.updates && place.Entry <= core.written:
+		return &CannotBeError{place, core.updates}
+	case place.Applied > core.updates:
+		return ErrBehind
+	case place.Applied > site.known():
+		site.told, site.heard, site.wasHeard = place.Applied, now, true
+	}
+	site.spoke, site.spokeOnce = now, true
+	return nil
+}

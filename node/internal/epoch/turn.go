@@ -1,0 +1,269 @@
+package epoch
+
+import (
+	"time"
+
+	"ordup-node/internal/script"
+)
+
+const (
+	// askBytes is how large the open turn is when it takes no more requests, and turnBytes when it asks for no more acknowledgements.
+	// What one step adds then is small. So an entry is far below script.MostEntryBytes.
+	askBytes, turnBytes = 256 << 10, 512 << 10
+	// mostTold is how many updates that sites told are written by one entry.
+	mostTold = 20_000
+	// Later is how long after an entry sites are written that told something for which nobody waits.
+	Later = 100 * time.Millisecond
+)
+
+// A Request is what a client asks.
+type Request struct {
+	Client  string
+	Number  int64
+	Changes string
+}
+
+// A Verdict is what becomes of a request.
+type Verdict struct {
+	Kind VerdictKind
+	// Of Answered: the answer of the store. Last is, of Passed, the number under which the client asked last.
+	Text string
+	Last int64
+}
+
+// A VerdictKind is one of what may become of a request.
+type VerdictKind uint8
+
+const (
+	// Waits says that the request was taken, now or before, and that its answer comes with a turn.
+	Waits VerdictKind = iota + 1
+	// Answered says that the request has its answer.
+	Answered
+	// Passed says that the client asked under a later number before.
+	Passed
+	// Differs says that the client asked for other changes under this number before.
+	Differs
+	// NotNow says that the turn is full or the epoch ends: ask again in the next turn.
+	NotNow
+	// Malformed says that the client, the number or the changes have not the form.
+	Malformed
+)
+
+// A Turn is an entry that is to be written.
+type Turn struct {
+	Number int64
+	Text   []byte
+	// Absent are sites that must have no lease in the engine as the entry is written.
+	Absent []string
+	// Of an entry that begins an epoch: the epoch, and its first entry.
+	Epoch, First int64
+	// Answers may be told once the entry is written.
+	Answers []script.Step
+	entry   *script.Entry
+}
+
+// Ask takes requests. The verdicts are in their order. With an error the core is of no more use.
+func (core *Core) Ask(requests []Request, now time.Duration) ([]Verdict, error) {
+	verdicts := make([]Verdict, len(requests))
+	steps := make([]script.Step, 0, len(requests))
+	ends, bytes := core.ends(now), core.turn.bytes
+	for at := range requests {
+		verdict := core.verdict(&requests[at])
+		switch {
+		case verdict.Kind != 0:
+		case ends || bytes >= askBytes:
+			verdict.Kind = NotNow
+		default:
+			asked := asker{requests[at].Client, requests[at].Number, script.DigestOf(requests[at].Changes)}
+			step := script.Step{Kind: script.Ask, Name: asked.name, Number: asked.number, Digest: asked.digest, Text: requests[at].Changes}
+			core.clients.take(asked, core.epoch)
+			steps = append(steps, step)
+			bytes += sizeOf(&step)
+			verdict.Kind = Waits
+		}
+		verdicts[at] = verdict
+	}
+	return verdicts, core.add(steps)
+}
+
+// verdict is what becomes of a request, if it need not be run.
+func (core *Core) verdict(request *Request) Verdict {
+	if !script.IsClient(request.Client) || !script.IsNumber(request.Number) || !script.IsChanges(request.Changes) {
+		return Verdict{Kind: Malformed}
+	}
+	last := core.clients[request.Client]
+	switch {
+	case request.Number > last.number:
+		return Verdict{}
+	case request.Number < last.number:
+		return Verdict{Kind: Passed, Last: last.number}
+	case script.DigestOf(request.Changes) != last.digest:
+		return Verdict{Kind: Differs}
+	case last.entry == 0 || last.entry > core.written:
+		return Verdict{Kind: Waits}
+	}
+	return Verdict{Kind: Answered, Text: last.text}
+}
+
+// add runs steps in the open turn.
+func (core *Core) add(steps []script.Step) error {
+	if len(steps) == 0 {
+		return nil
+	}
+	core.running = core.entries + 1
+	decided := len(core.decided)
+	if err := core.run(steps); err != nil {
+		return err
+	}
+	core.turn.steps = append(core.turn.steps, steps...)
+	for at := range steps {
+		core.turn.bytes += sizeOf(&steps[at])
+	}
+	for at := decided; at < len(core.decided); at++ {
+		core.turn.bytes += sizeOf(&core.decided[at])
+	}
+	return nil
+}
+
+// sizeOf is at least how many bytes the line of a step has.
+func sizeOf(step *script.Step) int { return 64 + len(step.Name) + len(step.Digest) + len(step.Text) }
+
+// Work adds to the open turn what sites told, and asks for acknowledgements. It returns after how long it has more to do though
+// nothing comes, or 0.
+func (core *Core) Work(now time.Duration) (time.Duration, error) {
+	if core.epoch == 0 || core.carry != nil {
+		return 0, nil
+	}
+	if core.dueSince == 0 && core.isDue() {
+		core.dueSince = now
+	}
+	again, err := core.addTold(now)
+	if err != nil {
+		return 0, err
+	}
+	if err := core.settle(); err != nil {
+		return 0, err
+	}
+	if core.round == nil {
+		core.roundSince = 0
+	} else if core.roundSince == 0 {
+		core.roundSince = now
+	}
+	return again, nil
+}
+
+// addTold adds the steps for what sites told. Where nobody waits for them, that is later.
+func (core *Core) addTold(now time.Duration) (time.Duration, error) {
+	steps, left := []script.Step{}, int64(mostTold)
+	for _, site := range core.sites.all {
+		places := site.known()
+		if site.gone {
+			places = core.updates
+		}
+		if count := places - site.applied; count > 0 && left > 0 {
+			if count > left {
+				count = left
+			}
+			left -= count
+			steps = append(steps, script.Step{Kind: script.Tell, Name: site.name, Count: count})
+		}
+	}
+	if len(steps) == 0 {
+		return 0, nil
+	}
+	somebodyWaits := len(core.turn.steps) > 0 || core.maySettle() || core.isDue()
+	if later := core.sealed + Later - now; later > 0 && !somebodyWaits {
+		return later, nil
+	}
+	if core.turn.bytes >= turnBytes {
+		return 0, nil
+	}
+	return 0, core.add(steps)
+}
+
+// maySettle is whether the head waits for no site, as far as is known.
+func (core *Core) maySettle() bool {
+	if core.acknowledged == core.updates {
+		return false
+	}
+	for _, name := range core.round {
+		if site := core.sites.of(name); site != nil && !site.gone && site.known() <= core.acknowledged {
+			return false
+		}
+	}
+	return true
+}
+
+// settle asks for acknowledgements until the head waits.
+func (core *Core) settle() error {
+	step := script.Step{Kind: script.Settle, Count: 1}
+	count := int64(0)
+	for core.turn.bytes < turnBytes && core.headIsFree() {
+		if err := core.addSettle(&step); err != nil {
+			return err
+		}
+		count++
+	}
+	if count > 0 {
+		step.Count = count
+		core.turn.steps = append(core.turn.steps, step)
+		core.turn.bytes += sizeOf(&step)
+	}
+	return nil
+}
+
+// addSettle runs one step, which is not in the open turn yet.
+func (core *Core) addSettle(step *script.Step) error {
+	core.running = core.entries + 1
+	decided := len(core.decided)
+	if err := core.run([]script.Step{*step}); err != nil {
+		return err
+	}
+	for at := decided; at < len(core.decided); at++ {
+		core.turn.bytes += sizeOf(&core.decided[at])
+	}
+	return nil
+}
+
+// headIsFree is whether an acknowledgement may be asked for: the head waits for no site, as it stands in the script.
+func (core *Core) headIsFree() bool {
+	if core.acknowledged == core.updates {
+		return false
+	}
+	for _, name := range core.round {
+		if site := core.sites.of(name); site != nil && site.applied <= core.acknowledged {
+			return false
+		}
+	}
+	return true
+}
+
+// Seal closes the open turn, and gives it as an entry. Where there is nothing to write it is nil.
+func (core *Core) Seal(now time.Duration) (*Turn, error) {
+	if core.store == nil {
+		return nil, nil
+	}
+	turn := &Turn{Number: core.entries + 1, Absent: core.turn.absent}
+	steps, epoch := core.turn.steps, core.entryEpoch()
+	if len(steps) == 0 && core.isOver(now) {
+		var err error
+		if steps, epoch, err = core.closing(turn); err != nil {
+			return nil, err
+		}
+	}
+	if len(steps) == 0 {
+		return nil, nil
+	}
+	turn.Answers = core.decided
+	turn.entry = &script.Entry{Epoch: epoch, Ordup: core.settings.Ordup, Writer: core.config.Writer, Steps: append(steps, turn.Answers...)}
+	turn.Text = turn.entry.Text()
+	core.entries, core.sealed, core.turn, core.decided = turn.Number, now, openTurn{}, nil
+	return turn, nil
+}
+
+// Written says that the entry of this number, and so all before it, is in the script.
+func (core *Core) Written(number int64) {
+	if number > core.written {
+		core.written = number
+	}
+}

@@ -1,0 +1,188 @@
+// Package fsck checks a script from its first epoch to the last: in the archives of hosts, and in the engine.
+//
+// Each entry is run as a primary runs it, so its answers must be those of the store of this program. Each epoch begins with what the one
+// before it ended with, and each client that is remembered is carried over with its last answer. The record of each site must be `yes`
+// to the checker of records, alone and behind the one of the epoch before.
+package fsck
+
+import (
+	"fmt"
+	"sort"
+	"strings"
+
+	"ordup"
+
+	"ordup-node/internal/epoch"
+	"ordup-node/internal/script"
+	"ordup-node/internal/store"
+)
+
+// An Epoch says what an epoch had that was found right.
+type Epoch struct {
+	Number, First, Last int64
+	Requests, Updates   int64
+	Clients             int
+	// Rounds are those of each site, of which its record shows that no schedule has fewer.
+	Rounds map[string]uint64
+}
+
+// String is a line.
+func (checked Epoch) String() string {
+	text := fmt.Sprintf("epoch %d entries %d-%d requests %d updates %d clients %d", checked.Number, checked.First, checked.Last,
+		checked.Requests, checked.Updates, checked.Clients)
+	names := []string{}
+	for name := range checked.Rounds {
+		names = append(names, name)
+	}
+	sort.Strings(names)
+	for _, name := range names {
+		text += fmt.Sprintf(" %s yes %d", name, checked.Rounds[name])
+	}
+	return text
+}
+
+// An Audit checks entries one after another. It keeps one epoch, and the records of the one before.
+type Audit struct {
+	core   *epoch.Core
+	store  *ordup.Store
+	tell   func(Epoch)
+	before map[string]string
+	// The last entry, and the last one of the epoch that is not carried over to the next one.
+	last, lastOf int64
+}
+
+// New gives an audit that begins with the entry of this number, and tells each epoch that was found right.
+func New(versions []string, first int64, tell func(Epoch)) *Audit {
+	audit := &Audit{tell: tell, last: first - 1}
+	audit.core = epoch.New(epoch.Config{Open: audit.open, Writer: "fsck", Versions: versions}, first)
+	return audit
+}
+
+// open gives the core a store, which the audit asks too.
+func (audit *Audit) open() (store.Store, error) {
+	opened, err := ordup.Open()
+	if err != nil {
+		return nil, err
+	}
+	audit.store = opened
+	return opened, nil
+}
+
+// Close gives back what the audit has.
+func (audit *Audit) Close() { audit.core.Close() }
+
+// Next is the number of the entry that comes next.
+func (audit *Audit) Next() int64 { return audit.last + 1 }
+
+// Core is what the entries came to.
+func (audit *Audit) Core() *epoch.Core { return audit.core }
+
+// Take checks an entry.
+func (audit *Audit) Take(number int64, entry *script.Entry) error {
+	if audit.store != nil && entry.Begins() {
+		if err := audit.follows(number, entry); err != nil {
+			return err
+		}
+		if err := audit.endEpoch(isSame(audit.core, entry)); err != nil {
+			return err
+		}
+	}
+	if err := audit.core.Replay(number, entry); err != nil {
+		return err
+	}
+	if audit.last = number; entry.Epoch == audit.core.Epoch() {
+		audit.lastOf = number
+	}
+	return nil
+}
+
+// isSame is whether no operator gave other declarations for the epoch that an entry begins. Then records of a site go on.
+func isSame(core *epoch.Core, entry *script.Entry) bool {
+	return entry.Steps[0].Settings.Origin == core.Settings().Origin
+}
+
+// follows looks whether an epoch begins with what the one before ended with.
+func (audit *Audit) follows(number int64, entry *script.Entry) error {
+	text, err := audit.store.NextDeclarations()
+	if err != nil {
+		return &epoch.BrokenError{Number: number, Why: fmt.Sprintf("the epoch before it has not ended: %v", err)}
+	}
+	ends, values := epoch.Declarations(text), map[string]string{}
+	for _, line := range ends {
+		if words := strings.Fields(line); words[0] == "object" {
+			values[words[1]] = line
+		}
+	}
+	begins := []string{}
+	for _, step := range entry.Steps[1:] {
+		if step.Kind != script.Declare {
+			continue
+		}
+		begins = append(begins, step.Text)
+		words := strings.Fields(step.Text)
+		if len(words) == 3 && words[0] == "object" && values[words[1]] != "" && values[words[1]] != step.Text {
+			return &epoch.BrokenError{Number: number,
+				Why: fmt.Sprintf("it begins with `%s`, and the epoch before ended with `%s`", step.Text, values[words[1]])}
+		}
+	}
+	if isSame(audit.core, entry) && strings.Join(begins, "\n") != strings.Join(ends, "\n") {
+		return &epoch.BrokenError{Number: number, Why: "it has other declarations than the epoch before ended with, and no operator gave them"}
+	}
+	return nil
+}
+
+// endEpoch checks the records of an epoch. Those of an epoch are kept for the next one, if they go on there.
+func (audit *Audit) endEpoch(goesOn bool) error {
+	status := audit.core.Status(0)
+	checked := Epoch{Number: status.Epoch, First: audit.core.First(), Last: audit.lastOf, Requests: status.Requests, Updates: status.Updates,
+		Clients: status.Clients, Rounds: map[string]uint64{}}
+	records := map[string]string{}
+	for _, site := range status.Sites {
+		record, err := audit.store.Record(site.Name)
+		if err != nil {
+			return err
+		}
+		rounds, err := audit.check(status.Epoch, site.Name, record)
+		if err != nil {
+			return err
+		}
+		checked.Rounds[site.Name], records[site.Name] = rounds, record
+	}
+	audit.before = nil
+	if goesOn {
+		audit.before = records
+	}
+	audit.tell(checked)
+	return nil
+}
+
+// check has a record checked, alone and behind that of the epoch before.
+func (audit *Audit) check(number int64, site, record string) (uint64, error) {
+	verdict, err := ordup.Check([]byte(record))
+	if err != nil {
+		return 0, err
+	}
+	if verdict.Kind != ordup.Yes {
+		return 0, &RecordError{number, site, fmt.Sprintf("%s %d %s", verdict.Kind, verdict.Row, verdict.Reason)}
+	}
+	before, isThere := audit.before[site]
+	if !isThere {
+		return verdict.Rounds, nil
+	}
+	series, err := ordup.CheckSeries([]byte(before + record))
+	if err != nil {
+		return 0, err
+	}
+	if series.Kind != ordup.Yes {
+		return 0, &RecordError{number, site, fmt.Sprintf("with the one before: %s %d %d %s", series.Kind, series.Record, series.Row, series.Reason)}
+	}
+	return verdict.Rounds, nil
+}
+
+// End checks the last epoch up to its last entry.
+func (audit *Audit) End() error {
+	if audit.store == nil || audit.core.Epoch() == 0 {
+		return nil
+	}
+	return audit.endEpoch(false)
+}

@@ -1,0 +1,215 @@
+package fsck
+
+import (
+	"context"
+	"crypto/sha256"
+	"errors"
+	"fmt"
+	"io"
+	"os"
+	"path/filepath"
+
+	"ordup-node/internal/archive"
+	"ordup-node/internal/engine"
+	"ordup-node/internal/epoch"
+	"ordup-node/internal/exit"
+	"ordup-node/internal/script"
+)
+
+// A RecordError says that the record of a site is not `yes`.
+type RecordError struct {
+	Epoch     int64
+	Site, Why string
+}
+
+func (err *RecordError) Error() string {
+	return fmt.Sprintf("the record of %s in the epoch %d: %s", err.Site, err.Epoch, err.Why)
+}
+
+// ExitStatus is that of a process which meets it.
+func (*RecordError) ExitStatus() exit.Status { return exit.Gap }
+
+// A LostError says that archives lack something, or differ.
+type LostError struct{ Why string }
+
+func (err *LostError) Error() string { return err.Why }
+
+// ExitStatus is that of a process which meets it.
+func (*LostError) ExitStatus() exit.Status { return exit.Gap }
+
+// A Config says what is checked.
+type Config struct {
+	// Folders have the archives of hosts. From is the first epoch that they have.
+	Folders []string
+	From    int64
+	// Engine has the script that is not archived yet, or is nil.
+	Engine   *engine.Engine
+	Versions []string
+	// Tell is told of each epoch that was found right.
+	Tell func(Epoch)
+}
+
+// A reader gives an audit what it reads, and counts it.
+type reader struct {
+	Config
+	ctx               context.Context
+	audit             *Audit
+	archives, entries int64
+}
+
+// Run checks all, up to the first fault. It returns how many archives and entries it has read.
+func Run(ctx context.Context, config Config) (archives, entries int64, err error) {
+	reader := &reader{Config: config, ctx: ctx}
+	if err = reader.readFolders(); err == nil && config.Engine != nil {
+		err = reader.readEngine()
+	}
+	if reader.audit != nil {
+		if err == nil {
+			err = reader.audit.End()
+		}
+		reader.audit.Close()
+	}
+	if err == nil && reader.entries == 0 {
+		err = exit.With(exit.Words, errors.New("there is no archive and no entry"))
+	}
+	return reader.archives, reader.entries, err
+}
+
+// take has an entry checked. The first one begins the audit.
+func (reader *reader) take(number int64, entry *script.Entry) error {
+	if reader.ctx.Err() != nil {
+		return reader.ctx.Err()
+	}
+	if reader.audit == nil {
+		reader.audit = New(reader.Versions, number, reader.Tell)
+	}
+	reader.entries++
+	return reader.audit.Take(number, entry)
+}
+
+// readFolders reads the archives of all epochs, one after another.
+func (reader *reader) readFolders() error {
+	number := reader.From
+	for ; ; number++ {
+		name, err := fileOf(reader.Folders, number)
+		if err != nil {
+			return err
+		}
+		if name == "" {
+			break
+		}
+		if err = readFile(name, number, reader.take); err != nil {
+			return fmt.Errorf("%s: %w", name, err)
+		}
+		reader.archives++
+	}
+	if later := laterThan(reader.Folders, number); later != "" {
+		return &LostError{fmt.Sprintf("no folder has the archive of the epoch %d, and %s is there", number, later)}
+	}
+	return nil
+}
+
+// fileOf is the archive of an epoch in the first folder that has it, or "". Those of all folders must be the same.
+func fileOf(folders []string, number int64) (string, error) {
+	found, digest := "", [sha256.Size]byte{}
+	for _, folder := range folders {
+		name := filepath.Join(folder, archive.NameOf(number))
+		file, err := os.Open(name)
+		if errors.Is(err, os.ErrNotExist) {
+			continue
+		}
+		if err != nil {
+			return "", err
+		}
+		sum := sha256.New()
+		_, err = io.Copy(sum, file)
+		file.Close()
+		if err != nil {
+			return "", err
+		}
+		var own [sha256.Size]byte
+		sum.Sum(own[:0])
+		if found != "" && own != digest {
+			return "", &LostError{fmt.Sprintf("%s and %s differ", found, name)}
+		}
+		if found == "" {
+			found, digest = name, own
+		}
+	}
+	return found, nil
+}
+
+// laterThan is an archive of a later epoch than this one, or "".
+func laterThan(folders []string, number int64) string {
+	for _, folder := range folders {
+		names, _ := filepath.Glob(filepath.Join(folder, "epoch-*.ordup"))
+		for _, name := range names {
+			var other int64
+			if count, _ := fmt.Sscanf(filepath.Base(name), "epoch-%d.ordup", &other); count == 1 && other > number {
+				return name
+			}
+		}
+	}
+	return ""
+}
+
+// readFile reads the archive of an epoch, which has entries of that epoch alone.
+func readFile(name string, number int64, take func(int64, *script.Entry) error) error {
+	file, err := os.Open(name)
+	if err != nil {
+		return err
+	}
+	defer file.Close()
+	var failure error
+	err = archive.Read(file, func(at int64, entry *script.Entry) error {
+		if entry.Epoch != number {
+			failure = &epoch.BrokenError{Number: at, Why: fmt.Sprintf("it is of epoch %d", entry.Epoch)}
+		} else {
+			failure = take(at, entry)
+		}
+		return failure
+	})
+	if err != nil && failure == nil {
+		return &LostError{err.Error()}
+	}
+	return err
+}
+
+// readEngine reads what the engine has after the archives, and looks whether the epoch that it names is that of the script.
+func (reader *reader) readEngine() error {
+	next, err := reader.Engine.First(reader.ctx)
+	if err != nil {
+		return err
+	}
+	if reader.audit != nil {
+		if next > reader.audit.Next() {
+			return &epoch.GapError{Number: reader.audit.Next(), Instead: next}
+		}
+		next = reader.audit.Next()
+	}
+	named, first, err := reader.Engine.Epoch(reader.ctx)
+	if err != nil {
+		return err
+	}
+	if _, err = reader.Engine.ReadAll(reader.ctx, next, reader.takeAll); err != nil || reader.audit == nil {
+		return err
+	}
+	if core := reader.audit.Core(); core.Epoch() < named || core.Epoch() == named && core.First() != first {
+		return &LostError{fmt.Sprintf("the engine names the epoch %d from the entry %d on, and the script has %d from %d on", named, first,
+			core.Epoch(), core.First())}
+	}
+	return nil
+}
+
+func (reader *reader) takeAll(raws []engine.Raw) error {
+	for _, raw := range raws {
+		entry, err := epoch.Parse(raw.Number, raw.Text)
+		if err == nil {
+			err = reader.take(raw.Number, entry)
+		}
+		if err != nil {
+			return err
+		}
+	}
+	return nil
+}

@@ -1,0 +1,81 @@
+// Package logs writes one line an event: the time, the level, what happened, and its numbers.
+//
+//	2026-11-30T09:21:42.123Z info took-over epoch=3 entry=217
+package logs
+
+import (
+	"fmt"
+	"io"
+	"strconv"
+	"strings"
+	"sync"
+	"time"
+)
+
+// OncePer is how often an event of the same words is told at most, by Seldom.
+const OncePer = 10 * time.Second
+
+// A Log writes events. Goroutines may share it. A nil Log writes nothing.
+type Log struct {
+	lock sync.Mutex
+	to   io.Writer
+	now  func() time.Time
+	said map[string]time.Time
+}
+
+// New gives a log that writes to a file.
+func New(to io.Writer) *Log { return &Log{to: to, now: time.Now, said: map[string]time.Time{}} }
+
+// Info tells what happens in good order. The words are names, each with a value behind it.
+func (log *Log) Info(what string, words ...interface{}) { log.write("info", what, words, false) }
+
+// Warn tells what an operator should look at. It tells the same thing seldom.
+func (log *Log) Warn(what string, words ...interface{}) { log.write("warn", what, words, true) }
+
+// Error tells why a process ends.
+func (log *Log) Error(what string, words ...interface{}) { log.write("error", what, words, false) }
+
+func (log *Log) write(level, what string, words []interface{}, seldom bool) {
+	if log == nil {
+		return
+	}
+	var text strings.Builder
+	text.WriteString(level + " " + what)
+	for at := 0; at+1 < len(words); at += 2 {
+		fmt.Fprintf(&text, " %v=%s", words[at], quoted(fmt.Sprint(words[at+1])))
+	}
+	log.lock.Lock()
+	defer log.lock.Unlock()
+	now := log.now()
+	if seldom && !log.isDue(text.String(), now) {
+		return
+	}
+	fmt.Fprintf(log.to, "%s %s\n", now.UTC().Format("2006-01-02T15:04:05.000Z"), text.String())
+}
+
+// isDue is whether a text was not told a short time ago. Old texts are forgotten.
+func (log *Log) isDue(text string, now time.Time) bool {
+	if last, wasSaid := log.said[text]; wasSaid && now.Sub(last) < OncePer {
+		return false
+	}
+	for old, last := range log.said {
+		if now.Sub(last) >= OncePer {
+			delete(log.said, old)
+		}
+	}
+	log.said[text] = now
+	return true
+}
+
+// quoted is a value as one word of printable signs.
+func quoted(value string) string {
+	for _, sign := range value {
+		if sign <= ' ' || sign > '~' || sign == '"' || sign == '=' {
+			return strconv.Quote(value)
+		}
+	}
+	if value == "" {
+		return `""`
+	}
+	return value
+}

@@ -1,0 +1,90 @@
+// Package numbers has what operators see: numbers for Prometheus, and a page. docs/NODE.md says what they mean.
+package numbers
+
+import (
+	"net/http"
+	"time"
+
+	"github.com/prometheus/client_golang/prometheus"
+	"github.com/prometheus/client_golang/prometheus/collectors"
+	"github.com/prometheus/client_golang/prometheus/promhttp"
+)
+
+// A sample is one number.
+type sample struct {
+	name, help string
+	isCounter  bool
+	// Label is the name of a label and its value, or empty.
+	label [2]string
+	value float64
+}
+
+func gauge(name, help string, value float64) sample {
+	return sample{name: name, help: help, value: value}
+}
+
+func counter(name, help string, value int64) sample {
+	return sample{name: name, help: help, isCounter: true, value: float64(value)}
+}
+
+func (each sample) of(name, value string) sample {
+	each.label = [2]string{name, value}
+	return each
+}
+
+func truth(is bool) float64 {
+	if is {
+		return 1
+	}
+	return 0
+}
+
+// A collector asks for the samples when Prometheus asks for them.
+type collector func() []sample
+
+// Describe says nothing, so that the samples may differ from time to time.
+func (collector) Describe(chan<- *prometheus.Desc) {}
+
+// Collect gives the samples.
+func (collect collector) Collect(to chan<- prometheus.Metric) {
+	for _, each := range collect() {
+		names, values := []string{}, []string{}
+		if each.label[0] != "" {
+			names, values = append(names, each.label[0]), append(values, each.label[1])
+		}
+		kind := prometheus.GaugeValue
+		if each.isCounter {
+			kind = prometheus.CounterValue
+		}
+		to <- prometheus.MustNewConstMetric(prometheus.NewDesc("ordup_"+each.name, each.help, names, nil), kind, each.value, values...)
+	}
+}
+
+// A Numbers is those of a process.
+type Numbers struct {
+	registry *prometheus.Registry
+	waits    prometheus.Histogram
+}
+
+// newNumbers gives those that all processes have.
+func newNumbers(kind, version string, connections func() int, samples collector) *Numbers {
+	numbers := &Numbers{registry: prometheus.NewRegistry()}
+	numbers.registry.MustRegister(samples, collectors.NewGoCollector(),
+		collectors.NewProcessCollector(collectors.ProcessCollectorOpts{}),
+		collector(func() []sample {
+			return []sample{
+				gauge("build_info", "1, with the version of the program", 1).of("version", version),
+				gauge("process_info", "1, with what the process is", 1).of("kind", kind),
+				gauge("connections", "connections from outside", float64(connections())),
+			}
+		}))
+	return numbers
+}
+
+// Handler answers at /metrics.
+func (numbers *Numbers) Handler() http.Handler {
+	return promhttp.HandlerFor(numbers.registry, promhttp.HandlerOpts{})
+}
+
+// Waited takes how long an update waited for its answer.
+func (numbers *Numbers) Waited(wait time.Duration) { numbers.waits.Observe(wait.Seconds()) }

@@ -1,0 +1,106 @@
+package numbers
+
+import (
+	"fmt"
+	"net/http"
+	"net/http/httptest"
+	"strings"
+	"testing"
+	"time"
+
+	"github.com/prometheus/client_golang/prometheus/testutil"
+
+	"ordup-node/internal/epoch"
+	"ordup-node/internal/fleet"
+	"ordup-node/internal/primary"
+	"ordup-node/internal/site"
+)
+
+func zero() int { return 7 }
+
+func get(t *testing.T, handler http.Handler) string {
+	t.Helper()
+	answer := httptest.NewRecorder()
+	handler.ServeHTTP(answer, httptest.NewRequest("GET", "/", nil))
+	if answer.Code != 200 {
+		t.Error(answer.Code, answer.Body)
+	}
+	return answer.Body.String()
+}
+
+func has(t *testing.T, text string, wants ...string) {
+	t.Helper()
+	for _, want := range wants {
+		if !strings.Contains(text, want) {
+			t.Errorf("there is no %q in %s", want, text)
+		}
+	}
+}
+
+var status = primary.Status{Writes: true, Lease: time.Second, Writer: "http://p1:1", Rounds: map[string]int64{"north": 9, "south": 0},
+	Held: map[string]primary.Held{"south": {Keys: 3, WithoutLease: 2}}, Counts: primary.Counts{Requests: 5, Answers: 4},
+	Since: 2 * time.Second, HasSeen: true, Archives: 1,
+	Core: epoch.Status{Epoch: 3, Entries: 40, Updates: 8, Acknowledged: 6, Clients: 2, HeadWaits: 12 * time.Second, Due: true, DueSince: 3 * time.Second,
+		Sites: []epoch.SiteStatus{{Name: "north", Applied: 4, Missing: 2, Rounds: 1, Waited: true, JoinWaits: true, HasTold: true, Told: time.Second,
+			Limits: []string{"count 3", "object tea 20"}}, {Name: "south", Applied: 8, Leaves: true}}}}
+
+func TestNumbersOfAPrimary(t *testing.T) {
+	numbers := OfPrimary("1.2.3", zero, func() primary.Status { return status })
+	numbers.Waited(3 * time.Millisecond)
+	has(t, get(t, numbers.Handler()), `ordup_build_info{version="1.2.3"} 1`, "ordup_primary_writes 1", "ordup_epoch 3", "ordup_log_updates 8",
+		"ordup_acknowledged_updates 6", "ordup_clients 2", "ordup_head_wait_seconds 12", `ordup_head_waits_for{site="north"} 1`,
+		`ordup_head_waits_for{site="south"} 0`, `ordup_join_waits_for{site="north"} 1`, "ordup_join_due 1", "ordup_join_due_seconds 3",
+		`ordup_site_missing_updates{site="north"} 2`, `ordup_site_rounds_total{site="north"} 9`, `ordup_site_told_seconds{site="north"} 1`,
+		`ordup_leave_keys{site="south"} 3`, `ordup_leave_keys_without_lease{site="south"} 2`, `ordup_site_has_told{site="south"} 0`, "ordup_last_entry_seconds 2", "ordup_archives_waiting 1", "ordup_requests_total 5", "# TYPE ordup_requests_total counter",
+		`ordup_update_wait_seconds_bucket{le="0.005"} 1`, "ordup_connections 7", "go_goroutines", "process_resident_memory_bytes")
+}
+
+func TestNumbersHaveTheFormOfPrometheus(t *testing.T) {
+	members := func() []fleet.MemberStatus {
+		return []fleet.MemberStatus{{Place: epoch.Place{Member: "east", Epoch: 2}}}
+	}
+	for _, numbers := range []*Numbers{OfPrimary("1", zero, func() primary.Status { return status }),
+		OfSite("1", "north", zero, func() site.Status { return site.Status{HasTold: true, HasSeen: true} }), OfFleet("1", zero, members)} {
+		problems, err := testutil.GatherAndLint(numbers.registry)
+		if err != nil || len(problems) > 0 {
+			t.Error(err, problems)
+		}
+	}
+}
+
+func TestThePageOfAPrimary(t *testing.T) {
+	lag := &Lag{}
+	for at := 0; at < mostPoints+20; at++ {
+		now := status
+		now.Core.Sites = []epoch.SiteStatus{{Name: "north", Missing: int64(at % 50)}, {Name: "<b>", Missing: 3}}
+		lag.add(&now)
+	}
+	text := get(t, PageOfPrimary("p1", lag, func() primary.Status { return status }))
+	has(t, text, "It writes the script.", "The update 7 waits since 12.0 s for north.", "The next epoch is due since 3.0 s, and waits for north.",
+		"<td class=\"\">count 3, object tea 20</td>", "by the head, by the next epoch", "taken out, held by 3 keys in the engine", "<svg", `points="60.0,`, "&lt;b&gt;", `class="left">49</text>`)
+	if strings.Contains(text, "<b>") {
+		t.Error("a name is not quoted")
+	}
+	other := status
+	other.Lease = 0
+	has(t, get(t, PageOfPrimary("p1", lag, func() primary.Status { return other })), "the engine does not answer")
+	other.Writes, other.Writer, other.Counts.Full = false, "", 1
+	has(t, get(t, PageOfPrimary("p1", lag, func() primary.Status { return other })), "knows of no primary that writes", "The engine is full")
+}
+
+func TestNumbersOfASiteAndAFleet(t *testing.T) {
+	now := site.Status{Serves: true, Entry: 9, Epoch: 2, Place: 5, Told: 4, HasTold: true, ToldSince: time.Second, Readers: 3, HasSeen: true, Since: time.Second}
+	seen := func() site.Status { return now }
+	has(t, get(t, OfSite("1", "north", zero, seen).Handler()), `ordup_site_serves{site="north"} 1`, `ordup_site_applied_updates{site="north"} 5`,
+		`ordup_site_reported_updates{site="north"} 4`, `ordup_site_told_seconds{site="north"} 1`, "ordup_readers_total 3", "ordup_last_entry_seconds 1",
+		`ordup_process_info{kind="site"} 1`)
+	has(t, get(t, PageOfSite("north", seen)), "It serves readers.", "the site north")
+	now.Serves = false
+	has(t, get(t, PageOfSite("north", seen)), "It serves no reader now.")
+	members := func() []fleet.MemberStatus {
+		return []fleet.MemberStatus{{Place: epoch.Place{Member: "east", Epoch: 2, Applied: 5}, Told: time.Second}, {Place: epoch.Place{Member: "west"}}}
+	}
+	has(t, get(t, OfFleet("1", zero, members).Handler()), `ordup_member_applied_updates{site="east"} 5`, `ordup_member_told_seconds{site="east"} 1`,
+		`ordup_member_epoch{site="west"} 0`)
+	has(t, get(t, PageOfFleet("far", members)), fmt.Sprintf("<td class=%q>not yet</td>", "n bad"))
+}

@@ -1,0 +1,172 @@
+package numbers
+
+import (
+	"bytes"
+	"fmt"
+	"html/template"
+	"net/http"
+	"strings"
+	"time"
+
+	"ordup-node/internal/epoch"
+	"ordup-node/internal/fleet"
+	"ordup-node/internal/primary"
+	"ordup-node/internal/site"
+)
+
+// page renews itself, and asks for nothing else.
+var page = template.Must(template.New("page").Parse(`<!DOCTYPE html>
+<html lang="en"><head><meta charset="utf-8"><meta http-equiv="refresh" content="2"><title>{{.Title}}</title>
+<style>body{font:16px sans-serif;margin:2em;color:#222;max-width:64em} h1{font-size:1.4em} h2{font-size:1.1em}
+table{border-collapse:collapse} td,th{padding:.25em 1em;text-align:left;border-bottom:1px solid #ccc}
+td.n,th.n{text-align:right;font-variant-numeric:tabular-nums} .bad{color:#b00020;font-weight:bold}
+svg{width:100%;border:1px solid #ccc} svg text{font:12px sans-serif} .left{text-anchor:end} .grid{stroke:#ddd}</style></head>
+<body><h1>{{.Title}}</h1>{{range .Says}}<p{{if .Bad}} class="bad"{{end}}>{{.Text}}</p>
+{{end}}{{if .Rows}}<h2>Sites</h2><table><tr>{{range .Heads}}<th class="{{if .N}}n{{end}}">{{.Text}}</th>{{end}}</tr>
+{{range .Rows}}<tr>{{range .}}<td class="{{if .N}}n{{end}}{{if .Bad}} bad{{end}}">{{.Text}}</td>{{end}}</tr>
+{{end}}</table>{{end}}
+{{if .Picture}}<h2>Updates that each site misses</h2>{{.Picture}}{{end}}
+<h2>Numbers</h2><table>{{range .Facts}}<tr><td>{{.Name}}</td><td class="n">{{.Text}}</td></tr>
+{{end}}</table><p>All numbers are at <a href="metrics">metrics</a>.</p></body></html>
+`))
+
+// A cell is a text of the page. N is whether it is a number, and Bad whether an operator should look at it.
+type cell struct {
+	Name, Text string
+	N, Bad     bool
+}
+
+type content struct {
+	Title   string
+	Says    []cell
+	Heads   []cell
+	Rows    [][]cell
+	Picture template.HTML
+	Facts   []cell
+}
+
+// serve shows what there is when it is asked.
+func serve(look func() content) http.Handler {
+	return http.HandlerFunc(func(to http.ResponseWriter, _ *http.Request) {
+		var text bytes.Buffer
+		if err := page.Execute(&text, look()); err != nil {
+			http.Error(to, err.Error(), http.StatusInternalServerError)
+			return
+		}
+		to.Header().Set("Content-Type", "text/html; charset=utf-8")
+		to.Header().Set("Content-Security-Policy", "default-src 'none'; style-src 'unsafe-inline'")
+		to.Header().Set("Cache-Control", "no-store")
+		to.Write(text.Bytes())
+	})
+}
+
+// PageOfPrimary is the page of a primary.
+func PageOfPrimary(host string, lag *Lag, status func() primary.Status) http.Handler {
+	return serve(func() content {
+		now := status()
+		shown := content{Title: "ordup: the primary at " + host, Says: saysOf(&now), Picture: lag.Picture(), Facts: facts(ofPrimary(&now))}
+		for _, name := range []string{"site", "applied", "misses", "limits", "rounds", "told", "waited for"} {
+			shown.Heads = append(shown.Heads, cell{Text: name, N: name == "applied" || name == "misses" || name == "rounds" || name == "told"})
+		}
+		for _, site := range now.Core.Sites {
+			shown.Rows = append(shown.Rows, rowOf(&now, &site))
+		}
+		return shown
+	})
+}
+
+// rowOf has what is known of a site.
+func rowOf(status *primary.Status, site *epoch.SiteStatus) []cell {
+	told, waits, held := "not yet", []string{}, status.Held[site.Name]
+	if site.HasTold {
+		told = ago(site.Told)
+	}
+	for _, each := range []struct {
+		is   bool
+		text string
+	}{{site.Waited, "by the head"}, {site.JoinWaits, "by the next epoch"}, {site.Leaves, "taken out"},
+		{held.Keys > 0, fmt.Sprintf("held by %d keys in the engine", held.Keys)}, {site.Gone, "gone"}} {
+		if each.is {
+			waits = append(waits, each.text)
+		}
+	}
+	return []cell{{Text: site.Name}, {Text: fmt.Sprint(site.Applied), N: true}, {Text: fmt.Sprint(site.Missing), N: true},
+		{Text: strings.Join(site.Limits, ", ")}, {Text: fmt.Sprint(status.Rounds[site.Name]), N: true}, {Text: told, N: true},
+		{Text: strings.Join(waits, ", "), Bad: site.Waited || site.JoinWaits}}
+}
+
+// saysOf says in words what a primary does, and what it waits for.
+func saysOf(status *primary.Status) []cell {
+	says := []cell{{Text: "It writes the script."}}
+	if status.Writes && status.Lease == 0 {
+		says[0] = cell{Text: "It writes the script, but its lease is over: the engine does not answer.", Bad: true}
+	}
+	if !status.Writes {
+		says[0] = cell{Text: "It stands by for " + status.Writer + ", which writes the script."}
+		if status.Writer == "" {
+			says[0] = cell{Text: "It stands by, and knows of no primary that writes.", Bad: true}
+		}
+	}
+	core, waited, join := &status.Core, []string{}, []string{}
+	for _, site := range core.Sites {
+		if site.Waited {
+			waited = append(waited, site.Name)
+		}
+		if site.JoinWaits {
+			join = append(join, site.Name)
+		}
+	}
+	if len(waited) > 0 {
+		says = append(says, cell{Bad: true, Text: fmt.Sprintf("The update %d waits since %s for %s.", core.Acknowledged+1, ago(core.HeadWaits),
+			strings.Join(waited, ", "))})
+	}
+	switch {
+	case core.Ending:
+		says = append(says, cell{Text: "The next epoch is being written."})
+	case core.Due && len(join) > 0:
+		says = append(says, cell{Bad: true, Text: fmt.Sprintf("The next epoch is due since %s, and waits for %s.", ago(core.DueSince),
+			strings.Join(join, ", "))})
+	}
+	if status.Counts.Full > 0 {
+		says = append(says, cell{Text: "The engine is full, and takes no write.", Bad: true})
+	}
+	return says
+}
+
+// PageOfSite is the page of a site.
+func PageOfSite(name string, status func() site.Status) http.Handler {
+	return serve(func() content {
+		now, says := status(), cell{Text: "It serves readers."}
+		if !now.Serves {
+			says = cell{Text: "It serves no reader now.", Bad: true}
+		}
+		return content{Title: "ordup: the site " + name, Says: []cell{says}, Facts: facts(ofSite(name, &now))}
+	})
+}
+
+// PageOfFleet is the page of a fleet.
+func PageOfFleet(name string, status func() []fleet.MemberStatus) http.Handler {
+	return serve(func() content {
+		shown := content{Title: "ordup: the fleet " + name,
+			Heads: []cell{{Text: "site"}, {Text: "epoch", N: true}, {Text: "applied", N: true}, {Text: "told", N: true}}}
+		for _, member := range status() {
+			told := "not yet"
+			if member.Place.Epoch > 0 {
+				told = ago(member.Told)
+			}
+			shown.Rows = append(shown.Rows, []cell{{Text: member.Place.Member}, {Text: fmt.Sprint(member.Place.Epoch), N: true},
+				{Text: fmt.Sprint(member.Place.Applied), N: true}, {Text: told, N: true, Bad: told == "not yet"}})
+		}
+		return shown
+	})
+}
+
+func facts(samples []sample) []cell {
+	rows := []cell{}
+	for _, each := range samples {
+		rows = append(rows, cell{Name: each.help, Text: fmt.Sprintf("%.6g", each.value), N: true})
+	}
+	return rows
+}
+
+func ago(since time.Duration) string { return fmt.Sprintf("%.1f s", since.Seconds()) }

@@ -1,0 +1,113 @@
+package primary
+
+import (
+	"context"
+	"errors"
+	"fmt"
+	"sync/atomic"
+
+	"ordup-node/internal/clock"
+	"ordup-node/internal/epoch"
+)
+
+// Why a request has no answer. Each but the last three may be asked again under the same number, here or at another primary: it is done
+// once.
+var (
+	// ErrBusy says that too many requests wait already.
+	ErrBusy = errors.New("too many requests wait")
+	// ErrFull says that the engine has no space for a write.
+	ErrFull = errors.New("the engine is full, and takes no write")
+	// ErrDiffers says that the client asked for other changes under this number before.
+	ErrDiffers = errors.New("the client asked for other changes under this number before")
+	// ErrMalformed says that the client, the number or the changes have not the form.
+	ErrMalformed = errors.New("the client, the number or the changes have not the form")
+)
+
+// A NotWriterError says that this process does not write, and which one does, as far as it knows.
+type NotWriterError struct{ Address string }
+
+func (err *NotWriterError) Error() string {
+	if err.Address == "" {
+		return "this primary does not write, and knows of none that does"
+	}
+	return fmt.Sprintf("this primary does not write: %s does", err.Address)
+}
+
+// A PassedError says that the client asked under a later number before.
+type PassedError struct{ Last int64 }
+
+func (err *PassedError) Error() string {
+	return fmt.Sprintf("the client asked under %d before", err.Last)
+}
+
+// An Answer is what the store answered to a request: `ok acked K epoch E`, or `refused N NAME`.
+type Answer struct{ Text string }
+
+// Submit asks for an update, and waits for its answer. While this process does not write it fails at once with a NotWriterError. After
+// any error but a PassedError, ErrDiffers and ErrMalformed, also that of the context, the request may be done or not: ask again.
+func (primary *Primary) Submit(ctx context.Context, request epoch.Request) (Answer, error) {
+	call := &call{request, make(chan outcome, 1)}
+	if err := primary.queue(call); err != nil {
+		return Answer{}, err
+	}
+	select {
+	case done := <-call.done:
+		return Answer{done.text}, done.err
+	case <-ctx.Done():
+		primary.calls.drop(call)
+		return Answer{}, ctx.Err()
+	}
+}
+
+func (primary *Primary) queue(call *call) error {
+	calls := &primary.calls
+	calls.lock.Lock()
+	defer calls.lock.Unlock()
+	switch {
+	case !calls.open:
+		return &NotWriterError{calls.address}
+	case atomic.LoadInt64(&primary.counts.Full) > 0:
+		return ErrFull
+	case len(calls.queue) >= MostQueued || calls.waiters >= MostWaiting:
+		return ErrBusy
+	}
+	calls.queue = append(calls.queue, call)
+	calls.awaken()
+	return nil
+}
+
+// Tell takes the place of a site, which the site has shown under its lease. After an error it may be told again, but for
+// epoch.ErrNoSite and an epoch.CannotBeError.
+func (primary *Primary) Tell(_ context.Context, place epoch.Place) error {
+	if !primary.calls.isOpen() {
+		return &NotWriterError{primary.calls.writer()}
+	}
+	err := primary.with(func(core *epoch.Core) error {
+		if core == nil {
+			return epoch.ErrBehind
+		}
+		return core.Tell(place, clock.Now())
+	})
+	primary.calls.awaken()
+	return err
+}
+
+// Next asks for the next epoch, and waits until it has begun. It returns the epoch that came after wish.From.
+func (primary *Primary) Next(ctx context.Context, wish epoch.Wish) (int64, error) {
+	next := &nextCall{wish, make(chan outcome, 1)}
+	calls := &primary.calls
+	calls.lock.Lock()
+	if !calls.open {
+		calls.lock.Unlock()
+		return 0, &NotWriterError{calls.address}
+	}
+	calls.nexts = append(calls.nexts, next)
+	calls.lock.Unlock()
+	calls.awaken()
+	select {
+	case done := <-next.done:
+		return wish.From + 1, done.err
+	case <-ctx.Done():
+		return 0, ctx.Err()
+	}
+}

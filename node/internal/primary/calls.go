@@ -1,0 +1,206 @@
+package primary
+
+import (
+	"sync"
+
+	"ordup-node/internal/epoch"
+	"ordup-node/internal/script"
+)
+
+// MostQueued is how many requests wait to be taken at most, and MostWaiting how many of those that were taken wait for an answer.
+const MostQueued, MostWaiting = 20_000, 100_000
+
+// A call waits for what becomes of a request.
+type call struct {
+	request epoch.Request
+	done    chan outcome
+}
+
+type outcome struct {
+	text string
+	err  error
+}
+
+// A nextCall waits until a wish has come true.
+type nextCall struct {
+	wish epoch.Wish
+	done chan outcome
+}
+
+type asked struct {
+	client string
+	number int64
+}
+
+// calls are those of other goroutines, which Run takes.
+type calls struct {
+	lock sync.Mutex
+	// Whether this process writes, and else who does. Over is set once the process ends.
+	open, over bool
+	address    string
+	own        string
+	// What is not taken yet, who waits for a turn, and who for an epoch.
+	queue   []*call
+	waiting map[asked][]*call
+	waiters int
+	nexts   []*nextCall
+	wishes  []*nextCall
+	wake    chan struct{}
+}
+
+func (calls *calls) init(own string) {
+	calls.own, calls.waiting, calls.wake = own, map[asked][]*call{}, make(chan struct{}, 1)
+}
+
+func (calls *calls) isOpen() bool {
+	calls.lock.Lock()
+	defer calls.lock.Unlock()
+	return calls.open
+}
+
+func (calls *calls) writer() string {
+	calls.lock.Lock()
+	defer calls.lock.Unlock()
+	return calls.address
+}
+
+func (calls *calls) sizes() (waiting, queued int) {
+	calls.lock.Lock()
+	defer calls.lock.Unlock()
+	return calls.waiters + len(calls.queue), len(calls.queue)
+}
+
+// awaken has Run look at what came.
+func (calls *calls) awaken() {
+	select {
+	case calls.wake <- struct{}{}:
+	default:
+	}
+}
+
+// set says whether this process writes, and who does. Where it does no more, all who wait are told. The address of another process is
+// never its own, which wrote the last entry and does no more.
+func (calls *calls) set(open bool, address string) {
+	calls.lock.Lock()
+	defer calls.lock.Unlock()
+	if !open && address == calls.own {
+		address = ""
+	}
+	calls.open, calls.address = open && !calls.over, address
+	if !calls.open {
+		calls.failAll(&NotWriterError{address})
+	}
+}
+
+// end tells all who wait, and takes no more.
+func (calls *calls) end() {
+	calls.lock.Lock()
+	defer calls.lock.Unlock()
+	calls.open, calls.over = false, true
+	calls.failAll(&NotWriterError{})
+}
+
+func (calls *calls) failAll(err error) {
+	for _, call := range calls.queue {
+		call.done <- outcome{err: err}
+	}
+	for _, waiters := range calls.waiting {
+		for _, call := range waiters {
+			call.done <- outcome{err: err}
+		}
+	}
+	for _, next := range append(calls.nexts, calls.wishes...) {
+		next.done <- outcome{err: err}
+	}
+	calls.queue, calls.waiting, calls.waiters, calls.nexts, calls.wishes = nil, map[asked][]*call{}, 0, nil, nil
+}
+
+// sort has each call wait for what its verdict says, or tells it. It returns how many wait to be taken, as before.
+func (calls *calls) sort(came []*call, verdicts []epoch.Verdict) int {
+	calls.lock.Lock()
+	defer calls.lock.Unlock()
+	var later []*call
+	for at, verdict := range verdicts {
+		call := came[at]
+		switch verdict.Kind {
+		case epoch.Waits:
+			key := asked{call.request.Client, call.request.Number}
+			calls.waiting[key] = append(calls.waiting[key], call)
+			calls.waiters++
+		case epoch.NotNow:
+			later = append(later, call)
+		case epoch.Answered:
+			call.done <- outcome{text: verdict.Text}
+		case epoch.Passed:
+			call.done <- outcome{err: &PassedError{verdict.Last}}
+		case epoch.Differs:
+			call.done <- outcome{err: ErrDiffers}
+		default:
+			call.done <- outcome{err: ErrMalformed}
+		}
+	}
+	if len(later) > 0 {
+		calls.queue = append(later, calls.queue...)
+	}
+	return len(later)
+}
+
+// tell tells answers to who waits for them.
+func (calls *calls) tell(answers []script.Step) {
+	calls.lock.Lock()
+	defer calls.lock.Unlock()
+	for at := range answers {
+		key := asked{answers[at].Name, answers[at].Number}
+		for _, call := range calls.waiting[key] {
+			call.done <- outcome{text: answers[at].Text}
+			calls.waiters--
+		}
+		delete(calls.waiting, key)
+	}
+}
+
+func (calls *calls) keepWish(next *nextCall) {
+	calls.lock.Lock()
+	defer calls.lock.Unlock()
+	calls.wishes = append(calls.wishes, next)
+}
+
+// tellWishes tells who waits for an epoch that has begun, whether it is as it was wished.
+func (calls *calls) tellWishes(core *epoch.Core) {
+	calls.lock.Lock()
+	defer calls.lock.Unlock()
+	left := calls.wishes[:0]
+	for _, next := range calls.wishes {
+		if next.wish.From < core.Begun() {
+			next.done <- outcome{err: core.AskNext(next.wish)}
+		} else {
+			left = append(left, next)
+		}
+	}
+	calls.wishes = left
+}
+
+// drop forgets a call for which nobody waits any more.
+func (calls *calls) drop(gone *call) {
+	calls.lock.Lock()
+	defer calls.lock.Unlock()
+	key := asked{gone.request.Client, gone.request.Number}
+	left := without(calls.waiting[key], gone)
+	calls.waiters -= len(calls.waiting[key]) - len(left)
+	if len(left) > 0 {
+		calls.waiting[key] = left
+	} else {
+		delete(calls.waiting, key)
+	}
+	calls.queue = without(calls.queue, gone)
+}
+
+func without(all []*call, gone *call) []*call {
+	left := all[:0]
+	for _, call := range all {
+		if call != gone {
+			left = append(left, call)
+		}
+	}
+	return left
+}

@@ -1,0 +1,128 @@
+package primary_test
+
+import (
+	"context"
+	"errors"
+	"fmt"
+	"testing"
+	"time"
+
+	"ordup-node/internal/engine"
+	"ordup-node/internal/epoch"
+	"ordup-node/internal/primary"
+	"ordup-node/internal/site"
+)
+
+// siteBy starts a site over a link of its own.
+func (deployment *deployment) siteBy(name string, engine *engine.Engine) (*site.Site, *process) {
+	made, err := site.New(site.Config{Engine: engine, Open: openStore, Name: name, Host: "h-" + name, Versions: []string{"1"},
+		Teller: deployment, Log: deployment.log})
+	if err != nil {
+		deployment.t.Fatal(err)
+	}
+	return made, deployment.run(made.Run)
+}
+
+func serves(at *site.Site) bool {
+	_, err := at.Read(context.Background(), site.Seen{})
+	return err == nil
+}
+
+func TestASiteThatIsCutOff(t *testing.T) {
+	deployment := deploy(t, 1)
+	one, _ := deployment.primary(deployment.config("p1"))
+	link := deployment.members.Link()
+	north, _ := deployment.siteBy("north", link.Engine(t))
+	deployment.site("south", "")
+	is(t, "ok acked 1 epoch 1", deployment.ask("ann", 1, "add:tea:-1"))
+	is(t, "epoch 1 place 1 tea=999999", deployment.read(north, site.Seen{Epoch: 1, Place: 1}))
+	// Another process of the site runs the script as well, and without the lease tells nothing.
+	other, process := deployment.site("north", "")
+	until(t, 5*time.Second, "the other process does not follow", func() bool { return other.Status().Place == 1 })
+	until(t, 5*time.Second, "it tells nothing", func() bool { return one.Status().Core.Sites[0].Applied == 1 })
+	link.Cut()
+	cut := time.Now()
+	// Its limit lets three updates pass, and not the fourth, whether or not it serves.
+	for number := int64(2); number <= 4; number++ {
+		is(t, fmt.Sprintf("ok acked %d epoch 1", number), deployment.ask("ann", number, "add:tea:-1"))
+	}
+	answer := make(chan string, 1)
+	go func() { answer <- deployment.ask("ann", 5, "add:tea:-1") }()
+	until(t, 4*time.Second, "a site that is cut off serves", func() bool { return !serves(north) })
+	t.Logf("it serves no more after %v", time.Since(cut))
+	select {
+	case told := <-answer:
+		t.Fatalf("a fifth update is told %s", told)
+	default:
+	}
+	// The other process takes over once the lease has run out.
+	until(t, 8*time.Second, "the other process does not serve", func() bool { return serves(other) })
+	t.Logf("another one serves after %v", time.Since(cut))
+	is(t, false, serves(north))
+	is(t, "ok acked 5 epoch 1", <-answer)
+	is(t, "epoch 1 place 5 tea=999995", deployment.read(other, site.Seen{Epoch: 1, Place: 5}))
+	link.Mend()
+	time.Sleep(time.Second)
+	is(t, false, serves(north))
+	is(t, nil, process.end())
+	is(t, "epoch 1 place 5 tea=999995", deployment.read(north, site.Seen{Epoch: 1, Place: 5}))
+}
+
+func TestAWriterThatIsCutOff(t *testing.T) {
+	deployment := deploy(t, 1)
+	link := deployment.members.Link()
+	config := deployment.config("p1")
+	config.Engine = link.Engine(t)
+	one, _ := deployment.primary(config)
+	until(t, 10*time.Second, "p1 does not write", func() bool { return one.Status().Writes })
+	two, _ := deployment.primary(deployment.config("p2"))
+	is(t, "ok acked 1 epoch 1", deployment.ask("ann", 1, "add:tea:-1"))
+	link.Cut()
+	cut := time.Now()
+	lost := make(chan error, 1)
+	go func() {
+		_, err := one.Submit(context.Background(), epoch.Request{Client: "ann", Number: 2, Changes: "add:tea:-1"})
+		lost <- err
+	}()
+	until(t, 9*time.Second, "p2 does not write", func() bool { return two.Status().Writes })
+	t.Logf("another one writes after %v", time.Since(cut))
+	answer, err := two.Submit(context.Background(), epoch.Request{Client: "ann", Number: 2, Changes: "add:tea:-1"})
+	is(t, []interface{}{"ok acked 2 epoch 1", nil}, []interface{}{answer.Text, err})
+	link.Mend()
+	var other *primary.NotWriterError
+	select {
+	case err := <-lost:
+		is(t, true, errors.As(err, &other))
+	case <-time.After(5 * time.Second):
+		t.Error("who asked the first one waits for ever")
+	}
+	until(t, 5*time.Second, "p1 does not stand by", func() bool { return one.Status().Core.Written == two.Status().Core.Written })
+	is(t, false, one.Status().Writes)
+	is(t, "http://p2", one.Status().Writer)
+}
+
+// A site that is cut off as it is taken out serves its readers for a while. Until it does no more, the next epoch does not begin, and no
+// update is acknowledged beyond its limits, though it has told the last place.
+func TestASiteIsCutOffAsItIsTakenOut(t *testing.T) {
+	deployment := deploy(t, 1)
+	deployment.primary(deployment.config("p1"))
+	link := deployment.members.Link()
+	north, process := deployment.siteBy("north", link.Engine(t))
+	deployment.site("south", "")
+	is(t, "ok acked 1 epoch 1", deployment.ask("ann", 1, "add:tea:-1"))
+	is(t, "epoch 1 place 1 tea=999999", deployment.read(north, site.Seen{Epoch: 1, Place: 1}))
+	time.Sleep(time.Second)
+	is(t, true, serves(north))
+	link.Cut()
+	asked := time.Now()
+	begun, err := deployment.next(epoch.Wish{From: 1, Declarations: []string{"object tea 1", "site south 1", "start"}})
+	is(t, false, serves(north))
+	is(t, []interface{}{2, nil}, []interface{}{begun, err})
+	if took := time.Since(asked); took < 3*time.Second {
+		t.Errorf("the next epoch began after %v", took)
+	} else {
+		t.Logf("the next epoch began after %v", took)
+	}
+	link.Mend()
+	is(t, true, <-process.done != nil)
+}

@@ -1,0 +1,64 @@
+package primary_test
+
+import (
+	"context"
+	"fmt"
+	"testing"
+	"time"
+
+	"ordup-node/internal/epoch"
+	"ordup-node/internal/exit"
+	"ordup-node/internal/primary"
+	"ordup-node/internal/site"
+)
+
+func TestAFullEngineTakesNoRequests(t *testing.T) {
+	deployment := deploy(t, 1, "--quota-backend-bytes", "2000000")
+	own, _ := deployment.primary(deployment.config("p1"))
+	south, _ := deployment.site("south", "")
+	is(t, "ok acked 1 epoch 1", deployment.ask("ann", 1, "add:tea:-1"))
+	is(t, "epoch 1 place 1 tea=999999", deployment.read(south, site.Seen{Epoch: 1, Place: 1}))
+	deployment.members.Fill()
+	answer := make(chan string, 1)
+	go func() { answer <- deployment.ask("ann", 2, "add:tea:-1") }()
+	until(t, 5*time.Second, "it does not notice", func() bool { return own.Status().Counts.Full == 1 })
+	_, err := own.Submit(context.Background(), epoch.Request{Client: "bob", Number: 1, Changes: "add:tea:-1"})
+	is(t, primary.ErrFull, err)
+	is(t, "epoch 1 place 1 tea=999999", deployment.read(south, site.Seen{}))
+	deployment.members.Free()
+	is(t, "ok acked 2 epoch 1", <-answer)
+	is(t, "ok acked 3 epoch 1", deployment.ask("bob", 1, "add:tea:-1"))
+}
+
+// A script that is written by hand, or that lacks what a process has run, ends the processes that meet it.
+func TestAScriptThatChanges(t *testing.T) {
+	deployment := deploy(t, 1)
+	own, writer := deployment.primary(deployment.config("p1"))
+	until(t, 10*time.Second, "p1 does not write", func() bool { return own.Status().Writes })
+	two, standby := deployment.primary(deployment.config("p2"))
+	south, process := deployment.site("south", "")
+	is(t, "ok acked 1 epoch 1", deployment.ask("ann", 1, "add:tea:-1"))
+	is(t, "epoch 1 place 1 tea=999999", deployment.read(south, site.Seen{Epoch: 1, Place: 1}))
+	until(t, 5*time.Second, "p2 does not follow", func() bool { return two.Status().Core.Written >= 2 })
+	deployment.members.Put(fmt.Sprintf("script/%012d", 2), "by hand")
+	is(t, exit.Gap, exit.Of(<-process.done))
+	is(t, exit.Gap, exit.Of(<-standby.done))
+	// The writer goes on, until it has to run the script again.
+	is(t, nil, writer.end())
+	_, writer = deployment.primary(deployment.config("p3"))
+	is(t, exit.Gap, exit.Of(<-writer.done))
+}
+
+func TestAScriptThatLacksAnEntry(t *testing.T) {
+	deployment := deploy(t, 1)
+	_, writer := deployment.primary(deployment.config("p1"))
+	for number := int64(1); number <= 3; number++ {
+		deployment.ask("ann", number, "add:tea:1")
+	}
+	deployment.members.Delete(fmt.Sprintf("script/%012d", 3))
+	_, process := deployment.site("south", "")
+	is(t, exit.Gap, exit.Of(<-process.done))
+	is(t, nil, writer.end())
+	_, writer = deployment.primary(deployment.config("p2"))
+	is(t, exit.Gap, exit.Of(<-writer.done))
+}

@@ -1,0 +1,230 @@
+// Package primary has the process that takes requests and writes the script, or stands by for the one that does.
+//
+// One goroutine owns the core, in Run. Others hand it requests, places and wishes by queues, and wait for what becomes of them. One
+// transaction is on its way at a time. Meanwhile the open turn takes what comes, and is run.
+package primary
+
+import (
+	"context"
+	"errors"
+	"fmt"
+	"os"
+	"strings"
+	"sync"
+	"sync/atomic"
+	"time"
+
+	"ordup-node/internal/archive"
+	"ordup-node/internal/clock"
+	"ordup-node/internal/engine"
+	"ordup-node/internal/epoch"
+	"ordup-node/internal/exit"
+	"ordup-node/internal/logs"
+	"ordup-node/internal/script"
+	"ordup-node/internal/store"
+)
+
+const (
+	// afterFailure is how long the primary waits after a member failed it, before it asks the next one.
+	afterFailure = 100 * time.Millisecond
+	// endTime is how long a process that ends waits for what is on its way.
+	endTime = 2 * time.Second
+	// lookAfter is after how long it is looked again whether a site that is taken out has a lease.
+	lookAfter = 500 * time.Millisecond
+	// retryAfter is after how long requests are tried again that the turn had no room for, or the end of an epoch.
+	retryAfter = 50 * time.Millisecond
+)
+
+// UsualEvery and UsualRemembers begin a script where the settings have none.
+const UsualEvery, UsualRemembers = 100_000, 10
+
+// A Config is what a primary is made with.
+type Config struct {
+	Engine *engine.Engine
+	Open   store.Open
+	// Host names the disk of Folder. Address is where other processes reach this one. Both are one word.
+	Host, Address string
+	// Versions are the versions of ordup whose answers the stores give. The first one begins an empty script.
+	Versions []string
+	// Every, Remembers and Declarations begin an empty script. Of a script that is there they must be those with which it began, or none. The
+	// number 0 is none, and begins a script with the usual one.
+	Every, Remembers int64
+	Declarations     []string
+	// Folder is where archives go, and Copies how many hosts have one before its entries leave the engine.
+	Folder string
+	Copies int
+	Log    *logs.Log
+}
+
+// A Primary is one process of those of which one writes.
+type Primary struct {
+	config Config
+	// The name of this process, as it stands in the entries and at the key of the lease.
+	own   string
+	lease *engine.Lease
+	ended chan struct{}
+	// The core, of Run, which others only look at.
+	coreLock sync.Mutex
+	core     *epoch.Core
+	// Whether the settings were found to be those with which the script began, when this process saw it first.
+	agreed bool
+	calls  calls
+	counts Counts
+	// The last entry of the core that is in the script, and when it came.
+	mark   engine.Mark
+	markAt time.Duration
+	rounds rounds
+	// What holds sites that are taken out, by the last look of this process.
+	held   map[string]Held
+	keeper *archive.Keeper
+}
+
+// Counts are what this process did. They are read by atomic loads.
+type Counts struct {
+	Requests, Answers, Entries, Bytes int64
+	// Full is 1 where the engine is full.
+	Full int64
+}
+
+// New gives a primary, which Run runs.
+func New(config Config) (*Primary, error) {
+	own := fmt.Sprintf("%s-%d-%d@%s", config.Host, os.Getpid(), clock.Now(), config.Address)
+	if !script.IsWord(own, script.MostWriterBytes) || strings.ContainsAny(config.Host, "/@") || len(config.Versions) == 0 {
+		return nil, exit.With(exit.Words, fmt.Errorf("%q and %q are not a host and an address", config.Host, config.Address))
+	}
+	if config.Copies < 1 {
+		return nil, exit.With(exit.Words, fmt.Errorf("archives lie at one host or more, and not at %d", config.Copies))
+	}
+	primary := &Primary{config: config, own: own, ended: make(chan struct{}, 1)}
+	primary.calls.init(config.Address)
+	primary.keeper = &archive.Keeper{Engine: config.Engine.Apart(), Folder: config.Folder, Host: config.Host, Copies: config.Copies,
+		Log: config.Log, Ended: primary.ended}
+	primary.lease = config.Engine.NewLease(engine.PrimaryKey, own, config.Log, nil)
+	return primary, nil
+}
+
+// Run stands by and writes, until the context ends or an error ends the process. Then the lease is given back.
+func (primary *Primary) Run(ctx context.Context) error {
+	beside, cancel := context.WithCancel(context.Background())
+	var others sync.WaitGroup
+	defer others.Wait()
+	defer cancel()
+	for _, run := range []func(context.Context){primary.lease.Run, primary.keeper.Run} {
+		others.Add(1)
+		go func(run func(context.Context)) { defer others.Done(); run(beside) }(run)
+	}
+	defer primary.forget()
+	defer primary.calls.end()
+	for ctx.Err() == nil {
+		err := primary.standBy(ctx)
+		if err == nil {
+			err = primary.writeAll(ctx)
+		}
+		if err = primary.heed(ctx, err); err != nil {
+			return err
+		}
+	}
+	return nil
+}
+
+// heed is whether an error ends the process. After most it goes on, some with a core that runs the script anew.
+func (primary *Primary) heed(ctx context.Context, err error) error {
+	var taken *engine.TakenError
+	var served *engine.ServedError
+	switch {
+	case err == nil || ctx.Err() != nil:
+		return nil
+	case errors.As(err, &taken) || errors.As(err, &served) || errors.Is(err, engine.ErrLaterEpoch):
+		primary.config.Log.Info("runs-again", "why", err)
+		primary.forget()
+		return nil
+	case engine.IsAway(err):
+		primary.config.Log.Warn("engine-away", "why", err)
+		pause(ctx, afterFailure)
+		return nil
+	}
+	return err
+}
+
+// forget drops what was run.
+func (primary *Primary) forget() {
+	primary.coreLock.Lock()
+	defer primary.coreLock.Unlock()
+	if primary.core != nil {
+		primary.core.Close()
+		primary.core = nil
+	}
+	primary.mark = engine.Mark{}
+}
+
+// with has the core looked at, or worked on, by one goroutine at a time.
+func (primary *Primary) with(do func(*epoch.Core) error) error {
+	primary.coreLock.Lock()
+	defer primary.coreLock.Unlock()
+	return do(primary.core)
+}
+
+// A Status is what an operator may see of a primary.
+type Status struct {
+	// Core has what was run of the script. Before there is any its epoch is 0.
+	Core epoch.Status
+	// Writes is whether this process writes, and Writer is the address of the one that does, as far as this one knows.
+	Writes bool
+	Writer string
+	// Lease is for how long this process may rely on its lease.
+	Lease time.Duration
+	// Waiting is how many requests wait for an answer, and Queued how many of them were not taken yet.
+	Waiting, Queued int
+	Counts          Counts
+	// Since is since when the last entry came that this process saw, if one did.
+	Since   time.Duration
+	HasSeen bool
+	// Rounds are the forced rounds of the sites, over all epochs that this process has run.
+	Rounds map[string]int64
+	// Held says, of the process that writes, what holds each site that is taken out and not gone.
+	Held map[string]Held
+	// Archives is how many epochs have ended and are still in the engine.
+	Archives       int64
+	EngineFailures int64
+}
+
+// Status tells what there is.
+func (primary *Primary) Status() Status {
+	status := Status{Writes: primary.calls.isOpen(), Writer: primary.calls.writer(), EngineFailures: primary.config.Engine.Failures()}
+	if left := primary.lease.Until() - clock.Now(); left > 0 {
+		status.Lease = left
+	}
+	status.Waiting, status.Queued = primary.calls.sizes()
+	status.Archives = primary.keeper.Waiting()
+	primary.with(func(core *epoch.Core) error {
+		if core != nil {
+			status.Core = core.Status(clock.Now())
+		}
+		if primary.markAt > 0 {
+			status.Since, status.HasSeen = clock.Now()-primary.markAt, true
+		}
+		status.Rounds, status.Held = primary.rounds.over(&status.Core), map[string]Held{}
+		for _, site := range status.Core.Sites {
+			if held, isHeld := primary.held[site.Name]; isHeld && status.Writes && site.Leaves && !site.Gone {
+				status.Held[site.Name] = held
+			}
+		}
+		return nil
+	})
+	for _, count := range []struct{ to, from *int64 }{
+		{&status.Counts.Requests, &primary.counts.Requests}, {&status.Counts.Answers, &primary.counts.Answers},
+		{&status.Counts.Entries, &primary.counts.Entries}, {&status.Counts.Bytes, &primary.counts.Bytes},
+		{&status.Counts.Full, &primary.counts.Full},
+	} {
+		*count.to = atomic.LoadInt64(count.from)
+	}
+	return status
+}
+
+// pause waits, or until the context ends.
+func pause(ctx context.Context, most time.Duration) {
+	select {
+	case <-ctx.Done():
+	case <-time.After(most):
+	}
+}

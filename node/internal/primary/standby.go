@@ -1,0 +1,216 @@
+package primary
+
+import (
+	"context"
+	"errors"
+	"fmt"
+	"strings"
+
+	"ordup-node/internal/clock"
+	"ordup-node/internal/engine"
+	"ordup-node/internal/epoch"
+	"ordup-node/internal/exit"
+	"ordup-node/internal/script"
+)
+
+// standBy runs the script as it comes, until the lease names this process and the script was taken over. A process that slept may have
+// lost the lease, and not know it yet: so it takes over only while it may rely on it.
+func (primary *Primary) standBy(ctx context.Context) error {
+	for !primary.lease.Relies() {
+		if err := primary.follow(ctx); err != nil {
+			return err
+		}
+	}
+	return primary.takeOver(ctx)
+}
+
+// follow runs the script as it comes, until the lease names this process.
+func (primary *Primary) follow(ctx context.Context) error {
+	following, cancel := context.WithCancel(ctx)
+	defer cancel()
+	changed := primary.lease.Changed()
+	go func() {
+		select {
+		case <-changed:
+			cancel()
+		case <-following.Done():
+		}
+	}()
+	if primary.lease.Relies() {
+		return nil
+	}
+	err := primary.start(following)
+	if err == nil {
+		primary.calls.set(false, primary.address(following))
+		err = primary.config.Engine.Follow(following, primary.next(), primary.replay)
+	}
+	if following.Err() != nil && ctx.Err() == nil {
+		return nil
+	}
+	return primary.gap(ctx, err)
+}
+
+// address is where the process is that writes, or "".
+func (primary *Primary) address(ctx context.Context) string {
+	writer, err := primary.config.Engine.Writer(ctx)
+	if err != nil {
+		return ""
+	}
+	return addressOf(writer)
+}
+
+// addressOf is the address in the name of a process.
+func addressOf(writer string) string {
+	_, address, _ := strings.Cut(writer, "@")
+	return address
+}
+
+func (primary *Primary) next() (next int64) {
+	primary.with(func(core *epoch.Core) error { next = core.Next(); return nil })
+	return next
+}
+
+// start gives a core before the last epoch, where there is none. Else it looks whether the script still has what the core has run.
+func (primary *Primary) start(ctx context.Context) error {
+	first, err := primary.config.Engine.Resume(ctx, &primary.mark)
+	if err != nil {
+		return err
+	}
+	return primary.with(func(core *epoch.Core) error {
+		if core == nil {
+			primary.core = primary.newCore(first)
+		}
+		return nil
+	})
+}
+
+func (primary *Primary) newCore(first int64) *epoch.Core {
+	return epoch.New(epoch.Config{Open: primary.config.Open, Writer: primary.own, Versions: primary.config.Versions,
+		Ended: primary.rounds.end}, first)
+}
+
+// replay runs entries of the script.
+func (primary *Primary) replay(entries []engine.Raw) error {
+	return primary.with(func(core *epoch.Core) error {
+		for _, raw := range entries {
+			entry, err := epoch.Parse(raw.Number, raw.Text)
+			if err != nil {
+				return err
+			}
+			if err = core.Replay(raw.Number, entry); err != nil {
+				return err
+			}
+			primary.mark.Set(raw.Number, raw.Text)
+			primary.markAt = clock.Now()
+			if address := addressOf(entry.Writer); address != primary.calls.writer() {
+				primary.calls.set(false, address)
+			}
+			if !entry.Begins() {
+				continue
+			}
+			primary.noteEpoch()
+			if err = primary.agrees(core); err != nil {
+				return err
+			}
+		}
+		return nil
+	})
+}
+
+// noteEpoch has the archives looked at.
+func (primary *Primary) noteEpoch() {
+	select {
+	case primary.ended <- struct{}{}:
+	default:
+	}
+}
+
+// agrees is whether this primary was started with the settings and the declarations with which the script began, whatever operators have
+// wished since.
+func (primary *Primary) agrees(core *epoch.Core) error {
+	began, own := core.Settings().Began, primary.config
+	switch digest := epoch.DigestOf(own.Declarations); {
+	case primary.agreed:
+		return nil
+	case own.Every != 0 && own.Every != began.Every:
+		return differs("every: %d requests, and %d", own.Every, began.Every)
+	case own.Remembers != 0 && own.Remembers != began.Remembers:
+		return differs("remembers: %d epochs, and %d", own.Remembers, began.Remembers)
+	case len(own.Declarations) > 0 && digest != began.Origin:
+		return differs("declarations: those of the digest %s, and %s", digest, began.Origin)
+	}
+	primary.agreed = true
+	return nil
+}
+
+func differs(format string, own, began interface{}) error {
+	return exit.With(exit.Words, fmt.Errorf("the script did not begin with these settings, "+format, own, began))
+}
+
+// gap tells what it means that an entry came out of order: that an epoch ended meanwhile and is archived, or a fault.
+func (primary *Primary) gap(ctx context.Context, err error) error {
+	var gap *epoch.GapError
+	if errors.As(err, &gap) {
+		return primary.config.Engine.WhyGap(ctx, gap.Number, err)
+	}
+	return err
+}
+
+// catchUp runs all that the script has.
+func (primary *Primary) catchUp(ctx context.Context) error {
+	if err := primary.start(ctx); err != nil {
+		return err
+	}
+	_, err := primary.config.Engine.ReadAll(ctx, primary.next(), primary.replay)
+	return primary.gap(ctx, err)
+}
+
+// takeOver writes an entry after the last one. From then on no other primary that runs can write.
+func (primary *Primary) takeOver(ctx context.Context) error {
+	for {
+		if err := primary.catchUp(ctx); err != nil {
+			return err
+		}
+		var turn *epoch.Turn
+		err := primary.with(func(core *epoch.Core) (err error) {
+			if turn = core.TakeOver(); core.Epoch() == 0 {
+				turn, err = primary.firstTurn()
+			}
+			return err
+		})
+		if err != nil {
+			return err
+		}
+		err = primary.send(ctx, turn)
+		var taken *engine.TakenError
+		if errors.As(err, &taken) {
+			continue // The primary before was faster, or a write of it was late. So run that too.
+		}
+		if err != nil {
+			return err
+		}
+		primary.config.Log.Info("took-over", "entry", turn.Number, "writer", primary.own)
+		primary.mark.Set(turn.Number, turn.Text)
+		return primary.with(func(core *epoch.Core) error { return core.Replay(turn.Number, turn.Entry()) })
+	}
+}
+
+// firstTurn begins an empty script.
+func (primary *Primary) firstTurn() (*epoch.Turn, error) {
+	own := primary.config
+	if len(own.Declarations) == 0 {
+		return nil, exit.With(exit.Words, errors.New("the script is empty: start a primary with declarations"))
+	}
+	if own.Every == 0 {
+		own.Every = UsualEvery
+	}
+	if own.Remembers == 0 {
+		own.Remembers = UsualRemembers
+	}
+	settings := script.Settings{Every: own.Every, Remembers: own.Remembers, Origin: epoch.DigestOf(own.Declarations), Ordup: own.Versions[0]}
+	turn, err := epoch.FirstTurn(epoch.Config{Open: own.Open, Writer: primary.own, Versions: own.Versions}, settings, own.Declarations)
+	if err != nil {
+		return nil, exit.With(exit.Words, err)
+	}
+	return turn, nil
+}

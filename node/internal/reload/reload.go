@@ -1,0 +1,76 @@
+// Package reload keeps what was read of files, and reads them again once one of them has changed. So a certificate, a key or a token is
+// replaced while the process goes on. With files that cannot be read, or do not fit each other, it keeps what it has and says so.
+package reload
+
+import (
+	"os"
+	"sync"
+	"time"
+
+	"ordup-node/internal/logs"
+)
+
+// lookAfter is how often it is looked at most whether a file has changed.
+const lookAfter = 2 * time.Second
+
+// A Value is what some files have. Goroutines may share it.
+type Value[T any] struct {
+	files  []string
+	read   func() (T, error)
+	log    *logs.Log
+	lock   sync.Mutex
+	value  T
+	was    []os.FileInfo
+	looked time.Time
+}
+
+// New reads files for the first time, by a function that reads them all.
+func New[T any](log *logs.Log, read func() (T, error), files ...string) (*Value[T], error) {
+	value := &Value[T]{files: files, read: read, log: log, was: infosOf(files), looked: time.Now()}
+	var err error
+	if value.value, err = read(); err != nil {
+		return nil, err
+	}
+	return value, nil
+}
+
+// Now gives what the files had when they could be read last.
+func (value *Value[T]) Now() T {
+	value.lock.Lock()
+	defer value.lock.Unlock()
+	if time.Since(value.looked) < lookAfter {
+		return value.value
+	}
+	value.looked = time.Now()
+	infos := infosOf(value.files)
+	if areSame(value.was, infos) {
+		return value.value
+	}
+	read, err := value.read()
+	if err != nil {
+		value.log.Warn("not-read-again", "file", value.files[0], "why", err)
+		return value.value
+	}
+	value.log.Info("read-again", "file", value.files[0])
+	value.value, value.was = read, infos
+	return value.value
+}
+
+// infosOf says what there is of each file. Of one that is not there it is nil.
+func infosOf(files []string) []os.FileInfo {
+	infos := make([]os.FileInfo, len(files))
+	for at, file := range files {
+		infos[at], _ = os.Stat(file)
+	}
+	return infos
+}
+
+func areSame(some, others []os.FileInfo) bool {
+	for at, one := range some {
+		other := others[at]
+		if one == nil || other == nil || !os.SameFile(one, other) || one.Size() != other.Size() || !one.ModTime().Equal(other.ModTime()) {
+			return false
+		}
+	}
+	return true
+}

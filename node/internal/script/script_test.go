@@ -1,0 +1,135 @@
+package script
+
+import (
+	"fmt"
+	"math/rand"
+	"reflect"
+	"strings"
+	"testing"
+)
+
+// whole has a step of each kind.
+func whole() *Entry {
+	settings := &Settings{Every: 100, Remembers: 2, Origin: "00ff", Ordup: "0.2.0", Began: Began{1000, 10, "00aa"}}
+	return &Entry{Epoch: 2, Ordup: "0.2.0", Writer: "p1-17", Steps: []Step{
+		{Kind: Begin, Settings: settings},
+		{Kind: Declare, Text: "object tea 5"},
+		{Kind: Known, Name: "ann", Number: 3, Digest: "ab", Count: 1, Text: "ok acked 7 epoch 1"},
+		{Kind: Tell, Name: "south", Count: 2},
+		{Kind: Ask, Name: "ann", Number: 4, Text: "add:tea:-1 set:till:3"},
+		{Kind: Settle, Count: 2},
+		{Kind: Wish, Settings: settings},
+		{Kind: Want, Text: "start"},
+		{Kind: Leave, Name: "south"},
+		{Kind: Gone, Name: "south", Count: 0},
+		{Kind: Answer, Name: "ann", Number: 4, Digest: "cd", Text: "refused 9 OutOfRange"},
+	}}
+}
+
+const wholeText = `ordup-node 1 epoch 2 ordup 0.2.0 writer p1-17
+begin 100 2 00ff 0.2.0 1000 10 00aa
+declare object tea 5
+known ann 3 ab 1 ok acked 7 epoch 1
+tell south 2
+ask ann 4 add:tea:-1 set:till:3
+settle 2
+wish 100 2 00ff 0.2.0 1000 10 00aa
+want start
+leave south
+gone south 0
+answer ann 4 cd refused 9 OutOfRange
+`
+
+func TestAnEntryIsItsText(t *testing.T) {
+	if text := string(whole().Text()); text != wholeText {
+		t.Errorf("the text is\n%s", text)
+	}
+	entry, err := Parse([]byte(wholeText))
+	if err != nil || !reflect.DeepEqual(entry, whole()) {
+		t.Errorf("%v, %v", entry, err)
+	}
+	if answers := entry.Answers(); len(answers) != 1 || answers[0].Text != "refused 9 OutOfRange" {
+		t.Errorf("the answers are %v", answers)
+	}
+}
+
+func TestAnArchiveHasTheLinesOfOrdup(t *testing.T) {
+	entry := &Entry{Epoch: 1, Ordup: "0.2.0", Writer: "p1", Steps: []Step{
+		{Kind: Tell, Name: "south", Count: 2}, {Kind: Ask, Name: "ann", Number: 1, Text: "add:tea:1"}, {Kind: Settle, Count: 2},
+	}}
+	wants := strings.Join([]string{
+		"# entry 17", "# ordup-node 1 epoch 1 ordup 0.2.0 writer p1",
+		"# tell south 2", "send south", "apply south", "send south", "apply south", "report south",
+		"# ask ann 1 add:tea:1", "propose add:tea:1", "# settle 2", "settle", "settle", ""}, "\n")
+	if text := string(entry.AppendArchive(nil, 17)); text != wants {
+		t.Errorf("the archive is\n%s", text)
+	}
+}
+
+func TestWhatIsNoEntry(t *testing.T) {
+	header := "ordup-node 1 epoch 1 ordup 1 writer p\n"
+	for _, text := range []string{
+		"", "\n", "ordup-node", "# epoch 1\n", strings.TrimSuffix(header, "\n"), "ordup-node 1 epoch 0 ordup 1 writer p\n",
+		"ordup-node 1 epoch 01 ordup 1 writer p\n", "ordup-node 1 epoch 1 ordup  writer p\n", "ordup-node 1 epoch 1 ordup 1 writer p q\n",
+		header + "tell south 2", header + "\n", header + "told south 2\n", header + "tell south\n", header + "tell south 0\n",
+		header + "tell South 1\n", header + "tell south 1 \n", header + "settle 1000001\n", header + "settle -1\n", header + "settle +1\n",
+		header + "ask ann 0 add:tea:1\n", header + "ask Ann 1 add:tea:1\n", header + "ask ann 1000000000000000000 x\n",
+		header + "ask ann 1 caf\xc3\xa9\n", header + "ask ann 1 \xff\n", header + "ask ann 1 " + strings.Repeat("x", 4001) + "\n",
+		header + "declare start\n", header + "want start\n", header + "settle 1\nbegin 1 1 a b 1 1 a\n", header + "begin 1 1 a b\n", header + "begin 1 1 a b 1 0 a\n", header + "settle 1\ndeclare start\n",
+		header + "answer ann 1 ab ok\nsettle 1\n", header + "leave \xff\n", header + "leave south north\n",
+		strings.Repeat("x", 2*MostEntryBytes+1),
+	} {
+		if entry, err := Parse([]byte(text)); err == nil {
+			t.Errorf("%.80q is %v", text, entry)
+		}
+	}
+}
+
+func TestAnotherFormatIsTold(t *testing.T) {
+	_, err := Parse([]byte("ordup-node 2 epoch 1\nwhatever\n"))
+	if _, is := err.(*FormatError); !is {
+		t.Errorf("%v is not of the format", err)
+	}
+}
+
+// Whatever bytes are changed, it is an entry with another meaning or none, and never a panic.
+func TestAnyBytes(t *testing.T) {
+	chance := rand.New(rand.NewSource(1))
+	for try := 0; try < 20000; try++ {
+		text := []byte(wholeText)
+		for change := 0; change <= chance.Intn(3); change++ {
+			at := chance.Intn(len(text))
+			switch chance.Intn(3) {
+			case 0:
+				text[at] = byte(chance.Intn(256))
+			case 1:
+				text = append(text[:at], text[at+1:]...)
+			case 2:
+				text = append(text[:at], append([]byte{"\n 0:\xff"[chance.Intn(5)]}, text[at:]...)...)
+			}
+		}
+		if entry, err := Parse(text); err == nil {
+			again, err := Parse(entry.Text())
+			if err != nil || !reflect.DeepEqual(entry, again) {
+				t.Fatalf("%q is %v, and its own text %v, %v", text, entry, again, err)
+			}
+		}
+	}
+}
+
+func TestNames(t *testing.T) {
+	for name, is := range map[string][2]bool{
+		"ann": {true, true}, "": {}, "A": {}, "9a": {true, false}, "_": {true, false}, "a-b": {true, false}, "a/b": {}, "\xff": {},
+		"abcdefghijklmnop": {true, true}, "abcdefghijklmnopq": {true, false}, strings.Repeat("a", 64): {true, false}, strings.Repeat("a", 65): {},
+	} {
+		if got := [2]bool{IsClient(name), IsName(name)}; got != is {
+			t.Errorf("%q is a client and a name: %v", name, got)
+		}
+	}
+	if !IsNumber(1) || !IsNumber(MostNumber) || IsNumber(0) || IsNumber(MostNumber+1) || IsNumber(-1) {
+		t.Error("numbers")
+	}
+	if fmt.Sprint(Kind(200)) != "kind 200" || Ask.String() != "ask" {
+		t.Error("kinds")
+	}
+}

@@ -1,0 +1,30 @@
+package serve
+
+import (
+	"context"
+	"net/http"
+
+	"ordup-node/internal/site"
+	"ordup-node/internal/wire"
+)
+
+// A Fleet answers for a fleet.
+type Fleet struct {
+	*server
+	teller site.Teller
+}
+
+// NewFleet gives the handler of a fleet.
+func NewFleet(config Config, teller site.Teller) *Fleet {
+	served := &Fleet{newServer(config), teller}
+	served.answers(wire.PlacePath, route{http.MethodPost, Sites, wire.MostBody, &room{most: mostPlaces}, served.place})
+	return served
+}
+
+func (served *Fleet) place(ctx context.Context, asked *request) (interface{}, error) {
+	place, err := placeOf(asked)
+	if err != nil {
+		return nil, err
+	}
+	return wire.Done{}, served.teller.Tell(ctx, place)
+}

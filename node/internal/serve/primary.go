@@ -1,0 +1,138 @@
+package serve
+
+import (
+	"context"
+	"errors"
+	"net/http"
+	"strings"
+	"time"
+
+	"ordup-node/internal/epoch"
+	"ordup-node/internal/primary"
+	"ordup-node/internal/script"
+	"ordup-node/internal/wire"
+)
+
+// A Writer is what is asked of a primary.
+type Writer interface {
+	Submit(ctx context.Context, request epoch.Request) (primary.Answer, error)
+	Tell(ctx context.Context, place epoch.Place) error
+	Next(ctx context.Context, wish epoch.Wish) (int64, error)
+	Status() primary.Status
+}
+
+// A Primary answers for a primary.
+type Primary struct {
+	*server
+	writer Writer
+	pass   *Passer
+	waited func(time.Duration)
+}
+
+// NewPrimary gives the handler of a primary. Waited is told how long each update waited that has its answer.
+func NewPrimary(config Config, writer Writer, pass *Passer, waited func(time.Duration)) *Primary {
+	served := &Primary{newServer(config), writer, pass, waited}
+	// Updates wait for places, so they never take the room of these.
+	updates, places := &room{most: int64(config.Requests)}, &room{most: mostPlaces}
+	served.answers(wire.UpdatePath, route{http.MethodPost, Clients, wire.MostBody, updates, served.update})
+	served.answers(wire.PlacePath, route{http.MethodPost, Sites, wire.MostBody, places, served.place})
+	served.answers(wire.NextPath, route{http.MethodPost, Operators, wire.MostNextBody, &room{most: mostNexts}, served.next})
+	served.answers(wire.EpochPath, route{http.MethodGet, Operators, 0, &room{most: mostLooks}, served.epoch})
+	return served
+}
+
+func (served *Primary) update(ctx context.Context, asked *request) (interface{}, error) {
+	var update wire.Update
+	if err := asked.read(&update); err != nil {
+		return nil, err
+	}
+	for _, change := range update.Changes {
+		if !script.IsWord(change, script.MostChangesBytes) {
+			return nil, malformed(errors.New("each change is one word, as add:tea:-5"))
+		}
+	}
+	request := epoch.Request{Client: update.Client, Number: update.Number, Changes: strings.Join(update.Changes, " ")}
+	began := time.Now()
+	answer, err := served.writer.Submit(ctx, request)
+	if err != nil {
+		var acked wire.Acked
+		return served.orPassed(ctx, asked, err, &acked)
+	}
+	served.waited(time.Since(began))
+	return wire.AckedOf(request, answer.Text)
+}
+
+func (served *Primary) place(ctx context.Context, asked *request) (interface{}, error) {
+	place, err := placeOf(asked)
+	if err != nil {
+		return nil, err
+	}
+	if err = served.writer.Tell(ctx, place); err != nil {
+		return served.orPassed(ctx, asked, err, &wire.Done{})
+	}
+	return wire.Done{}, nil
+}
+
+// placeOf reads a place. Numbers that no place has are refused here, and names that are none.
+func placeOf(asked *request) (epoch.Place, error) {
+	var place wire.Place
+	if err := asked.read(&place); err != nil {
+		return epoch.Place{}, err
+	}
+	if !script.IsName(place.Site) || !script.IsName(place.Member) || place.Epoch < 1 || place.Entry < 1 || place.Applied < 0 {
+		return epoch.Place{}, malformed(errors.New("this is no place"))
+	}
+	return epoch.Place(place), nil
+}
+
+func (served *Primary) next(ctx context.Context, asked *request) (interface{}, error) {
+	var next wire.Next
+	if err := asked.read(&next); err != nil {
+		return nil, err
+	}
+	if next.From < 1 || next.Every < 0 || next.Remembers < 0 || next.Ordup != "" && !script.IsWord(next.Ordup, 64) {
+		return nil, malformed(errors.New("from is the epoch that is to end, and the settings are no less than 0"))
+	}
+	wish := epoch.Wish{From: next.From, Declarations: epoch.Declarations(next.Declarations), Replaces: next.Replaces,
+		Settings: script.Settings{Every: next.Every, Remembers: next.Remembers, Ordup: next.Ordup}}
+	begun, err := served.writer.Next(ctx, wish)
+	if err != nil {
+		value, err := served.orPassed(ctx, asked, err, &wire.Begun{})
+		if err != nil {
+			err = wire.ErrorOf(err, "NoWish", http.StatusUnprocessableEntity)
+		}
+		return value, err
+	}
+	return wire.Begun{Epoch: begun}, nil
+}
+
+func (served *Primary) epoch(ctx context.Context, asked *request) (interface{}, error) {
+	status := served.writer.Status()
+	if !status.Writes {
+		return served.orPassed(ctx, asked, &primary.NotWriterError{Address: status.Writer}, &wire.Begun{})
+	}
+	return wire.Begun{Epoch: status.Core.Epoch}, nil
+}
+
+// orPassed passes a request on to the primary that writes, where this one does not. Else, and where that cannot be, it gives the error.
+func (served *Primary) orPassed(ctx context.Context, asked *request, err error, to interface{}) (interface{}, error) {
+	var other *primary.NotWriterError
+	if !errors.As(err, &other) || other.Address == "" {
+		return nil, err
+	}
+	asked.header.Set(wire.WriterHeader, other.Address)
+	if served.pass == nil || asked.Header.Get(wire.PassedHeader) != "" {
+		return nil, err
+	}
+	if failure := served.pass.on(ctx, asked, other.Address, to); failure != nil {
+		var told *wire.Error
+		if errors.As(failure, &told) {
+			return nil, told
+		}
+		if ctx.Err() != nil {
+			err = ctx.Err()
+		}
+		return nil, err
+	}
+	return to, nil
+}

@@ -1,0 +1,367 @@
+package serve_test
+
+import (
+	"context"
+	"encoding/json"
+	"errors"
+	"fmt"
+	"io"
+	"net/http"
+	"os"
+	"strings"
+	"sync"
+	"testing"
+	"time"
+
+	"ordup-node/internal/client"
+	"ordup-node/internal/epoch"
+	"ordup-node/internal/fleet"
+	"ordup-node/internal/listen"
+	"ordup-node/internal/primary"
+	"ordup-node/internal/serve"
+	"ordup-node/internal/site"
+	"ordup-node/internal/wire"
+)
+
+// A writer stands in for a primary.
+type writer struct {
+	lock   sync.Mutex
+	err    error
+	text   string
+	asked  []epoch.Request
+	places []epoch.Place
+	wishes []epoch.Wish
+	status primary.Status
+}
+
+func (writer *writer) Submit(ctx context.Context, request epoch.Request) (primary.Answer, error) {
+	writer.lock.Lock()
+	defer writer.lock.Unlock()
+	writer.asked = append(writer.asked, request)
+	if writer.text == "" && writer.err == nil {
+		writer.lock.Unlock()
+		<-ctx.Done()
+		writer.lock.Lock()
+		return primary.Answer{}, ctx.Err()
+	}
+	return primary.Answer{Text: writer.text}, writer.err
+}
+
+func (writer *writer) Tell(_ context.Context, place epoch.Place) error {
+	writer.lock.Lock()
+	defer writer.lock.Unlock()
+	writer.places = append(writer.places, place)
+	return writer.err
+}
+
+func (writer *writer) Next(_ context.Context, wish epoch.Wish) (int64, error) {
+	writer.lock.Lock()
+	defer writer.lock.Unlock()
+	writer.wishes = append(writer.wishes, wish)
+	return wish.From + 1, writer.err
+}
+
+func (writer *writer) Status() primary.Status {
+	writer.lock.Lock()
+	defer writer.lock.Unlock()
+	return writer.status
+}
+
+func (writer *writer) set(text string, err error) {
+	writer.lock.Lock()
+	defer writer.lock.Unlock()
+	writer.text, writer.err = text, err
+}
+
+// A handler may be given once the address is known.
+type later struct{ http.Handler }
+
+func listenAt(t *testing.T, make func(address string) http.Handler) string {
+	t.Helper()
+	handler := &later{}
+	server, err := listen.Start("127.0.0.1:0", nil, 1000, handler, nil)
+	if err != nil {
+		t.Fatal(err)
+	}
+	t.Cleanup(func() { server.Stop(time.Second) })
+	address := "http://" + server.Address()
+	handler.Handler = make(address)
+	return address
+}
+
+func config(guard *serve.Guard) serve.Config {
+	return serve.Config{Guard: guard, Requests: 100, Ready: func() error { return nil }, Numbers: http.NotFoundHandler()}
+}
+
+func startPrimary(t *testing.T, guard *serve.Guard, writer *writer) string {
+	return listenAt(t, func(address string) http.Handler {
+		return serve.NewPrimary(config(guard), writer, serve.NewPasser(address, nil), func(time.Duration) {})
+	})
+}
+
+// ask gives the status and the body of an answer.
+func ask(t *testing.T, method, url, body string, headers ...string) (int, string) {
+	t.Helper()
+	request, err := http.NewRequest(method, url, strings.NewReader(body))
+	if err != nil {
+		t.Fatal(err)
+	}
+	for at := 0; at < len(headers); at += 2 {
+		request.Header.Set(headers[at], headers[at+1])
+	}
+	answer, err := http.DefaultClient.Do(request)
+	if err != nil {
+		t.Fatal(err)
+	}
+	defer answer.Body.Close()
+	text, _ := io.ReadAll(answer.Body)
+	return answer.StatusCode, strings.TrimSuffix(string(text), "\n")
+}
+
+func is(t *testing.T, what string, status int, text string, wantStatus int, want string) {
+	t.Helper()
+	if status != wantStatus || !strings.Contains(text, want) {
+		t.Errorf("%s: %d %s, and not %d %s", what, status, text, wantStatus, want)
+	}
+}
+
+const good = `{"client":"ann","number":7,"changes":["add:tea:-5","add:till:20"]}`
+
+func TestAnUpdateIsAnswered(t *testing.T) {
+	writer := &writer{}
+	address := startPrimary(t, nil, writer)
+	for _, row := range []struct {
+		text   string
+		err    error
+		status int
+		want   string
+	}{
+		{"ok acked 3 epoch 2", nil, 200, `{"client":"ann","number":7,"epoch":2,"place":3,"seen":"2.3"}`},
+		{"refused 13 LogFull", nil, 422, `"refused":13,"refusal":"LogFull"`},
+		{"", nil, 504, `"error":"NoAnswer"`},
+		{"", &primary.PassedError{Last: 9}, 409, `"error":"Passed","message":"the client asked under 9 before","last":9`},
+		{"", primary.ErrDiffers, 409, `"error":"Differs"`},
+		{"", primary.ErrMalformed, 400, `"error":"Malformed"`},
+		{"", primary.ErrBusy, 503, `"error":"Busy"`},
+		{"", primary.ErrFull, 507, `"error":"Full"`},
+		{"", &primary.NotWriterError{}, 503, `"error":"NotWriter"`},
+		{"", errors.New("something"), 500, `"error":"Failed"`},
+		{"what", nil, 500, `"error":"Failed"`},
+	} {
+		writer.set(row.text, row.err)
+		status, text := ask(t, "POST", address+"/update?wait=0.1", good)
+		is(t, row.want, status, text, row.status, row.want)
+	}
+	if asked := writer.asked[0]; asked != (epoch.Request{Client: "ann", Number: 7, Changes: "add:tea:-5 add:till:20"}) {
+		t.Error(asked)
+	}
+}
+
+func TestWhatIsNoRequestIsRefused(t *testing.T) {
+	writer := &writer{text: "ok acked 1 epoch 1"}
+	address := startPrimary(t, nil, writer)
+	for _, row := range []struct {
+		method, path, body string
+		status             int
+		want               string
+	}{
+		{"POST", "/update", ``, 400, "Malformed"},
+		{"POST", "/update", `nonsense`, 400, "Malformed"},
+		{"POST", "/update", good + "x", 400, "Malformed"},
+		{"POST", "/update", `{"client":"ann","number":"7"}`, 400, "Malformed"},
+		{"POST", "/update", `{"client":"ann","numbr":7}`, 400, "Malformed"},
+		{"POST", "/update", `{"client":"ann","number":1e30}`, 400, "Malformed"},
+		{"POST", "/update", `{"client":"ann","number":7,"changes":["add:tea:1 add:till:2"]}`, 400, "one word"},
+		{"POST", "/update", `{"client":"ann","number":7,"changes":["\n"]}`, 400, "one word"},
+		{"POST", "/update", `{"client":"` + strings.Repeat("a", wire.MostBody) + `"}`, 413, "TooLarge"},
+		{"POST", "/update?wait=x", good, 400, "wait"},
+		{"POST", "/update?wait=-1", good, 400, "wait"},
+		{"GET", "/update", ``, 405, "NoSuchMethod"},
+		{"POST", "/place", `{"site":"north","member":"north","epoch":0,"applied":1,"entry":1}`, 400, "Malformed"},
+		{"POST", "/place", `{"site":"\u0000","member":"north","epoch":1,"applied":1,"entry":1}`, 400, "Malformed"},
+		{"POST", "/place", `{"site":"north","member":"north","epoch":1,"applied":-1,"entry":1}`, 400, "Malformed"},
+		{"POST", "/next", `{"from":1,"every":-1}`, 400, "Malformed"},
+		{"POST", "/next", `{"every":1}`, 400, "Malformed"},
+		{"POST", "/next", `[]`, 400, "Malformed"},
+		{"POST", "/healthz", ``, 405, "NoSuchMethod"},
+		{"GET", "/values", ``, 404, "NoSuchPath"},
+		{"GET", "/../../etc/passwd", ``, 404, "NoSuchPath"},
+		{"GET", "/%ff%00", ``, 404, "NoSuchPath"},
+	} {
+		status, text := ask(t, row.method, address+row.path, row.body)
+		is(t, row.path+" "+row.body, status, text, row.status, row.want)
+	}
+	if len(writer.asked)+len(writer.places)+len(writer.wishes) > 0 {
+		t.Error(writer.asked, writer.places, writer.wishes)
+	}
+	for _, body := range []string{`{"from":3,"every":5,"remembers":2,"ordup":"2","declarations":"# a\nobject tea 1\n","replaces":true}`} {
+		status, text := ask(t, "POST", address+"/next", body)
+		is(t, body, status, text, 200, `{"epoch":4}`)
+	}
+	if wish := writer.wishes[0]; fmt.Sprint(wish) != "{3 {5 2  2 {0 0 }} [object tea 1] true}" {
+		t.Error(wish)
+	}
+}
+
+func TestAnotherPrimaryPassesOn(t *testing.T) {
+	first, second := &writer{text: "ok acked 3 epoch 2"}, &writer{}
+	one := startPrimary(t, nil, first)
+	other := startPrimary(t, nil, second)
+	second.set("", &primary.NotWriterError{Address: one})
+	second.status.Writer, first.status.Writes, first.status.Core.Epoch = one, true, 2
+	status, text := ask(t, "POST", other+"/update", good)
+	is(t, "update", status, text, 200, `"seen":"2.3"`)
+	status, text = ask(t, "POST", other+"/next", `{"from":2}`)
+	is(t, "next", status, text, 200, `{"epoch":3}`)
+	status, text = ask(t, "GET", other+"/epoch", ``)
+	is(t, "epoch", status, text, 200, `{"epoch":2}`)
+	place := epoch.Place{Site: "north", Member: "north", Epoch: 1, Applied: 7, Entry: 3}
+	asker, err := client.New(client.Config{Addresses: []string{other}})
+	if err != nil {
+		t.Fatal(err)
+	}
+	if err := asker.Tell(context.Background(), place); err != nil || len(first.places) != 1 || first.places[0] != place {
+		t.Error(err, first.places)
+	}
+	// From then on it asks the one that writes.
+	if asker.Tell(context.Background(), place); len(second.places) != 1 || len(first.places) != 2 {
+		t.Error(first.places, second.places)
+	}
+	// A refusal comes through, and what was passed on goes no further.
+	first.set("", primary.ErrDiffers)
+	status, text = ask(t, "POST", other+"/update", good)
+	is(t, "differs", status, text, 409, "Differs")
+	first.set("", &primary.NotWriterError{Address: other})
+	status, text = ask(t, "POST", other+"/update", good)
+	is(t, "around", status, text, 503, `"writer":"`+other)
+	second.set("", &primary.NotWriterError{Address: "http://127.0.0.1:1"})
+	status, text = ask(t, "POST", other+"/update", good)
+	is(t, "nobody there", status, text, 503, `"writer":"http://127.0.0.1:1"`)
+	second.set("", &primary.NotWriterError{Address: "https://127.0.0.1:1"})
+	status, text = ask(t, "POST", other+"/update", good)
+	is(t, "another scheme", status, text, 503, `"error":"NotWriter"`)
+}
+
+func TestAPlaceThatCannotBeComesBack(t *testing.T) {
+	place := epoch.Place{Site: "far", Member: "east", Epoch: 1, Applied: 7, Entry: 3}
+	writer := &writer{err: &epoch.CannotBeError{Place: place, Updates: 5}}
+	upper, err := client.New(client.Config{Addresses: []string{startPrimary(t, nil, writer)}})
+	if err != nil {
+		t.Fatal(err)
+	}
+	address := listenAt(t, func(string) http.Handler {
+		return serve.NewFleet(config(nil), fleet.New("far", []string{"east"}, upper))
+	})
+	asker, err := client.New(client.Config{Addresses: []string{address}})
+	if err != nil {
+		t.Fatal(err)
+	}
+	var cannotBe *epoch.CannotBeError
+	if err := asker.Tell(context.Background(), place); !errors.As(err, &cannotBe) || cannotBe.Updates != 5 {
+		t.Error(err)
+	}
+	writer.set("", epoch.ErrNoSite)
+	if err := asker.Tell(context.Background(), place); !errors.Is(err, epoch.ErrNoSite) {
+		t.Error(err)
+	}
+	place.Member = "west"
+	if err := asker.Tell(context.Background(), place); !errors.Is(err, epoch.ErrNoSite) {
+		t.Error(err)
+	}
+	writer.set("", epoch.ErrBehind)
+	place.Member = "east"
+	var told *wire.Error
+	if err := asker.Tell(context.Background(), place); !errors.As(err, &told) || told.Name != "NotYet" {
+		t.Error(err)
+	}
+}
+
+// A reader stands in for a site.
+type reader struct{ place int64 }
+
+func (reader *reader) Read(ctx context.Context, seen site.Seen) (site.Reading, error) {
+	if reader.place < 0 {
+		return site.Reading{}, site.ErrNotServing
+	}
+	if seen.Epoch > 1 || seen.Epoch == 1 && seen.Place > reader.place {
+		<-ctx.Done()
+		return site.Reading{}, &site.BehindError{Has: site.Seen{Epoch: 1, Place: reader.place}}
+	}
+	return site.Reading{Shown: &site.Shown{Entry: 9, Epoch: 1, Place: reader.place, Values: []site.Value{{Name: "tea", Value: 995}}, Limits: []string{"count 3"}},
+		Lease: 2 * time.Second}, nil
+}
+
+func TestAReaderIsShownNoLess(t *testing.T) {
+	reader := &reader{place: 5}
+	address := listenAt(t, func(string) http.Handler { return serve.NewSite(config(nil), "north", reader) })
+	showing := `"site":"north","epoch":1,"place":5,"seen":"1.5","lease_seconds":2,"limits":["count 3"]`
+	for _, row := range []struct {
+		path   string
+		status int
+		want   string
+	}{
+		{"/value/tea", 200, `{"object":"tea","value":995,` + showing + `}`},
+		{"/values?seen=1.5", 200, `{"values":{"tea":995},` + showing + `}`},
+		{"/values?seen=1.6&wait=0.05", 412, `"error":"Behind","message":"the site is at place 5 of epoch 1","epoch":1,"place":5`},
+		{"/value/tea?seen=2.0&wait=0", 412, "Behind"},
+		{"/value/milk", 404, "NoSuchObject"},
+		{"/value/", 404, "NoSuchObject"},
+		{"/value/%00%ff/..", 404, "NoSuchObject"},
+		{"/values?seen=1", 400, "EPOCH.PLACE"},
+		{"/values?seen=-1.0", 400, "EPOCH.PLACE"},
+		{"/values?seen=1.99999999999999999999", 400, "EPOCH.PLACE"},
+		{"/update", 404, "NoSuchPath"},
+		{"/healthz", 200, "ok"},
+		{"/readyz", 200, "ok"},
+	} {
+		status, text := ask(t, "GET", address+row.path, "")
+		is(t, row.path, status, text, row.status, row.want)
+	}
+	reader.place = -1
+	status, text := ask(t, "GET", address+"/values", "")
+	is(t, "no lease", status, text, 503, "NotServing")
+}
+
+func TestTooManyRequestsAreRefused(t *testing.T) {
+	writer := &writer{}
+	address := startPrimary(t, nil, writer)
+	var waiting sync.WaitGroup
+	for count := 0; count < 100; count++ {
+		waiting.Add(1)
+		go func() { defer waiting.Done(); ask(t, "POST", address+"/update?wait=2", good) }()
+	}
+	for tries := 0; tries < 100; tries++ {
+		writer.lock.Lock()
+		count := len(writer.asked)
+		writer.lock.Unlock()
+		if count == 100 {
+			break
+		}
+		time.Sleep(10 * time.Millisecond)
+	}
+	status, text := ask(t, "POST", address+"/update", good)
+	is(t, "one more", status, text, 503, "Busy")
+	status, text = ask(t, "POST", address+"/place", `{"site":"north","member":"north","epoch":1,"applied":1,"entry":1}`)
+	is(t, "a place, for which the others may wait", status, text, 200, "{}")
+	status, text = ask(t, "GET", address+"/healthz", "")
+	is(t, "health", status, text, 200, "ok")
+	waiting.Wait()
+}
+
+func TestTheTableHasEachError(t *testing.T) {
+	source, err := os.ReadFile("../wire/wire.go")
+	if err != nil {
+		t.Fatal(err)
+	}
+	for _, err := range []error{primary.ErrBusy, primary.ErrFull, primary.ErrDiffers, primary.ErrMalformed, epoch.ErrNoSite, fleet.ErrNoMember, epoch.ErrBehind,
+		epoch.ErrOtherWish, epoch.ErrNotYet, site.ErrNotServing, context.DeadlineExceeded, &primary.PassedError{}, &primary.NotWriterError{},
+		&site.BehindError{}, &epoch.CannotBeError{}} {
+		told := wire.ErrorOf(err, "Failed", 500)
+		if !strings.Contains(string(source), fmt.Sprintf("//\t%d %s ", told.Status, told.Name)) {
+			t.Errorf("the table has no %d %s", told.Status, told.Name)
+		}
+		if text, err := json.Marshal(told); err != nil || !strings.Contains(string(text), told.Name) {
+			t.Error(string(text), err)
+		}
+	}
+}

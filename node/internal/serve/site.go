@@ -1,0 +1,86 @@
+package serve
+
+import (
+	"context"
+	"errors"
+	"net/http"
+	"strings"
+
+	"ordup-node/internal/site"
+	"ordup-node/internal/wire"
+)
+
+// A Reader is what is asked of a site.
+type Reader interface {
+	Read(ctx context.Context, seen site.Seen) (site.Reading, error)
+}
+
+// A Site answers for a site.
+type Site struct {
+	*server
+	name   string
+	reader Reader
+	// Waiting are the readers that wait for what they have seen. They take half of the room at most.
+	waiting room
+}
+
+// NewSite gives the handler of a site.
+func NewSite(config Config, name string, reader Reader) *Site {
+	served := &Site{newServer(config), name, reader, room{most: int64(config.Requests) / 2}}
+	room := &room{most: int64(config.Requests)}
+	served.answers(wire.ValuePath, route{http.MethodGet, Clients, 0, room, served.value})
+	served.answers(wire.ValuesPath, route{http.MethodGet, Clients, 0, room, served.values})
+	return served
+}
+
+func (served *Site) value(ctx context.Context, asked *request) (interface{}, error) {
+	reading, showing, err := served.read(ctx, asked)
+	if err != nil {
+		return nil, err
+	}
+	name := strings.TrimPrefix(asked.URL.Path, wire.ValuePath)
+	value, isThere := reading.ValueOf(name)
+	if !isThere {
+		return nil, &wire.Error{Status: http.StatusNotFound, Name: "NoSuchObject", Message: "the site has no such object"}
+	}
+	return wire.Value{Object: name, Value: value, Showing: showing}, nil
+}
+
+func (served *Site) values(ctx context.Context, asked *request) (interface{}, error) {
+	reading, showing, err := served.read(ctx, asked)
+	if err != nil {
+		return nil, err
+	}
+	values := make(map[string]int64, len(reading.Values))
+	for _, each := range reading.Values {
+		values[each.Name] = each.Value
+	}
+	return wire.Values{Values: values, Showing: showing}, nil
+}
+
+func (served *Site) read(ctx context.Context, asked *request) (reading site.Reading, showing wire.Showing, err error) {
+	seen := site.Seen{}
+	if text := asked.URL.Query().Get("seen"); text != "" {
+		if seen.Epoch, seen.Place, err = wire.ParseSeen(text); err != nil {
+			return reading, showing, malformed(err)
+		}
+	}
+	if reading, err = served.readOrWait(ctx, seen); err != nil {
+		return reading, showing, err
+	}
+	return reading, wire.Showing{Site: served.name, Epoch: reading.Epoch, Place: reading.Place, Seen: wire.SeenText(reading.Epoch, reading.Place),
+		Lease: reading.Lease.Seconds(), Limits: reading.Limits}, nil
+}
+
+// readOrWait waits where the site is behind what was seen, and too many do not wait yet.
+func (served *Site) readOrWait(ctx context.Context, seen site.Seen) (site.Reading, error) {
+	now, cancel := context.WithCancel(ctx)
+	cancel()
+	reading, err := served.reader.Read(now, seen)
+	var behind *site.BehindError
+	if !errors.As(err, &behind) || !served.waiting.enter() {
+		return reading, err
+	}
+	defer served.waiting.leave()
+	return served.reader.Read(ctx, seen)
+}

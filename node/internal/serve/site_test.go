@@ -1,0 +1,73 @@
+package serve_test
+
+import (
+	"io"
+	"net/http"
+	"net/http/httptrace"
+	"sync"
+	"sync/atomic"
+	"testing"
+	"time"
+
+	"ordup-node/internal/serve"
+)
+
+func TestReadersThatWaitKeepNobodyOut(t *testing.T) {
+	config := config(nil)
+	config.Requests = 4
+	address := listenAt(t, func(string) http.Handler { return serve.NewSite(config, "north", &reader{place: 5}) })
+	var waiting sync.WaitGroup
+	for count := 0; count < 2; count++ {
+		waiting.Add(1)
+		go func() {
+			defer waiting.Done()
+			status, text := ask(t, "GET", address+"/values?seen=9.9&wait=1", "")
+			is(t, "it waits", status, text, 412, "Behind")
+		}()
+	}
+	time.Sleep(200 * time.Millisecond)
+	began := time.Now()
+	status, text := ask(t, "GET", address+"/values?seen=9.9&wait=1", "")
+	is(t, "one more", status, text, 412, "Behind")
+	status, text = ask(t, "GET", address+"/values?seen=1.5", "")
+	is(t, "one that need not wait", status, text, 200, "tea")
+	if took := time.Since(began); took > 500*time.Millisecond {
+		t.Error(took)
+	}
+	waiting.Wait()
+}
+
+func TestAThousandReadersKeepTheirConnections(t *testing.T) {
+	config := config(nil)
+	config.Requests = 2000
+	address := listenAt(t, func(string) http.Handler { return serve.NewSite(config, "north", &reader{place: 5}) })
+	asker := &http.Client{Transport: &http.Transport{MaxIdleConnsPerHost: 1000}}
+	var kept int64
+	trace := &httptrace.ClientTrace{GotConn: func(info httptrace.GotConnInfo) {
+		if info.Reused {
+			atomic.AddInt64(&kept, 1)
+		}
+	}}
+	for round := int64(0); round < 3; round++ {
+		var readers sync.WaitGroup
+		for count := 0; count < 1000; count++ {
+			readers.Add(1)
+			go func() {
+				defer readers.Done()
+				// All wait at the same time, each on a connection of its own.
+				request, _ := http.NewRequest("GET", address+"/values?seen=9.9&wait=1", nil)
+				answer, err := asker.Do(request.WithContext(httptrace.WithClientTrace(request.Context(), trace)))
+				if err != nil {
+					t.Error(err)
+					return
+				}
+				io.Copy(io.Discard, answer.Body)
+				answer.Body.Close()
+			}()
+		}
+		readers.Wait()
+		if was := atomic.LoadInt64(&kept); was != 1000*round {
+			t.Errorf("%d connections were kept, after round %d", was, round)
+		}
+	}
+}

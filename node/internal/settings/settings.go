@@ -1,0 +1,166 @@
+// Package settings reads the settings of a command: flags, as `--every 1000`, and a file with one `every = 1000` a line. Flags win.
+//
+// Blank lines of the file and lines that begin with `#` are passed over. One file may serve several commands: a key of another command
+// is passed over, and a key that no command has is an error, as is one that stands there twice.
+package settings
+
+import (
+	"errors"
+	"flag"
+	"fmt"
+	"io"
+	"os"
+	"sort"
+	"strconv"
+	"strings"
+	"time"
+)
+
+// fileKey is the flag that names the file.
+const fileKey = "settings"
+
+// A Set is what settings a command has.
+type Set struct {
+	flags *flag.FlagSet
+	file  string
+}
+
+// New gives a set without a setting, but for the name of the file.
+func New(command string) *Set {
+	set := &Set{flags: flag.NewFlagSet(command, flag.ContinueOnError)}
+	set.flags.SetOutput(io.Discard)
+	set.flags.Usage = func() {}
+	set.flags.StringVar(&set.file, fileKey, "", "the `FILE` with settings")
+	return set
+}
+
+// Text is a setting of any text. In the help the word between back quotes stands for what it takes.
+func (set *Set) Text(to *string, key, usual, help string) {
+	set.flags.StringVar(to, key, usual, help)
+}
+
+// Switch is a setting that is true or false.
+func (set *Set) Switch(to *bool, key, help string) { set.flags.BoolVar(to, key, false, help) }
+
+// Number is a setting from least to most.
+func (set *Set) Number(to *int64, key string, usual, least, most int64, help string) {
+	*to = usual
+	set.flags.Func(key, help+fmt.Sprintf(" (%d)", usual), func(text string) error {
+		number, err := strconv.ParseInt(text, 10, 64)
+		if err != nil || number < least || number > most {
+			return fmt.Errorf("it is a number from %d to %d", least, most)
+		}
+		*to = number
+		return nil
+	})
+}
+
+// Seconds is a setting of a time, as 5 or 0.5.
+func (set *Set) Seconds(to *time.Duration, key string, usual, most time.Duration, help string) {
+	*to = usual
+	set.flags.Func(key, help+fmt.Sprintf(" (%g)", usual.Seconds()), func(text string) error {
+		seconds, err := strconv.ParseFloat(text, 64)
+		if err != nil || !(seconds >= 0 && seconds <= most.Seconds()) {
+			return fmt.Errorf("it is a number of seconds, at most %g", most.Seconds())
+		}
+		*to = time.Duration(seconds * float64(time.Second))
+		return nil
+	})
+}
+
+// List is a setting of words with commas between them.
+func (set *Set) List(to *[]string, key, help string) {
+	set.flags.Func(key, help, func(text string) error {
+		*to = nil
+		for _, word := range strings.Split(text, ",") {
+			if word = strings.TrimSpace(word); word == "" {
+				return errors.New("it is a list of words with commas between them")
+			}
+			*to = append(*to, word)
+		}
+		return nil
+	})
+}
+
+// Has is whether the set has a setting of this key.
+func (set *Set) Has(key string) bool { return set.flags.Lookup(key) != nil }
+
+// Read reads the flags among the words and then the file, and returns the words that are none. isKnown is whether another command has a
+// key, which may stand in the file then.
+func (set *Set) Read(words []string, isKnown func(key string) bool) ([]string, error) {
+	rest := []string{}
+	for len(words) > 0 {
+		if err := set.flags.Parse(words); err != nil {
+			return nil, flagError(err)
+		}
+		left := set.flags.Args()
+		if isEnd := len(left) < len(words) && words[len(words)-len(left)-1] == "--"; isEnd || len(left) == 0 {
+			rest = append(rest, left...)
+			break
+		}
+		rest, words = append(rest, left[0]), left[1:]
+	}
+	if set.file == "" {
+		return rest, nil
+	}
+	text, err := os.ReadFile(set.file)
+	if err != nil {
+		return nil, err
+	}
+	return rest, set.readFile(string(text), isKnown)
+}
+
+// flagError is an error of package flag in the words of this one.
+func flagError(err error) error {
+	if errors.Is(err, flag.ErrHelp) {
+		return err
+	}
+	return errors.New(strings.NewReplacer("flag provided but not defined: -", "there is no flag --", "for flag -", "for --",
+		"flag needs an argument: -", "a value is missing after --").Replace(err.Error()))
+}
+
+func (set *Set) readFile(text string, isKnown func(string) bool) error {
+	isGiven := map[string]bool{}
+	set.flags.Visit(func(given *flag.Flag) { isGiven[given.Name] = true })
+	isThere := map[string]bool{}
+	for at, line := range strings.Split(text, "\n") {
+		line = strings.TrimSpace(line)
+		if line == "" || line[0] == '#' {
+			continue
+		}
+		key, value, isPair := strings.Cut(line, "=")
+		key, value = strings.TrimSpace(key), strings.TrimSpace(value)
+		var err error
+		switch {
+		case !isPair:
+			err = fmt.Errorf("%.60q is not `key = value`", line)
+		case isThere[key]:
+			err = fmt.Errorf("the key %s stands there twice", key)
+		case key == fileKey || !set.Has(key) && !isKnown(key):
+			err = fmt.Errorf("there is no key %.60q", key)
+		case set.Has(key) && !isGiven[key]:
+			if err = set.flags.Set(key, value); err != nil {
+				err = fmt.Errorf("%.60q for %s: %w", value, key, err)
+			}
+		}
+		if err != nil {
+			return fmt.Errorf("%s, line %d: %w", set.file, at+1, err)
+		}
+		isThere[key] = true
+	}
+	return nil
+}
+
+// Help is a line for each setting, in the order of their keys.
+func (set *Set) Help() string {
+	lines := []string{}
+	set.flags.VisitAll(func(each *flag.Flag) {
+		name, help := flag.UnquoteUsage(each)
+		if each.DefValue != "" && each.DefValue != "false" {
+			help += fmt.Sprintf(" (%s)", each.DefValue)
+		}
+		lines = append(lines, fmt.Sprintf("  --%-34s %s\n", strings.TrimSpace(each.Name+" "+name), help))
+	})
+	sort.Strings(lines)
+	return strings.Join(lines, "")
+}

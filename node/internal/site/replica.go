@@ -1,0 +1,291 @@
+// Package site has the process that shows the values of a site to its readers.
+//
+// A Replica is what the script comes to at a site. It has no engine, no threads and no clock. A Site follows the script by it, shows
+// what it has run while its lease lives, and tells the place that it has shown.
+package site
+
+import (
+	"bytes"
+	"fmt"
+	"strconv"
+	"strings"
+
+	"ordup-node/internal/epoch"
+	"ordup-node/internal/exit"
+	"ordup-node/internal/script"
+	"ordup-node/internal/store"
+)
+
+// feed is how many updates the own store of a site has under way: the capacity that it declares.
+const feed = 1024
+
+// A Value is an object with its value.
+type Value struct {
+	Name  string
+	Value int64
+}
+
+// Shown is what a site shows after so many entries. Nobody changes it.
+type Shown struct {
+	// Entry is the last entry that was run, Epoch its epoch, and Place how many updates of the epoch are applied.
+	Entry, Epoch, Place int64
+	// Told is how many updates the script says that the site has told.
+	Told int64
+	// Values are in the order of their declarations.
+	Values []Value
+	// Limits are those of the site, as `count 3`.
+	Limits []string
+}
+
+// A LeftError says that the site is not among those of the script.
+type LeftError struct {
+	Site  string
+	Epoch int64
+}
+
+func (err *LeftError) Error() string {
+	return fmt.Sprintf("the script has no site %s in epoch %d", err.Site, err.Epoch)
+}
+
+// ExitStatus is that of a process which meets it.
+func (*LeftError) ExitStatus() exit.Status { return exit.NotInScript }
+
+// A Replica is what entries come to at a site.
+type Replica struct {
+	open     store.Open
+	versions []string
+	// The name in the script, which is that of the fleet where the site is of one.
+	name  string
+	store store.Store
+	entry int64
+	epoch int64
+	sites map[string]bool
+	// The limits that the epoch declares for the site, as `count 3`.
+	limits []string
+	place  int64
+	told   int64
+	text   []byte
+}
+
+// NewReplica gives one before the entry of a number, which is the first one of an epoch.
+func NewReplica(open store.Open, versions []string, name string, first int64) *Replica {
+	return &Replica{open: open, versions: versions, name: name, entry: first - 1}
+}
+
+// Close gives the store back.
+func (replica *Replica) Close() {
+	if replica.store != nil {
+		replica.store.Close()
+		replica.store = nil
+	}
+}
+
+// Next is the number of the entry that comes next.
+func (replica *Replica) Next() int64 { return replica.entry + 1 }
+
+// Epoch is the epoch, or 0 before the first one.
+func (replica *Replica) Epoch() int64 { return replica.epoch }
+
+// Replay runs an entry. A LeftError says that no reader may be served any more.
+func (replica *Replica) Replay(number int64, entry *script.Entry) error {
+	if number != replica.entry+1 {
+		return &epoch.GapError{Number: replica.entry + 1, Instead: number}
+	}
+	if !isIn(entry.Ordup, replica.versions) {
+		return &epoch.VersionError{Number: number, Version: entry.Ordup, Supported: replica.versions}
+	}
+	if entry.Epoch != replica.epoch && entry.Epoch != replica.epoch+1 && replica.epoch > 0 {
+		return &epoch.BrokenError{Number: number, Why: fmt.Sprintf("it is of epoch %d after %d", entry.Epoch, replica.epoch)}
+	}
+	if entry.Begins() {
+		if err := replica.begin(number, entry); err != nil {
+			return err
+		}
+	}
+	replica.entry = number
+	if err := replica.propose(entry); err != nil {
+		return err
+	}
+	return replica.heed(entry)
+}
+
+func isIn(word string, words []string) bool {
+	for _, other := range words {
+		if word == other {
+			return true
+		}
+	}
+	return false
+}
+
+// begin begins an epoch. Its values must be those that the epoch before ended with here.
+func (replica *Replica) begin(number int64, entry *script.Entry) error {
+	before, err := replica.values()
+	if err != nil {
+		return err
+	}
+	replica.Close()
+	if replica.store, err = replica.open(); err != nil {
+		return err
+	}
+	replica.epoch, replica.place, replica.told, replica.sites, replica.limits = entry.Epoch, 0, 0, map[string]bool{}, []string{}
+	lines := []byte{}
+	for at := range entry.Steps {
+		words := strings.Fields(entry.Steps[at].Text)
+		switch {
+		case entry.Steps[at].Kind != script.Declare || len(words) < 3:
+		case words[0] == "site":
+			replica.sites[words[1]] = true
+		case words[0] == "limit" && words[1] == replica.name:
+			replica.limits = append(replica.limits, strings.Join(words[2:], " "))
+		case words[0] == "object":
+			lines = append(append(lines, entry.Steps[at].Text...), '\n')
+			for _, value := range before {
+				if value.Name == words[1] && strconv.FormatInt(value.Value, 10) != words[2] {
+					return &epoch.BrokenError{Number: number, Why: fmt.Sprintf("%s begins with %s, and had %d here", words[1], words[2], value.Value)}
+				}
+			}
+		}
+	}
+	lines = append(lines, fmt.Sprintf("site %s %d\nstart\n", replica.name, feed)...)
+	return replica.run(lines, func(answer []byte) bool { return bytes.HasPrefix(answer, []byte("ok ")) })
+}
+
+// run runs lines, each of whose answers must be as it is looked for.
+func (replica *Replica) run(lines []byte, isRight func([]byte) bool) error {
+	if replica.store == nil {
+		return &epoch.BrokenError{Number: replica.entry, Why: "it comes before the beginning of its epoch"}
+	}
+	answers, err := replica.store.Run(lines)
+	if err != nil {
+		return err
+	}
+	count := 0
+	for len(answers) > 0 {
+		end := bytes.IndexByte(answers, '\n')
+		if end < 0 || !isRight(answers[:end]) {
+			return &epoch.BrokenError{Number: replica.entry, Why: fmt.Sprintf("the store of this site answers %.80q", answers)}
+		}
+		answers, count = answers[end+1:], count+1
+	}
+	if count != bytes.Count(lines, []byte{'\n'}) {
+		return &epoch.BrokenError{Number: replica.entry, Why: fmt.Sprintf("the store of this site gives %d answers", count)}
+	}
+	return nil
+}
+
+// propose runs the requests of an entry. Those that the primary refused are refused here, since the values are the same.
+func (replica *Replica) propose(entry *script.Entry) error {
+	replica.text = replica.text[:0]
+	for at := range entry.Steps {
+		if entry.Steps[at].Kind == script.Ask {
+			replica.text = entry.Steps[at].AppendLines(replica.text)
+		}
+	}
+	if len(replica.text) == 0 {
+		return nil
+	}
+	refused := refusals(entry.Answers())
+	updates := int64(0)
+	err := replica.run(replica.text, func(answer []byte) bool {
+		if bytes.HasPrefix(answer, []byte("ok proposed ")) {
+			updates++
+			return true
+		}
+		isSame := len(refused) > 0 && refused[0] == string(answer)
+		if isSame {
+			refused = refused[1:]
+		}
+		return isSame
+	})
+	if err == nil && len(refused) > 0 {
+		err = &epoch.BrokenError{Number: replica.entry, Why: fmt.Sprintf("the store of this site does not answer %.80q", refused[0])}
+	}
+	if err != nil {
+		return err
+	}
+	return replica.apply(updates)
+}
+
+func refusals(answers []script.Step) []string {
+	refused := []string{}
+	for at := range answers {
+		if strings.HasPrefix(answers[at].Text, "refused ") {
+			refused = append(refused, answers[at].Text)
+		}
+	}
+	return refused
+}
+
+// apply applies updates, as many at once as the feed has room for.
+func (replica *Replica) apply(updates int64) error {
+	for updates > 0 {
+		some := updates
+		if some > feed {
+			some = feed
+		}
+		replica.text = replica.text[:0]
+		for _, kind := range []string{"send ", "apply "} {
+			for count := int64(0); count < some; count++ {
+				replica.text = append(append(append(replica.text, kind...), replica.name...), '\n')
+			}
+		}
+		if err := replica.run(replica.text, func(answer []byte) bool { return bytes.HasPrefix(answer, []byte("ok ")) }); err != nil {
+			return err
+		}
+		replica.place, updates = replica.place+some, updates-some
+	}
+	return nil
+}
+
+// heed looks whether the site is still among those of the script, and what it has told.
+func (replica *Replica) heed(entry *script.Entry) error {
+	for at := range entry.Steps {
+		step := &entry.Steps[at]
+		switch {
+		case step.Kind == script.Leave:
+			delete(replica.sites, step.Name)
+		case step.Kind == script.Tell && step.Name == replica.name:
+			replica.told += step.Count
+		}
+	}
+	if replica.epoch > 0 && !replica.sites[replica.name] {
+		return &LeftError{replica.name, replica.epoch}
+	}
+	return nil
+}
+
+// Show gives what the site shows, or nil before the first epoch.
+func (replica *Replica) Show() (*Shown, error) {
+	values, err := replica.values()
+	if err != nil || replica.store == nil {
+		return nil, err
+	}
+	return &Shown{replica.entry, replica.epoch, replica.place, replica.told, values, replica.limits}, nil
+}
+
+// values reads what the store shows: `ok show SITE sent A applied B reported C rounds D X=V ..`.
+func (replica *Replica) values() ([]Value, error) {
+	if replica.store == nil {
+		return nil, nil
+	}
+	answer, err := replica.store.Run([]byte("show " + replica.name + "\n"))
+	if err != nil {
+		return nil, err
+	}
+	const before = 11
+	words := strings.Fields(string(answer))
+	if len(words) < before || words[0] != "ok" || words[6] != strconv.FormatInt(replica.place, 10) {
+		return nil, &epoch.BrokenError{Number: replica.entry, Why: fmt.Sprintf("the store of this site shows %.80q", answer)}
+	}
+	values := make([]Value, 0, len(words)-before)
+	for _, word := range words[before:] {
+		name, text, _ := strings.Cut(word, "=")
+		value, err := strconv.ParseInt(text, 10, 64)
+		if err != nil {
+			return nil, &epoch.BrokenError{Number: replica.entry, Why: fmt.Sprintf("the store of this site shows %.80q", word)}
+		}
+		values = append(values, Value{name, value})
+	}
+	return values, nil
+}

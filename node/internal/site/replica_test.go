@@ -1,0 +1,172 @@
+package site
+
+import (
+	"errors"
+	"fmt"
+	"strings"
+	"testing"
+	"time"
+
+	"ordup-node/internal/epoch"
+	"ordup-node/internal/modelstore"
+	"ordup-node/internal/script"
+	"ordup-node/internal/store"
+)
+
+// openStore gives the stores of the tests. With the tag library it is that of the program.
+var openStore store.Open = modelstore.Open
+
+var shop = []string{"object tea 100", "object till 0", "site north 1", "site south 1", "limit north count 1000", "start"}
+
+func is(t *testing.T, wants, has interface{}) {
+	t.Helper()
+	if fmt.Sprint(wants) != fmt.Sprint(has) {
+		t.Errorf("%v instead of %v", has, wants)
+	}
+}
+
+// written is a script that a core writes: requests, and then the turns.
+type written struct {
+	t       *testing.T
+	core    *epoch.Core
+	entries []*script.Entry
+}
+
+func newWritten(t *testing.T) *written {
+	config := epoch.Config{Open: openStore, Writer: "p1", Versions: []string{"1"}}
+	turn, err := epoch.FirstTurn(config, script.Settings{Every: 100_000, Remembers: 1, Origin: "0", Ordup: "1"}, shop)
+	is(t, nil, err)
+	core := epoch.New(config, 1)
+	is(t, nil, core.Replay(1, turn.Entry()))
+	return &written{t, core, []*script.Entry{turn.Entry()}}
+}
+
+func (written *written) write() {
+	written.t.Helper()
+	for count := 0; count < 1000; count++ {
+		_, err := written.core.Work(time.Hour)
+		is(written.t, nil, err)
+		turn, err := written.core.Seal(time.Hour)
+		is(written.t, nil, err)
+		if turn == nil {
+			return
+		}
+		written.core.Written(turn.Number)
+		written.entries = append(written.entries, turn.Entry())
+	}
+	written.t.Fatal("there is always one more turn")
+}
+
+func (written *written) ask(client string, number int64, changes string) {
+	written.t.Helper()
+	verdicts, err := written.core.Ask([]epoch.Request{{Client: client, Number: number, Changes: changes}}, time.Hour)
+	is(written.t, nil, err)
+	is(written.t, epoch.Waits, verdicts[0].Kind)
+}
+
+func (written *written) tell(site string, applied int64) {
+	written.t.Helper()
+	is(written.t, nil, written.core.Tell(epoch.Place{Site: site, Epoch: written.core.Epoch(), Applied: applied}, time.Hour))
+}
+
+// replay runs the script at a site, and returns what it shows and the error.
+func (written *written) replay(replica *Replica) (*Shown, error) {
+	for at, entry := range written.entries {
+		if err := replica.Replay(int64(at+1), entry); err != nil {
+			return nil, err
+		}
+	}
+	return replica.Show()
+}
+
+func at(name string) *Replica { return NewReplica(openStore, []string{"1"}, name, 1) }
+
+func TestASiteShowsWhatTheScriptComesTo(t *testing.T) {
+	script := newWritten(t)
+	script.ask("ann", 1, "add:tea:-5 add:till:20")
+	script.ask("bob", 1, "add:tea:2000000000")
+	script.ask("cec", 1, "nonsense")
+	script.write()
+	script.tell("south", 1)
+	script.ask("ann", 2, "set:till:7")
+	script.write()
+	shown, err := script.replay(at("south"))
+	is(t, nil, err)
+	is(t, "{3 1 2 1 [{tea 95} {till 7}] []}", *shown)
+	shown, err = script.replay(at("north"))
+	is(t, nil, err)
+	is(t, int64(0), shown.Told)
+	value, isThere := shown.ValueOf("till")
+	is(t, []interface{}{7, true}, []interface{}{value, isThere})
+	_, isThere = shown.ValueOf("\xff")
+	is(t, false, isThere)
+}
+
+func TestMoreUpdatesThanTheFeedHas(t *testing.T) {
+	script := newWritten(t)
+	for number := int64(1); number <= 2*feed+7; number++ {
+		script.ask("ann", number, "add:tea:1")
+	}
+	script.write()
+	shown, err := script.replay(at("south"))
+	is(t, nil, err)
+	is(t, fmt.Sprintf("[{tea %d} {till 0}]", 100+2*feed+7), shown.Values)
+}
+
+func TestASiteAcrossEpochs(t *testing.T) {
+	script := newWritten(t)
+	script.ask("ann", 1, "add:tea:-5")
+	script.write()
+	script.tell("south", 1)
+	script.tell("north", 1)
+	is(t, nil, script.core.AskNext(epoch.Wish{From: 1}))
+	script.write()
+	shown, err := script.replay(at("south"))
+	is(t, nil, err)
+	is(t, []int64{2, 0, 0}, []int64{shown.Epoch, shown.Place, shown.Told})
+	is(t, "[{tea 95} {till 0}]", shown.Values)
+	// A site that lacks one of the updates notices it as the next epoch begins.
+	lacks := *script.entries[1]
+	lacks.Steps = nil
+	script.entries[1] = &lacks
+	_, err = script.replay(at("south"))
+	is(t, true, strings.Contains(err.Error(), "tea begins with 95, and had 100 here"))
+}
+
+func TestASiteThatIsTakenOut(t *testing.T) {
+	script := newWritten(t)
+	is(t, nil, script.core.AskNext(epoch.Wish{From: 1, Declarations: []string{"object tea 1", "site south 1", "start"}}))
+	script.write()
+	var left *LeftError
+	_, err := script.replay(at("north"))
+	is(t, true, errors.As(err, &left))
+	_, err = script.replay(at("west"))
+	is(t, true, errors.As(err, &left))
+	_, err = script.replay(at("south"))
+	is(t, nil, err)
+}
+
+func TestWhatIsNoScriptAtASite(t *testing.T) {
+	script := newWritten(t)
+	script.ask("ann", 1, "add:tea:-5")
+	script.ask("bob", 1, "nonsense")
+	script.write()
+	var gap *epoch.GapError
+	is(t, true, errors.As(at("south").Replay(2, script.entries[1]), &gap))
+	var version *epoch.VersionError
+	is(t, true, errors.As(NewReplica(openStore, []string{"2"}, "south", 1).Replay(1, script.entries[0]), &version))
+	var broken *epoch.BrokenError
+	is(t, true, errors.As(NewReplica(openStore, []string{"1"}, "south", 2).Replay(2, script.entries[1]), &broken))
+	other := *script.entries[1]
+	other.Epoch = 3
+	replica := at("south")
+	is(t, nil, replica.Replay(1, script.entries[0]))
+	is(t, true, errors.As(replica.Replay(2, &other), &broken))
+	// A store that takes what the primary's refused, or refuses what that took, or shows another place.
+	for _, wrong := range [][2]string{{"refused 1 Syntax", "ok proposed 2"}, {"ok proposed 1", "refused 9 OutOfRange"},
+		{"refused 1 Syntax", "refused 2 Syntax"}, {"applied 1", "applied 2"}, {"ok sent", "refused 14 NothingToSend"}, {"ok start", "no"}, {"tea=95", "tea=x"}} {
+		open := modelstore.OpenWrong(func(line, answer string) string { return strings.Replace(answer, wrong[0], wrong[1], 1) })
+		_, err := script.replay(NewReplica(open, []string{"1"}, "south", 1))
+		is(t, true, errors.As(err, &broken))
+	}
+}

@@ -1,0 +1,278 @@
+package site
+
+import (
+	"context"
+	"errors"
+	"fmt"
+	"os"
+	"sync"
+	"sync/atomic"
+	"time"
+
+	"ordup-node/internal/clock"
+	"ordup-node/internal/engine"
+	"ordup-node/internal/epoch"
+	"ordup-node/internal/exit"
+	"ordup-node/internal/logs"
+	"ordup-node/internal/script"
+	"ordup-node/internal/store"
+)
+
+const (
+	// afterFailure is how long the site waits after a failure before it asks again.
+	afterFailure = 200 * time.Millisecond
+	// tellAgain is after how long a place is told again that the script does not have.
+	tellAgain = 500 * time.Millisecond
+	// tellStill is after how long a place is told again that is nothing new, so that operators see that the site is there.
+	tellStill = 3 * time.Second
+	// tellTime is how long telling a place may take.
+	tellTime = 3 * time.Second
+)
+
+// A Teller takes the place of a site to the primary that writes, or of a site of a fleet to whoever tells for the fleet.
+type Teller interface {
+	Tell(ctx context.Context, place epoch.Place) error
+}
+
+// A Config is what a site is made with.
+type Config struct {
+	Engine *engine.Engine
+	Open   store.Open
+	// Name is the site, and Fleet the name that it has in the script, where that is another one.
+	Name, Fleet string
+	// Host is one word that tells this process from others in the engine.
+	Host     string
+	Versions []string
+	Teller   Teller
+	Log      *logs.Log
+}
+
+// A Site is one process of a site. One of them serves its readers.
+type Site struct {
+	config Config
+	inName string
+	lease  *engine.Lease
+	// What is shown, and from which entry on it is served in which term of the lease. Changed is closed with each change.
+	lock    sync.Mutex
+	shown   *Shown
+	shownAt time.Duration
+	changed chan struct{}
+	first   int64
+	term    engine.Term
+	readers int64
+	toldAt  int64
+	replica *Replica
+	mark    engine.Mark
+	// The last entry that there was when the process first asked. From there on it wants the lease.
+	end int64
+}
+
+// New gives a site, which Run runs.
+func New(config Config) (*Site, error) {
+	site := &Site{config: config, inName: config.Fleet, changed: make(chan struct{})}
+	if site.inName == "" {
+		site.inName = config.Name
+	}
+	own := fmt.Sprintf("%s-%d-%d", config.Host, os.Getpid(), clock.Now())
+	if !script.IsName(site.inName) || !script.IsName(config.Name) || !script.IsWord(own, script.MostWriterBytes) {
+		return nil, exit.With(exit.Words, fmt.Errorf("%q of %q at %q is no site", config.Name, site.inName, config.Host))
+	}
+	site.lease = config.Engine.NewLease(engine.SiteKey(site.inName, config.Name), own, config.Log, site.mayServe)
+	return site, nil
+}
+
+// mayServe says from which entry on readers are served. The process before has told no place after this one.
+func (site *Site) mayServe(ctx context.Context, term engine.Term) error {
+	site.lock.Lock()
+	next := int64(1)
+	if site.shown != nil {
+		next = site.shown.Entry + 1
+	}
+	site.lock.Unlock()
+	last, err := site.config.Engine.Last(ctx, next)
+	site.lock.Lock()
+	defer site.lock.Unlock()
+	if err == nil {
+		site.first, site.term = last, term
+	}
+	return err
+}
+
+// Run follows the script and serves, until the context ends or an error ends the process. Then the lease is given back.
+func (site *Site) Run(ctx context.Context) error {
+	beside, cancel := context.WithCancel(context.Background())
+	var others sync.WaitGroup
+	defer others.Wait()
+	defer cancel()
+	defer site.forget()
+	defer site.show(nil)
+	failed := make(chan error, 1)
+	following, stop := context.WithCancel(ctx)
+	defer stop()
+	others.Add(1)
+	go func() {
+		defer others.Done()
+		if err := site.tellAll(beside); err != nil {
+			failed <- err
+			stop()
+		}
+	}()
+	isLeased := false
+	for following.Err() == nil {
+		err := site.follow(following, func() {
+			if isLeased {
+				return
+			}
+			isLeased = true
+			others.Add(1)
+			go func() { defer others.Done(); site.lease.Run(beside) }()
+		})
+		if err = site.heed(following, err); err != nil {
+			return err
+		}
+	}
+	select {
+	case err := <-failed:
+		return err
+	default:
+		return nil
+	}
+}
+
+// heed is whether an error ends the process.
+func (site *Site) heed(ctx context.Context, err error) error {
+	switch {
+	case err == nil || ctx.Err() != nil:
+		return nil
+	case engine.IsAway(err):
+		site.config.Log.Warn("engine-away", "why", err)
+		pause(ctx, afterFailure)
+		return nil
+	case errors.Is(err, engine.ErrLaterEpoch):
+		site.config.Log.Info("runs-again", "why", err)
+		site.forget()
+		return nil
+	}
+	return err
+}
+
+// forget drops what was run.
+func (site *Site) forget() {
+	if site.replica != nil {
+		site.replica.Close()
+	}
+	site.replica, site.mark = nil, engine.Mark{}
+}
+
+// follow runs and shows the script as it comes. It says once that the site has reached the end that there was at first.
+func (site *Site) follow(ctx context.Context, reached func()) error {
+	if err := site.start(ctx); err != nil {
+		return err
+	}
+	err := site.config.Engine.Follow(ctx, site.replica.Next(), func(entries []engine.Raw) error {
+		for _, raw := range entries {
+			if err := site.run(raw); err != nil {
+				return err
+			}
+		}
+		shown, err := site.replica.Show()
+		if err != nil {
+			return err
+		}
+		site.show(shown)
+		if shown != nil && shown.Entry >= site.end {
+			reached()
+		}
+		return nil
+	})
+	var gap *epoch.GapError
+	if errors.As(err, &gap) {
+		return site.config.Engine.WhyGap(ctx, gap.Number, err)
+	}
+	return err
+}
+
+func (site *Site) run(raw engine.Raw) error {
+	entry, err := epoch.Parse(raw.Number, raw.Text)
+	if err != nil {
+		return err
+	}
+	begun := site.replica.Epoch()
+	if err = site.replica.Replay(raw.Number, entry); err != nil {
+		return err
+	}
+	site.mark.Set(raw.Number, raw.Text)
+	if site.replica.Epoch() > begun {
+		site.config.Log.Info("epoch", "epoch", site.replica.Epoch(), "entry", raw.Number)
+	}
+	return nil
+}
+
+// start gives a replica before the last epoch, where there is none. Else it looks whether the script still has what was run.
+func (site *Site) start(ctx context.Context) error {
+	first, err := site.config.Engine.Resume(ctx, &site.mark)
+	if err != nil || site.replica != nil {
+		return err
+	}
+	if site.end, err = site.config.Engine.Last(ctx, first); err == nil {
+		site.replica = NewReplica(site.config.Open, site.config.Versions, site.inName, first)
+	}
+	return err
+}
+
+// show shows values to readers, if they are served.
+func (site *Site) show(shown *Shown) {
+	site.lock.Lock()
+	defer site.lock.Unlock()
+	site.shown, site.shownAt = shown, clock.Now()
+	close(site.changed)
+	site.changed = make(chan struct{})
+}
+
+// tellAll tells each place that was shown under the lease, until the context ends. A place that cannot be ends the process.
+func (site *Site) tellAll(ctx context.Context) error {
+	var told epoch.Place
+	for ctx.Err() == nil {
+		relies := site.lease.Changed()
+		shown, changed := site.served()
+		isNew := shown != nil && (shown.Epoch > told.Epoch || shown.Epoch == told.Epoch && shown.Place > told.Applied)
+		since := clock.Now() - time.Duration(atomic.LoadInt64(&site.toldAt))
+		isDue := shown != nil && (since > tellAgain && shown.Told < shown.Place || since > tellStill)
+		if isNew || isDue {
+			place := epoch.Place{Site: site.inName, Member: site.config.Name, Epoch: shown.Epoch, Applied: shown.Place, Entry: shown.Entry}
+			err := site.tell(ctx, place)
+			var cannotBe *epoch.CannotBeError
+			if errors.As(err, &cannotBe) {
+				return err
+			}
+			if err == nil {
+				told = place
+				atomic.StoreInt64(&site.toldAt, int64(clock.Now()))
+			} else if ctx.Err() == nil {
+				site.config.Log.Warn("place-not-told", "why", err)
+				pause(ctx, afterFailure)
+			}
+		}
+		select {
+		case <-ctx.Done():
+		case <-changed:
+		case <-relies:
+		case <-time.After(tellAgain):
+		}
+	}
+	return nil
+}
+
+func (site *Site) tell(ctx context.Context, place epoch.Place) error {
+	limited, cancel := context.WithTimeout(ctx, tellTime)
+	defer cancel()
+	return site.config.Teller.Tell(limited, place)
+}
+
+// pause waits, or until the context ends.
+func pause(ctx context.Context, most time.Duration) {
+	select {
+	case <-ctx.Done():
+	case <-time.After(most):
+	}
+}

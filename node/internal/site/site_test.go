@@ -1,0 +1,155 @@
+package site
+
+import (
+	"context"
+	"errors"
+	"sync"
+	"testing"
+	"time"
+
+	"ordup-node/internal/engine"
+	"ordup-node/internal/epoch"
+	"ordup-node/internal/etcdtest"
+)
+
+type nowhere struct{}
+
+func (nowhere) Tell(context.Context, epoch.Place) error { return nil }
+
+// until waits until something is so.
+func until(t *testing.T, what string, isSo func() bool) {
+	t.Helper()
+	for end := time.Now().Add(10 * time.Second); !isSo(); time.Sleep(5 * time.Millisecond) {
+		if time.Now().After(end) {
+			t.Fatal(what)
+		}
+	}
+}
+
+// A process serves what it has once that is as far as the script was when it got the lease, in that term of the lease alone.
+func TestFromWhereOnASiteServes(t *testing.T) {
+	members := etcdtest.Start(t, 1)
+	writer := members.Engine()
+	ctx, cancel := context.WithTimeout(context.Background(), 30*time.Second)
+	defer cancel()
+	write := func(number int64) {
+		t.Helper()
+		is(t, nil, writer.Write(ctx, &engine.Write{Number: number, Text: []byte("x"), Epoch: 1, First: 1}))
+	}
+	for number := int64(1); number <= 5; number++ {
+		write(number)
+	}
+	site, err := New(Config{Engine: members.Engine(), Open: openStore, Name: "north", Host: "h", Versions: []string{"1"}, Teller: nowhere{}})
+	is(t, nil, err)
+	serves := func(entry int64) bool {
+		site.show(&Shown{Entry: entry, Epoch: 1})
+		_, err := site.Read(ctx, Seen{})
+		is(t, true, err == nil || err == ErrNotServing)
+		return err == nil
+	}
+	is(t, false, serves(5)) // It has no lease.
+	leased, giveUp := context.WithCancel(ctx)
+	done := make(chan struct{})
+	go func() { site.lease.Run(leased); close(done) }()
+	until(t, "it gets no lease", site.lease.Held)
+	is(t, []bool{false, true}, []bool{serves(4), serves(5)})
+	write(6)
+	is(t, true, serves(5)) // The lease is older than that entry.
+	// The key is taken away by hand. In the next term the entry counts.
+	members.Delete("site/north")
+	until(t, "it does not lose the lease", func() bool { return !serves(5) })
+	until(t, "it gets no lease again", func() bool { return serves(6) })
+	is(t, false, serves(5))
+	giveUp()
+	<-done
+	is(t, false, serves(6))
+}
+
+// A listener keeps the places that it is told.
+type listener struct {
+	lock   sync.Mutex
+	places []epoch.Place
+}
+
+func (listener *listener) Tell(_ context.Context, place epoch.Place) error {
+	listener.lock.Lock()
+	defer listener.lock.Unlock()
+	listener.places = append(listener.places, place)
+	return nil
+}
+
+func (listener *listener) told() []epoch.Place {
+	listener.lock.Lock()
+	defer listener.lock.Unlock()
+	return append([]epoch.Place{}, listener.places...)
+}
+
+// A process that follows the script without the lease tells nothing. Another one may serve readers, and has not shown as much.
+func TestASiteTellsNothingWithoutTheLease(t *testing.T) {
+	members, listener, script := etcdtest.Start(t, 1), &listener{}, newWritten(t)
+	ctx, cancel := context.WithTimeout(context.Background(), 30*time.Second)
+	defer cancel()
+	script.ask("ann", 1, "add:tea:-5")
+	script.write()
+	for at, entry := range script.entries {
+		is(t, nil, members.Engine().Write(ctx, &engine.Write{Number: int64(at + 1), Text: entry.Text(), Epoch: 1, First: 1}))
+	}
+	other := members.Engine().NewLease(engine.SiteKey("north", "north"), "other", nil, nil)
+	leased, giveUp := context.WithCancel(ctx)
+	done := make(chan struct{})
+	go func() { other.Run(leased); close(done) }()
+	until(t, "the other process has no lease", other.Relies)
+	site, err := New(Config{Engine: members.Engine(), Open: openStore, Name: "north", Host: "h", Versions: []string{"1"}, Teller: listener})
+	is(t, nil, err)
+	ended := make(chan error, 1)
+	go func() { ended <- site.Run(ctx) }()
+	until(t, "it does not follow", func() bool { return site.Status().Place == 1 })
+	time.Sleep(3 * tellAgain)
+	is(t, "[]", listener.told())
+	giveUp()
+	<-done
+	until(t, "it tells nothing with the lease", func() bool { return len(listener.told()) > 0 })
+	is(t, epoch.Place{Site: "north", Member: "north", Epoch: 1, Applied: 1, Entry: 2}, listener.told()[0])
+	cancel()
+	is(t, nil, <-ended)
+}
+
+func TestAReaderSeesNoLessThanBefore(t *testing.T) {
+	members := etcdtest.Start(t, 1)
+	site, err := New(Config{Engine: members.Engine(), Open: openStore, Name: "north", Host: "h", Versions: []string{"1"}, Teller: nowhere{}})
+	is(t, nil, err)
+	ctx, cancel := context.WithTimeout(context.Background(), 30*time.Second)
+	defer cancel()
+	go site.lease.Run(ctx)
+	until(t, "it gets no lease", site.lease.Held)
+	site.show(&Shown{Entry: 7, Epoch: 2, Place: 5})
+	for _, seen := range []Seen{{}, {1, 99}, {2, 5}} {
+		reading, err := site.Read(ctx, seen)
+		is(t, []interface{}{5, nil}, []interface{}{reading.Place, err})
+	}
+	short, cancelShort := context.WithTimeout(ctx, 20*time.Millisecond)
+	defer cancelShort()
+	_, err = site.Read(short, Seen{2, 6})
+	var behind *BehindError
+	is(t, true, errors.As(err, &behind) && behind.Has == Seen{2, 5})
+	read := make(chan Reading, 1)
+	go func() {
+		reading, _ := site.Read(ctx, Seen{3, 1})
+		read <- reading
+	}()
+	site.show(&Shown{Entry: 8, Epoch: 3, Place: 0})
+	site.show(&Shown{Entry: 9, Epoch: 3, Place: 1})
+	is(t, int64(9), (<-read).Entry)
+	is(t, int64(4), site.Status().Readers)
+}
+
+func TestWhatIsNoSite(t *testing.T) {
+	members := etcdtest.Start(t, 1)
+	for _, config := range []Config{{Name: "North", Host: "h"}, {Name: "", Host: "h"}, {Name: "a/b", Host: "h"}, {Name: "a", Fleet: "\xff", Host: "h"},
+		{Name: "a", Host: "h h"}} {
+		config.Engine = members.Engine()
+		if _, err := New(config); err == nil {
+			t.Errorf("%v is a site", config)
+		}
+	}
+}

@@ -1,0 +1,58 @@
+"""Whose code is linked into ordup-node beside ordup's own, and what its licences ask to be passed on with it."""
+
+import os
+import re
+from pathlib import Path
+
+from contents import TOP, said_by
+
+# Debian's packages of the code, by what their import paths begin with.
+PACKAGES = {
+    "github.com/beorn7/perks": "golang-github-beorn7-perks-dev",
+    "github.com/cespare/xxhash": "golang-github-cespare-xxhash-dev",
+    "github.com/coreos/go-semver": "golang-github-coreos-go-semver-dev",
+    "github.com/coreos/go-systemd": "golang-github-coreos-go-systemd-dev",
+    "github.com/coreos/pkg": "golang-github-coreos-pkg-dev",
+    "github.com/gogo/protobuf": "golang-github-gogo-protobuf-dev",
+    "github.com/golang/protobuf": "golang-github-golang-protobuf-1-3-dev",
+    "github.com/google/uuid": "golang-github-google-uuid-dev",
+    "github.com/matttproud/golang_protobuf_extensions": "golang-protobuf-extensions-dev",
+    "github.com/prometheus/client_golang": "golang-github-prometheus-client-golang-dev",
+    "github.com/prometheus/client_model": "golang-github-prometheus-client-model-dev",
+    "github.com/prometheus/common": "golang-github-prometheus-common-dev",
+    "github.com/prometheus/procfs": "golang-github-prometheus-procfs-dev",
+    "go.etcd.io/etcd": "golang-etcd-server-dev",
+    "go.uber.org/atomic": "golang-go.uber-atomic-dev",
+    "go.uber.org/multierr": "golang-go.uber-multierr-dev",
+    "go.uber.org/zap": "golang-go.uber-zap-dev",
+    "golang.org/x/net": "golang-golang-x-net-dev",
+    "golang.org/x/sys": "golang-golang-x-sys-dev",
+    "golang.org/x/text": "golang-golang-x-text-dev",
+    "google.golang.org/genproto": "golang-google-genproto-dev",
+    "google.golang.org/grpc": "golang-google-grpc-dev",
+    "google.golang.org/protobuf": "golang-google-protobuf-dev",
+}
+OPENING = "What follows is of the code of others that is linked into ordup-node, under the licences that it names.\n"
+
+
+def imported(library):
+    """The import paths of what is linked, but for those of Go itself and of ordup."""
+    words = ["--do", "list", "-deps", "-f", "{{if not .Standard}}{{.ImportPath}}{{end}}"]
+    said = said_by("env", "NODE_PACKAGES=main.go", TOP / "node/build", library, *words)
+    return [it for it in said.split() if not re.match(r"ordup(-node)?(/|$)", it)]
+
+
+def package_of(path):
+    found = [name for start, name in PACKAGES.items() if f"{path}/".startswith(f"{start}/")]
+    if len(found) != 1:
+        raise ValueError(f"packages/linked.py does not say of which package {path} is")
+    return found[0]
+
+
+def rights(library):
+    """The notices of the packages that are linked, as Debian has them, and that of Go."""
+    documents = Path(os.environ.get("GOCODE") or "/usr/share/gocode").parent / "doc"
+    go = re.search(r"\bgo(\d+\.\d+)", said_by("go", "version"))[1]
+    names = sorted({*map(package_of, imported(library)), f"golang-{go}-go"})
+    notices = ((documents / name / "copyright").read_text(encoding="utf-8") for name in names)
+    return OPENING + "".join(f"\n{'=' * 72}\n{name}\n{'=' * 72}\n\n{text}" for name, text in zip(names, notices))

@@ -40,6 +40,7 @@ impl<A: Allocator + Copy> Model for Answering<A> {
 }
 
 impl<A: Allocator + Copy> Answering<A> {
+    // promise: as Answering::answer reply
     /// Before the first line.
     pub fn new(alloc: A) -> Self
         ensures { Stands result first_state }
@@ -50,6 +51,7 @@ impl<A: Allocator + Copy> Answering<A> {
         }
     }
 
+    // promise: as Answering::answer reply
     /// Where the script stands.
     pub fn end(&self) -> &ScriptEnd<A>
         ensures { result.now ≡ self.now }
@@ -57,6 +59,7 @@ impl<A: Allocator + Copy> Answering<A> {
         &self.end
     }
 
+    // promise: as Answering::answer reply
     /// Where the script stands in the end.
     pub fn into_end(self) -> ScriptEnd<A>
         ensures { result ≡ self }
@@ -64,6 +67,9 @@ impl<A: Allocator + Copy> Answering<A> {
         self.end
     }
 
+    // promise reply: a line is answered as the reply says, and leaves its state
+    // promise kept: a line for which memory is refused did not happen, and added no text
+    // promise Certify: `certify` shows the rounds and windows that `check` would find
     /// Answers a line.
     ///
     /// Where it succeeds: if the script was in a state, it is afterwards in the state that the reply to the line leaves, and `out`

@@ -87,6 +87,7 @@ pub(crate) fn syntax_or(words: &Words<'_>, other: Refusal) -> Refusal
     other
 }
 
+// promise set syntax: the words of a proposal make its set, or are refused as that; `Syntax` comes first
 /// The message set that the words of a proposal spell.
 ///
 /// Where one of them spells no change, it is refused `Syntax`. Else it is the set of the changes that the words spell, or it is

@@ -8,6 +8,7 @@ use ordup_objects::Refusal;
 use ordup_world::Setup;
 use std::alloc::Allocator;
 
+// promise Makes: a script declares as the setup does, with indexes for names
 /// Declares what a declaration says.
 ///
 /// The setup has one declaration more, or it stays and the call is refused for the first reason that applies, or with `NoMemory`.

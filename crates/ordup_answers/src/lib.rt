@@ -1,4 +1,4 @@
-//! Answers: what a command of a script does to the setup or to the world, and the text of its answer.
+//! Answers to commands of a script. They say what a command does to the setup or to the world, and the text of its answer.
 //!
 //! The one contract above this layer: for every state of a script, a line is answered as the reply to it says, and leaves the state
 //! that the reply leaves; the text of the reply is taken.

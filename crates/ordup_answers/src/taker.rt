@@ -15,6 +15,7 @@ use ordup_text::TextBuffer;
 use ordup_world::{Answer, Setup};
 use std::alloc::{AllocError, Allocator};
 
+// promise: as push_answer
 /// Takes the answers to the lines of a script, one after another. A call fails only for want of memory, and then it took nothing.
 ///
 /// Spare capacity for the answer to what changes the store is reserved before the change, and the answer is taken after it.
@@ -129,6 +130,7 @@ impl<A: Allocator + Copy> AnswerTaker<A> for TextBuffer<A> {
     }
 }
 
+// promise: as push_answer
 /// Takes no answers: of a script that is run for what it leaves alone.
 #[derive(Clone, Copy)]
 pub struct Unanswered;

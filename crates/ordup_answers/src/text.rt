@@ -46,6 +46,8 @@ pub(crate) fn reserve_answer<A: Allocator + Copy>(
     out.reserve(names.saturating_add(MOST_ANSWER_BYTES))
 }
 
+// promise text: as push_answer
+// promise kept: as Answering::answer kept
 /// Adds the answer to what was refused. Want of memory has no answer.
 pub fn push_refused<A: Allocator + Copy>(
     out: &mut TextBuffer<A>,
@@ -138,6 +140,7 @@ fn put_shown<A: Allocator + Copy>(
     out.put_array(b"\n");
 }
 
+// promise: answers and refusals have the text of the format; want of memory has none
 /// Adds the answer to an event, as `put_answer` puts it.
 pub fn push_answer<A: Allocator + Copy>(
     out: &mut TextBuffer<A>,
@@ -369,6 +372,8 @@ fn put_site<A: Allocator + Copy>(out: &mut TextBuffer<A>, setup: &Setup<A>, site
     }
 }
 
+// promise text: as push_answer
+// promise kept: as Answering::answer kept
 /// Adds the answer that shows how many rounds a site has at least, and its windows.
 pub fn push_certified<A: Allocator + Copy>(
     out: &mut TextBuffer<A>,

@@ -14,6 +14,7 @@ use ordup_log::Log;
 use ordup_objects::Refusal;
 use std::alloc::Allocator;
 
+// promise stands refused: the ledger of a record takes in limits that begin up to a place
 /// A ledger without limits, at the empty span from 0 of a record's log. The only refusal is `NoMemory`.
 pub fn first_ledger<A: Allocator + Copy>(
     alloc: A,
@@ -29,6 +30,7 @@ pub fn first_ledger<A: Allocator + Copy>(
     made
 }
 
+// promise more begun limits places stands: as first_ledger
 /// Puts the limits of the entries that hold from a place or before into a ledger, which has those of the first `begun` entries. It
 /// answers how many entries the ledger has then.
 pub fn begin_limits<A: Allocator + Copy>(

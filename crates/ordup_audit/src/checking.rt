@@ -12,6 +12,9 @@ use crate::verdict::{Reason, Verdict};
 use crate::windows::{first_light, first_meeting, first_reported};
 use std::alloc::Allocator;
 
+// promise fewest valid: just valid records of n rounds are answered `Fewest(n)`
+// promise no_fewer: a record answered `Fewest` has the fewest rounds
+// promise verdict: any other record is answered its first reason, with its row
 /// Whether a record shows that its rounds are the fewest: its updates are legal, its rounds keep the limits, and it has as many
 /// windows as rounds, each over a limit alone, apart from the others, and after what was reported.
 ///

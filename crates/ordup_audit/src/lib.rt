@@ -1,4 +1,5 @@
-//! The audit of a site: its record, as a value, and the check whether the record shows that the site's rounds are the fewest.
+//! The audit of a site: its record, and the check of that. The record is a value. The check says whether the record shows that the site's
+//! rounds are the fewest.
 //!
 //! It stands on no store: an auditor has the record alone. A record holds what is declared, the decided updates, and the reports,
 //! rounds and windows of one site. Nothing in it has to be true.

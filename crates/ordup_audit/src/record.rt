@@ -68,6 +68,7 @@ impl<A: Allocator + Copy> Record<A> {
     ghost use Rattle.ordup_audit.specs.RecordInside.{state_of, AreParts};
     ghost use Rattle.ordup_audit.specs.Validity.{IsLegalPrefix};
 
+    // promise: the readers answer the parts of a record, which are complete (`IsRecord`)
     /// The record of these parts.
     pub fn from_parts(parts: RecordParts<A>) -> Self
         requires { AreParts parts }
@@ -76,6 +77,7 @@ impl<A: Allocator + Copy> Record<A> {
         Record { parts }
     }
 
+    // promise: a lent record answers its parts
     /// All parts of the record, lent.
     pub fn view(&self) -> RecordView<'_, A>
         ensures { result ≡ self.now }
@@ -100,6 +102,7 @@ impl<A: Allocator + Copy> Record<A> {
         *self.parts.reports.allocator()
     }
 
+    // promise: as Record::from_parts
     /// The name of the site.
     pub fn site(&self) -> &Name
         ensures { result.now ≡ self.now.site }
@@ -107,6 +110,7 @@ impl<A: Allocator + Copy> Record<A> {
         &self.parts.site
     }
 
+    // promise: as Record::from_parts
     /// The objects of the store, with their initial values.
     pub fn objects(&self) -> &ObjectTable<A>
         ensures { result.now ≡ self.now.objects }
@@ -114,6 +118,7 @@ impl<A: Allocator + Copy> Record<A> {
         &self.parts.objects
     }
 
+    // promise: as Record::from_parts
     /// The groups of the store.
     pub fn groups(&self) -> &Groups<A>
         ensures { result.now ≡ self.now.groups }
@@ -121,6 +126,7 @@ impl<A: Allocator + Copy> Record<A> {
         &self.parts.groups
     }
 
+    // promise: as Record::from_parts
     /// The limits of the site.
     pub fn limits(&self) -> &LimitTable<A>
         ensures { result.now ≡ self.now.limits }
@@ -128,6 +134,7 @@ impl<A: Allocator + Copy> Record<A> {
         &self.parts.limits
     }
 
+    // promise: as Record::from_parts
     /// What each record keeps, for the proofs of its users. It does nothing.
     #[inline(always)]
     pub fn keeps(&self)
@@ -136,6 +143,7 @@ impl<A: Allocator + Copy> Record<A> {
         let _ = &self.parts;
     }
 
+    // promise: as Record::from_parts
     /// How many updates are decided.
     pub fn decided(&self) -> u64
         ensures decided { result ≡ length self.now.sets }
@@ -144,6 +152,7 @@ impl<A: Allocator + Copy> Record<A> {
         self.parts.log.len() + self.parts.rest.len() as u64
     }
 
+    // promise: as Record::from_parts
     /// The message set of the decided update with this number, counted from 1.
     pub fn set(&self, number: u64) -> &MessageSet<A>
         requires first { 0 < number }
@@ -157,6 +166,7 @@ impl<A: Allocator + Copy> Record<A> {
         &self.parts.rest[(number - legal) as usize - 1]
     }
 
+    // promise: as Record::from_parts
     /// The decided updates up to the first that is not legal after those before it.
     pub fn log(&self) -> &Log<A>
         ensures front { IsLegalPrefix self.now result.now }
@@ -166,6 +176,7 @@ impl<A: Allocator + Copy> Record<A> {
         &self.parts.log
     }
 
+    // promise: as Record::from_parts
     /// Whether the updates are legal one after the other.
     pub fn is_legal(&self) -> bool
         ensures { IsTrue result ↔ IsLegalHistory (history_of self.now) }
@@ -174,6 +185,7 @@ impl<A: Allocator + Copy> Record<A> {
         self.parts.rest.is_empty()
     }
 
+    // promise: as Record::from_parts
     /// The decisions at which the site had reported more than at the one before, in order.
     pub fn reports(&self) -> &[ReportChange]
         ensures { result.now ≡ self.now.reports }
@@ -181,6 +193,7 @@ impl<A: Allocator + Copy> Record<A> {
         self.parts.reports.as_slice()
     }
 
+    // promise: as Record::from_parts
     /// What the site had reported at the decision of a place, 0 before the first decision.
     pub fn reported_at(&self, place: u64) -> u64
         ensures { result ≡ report_at self.now.reports place }
@@ -188,6 +201,7 @@ impl<A: Allocator + Copy> Record<A> {
         reported_at(self.parts.reports.as_slice(), place)
     }
 
+    // promise: as Record::from_parts
     /// The places of the rounds, in order.
     pub fn rounds(&self) -> &[u64]
         ensures { result.now ≡ self.now.rounds }
@@ -195,6 +209,7 @@ impl<A: Allocator + Copy> Record<A> {
         self.parts.rounds.as_slice()
     }
 
+    // promise: as Record::from_parts
     /// The windows, in the order of the rounds.
     pub fn windows(&self) -> &[Window]
         ensures { result.now ≡ self.now.windows }
@@ -202,6 +217,7 @@ impl<A: Allocator + Copy> Record<A> {
         self.parts.windows.as_slice()
     }
 
+    // promise: `same` compares all parts of two records
     /// Whether two records are the same: the site's name, the objects, groups and limits, the decided updates, the reports, the
     /// rounds and the windows.
     pub fn same(&self, other: &Record<A>) -> bool

@@ -50,6 +50,7 @@ impl<'a, A: Allocator + Copy> RecordView<'a, A> {
     ghost use Rattle.ordup_audit.specs.Records.{IsRecord, history_of};
     ghost use Rattle.ordup_audit.specs.RecordViews.{changes_in};
 
+    // promise: as Record::view
     /// The name of the site.
     pub fn site(&self) -> &'a Name
         ensures { result.now ≡ self.now.site }
@@ -57,6 +58,7 @@ impl<'a, A: Allocator + Copy> RecordView<'a, A> {
         self.site
     }
 
+    // promise: as Record::view
     /// The objects of the store, with their initial values.
     pub fn objects(&self) -> &'a ObjectTable<A>
         ensures { result.now ≡ self.now.objects }
@@ -64,6 +66,7 @@ impl<'a, A: Allocator + Copy> RecordView<'a, A> {
         self.objects
     }
 
+    // promise: as Record::view
     /// The groups of the store.
     pub fn groups(&self) -> &'a Groups<A>
         ensures { result.now ≡ self.now.groups }
@@ -71,6 +74,7 @@ impl<'a, A: Allocator + Copy> RecordView<'a, A> {
         self.groups
     }
 
+    // promise: as Record::view
     /// The limits of the site.
     pub fn limits(&self) -> &'a LimitTable<A>
         ensures { result.now ≡ self.now.limits }
@@ -78,6 +82,7 @@ impl<'a, A: Allocator + Copy> RecordView<'a, A> {
         self.limits
     }
 
+    // promise: as Record::view
     /// What each record keeps, for the proofs of its users. It does nothing.
     #[inline(always)]
     pub fn keeps(&self)
@@ -86,6 +91,7 @@ impl<'a, A: Allocator + Copy> RecordView<'a, A> {
         let _ = &self.logged;
     }
 
+    // promise: as Record::view
     /// How many updates are decided.
     pub fn decided(&self) -> u64
         ensures { result ≡ length self.now.sets }
@@ -93,6 +99,7 @@ impl<'a, A: Allocator + Copy> RecordView<'a, A> {
         self.logged + self.rest.len() as u64
     }
 
+    // promise: as Record::view
     /// The message set of the decided update with this number, counted from 1.
     pub fn set(&self, number: u64) -> &'a MessageSet<A>
         requires first { 0 < number }
@@ -105,6 +112,7 @@ impl<'a, A: Allocator + Copy> RecordView<'a, A> {
         &self.rest[(number - self.logged) as usize - 1]
     }
 
+    // promise: as Record::view
     /// The decisions at which the site had reported more than at the one before, in order.
     pub fn reports(&self) -> ReportChanges<'a>
         ensures { changes_in result ≡ self.now.reports }
@@ -112,6 +120,7 @@ impl<'a, A: Allocator + Copy> RecordView<'a, A> {
         self.reports
     }
 
+    // promise: as Record::view
     /// The places of the rounds, in order.
     pub fn rounds(&self) -> &'a [u64]
         ensures { result.now ≡ self.now.rounds }
@@ -119,6 +128,7 @@ impl<'a, A: Allocator + Copy> RecordView<'a, A> {
         self.rounds
     }
 
+    // promise: as Record::view
     /// The windows, in the order of the rounds.
     pub fn windows(&self) -> &'a [Window]
         ensures { result.now ≡ self.now.windows }

@@ -13,6 +13,7 @@ pub enum ReportChanges<'a> {
 }
 
 impl ReportChanges<'_> {
+    // promise: as Record::view
     /// How many changes there are.
     pub fn len(self) -> usize
         ensures { result ≡ length (changes_in self.entry) }
@@ -23,6 +24,7 @@ impl ReportChanges<'_> {
         }
     }
 
+    // promise: as Record::view
     /// The change with this index.
     pub fn at(self, index: usize) -> ReportChange
         requires { index < length (changes_in self) }

@@ -18,6 +18,7 @@ use std::alloc::Global;
 /// The version of the functions that C calls.
 pub const VERSION: u32 = 1;
 
+// promise: the version is `VERSION`; `checks/clients` compares the header
 /// The version of these functions.
 #[unsafe(no_mangle)]
 pub extern "C" fn ordup_version() -> u32
@@ -26,7 +27,8 @@ pub extern "C" fn ordup_version() -> u32
     VERSION
 }
 
-/// Opens a store, where there is none.
+// promise: an opened store is before its first line; an open one stays as it was
+/// Opens a store, where there is none. One that is open stays as it was. Where memory is refused there is none.
 #[unsafe(no_mangle)]
 pub extern "C" fn ordup_open(alloc: Global, store: &mut Store) -> u32
     ensures { Opens store.old.held.session store.new.held.session result }
@@ -54,10 +56,14 @@ fn open(alloc: Global, store: &mut Store) -> u32
     }
 }
 
+// promise runs: a call takes whole lines, all unless memory was refused, gives the answers in order, and keeps the rest
+// promise fits full rest: the buffer gets as many bytes as fit, and no others change
+// promise runs: as ordup_close
 /// Answers the lines of a text, and gives the next answers: as many bytes as fit into the buffer.
 ///
 /// `taken` is how many bytes of the text were taken, which are whole lines: all of them, unless memory was refused. The rest of the
-/// text may be given again.
+/// text may be given again. The answers that were kept come first, then those to these lines, and what does not fit is kept. The
+/// status tells whether bytes of the text were left, and else whether answers are kept.
 #[unsafe(no_mangle)]
 pub extern "C" fn ordup_run(
     alloc: Global,
@@ -85,7 +91,9 @@ pub extern "C" fn ordup_run(
     status
 }
 
-/// Tells the record of a site: how long it is, and its text where it fits.
+// promise store record: a record is told whole or not at all, with its length; the store stays
+// promise record: as ordup_close
+/// Tells the record of a site: how long it is, and its text where it fits. Each refusal has a status of its own.
 #[unsafe(no_mangle)]
 pub extern "C" fn ordup_record(
     alloc: Global,
@@ -106,6 +114,8 @@ pub extern "C" fn ordup_record(
     status
 }
 
+// promise store lines: the lines of the successor are told whole or not at all, and read back
+// promise lines: as ordup_close
 /// Tells the declarations of the successor, which begins with what this store ends with: how long they are, and their text where it
 /// fits.
 #[unsafe(no_mangle)]
@@ -127,6 +137,7 @@ pub extern "C" fn ordup_next(
     status
 }
 
+// promise: a record is judged as by `ordup check`, unless its text is too long
 /// Checks a record, and tells the verdict: how long its line is, and the line where it fits.
 #[unsafe(no_mangle)]
 pub extern "C" fn ordup_check(
@@ -140,6 +151,7 @@ pub extern "C" fn ordup_check(
     tell_verdict(alloc, rows, verdict, written)
 }
 
+// promise: a text of records is judged as by `ordup check --series`
 /// Audits records of one site, one after another, and tells the verdict: how long its line is, and the line where it fits.
 #[unsafe(no_mangle)]
 pub extern "C" fn ordup_check_series(
@@ -166,6 +178,7 @@ fn status_of(session: &Session, left: usize) -> u32
     }
 }
 
+// promise: a closed store is none, and each call says so
 /// Closes a store, if there is one.
 #[unsafe(no_mangle)]
 pub extern "C" fn ordup_close(alloc: Global, store: &mut Store)

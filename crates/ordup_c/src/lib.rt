@@ -1,5 +1,4 @@
-//! The store as a static library, which programs in C and other languages call. `clients/c/ordup.h` declares its functions, and says
-//! what their callers owe.
+//! The store as a static library, for C and other languages. `clients/c/ordup.h` declares its functions, and says what their callers owe.
 //!
 //! The one contract above this layer: what the calls of a store give, in order, are the answers to the lines that it took.
 #![tactic(auto)]

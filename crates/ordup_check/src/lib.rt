@@ -1,6 +1,5 @@
-//! The auditor's library: all that an auditor calls is here, and an auditor trusts nothing else. The reader of records is made
-//! here; the check and the writer stand in the crates below. `record_of` is passed on for those who make records: the check does
-//! not use it.
+//! The auditor's library: all that an auditor calls. An auditor trusts nothing else. The reader of records is made here; the check and the
+//! writer stand in the crates below. `record_of` is passed on for those who make records: the check does not use it.
 //!
 //! The one contract above this layer: a text is read as the record that it tells, or up to the first row that breaks a rule.
 //!

@@ -171,6 +171,8 @@ fn read_stage<R: Read>(alloc: Global, rdr: &mut Reader<R>) -> Result<(Stage, u64
     }
 }
 
+// promise malformed: as read_record malformed
+// promise read limited told: as read_record read
 /// Reads a record of at most `limit` bytes. A byte order mark at the start is passed over. It promises, clause by clause, of a
 /// reader whose bytes are known:
 ///
@@ -205,6 +207,8 @@ pub fn read_record_within<R: Read>(
     }
 }
 
+// promise malformed: a text is malformed at its first bad or missing row, whatever follows the limit
+// promise read limited told written: just a text within the limit that tells a record is read as it
 /// Reads a record of at most 8 GiB. A byte order mark at the start is passed over. It promises, clause by clause, of a reader whose
 /// bytes are known:
 ///

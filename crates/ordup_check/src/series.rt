@@ -26,6 +26,8 @@ pub enum SeriesReadFault {
     NoMemory,
 }
 
+// promise verdict: a valid series is answered its rounds, the fewest; else the first reason
+// promise malformed: the first bad row is told after a valid series
 /// Audits the records of one site, one after another, each from its first row on: of a store, of the one that goes on from it, and so
 /// on. It holds one record at a time, and reads up to the first against which there is a reason. It promises, clause by clause, of a
 /// reader whose bytes are known:

@@ -50,6 +50,7 @@ fn begins_record(row: &ByteRecord) -> bool
 }
 
 impl<R: Read> SeriesReader<R> {
+    // promise: the records of a text are read in turn, up to its end or its first bad row
     /// The records of a text of at most `limit` bytes.
     pub fn new(alloc: Global, input: R, limit: u64) -> Self
         ensures plain { IsPlain result.rdr }
@@ -65,6 +66,7 @@ impl<R: Read> SeriesReader<R> {
         }
     }
 
+    // promise next sound: as SeriesReader::new
     /// The next record, and none after the last. Of a text without a row the first record misses its first row.
     pub fn next(&mut self, alloc: Global) -> Result<Option<Record>, RecordReadFault>
         requires plain { IsPlain self.old.rdr }

@@ -12,6 +12,17 @@ use std::io::{Read, Write};
 use std::sync::Wait;
 use std::thread::Threads;
 
+// promise Acts: the program does a job and tells how it ended; wrong words print nothing
+// promise RunsPlan: `ordup threads` prints the outcome of the plan
+// promise IsTold: a fault has its status, and its line is written
+// promise Answers: as print_answers
+// promise Records: as print_record
+// promise Checks: as check_record
+// promise Lags: as print_lag
+// promise ChecksSeries: as check_series
+// promise LagsOfSeries: as print_lag_of_series
+// promise DeclaresSuccessor: as print_next
+// promise DeclaresEnd: as print_next_of_record
 /// Does what the words ask for, and answers the exit status. The first word is the program's name.
 ///
 /// Either one of the jobs was done over the input and the output: then nothing but the line of its fault, or a prefix of that

@@ -1,6 +1,6 @@
-//! The program `ordup`: it does the job that the words on the command line ask for, from standard input to standard output, and
-//! ends with an exit status. `act.rt` has the job done and answers the status. `jobs.rt` calls the crate that does it; `threads` alone
-//! is done here (`plans.rt`).
+//! The program `ordup`. It does the job that the words on the command line ask for, from standard input to standard output, and ends with
+//! an exit status. `act.rt` has the job done and answers the status. `jobs.rt` calls the crate that does it; `threads` alone is done here
+//! (`plans.rt`).
 //!
 //! It has no tests of its own: `checks/rows` and `checks/outside` try the built program.
 #![tactic(auto)]

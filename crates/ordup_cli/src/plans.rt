@@ -52,6 +52,7 @@ fn fault_of_plan(fault: PlanFault) -> Fault
     }
 }
 
+// promise: as act RunsPlan
 /// Why the run of a plan has no outcome.
 fn fault_of(refusal: Refusal) -> Fault
     ensures { result ≡ fault_of refusal }

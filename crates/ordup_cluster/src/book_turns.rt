@@ -5,6 +5,7 @@ use ordup_holds::Turns;
 use ordup_objects::Refusal;
 use std::sync::Wait;
 
+// promise: the turns of a wait are counted, and the last answer is kept
 /// The turns of a store's book that a caller makes while it waits for an update. Each of them is one hold of the lock, and between two
 /// of them the caller sleeps for a millisecond at most: until a site told something, where the update is the head, and else until the
 /// one before it is acknowledged.

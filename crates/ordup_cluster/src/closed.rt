@@ -9,6 +9,7 @@ use ordup_site::Site;
 use std::alloc::Global;
 use std::marker::Model;
 
+// promise: as Cluster::close
 /// What is left of a cluster: its primary, and its sites in order of declaration.
 #[derive(Drop)]
 pub struct Closed {
@@ -30,6 +31,7 @@ impl Model for Closed {
 }
 
 impl Closed {
+    // promise primary kept: as Cluster::close
     /// The primary, whose numbers and places count from 1. Each site agrees with its log, and the records of its sites are valid.
     pub fn primary(&self) -> &Primary
         ensures primary { result.now ≡ self.now.primary }
@@ -38,6 +40,7 @@ impl Closed {
         &self.primary
     }
 
+    // promise before bounded: as Cluster::close
     /// How many updates came before the store, from 0 to 10^18.
     pub fn before(&self) -> u64
         ensures before { result ≡ self.now.before }
@@ -46,6 +49,7 @@ impl Closed {
         self.before
     }
 
+    // promise: as Cluster::close
     /// A site.
     pub fn site(&self, site: SiteId) -> &Site
         requires { site < length self.now.sites }
@@ -54,6 +58,7 @@ impl Closed {
         &self.sites[site.index()]
     }
 
+    // promise successor allowed refused: the successor of a closed store begins after all its updates, once these are acknowledged
     /// Its successor: the store that begins with what it ended with.
     ///
     /// - It begins after all updates of this one, with the same objects, each at its value after the whole log.

@@ -13,6 +13,8 @@ use ordup_primary::{Primary, Setup};
 use ordup_site::Site;
 
 impl Cluster {
+    // promise closed before start count refused: a closed cluster is the opened one; its sites agree, lag within limits, and have valid
+    // records; `Mixed` is for one alone
     /// Takes the store apart, once all threads are joined: it compares what the primary says was declared with what the store was
     /// opened with, and each site with the log. It takes no memory, and waits for nobody.
     ///
@@ -85,6 +87,7 @@ impl Cluster {
     }
 }
 
+// promise mixed: as Cluster::close
 /// The first site that does not agree with the primary, given the initial values once for each site; or the first of all, where the
 /// primary has other declarations than these.
 fn first_mixed(

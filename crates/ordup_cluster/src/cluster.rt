@@ -73,6 +73,7 @@ impl Model for Cluster {
 }
 
 impl Cluster {
+    // promise cluster allowed refused: a cluster begins as declared, after so many updates, at most 10^18
     /// Opens a store before which no updates came. It is refused `Empty` where the setup lacks an object or a site, and else `NoMemory`
     /// alone.
     pub fn new(alloc: Global, setup: Setup) -> Result<Cluster, Refusal>
@@ -83,6 +84,7 @@ impl Cluster {
         Cluster::after(alloc, 0, setup)
     }
 
+    // promise cluster allowed refused: as Cluster::new
     /// Opens a store in which nothing has happened, and before which this many updates came, from 0 to 10^18. It takes the memory that
     /// `close` needs, and waits for nobody.
     ///
@@ -135,6 +137,7 @@ impl Cluster {
         }
     }
 
+    // promise before bounded: as Cluster::new
     /// How many updates came before it, from 0 to 10^18. They are acknowledged, and each site has applied them.
     pub fn before(&self) -> u64
         ensures before { result ≡ self.now.before }
@@ -148,6 +151,7 @@ impl Cluster {
         self.numbered.load(Ordering::SeqCst)
     }
 
+    // promise: as Cluster::new
     /// The objects as they were declared, of which callers make their message sets. It takes no lock.
     pub fn objects(&self) -> &ObjectTable
         ensures { result.now ≡ self.now.start.objects }
@@ -155,6 +159,7 @@ impl Cluster {
         self.setup.objects()
     }
 
+    // promise: as Cluster::new
     /// How many sites there are.
     pub fn sites(&self) -> usize
         ensures { result ≡ length self.now.start.sites }
@@ -162,6 +167,7 @@ impl Cluster {
         self.cells.len()
     }
 
+    // promise seen some refused err: a success raises what the session has seen, a refusal leaves it; refusals come in no proved order
     /// Numbers a message set as the next update, and waits until it is acknowledged, for at most `turns` turns of the book, which
     /// are 1 or more. The first turn is made in the hold that numbers the update.
     ///
@@ -208,6 +214,7 @@ impl Cluster {
         })
     }
 
+    // promise: as number_unless_stopped
     /// The rest of a proposal, once its set is numbered. It is refused only where the update is not acknowledged yet.
     fn wait<R: Wait>(
         &self,
@@ -233,6 +240,7 @@ impl Cluster {
         }
     }
 
+    // promise seen some refused err: as Cluster::propose
     /// Waits until the update with this number is acknowledged, for at most `turns` turns of the book, which are 1 or more. It
     /// makes no turn where the update is acknowledged already.
     ///
@@ -279,6 +287,7 @@ impl Cluster {
         )
     }
 
+    // promise place allowed refused: a changed limit is refused for what is unknown, exactly then; else some sound primary answers
     /// Changes the limit of a site on a scope from the head on, or begins one there. The amount lies from 0 to 10^18. The updates
     /// that are decided keep the limits by which they were decided.
     ///
@@ -334,6 +343,7 @@ impl Cluster {
     }
 }
 
+// promise: a refusal by the stop, the objects or the log leaves the book; then only `NotYet` comes
 /// The hold in which a set is numbered, with the book that it lends: the set is numbered, and the first turn is made.
 ///
 /// It is refused `Stopped` where the store was stopped, and else `UnknownObject`, `LogFull`, `OutOfRange` and `NoMemory`, in this

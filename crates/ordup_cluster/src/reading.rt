@@ -13,6 +13,8 @@ use ordup_query::Query;
 use std::sync::Wait;
 
 impl Cluster {
+    // promise applied before seen allowed refused err: a read tells no fewer updates than were seen or came before the store, which are
+    // then seen; no clause rules out `UnknownObject`
     /// Reads the value of an object at a site, with how many updates the site had applied.
     ///
     /// - The site had applied no fewer than the session had seen, and all that came before the store.
@@ -65,6 +67,7 @@ impl Cluster {
         })
     }
 
+    // promise applied before seen allowed refused err: as Cluster::read
     /// Reads as `read` does, and where the site is behind the session, makes a turn, sleeps until a site told something and reads again,
     /// at most so many times. Each pause takes a millisecond at most.
     ///
@@ -97,6 +100,7 @@ impl Cluster {
         self.read(rt, session, site, object)
     }
 
+    // promise: a query has the given limit; reads add imports and values; the total is within the limit
     /// Begins a query at a site with this import limit, from 0 to 10^18. Its reference is what is acknowledged now.
     ///
     /// - The query has this limit, and has read nothing.

@@ -18,6 +18,7 @@ impl Model for Session {
 }
 
 impl Session {
+    // promise: a session has seen nothing at first, and never sees less
     /// A session that has seen nothing.
     pub fn new() -> Session
         ensures { result ≡ record { seen = 0 } }
@@ -25,6 +26,7 @@ impl Session {
         Session { seen: 0 }
     }
 
+    // promise: as Session::new
     /// How many updates it has seen.
     pub fn seen(&self) -> u64
         ensures { result ≡ self.now.seen }

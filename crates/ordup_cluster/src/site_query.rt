@@ -32,6 +32,7 @@ impl<'a> Model for SiteQuery<'a> {
 }
 
 impl SiteQuery<'_> {
+    // promise: as Cluster::begin
     /// Reads an object at the site: its value, what the read imports, and the new total. It takes the lock of the site.
     ///
     /// - The new total is the old one and the import.
@@ -62,6 +63,7 @@ impl SiteQuery<'_> {
         self.query.read(site, object)
     }
 
+    // promise: as Cluster::begin
     /// Ends the query, and answers what its accepted reads added up to. It takes no lock.
     ///
     /// - The answer has the place of the reference, the sum of the values, the total of the imports, and how many reads there were.

@@ -1,4 +1,4 @@
-//! The command line: which job the words ask the program for (`job_of`), the help and the version.
+//! The command line: jobs, help and version. `job_of` says which job the words ask for.
 //!
 //! It stands on the library clap and on no crate of ordup. The check of what clap asks for is long, and so it is made once and not
 //! again with each change of the program. No contract says which job the words ask for: `checks/outside` tries that.

@@ -41,6 +41,7 @@ pub struct Epochs {
 }
 
 impl Epochs {
+    // promise allowed refused: an epoch without object or site is refused `Empty`, an applier `UnknownSite` alone
     /// Opens the first epoch, in which nothing has happened, as `with_most` with the most updates that a log has.
     pub fn new(alloc: Global, setup: Setup, updates: u64) -> Result<Epochs, Refusal>
         requires { 1 ≤ updates }
@@ -50,6 +51,7 @@ impl Epochs {
         Epochs::with_most(alloc, setup, updates, MOST_UPDATES as u64)
     }
 
+    // promise allowed refused: as Epochs::new
     /// Opens the first epoch, in which nothing has happened. It waits for nobody.
     ///
     /// Each epoch ends after this many updates, which are 1 or more. Where its successor is refused, it ends after as many more,
@@ -81,6 +83,7 @@ impl Epochs {
         })
     }
 
+    // promise IsVisited: a visit is to an open epoch; else it is refused for the kept reason
     /// Begins a visit to the epoch that is open. Where that has its updates, it sleeps until its successor is open.
     ///
     /// It is refused where no epoch is open: the last one was closed, and its successor could not be opened yet, for the reason
@@ -117,6 +120,7 @@ impl Epochs {
         }
     }
 
+    // promise refused: as Epochs::new
     /// Applies what comes to a site, in each epoch, and ends after `stop`. It answers how many updates it applied. It runs in a
     /// thread of its own, sleeps while nothing comes, and is refused `UnknownSite` alone.
     pub fn applier<G: Gate, R: Wait>(&self, rt: &R, site: SiteId, gate: &G) -> Result<u64, Refusal>
@@ -151,6 +155,7 @@ impl Epochs {
         }
     }
 
+    // promise: an epoch is stopped only once a session has seen the number taken for its last
     /// Ends the epoch that is open, starts its successor, and hands out the epoch that has ended. No visit begins until that is
     /// done.
     ///
@@ -220,6 +225,7 @@ impl Epochs {
         }
     }
 
+    // promise: an epoch is due after its updates, later after a refused successor, at its most at the latest; only `Mixed` ends `keep`
     /// Starts a successor whenever the epoch that is open has its updates, until `stop`, and is the keeper of each epoch, as
     /// `Cluster::keeper`. It answers how many it started, and drops what has ended: who wants the records calls `start_successor`.
     /// It runs in a thread of its own.
@@ -255,6 +261,7 @@ impl Epochs {
         self.is_wanted(&stage)
     }
 
+    // promise: as Epochs::keep
     /// A successor is wanted: the epoch that is open has its updates, or none is open.
     fn is_wanted(&self, stage: &Stage) -> bool
         ensures { is_open stage.now ≡ false → result ≡ true }
@@ -338,6 +345,7 @@ fn numbered_in(stage: &Stage) -> u64 {
     }
 }
 
+// promise: as Epochs::start_successor
 /// Waits until the updates up to this number are acknowledged, and then until they are sent. The session that has seen the last one
 /// is the sign of that.
 fn settle_all<R: Wait>(rt: &R, epoch: &Cluster, last: u64, turns: u64) -> Result<Session, Refusal>
@@ -352,6 +360,7 @@ fn settle_all<R: Wait>(rt: &R, epoch: &Cluster, last: u64, turns: u64) -> Result
     Ok(session)
 }
 
+// promise: as Epochs::start_successor
 /// Stops an epoch, once a session has seen that its last update is acknowledged.
 fn stop_after(epoch: &Cluster, last: u64, session: Session)
     requires { session.seen ≡ last }
@@ -360,6 +369,7 @@ fn stop_after(epoch: &Cluster, last: u64, session: Session)
     epoch.stop();
 }
 
+// promise: as Epochs::keep
 /// After how many updates an epoch ends that has this many, where it is to have so many more and at most so many in all.
 fn due_after(numbered: u64, updates: u64, most: u64) -> u64
     ensures { result ≡ min (numbered + updates) most }
@@ -367,6 +377,7 @@ fn due_after(numbered: u64, updates: u64, most: u64) -> u64
     numbered.saturating_add(updates).min(most)
 }
 
+// promise: as Epochs::keep
 /// No successor starts after this refusal, however often it is tried.
 fn is_the_end(refusal: &Refusal) -> bool
     ensures { IsTrue result ↔ ((s : ℕ) × (refusal.now ≡ Refusal.Mixed s)) }
@@ -374,6 +385,7 @@ fn is_the_end(refusal: &Refusal) -> bool
     matches!(refusal, Refusal::Mixed { .. })
 }
 
+// promise: threads may share the epochs; no wrong body: the types say it
 /// Threads may share the epochs, and one may pass them to another.
 pub fn epochs_may_be_shared() {
     is_shared::<Epochs>();

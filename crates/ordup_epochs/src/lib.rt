@@ -1,5 +1,5 @@
-//! A service that never stops: a cluster takes a number of updates, then it is closed, and callers go on in its successor, which
-//! counts on from it. An epoch is one of these clusters. Whoever uses it does this, in order:
+//! A service that never stops. A cluster takes a number of updates, then it is closed, and callers go on in its successor, which counts on
+//! from it. An epoch is one of these clusters. Whoever uses it does this, in order:
 //!
 //! 1. Declare the objects, groups, sites and limits in a `Setup`, and open the first epoch: `Epochs::new`.
 //! 2. Run `Epochs::applier` for each site, in a thread of its own. It goes on from one epoch to the next.

@@ -19,6 +19,8 @@ pub enum Stage {
 }
 
 impl Stage {
+    // promise open ended left: the start of a successor hands out the closed epoch and opens the next, or keeps what ended, or leaves
+    // nothing
     /// Closes the epoch that is open, if one is, of which this many updates were numbered, and opens its successor. It hands out
     /// the epoch that has ended.
     ///
@@ -49,6 +51,7 @@ impl Stage {
         }
     }
 
+    // promise ended lost: the last epoch is handed out, or refused `Mixed` alone, or as before
     /// Closes the epoch that is open, if one is, of which this many updates were numbered: the last epoch that has ended.
     pub fn into_ended(self, numbered: u64) -> Result<Closed, Refusal>
         ensures ended { IfOk result (IsEndOf self numbered) }

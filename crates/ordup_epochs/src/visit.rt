@@ -30,6 +30,7 @@ impl<'a> Model for Visit<'a> {
 }
 
 impl<'a> Visit<'a> {
+    // promise: as Epochs::enter
     /// A visit to the epoch that is open. It is refused where none is, for the reason that is kept there.
     pub(crate) fn new(
         visits: RwLockReadGuard<'a, ()>,

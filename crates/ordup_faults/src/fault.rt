@@ -57,6 +57,7 @@ impl Fault {
     }
 }
 
+// promise status text: as act IsTold
 /// Tells a fault: answers its exit status, and writes its line, or a prefix of it where the writer fails.
 pub fn tell<E: Write>(faults: &mut E, fault: Fault) -> u8
     ensures status { result ≡ fault_status fault }

@@ -1,4 +1,4 @@
-//! How the jobs of the program end: why one was not done, the line and the exit status that tell it, and what a job prints.
+//! How the jobs of the program end, and what they print. A fault is why one was not done, with the line and the exit status that tell it.
 //!
 //! The one contract above this layer: a fault is told in its line, or in a prefix of it, and a text is printed whole, or a prefix of
 //! it and then the writer failed.

@@ -20,6 +20,7 @@ use std::sync::Arc;
 pub struct Feed;
 
 impl Feed {
+    // promise ends allowed refused: the two ends of a feed of the given capacity are made
     /// The two ends of a feed that can hold `capacity` parcels, 1 to 1,024, over the initial values of the objects.
     ///
     /// It takes all the memory that the ends ever need. It is refused `OutOfRange` for the capacity, and `NoMemory`.

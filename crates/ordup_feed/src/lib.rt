@@ -1,5 +1,5 @@
-//! The feed of a site: the bounded queue in which parcels go from the primary to the site, and the counter in which the site tells
-//! how many it took. Each end may be in a thread of its own.
+//! The feed of a site: a queue of parcels, and a counter back. The queue is bounded, and comes from the primary. In the counter the site
+//! tells how many it took. Each end may be in a thread of its own.
 //!
 //! What the layers above rely on: what the site took is a prefix of what was pushed, numbered 1, 2, 3 and so on, and legal. The
 //! primary knows at most the number that the site told, and the site tells at most what it took.

@@ -43,6 +43,8 @@ pub struct Returned {
 }
 
 impl SendEnd {
+    // promise pushed refused: a parcel goes behind those pushed; one that comes back changes nothing
+    // promise full: a feed is full, and hands a parcel back, only after as many pushes as it can hold
     /// Pushes a parcel behind all that were pushed. It takes no memory.
     ///
     /// The caller makes sure that the parcel is the next one: its number follows the last one pushed and is at most 1,000,000, and
@@ -68,6 +70,7 @@ impl SendEnd {
         }
     }
 
+    // promise full same: as SendEnd::push full
     /// Whether the queue is full at one moment of the call: then a push would be refused. It takes no memory.
     pub fn is_full(&mut self) -> bool
         ensures full { IsTrue result → self.old.feed.capacity ≤ length self.old.pushed }
@@ -76,6 +79,8 @@ impl SendEnd {
         self.queue.is_full_as::<Push>(&mut self.pass)
     }
 
+    // promise order: the parcels of an end are numbered from 1 on, and legal; no wrong body: what the types keep
+    // promise answer risen looked: a look answers what the primary then knows, at most the number pushed, and never falls
     /// How many parcels the site took, as the counter says now; or the number pushed where that is less. It takes no memory.
     pub fn look<R: Wait>(&mut self, rt: &R) -> u64
         ensures answer { result ≡ min self.new.known (length self.new.pushed) }

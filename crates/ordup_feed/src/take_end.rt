@@ -33,6 +33,9 @@ impl Model for TakeEnd {
 }
 
 impl TakeEnd {
+    // promise taken next none: a taken parcel is the next one; if none is taken nothing changes
+    // promise order: as SendEnd::look order
+    // promise told: as TakeEnd::tell
     /// Takes the next parcel, if there is one. It takes no memory.
     ///
     /// Its number follows those taken before it, and its set is legal after theirs.
@@ -49,6 +52,7 @@ impl TakeEnd {
         Some(parcel)
     }
 
+    // promise told risen: a site tells how many it took, never more, never fewer than before
     /// Tells how many parcels were taken. It takes no memory.
     pub fn tell<R: Wait>(&mut self, rt: &R)
         ensures told { self.new ≡ record self.old { told = length self.old.taken } }

@@ -129,6 +129,7 @@ pub(crate) fn is_spelled(word: &[u8], keyword: &[u8]) -> bool
     four_bytes(word, last) == four_bytes(keyword, last)
 }
 
+// promise: as ScriptLine::of
 /// Whether a line is one that is kept, by the numbers that their bytes are: eight at once, or four of a shorter line.
 ///
 /// The length is compared first: the numbers alone would not tell where a line ends.

@@ -18,6 +18,7 @@ pub struct ChangeWord<'a> {
 }
 
 impl<'a> ChangeWord<'a> {
+    // promise: as Keyword::of
     /// The change that a word spells: a kind, an object of at least one byte and an operand, between colons.
     #[inline(always)]
     pub fn parse(word: &Word<'a>) -> Option<ChangeWord<'a>>

@@ -45,6 +45,7 @@ pub enum ScopeWord<'a> {
 }
 
 impl<'a> Declaration<'a> {
+    // promise: as Keyword::of
     /// The declaration that a first word and the words after it spell.
     pub fn parse(first: &Word<'_>, rest: &Words<'a>) -> Option<Declaration<'a>>
         ensures { result ≡ declaration_of first.now rest.now }
@@ -73,6 +74,7 @@ impl<'a> Declaration<'a> {
 }
 
 impl<'a> ScopeWord<'a> {
+    // promise: as Keyword::of
     /// A site, what is weighed there and the amount: `S object X N`, `S group G N`, `S all N` or `S count N`.
     pub fn parse_limit(rest: &Words<'a>) -> Option<(Word<'a>, ScopeWord<'a>, Number)>
         ensures { result ≡ limit_of rest.now }

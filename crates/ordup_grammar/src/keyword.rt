@@ -36,6 +36,7 @@ pub enum Keyword {
 }
 
 impl Keyword {
+    // promise: words spell commands and changes exactly as the grammar says
     /// The keyword that a word spells, if it spells one.
     #[tactic(auto, unfolding(crate::specs::Keywords::keyword_of))]
     #[inline(always)]

@@ -1,4 +1,5 @@
-//! The grammar of scripts: the words of a line, the numbers and changes that they spell, and the command that they ask for.
+//! The grammar of scripts: lines, words, numbers, changes and commands. It says what the words of a line spell, and the command that they
+//! ask for.
 //!
 //! What the layers above rely on: what a line asks for depends on its bytes alone, whether they come whole or in pieces.
 //!

@@ -35,6 +35,7 @@ impl<'a> Model for LinePart<'a> {
 }
 
 impl<'a> LinePart<'a> {
+    // promise: as ScriptLine::of
     /// The part of these bytes.
     pub fn new(bytes: &'a [u8]) -> Self
         ensures { result ≡ bytes.now }
@@ -45,6 +46,7 @@ impl<'a> LinePart<'a> {
         }
     }
 
+    // promise: as ScriptLine::of
     /// Its bytes.
     pub fn as_bytes(&self) -> &'a [u8]
         ensures { result.now ≡ self.now }
@@ -60,6 +62,7 @@ impl<'a> LinePart<'a> {
         self.bytes.copy()
     }
 
+    // promise: as ScriptLine::of
     /// Whether it is the line `settle`.
     #[inline(always)]
     pub fn is_settle(&self) -> bool
@@ -85,6 +88,7 @@ impl<'a> LinePart<'a> {
     }
 }
 
+// promise: as ScriptLine::of
 /// What stands before the first line feed, and what stands after it.
 ///
 /// Of most lines it finds in the same pass that each byte is printed: see `bytes`.
@@ -128,6 +132,7 @@ impl Model for LineBuffer {
 impl LineBuffer {
     ghost use Rattle.ordup_grammar.specs.LineBuffers.{Holds};
 
+    // promise: as ScriptLine::of
     /// A buffer that holds nothing.
     pub fn new() -> Self
         ensures { Holds result [] }
@@ -138,6 +143,7 @@ impl LineBuffer {
         }
     }
 
+    // promise: as ScriptLine::of
     /// Whether it holds nothing.
     pub fn is_empty(&self) -> bool
         ensures empty { (part : List ℕ) → Holds self.now part → result ≡ true → part ≡ [] }
@@ -146,6 +152,7 @@ impl LineBuffer {
         self.len == 0
     }
 
+    // promise: as ScriptLine::of
     /// Adds bytes to the line, which does not end among them.
     pub fn hold(&mut self, more: &[u8])
         requires { IsPart more.now }
@@ -156,6 +163,7 @@ impl LineBuffer {
         self.len += kept;
     }
 
+    // promise: as ScriptLine::of
     /// The line, if it ends here. Of one that is too long it is the first bytes, which are too many too.
     pub fn line(&self) -> LinePart<'_>
         ensures { cut result ≡ self.now }
@@ -163,6 +171,7 @@ impl LineBuffer {
         LinePart::new(&self.bytes[..self.len])
     }
 
+    // promise: as ScriptLine::of
     /// Forgets the line.
     pub fn clear(&mut self)
         ensures { Holds self.new [] }

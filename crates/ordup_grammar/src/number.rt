@@ -30,6 +30,7 @@ impl Model for Number {
 }
 
 impl Number {
+    // promise: a number has 1 to 19 digits, no `+`, no `-0`, no zero in front
     /// The number that a word writes: an optional minus and 1 to 19 digits, with no plus, no zero in front of other
     /// digits and no minus before 0.
     pub fn parse(word: &[u8]) -> Option<Number>
@@ -48,6 +49,7 @@ impl Number {
         }
     }
 
+    // promise nearest exact far: a number becomes the nearest `i64`; as a size, one below 0 is above all
     /// The number where it fits, else the `i64` nearest to it.
     pub fn value(self) -> i64
         ensures nearest { result ≡ saturate_signed w64 self }
@@ -61,6 +63,7 @@ impl Number {
         }
     }
 
+    // promise: as Number::value
     /// The number where it is not negative, else the greatest `u64`: a negative number counts as above every size.
     pub fn amount(self) -> u64
         ensures { result ≡ amount_of self }
@@ -90,11 +93,13 @@ fn parse_magnitude(digits: &[u8]) -> Option<u64>
     Some(magnitude)
 }
 
+// promise: a number of at most 19 digits reads back from its decimal text alone
 /// A law: the decimal text of a number of at most 19 digits reads back as that number.
 pub fn decimals_read_back()
     ensures { DecimalsReadBack }
 {}
 
+// promise: as decimals_read_back
 /// A law: a word that reads as a number is the decimal text of that number, which has at most 19 digits.
 pub fn numbers_are_decimals()
     ensures { NumbersAreDecimals }

@@ -19,6 +19,7 @@ pub enum ScriptLine<'a> {
 }
 
 impl<'a> ScriptLine<'a> {
+    // promise: the line rules, in order, decide what a line asks for, whole or in pieces
     /// What the line with these bytes is. What it asks for is what the line asks for.
     #[tactic(auto, unfolding(crate::specs::Requests::request_of))]
     #[inline(always)]

@@ -18,6 +18,7 @@ impl<'a> Model for Word<'a> {
 }
 
 impl<'a> Word<'a> {
+    // promise: as Keyword::of
     /// The word of these bytes.
     pub fn new(bytes: &'a [u8]) -> Self
         ensures { result ≡ bytes.now }
@@ -33,6 +34,7 @@ impl<'a> Word<'a> {
         Word { bytes }
     }
 
+    // promise: as Keyword::of
     /// Its bytes.
     #[inline(always)]
     pub fn as_bytes(&self) -> &'a [u8]
@@ -71,6 +73,7 @@ impl<'a> Words<'a> {
         Words { line }
     }
 
+    // promise: as Keyword::of
     /// A copy of the words. There is at most one more of them than the line has bytes.
     #[inline(always)]
     pub fn copy(&self) -> Words<'a>
@@ -82,6 +85,7 @@ impl<'a> Words<'a> {
         Words::in_line(self.line.copy())
     }
 
+    // promise: as Keyword::of
     /// Whether there is no word.
     #[inline(always)]
     pub fn is_empty(&self) -> bool
@@ -90,6 +94,7 @@ impl<'a> Words<'a> {
         self.line.without_spaces().len() == 0
     }
 
+    // promise: as Keyword::of
     /// The first word and those after it, if there is a word.
     #[tactic(auto, using(crate::proofs::Splits::first_word, crate::proofs::Splits::index_within))]
     #[inline(always)]
@@ -104,6 +109,7 @@ impl<'a> Words<'a> {
         Some((Word::of(line.up_to(end)), Words::in_line(line.from(end))))
     }
 
+    // promise: as Keyword::of
     /// The word, where there is exactly one.
     #[inline(always)]
     pub fn only_word(&self) -> Option<Word<'a>>
@@ -113,6 +119,7 @@ impl<'a> Words<'a> {
         if rest.is_empty() { Some(word) } else { None }
     }
 
+    // promise: as Keyword::of
     /// The words, where there are exactly two.
     #[inline(always)]
     pub fn two_words(&self) -> Option<(Word<'a>, Word<'a>)>
@@ -123,6 +130,7 @@ impl<'a> Words<'a> {
         Some((word, next))
     }
 
+    // promise: as Keyword::of
     /// The name and the number, where there are exactly these two words.
     pub fn name_and_number(&self) -> Option<(Word<'a>, Number)>
         ensures { result ≡ name_and_number self.now }

@@ -7,6 +7,7 @@ use ordup_objects::{SiteId, Values};
 use ordup_primary::Primary;
 use ordup_site::Site;
 
+// promise: a site agrees exactly if it holds a prefix between what it reported and was sent
 /// Whether a site holds the serial result of the first updates of a primary's log, as many as it applied, and it applied no fewer
 /// than it reported and no more than were sent to it.
 ///

@@ -8,6 +8,7 @@ use ordup_objects::Values;
 use ordup_primary::Primary;
 use std::marker::Model;
 
+// promise: just what counts as sent was pushed; no site reported more than its end knows
 /// What lies under the lock of the primary: the primary, and the sender's end of each site's feed in order of declaration.
 #[derive(Drop)]
 pub struct Book {
@@ -43,6 +44,9 @@ impl Book {
         }
     }
 
+    // promise sound fewest within: the primary of a free book is sound with the fewest rounds; sites that applied what they reported lag
+    // within limits; no wrong body: what the type keeps
+    // promise kept: as Book
     /// The primary.
     pub fn primary(&self) -> &Primary
         ensures primary { result.now ≡ self.now.primary }

@@ -1,5 +1,5 @@
-//! The work of one hold of a lock, as functions that are lent what the lock keeps. They take no lock and start no thread. Whoever
-//! keeps a store without a `Cluster`, as a test on one thread does, calls them in this order:
+//! The work of one hold of a lock. It is done by functions that are lent what the lock keeps. They take no lock and start no thread.
+//! Whoever keeps a store without a `Cluster`, as a test on one thread does, calls them in this order:
 //!
 //! 1. `open` makes of a `Setup` the book of the primary, and the cell of each site.
 //! 2. With the book, `number` numbers a message set; `turn` hears the sites, settles and sends; `number_and_turn` does both, as a

@@ -14,6 +14,7 @@ use ordup_query::Query;
 use ordup_query::sizes::GREATEST_IMPORT_LIMIT;
 use std::sync::Wait;
 
+// promise: just the given set is numbered, or refused in order
 /// Numbers a message set as the next update of a book's log, and answers its number.
 ///
 /// It is refused `LogFull` after 1,000,000 updates, `OutOfRange` where a result is out of range, and `NoMemory`.
@@ -39,6 +40,7 @@ pub struct Numbered {
     pub turn: Result<u64, Refusal>,
 }
 
+// promise number turn log allowed refused err: one hold numbers just the given set and makes a turn; an error leaves the book
 /// Numbers a message set as the next update of a book's log, and makes one turn after it.
 ///
 /// It is refused as `number` is, and then nothing was numbered. Where the turn is refused a growth, the update stands.
@@ -60,6 +62,7 @@ pub fn number_and_turn<R: Wait>(
     Ok(Numbered { number, turn })
 }
 
+// promise: a query begins at what is acknowledged, or its limit or memory is refused
 /// Begins a query with this import limit, 0 to 10^18, whose reference is what is acknowledged now.
 ///
 /// It is refused `OutOfRange` for the limit, and `NoMemory`.

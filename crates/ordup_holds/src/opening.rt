@@ -12,6 +12,7 @@ use ordup_primary::{Primary, Setup};
 use ordup_site::Site;
 use std::alloc::Global;
 
+// promise: a store opens with an empty log, and for each site a cell and an unused feed
 /// The book of a store in which nothing has happened, and the cells of its sites in order of declaration.
 ///
 /// It is refused `Empty` where the setup lacks an object or a site, and `NoMemory`.

@@ -10,6 +10,7 @@ use ordup_site::Site;
 use std::marker::Model;
 use std::sync::Wait;
 
+// promise: the site of a free cell holds the serial result of what was taken
 /// What lies under the lock of a site: the site, and the taker's end of its feed.
 #[derive(Drop)]
 pub struct SiteCell {
@@ -54,6 +55,7 @@ impl SiteCell {
         self.site.applied() + 1
     }
 
+    // promise held: as SiteCell
     /// The site.
     pub fn site(&self) -> &Site
         ensures site { result.now ≡ self.now.site }
@@ -63,6 +65,7 @@ impl SiteCell {
         &self.site
     }
 
+    // promise held: as SiteCell
     /// The site, without the end of its feed.
     pub fn into_site(self) -> Site
         ensures site { result ≡ self.site }
@@ -74,6 +77,8 @@ impl SiteCell {
     }
 }
 
+// promise taken none held: the next parcel is taken, applied and told; or nothing changes
+// promise held: as SiteCell
 /// Takes the next parcel of a cell's feed, if there is one: the site applies it, and tells how many it applied. It answers the
 /// number of the update.
 pub fn take<R: Wait>(rt: &R, cell: &mut SiteCell) -> Option<u64>
@@ -87,6 +92,7 @@ pub fn take<R: Wait>(rt: &R, cell: &mut SiteCell) -> Option<u64>
     Some(parcel.number)
 }
 
+// promise: a view answers the value and the updates taken, exactly for a known object
 /// The value of an object in a cell, and how many updates its site applied.
 ///
 /// It is refused `UnknownObject` where there is no such object.

@@ -9,6 +9,8 @@ use ordup_objects::{Refusal, SiteId};
 use ordup_primary::{Primary, Settled, next_updates_may_follow};
 use std::sync::Wait;
 
+// promise acked turned log refused part: a turn is looks, reports, settlements and pushes alone, these up to the capacity; refused memory
+// leaves what was made
 /// One turn of a book: for each site a look at its feed, whose number the site then reports; settlements while they acknowledge the
 /// head; and for each site the updates that it may be sent, while its feed is not full. It answers how many updates are
 /// acknowledged.
@@ -28,6 +30,7 @@ pub fn turn<R: Wait>(rt: &R, book: &mut Book) -> Result<u64, Refusal>
     Ok(primary.acked())
 }
 
+// promise: a turn is left out only if all is acknowledged and sent
 /// Whether an update is not acknowledged, or not sent to each site.
 pub fn has_work(primary: &Primary) -> bool
     ensures { result ≡ false → IsAtRest primary.now }

@@ -33,6 +33,7 @@ pub trait Turns {
         ensures { result ≡ refused_of self.now };
 }
 
+// promise ok err: a wait ends well only if acknowledged, with `NoMemory` only after a refused growth, with `NotYet` only after its turns
 /// Makes turns until the update with this number is acknowledged, with a pause before each, and at most `turns` in all.
 ///
 /// It is refused `NotYet` where that many turns are made and the update is not acknowledged, and `NoMemory` as soon as a turn was
@@ -59,6 +60,7 @@ pub fn until<R: Wait, T: Turns>(
     Ok(())
 }
 
+// promise ok number err: the wait of a proposal ends acknowledged, or with its number
 /// Makes turns until an update is acknowledged that was numbered in the hold of the first of these turns, with a pause before each
 /// further one, and at most `turns` in all.
 ///

@@ -1,4 +1,4 @@
-//! The lag of a site, decision by decision, as its record tells it: a row for each decided place.
+//! The lag of a site at each decision. Its record tells it: there is a row for each decided place.
 //!
 //! The one contract above this layer: the lag of a valid record is written whole, or a prefix of it and then the writer failed. Of
 //! a record that comes after others the places, the reports and the windows are counted on.

@@ -36,6 +36,7 @@ const PIECE: usize = 65_536;
 /// The most bytes between two times that rows are handed out: a piece, and the header or a row.
 const MOST_UNSENT_BYTES: usize = PIECE + 16_384;
 
+// promise written front refused: the lag of a valid record is written in the cells of FORMATS, counted on from earlier records
 /// Writes the lag of a valid record: a header, and a row for each decided place in order. Places and windows are counted on from
 /// those `before` the record. It does not flush the writer. It promises, clause by clause, of a writer whose bytes are known:
 ///

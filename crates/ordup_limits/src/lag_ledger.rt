@@ -17,6 +17,7 @@ use ordup_objects::Refusal;
 use std::alloc::{Allocator, Global};
 use std::marker::Model;
 
+// promise: ledgers take memory in `new` and for marks alone; no wrong body: their results have no refusal
 /// The weight of the updates by which a site lags, kept while the log grows and the site reports.
 ///
 /// It stands at two places of a log: the reported one, up to which the site has reported, and the extended one, up to which
@@ -54,6 +55,7 @@ impl<A: Allocator + Copy> LagLedger<A> {
     ghost use Rattle.ordup_limits.specs.Ledgers.{StandsFor};
     ghost use Rattle.ordup_limits.specs.Masks.{AreMasks};
 
+    // promise limits places stands: a ledger is always over exactly if its span passes a limit
     /// A ledger of these limits that stands at the places 0 and 0 of each log over at most 256 objects.
     ///
     /// It takes all the memory that it ever needs. The only refusal is `NoMemory`.
@@ -77,6 +79,7 @@ impl<A: Allocator + Copy> LagLedger<A> {
         })
     }
 
+    // promise limits places stands: as LagLedger::new
     /// Adds the updates after the extended place, up to a later one. It takes no memory.
     pub fn extend(&mut self, log: &Log<A>, groups: &Groups<A>, to: u64)
         requires forward { self.old.extended ≤ to }
@@ -92,6 +95,7 @@ impl<A: Allocator + Copy> LagLedger<A> {
         self.weights.extend(log, &self.masks, to);
     }
 
+    // promise limits places stands: as LagLedger::new
     /// Takes off the updates up to a place that the site has reported. It takes no memory.
     pub fn reported(&mut self, log: &Log<A>, groups: &Groups<A>, to: u64)
         requires forward { self.old.reported ≤ to }
@@ -111,6 +115,7 @@ impl<A: Allocator + Copy> LagLedger<A> {
         self.weights.report(log, &self.masks, to);
     }
 
+    // promise limits places stands: as LagLedger::new
     /// Changes the amount of the limit on a scope, or begins a limit there, with an amount from 0 to 10^18. It takes no memory.
     pub fn change(&mut self, log: &Log<A>, groups: &Groups<A>, scope: Scope, amount: u64)
         requires spare { length (put are_on_one_scope self.old.limits (record { scope = scope; amount = amount })) ≤ most_limits }
@@ -148,6 +153,7 @@ impl<A: Allocator + Copy> LagLedger<A> {
             .stand_at(&self.limits, log, groups, reported, extended);
     }
 
+    // promise: as LagLedger::new
     /// Whether the span from the reported place to the extended one passes a limit. Equal is not over.
     pub fn over(&self) -> bool
         ensures { (h : History) (groups : GroupList) → StandsFor self.now h groups →
@@ -156,6 +162,7 @@ impl<A: Allocator + Copy> LagLedger<A> {
         self.weights.has_passed() || self.weights.lag() > self.count
     }
 
+    // promise: a ledger knows its limits, and what its span weighs on each
     /// The last limit on each scope, in the order in which the scopes came.
     pub fn limits(&self) -> &[Limit]
         ensures { result.now ≡ self.now.limits }
@@ -163,6 +170,7 @@ impl<A: Allocator + Copy> LagLedger<A> {
         self.limits.as_slice()
     }
 
+    // promise: as LagLedger::limits
     /// What the span from the reported place to the extended one weighs on the scope of the limit with this index.
     pub fn weight(&self, index: usize) -> u64
         requires { index < length self.now.limits }

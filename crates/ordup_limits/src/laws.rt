@@ -3,21 +3,25 @@ ghost use Rattle.ordup_limits.specs.Entries.{LimitsInForceAreALimitTest, LimitsI
 ghost use Rattle.ordup_limits.specs.Joins.{LimitsByPlaceAreTests, TestsJoin};
 ghost use Rattle.ordup_limits.specs.Ledgers.{LongerHistoriesKeepLedgers};
 
+// promise: limits in force at the end of a span are a test of spans
 /// A law: updates that are added later leave it as it was whether a span passes a limit.
 pub fn longer_histories_keep_limits()
     ensures { LongerHistoriesKeepLimits }
 {}
 
+// promise: as longer_histories_keep_limits
 /// A law: a span that begins later and ends at the same place keeps the limits that the longer one keeps.
 pub fn later_spans_keep_limits()
     ensures { LaterSpansKeepLimits }
 {}
 
+// promise: as longer_histories_keep_limits
 /// A law: an empty span keeps all limits.
 pub fn empty_spans_keep_limits()
     ensures { EmptySpansKeepLimits }
 {}
 
+// promise: as longer_histories_keep_limits
 /// A law: the limits that are in force at the end of a span are a test of spans, as the law of the fewest rounds asks for it.
 pub fn limits_in_force_are_a_limit_test()
     ensures { LimitsInForceAreALimitTest }
@@ -35,12 +39,14 @@ pub fn tests_join()
     ensures { TestsJoin }
 {}
 
+// promise: as LimitTable::over
 /// A law: the number of a limit that is in force at a place, which `LimitTable::over` answers, is that of the same scope in
 /// `LimitTable::get`.
 pub fn limits_in_force_keep_their_numbers()
     ensures { LimitsInForceKeepTheirNumbers }
 {}
 
+// promise: as LagLedger::new
 /// A law: a ledger of a log is one of each longer log.
 pub fn longer_histories_keep_ledgers()
     ensures { LongerHistoriesKeepLedgers }

@@ -1,4 +1,4 @@
-//! Limits on the weight of the updates by which a site may lag, and ledgers of that weight.
+//! The limits of sites, and ledgers of what they lag by. A limit is on the weight of the updates by which a site may lag.
 //!
 //! What the layers above rely on: a table says which limit a span passes first, of those in force at its end, in order of
 //! declaration; and these are a test of spans. A ledger, which is kept while the log grows and the site reports, agrees with that

@@ -39,6 +39,7 @@ impl<A: Allocator + Copy> Model for LimitTable<A> {
 }
 
 impl<A: Allocator + Copy> LimitTable<A> {
+    // promise: the readers answer the table, which has `AreEntries`
     /// No limits yet. It takes no memory.
     pub fn new(alloc: A) -> Self
         ensures { result ≡ [] }
@@ -49,6 +50,7 @@ impl<A: Allocator + Copy> LimitTable<A> {
         }
     }
 
+    // promise copied refused: a copy has the same limits, or the last ones from the start on
     /// A copy of the table. The only refusal is `NoMemory`.
     pub fn copy(&self, alloc: A) -> Result<Self, Refusal>
         ensures copied { IfOk result (λ limits. limits ≡ self.now) }
@@ -61,6 +63,7 @@ impl<A: Allocator + Copy> LimitTable<A> {
         })
     }
 
+    // promise copied refused: as LimitTable::copy
     /// The last limit on each scope, in the same order, all of them in force from the start. The only refusal is `NoMemory`.
     pub fn copy_latest(&self, alloc: A) -> Result<Self, Refusal>
         ensures copied { IfOk result (λ limits. limits ≡ from_start (latest self.now)) }
@@ -71,6 +74,7 @@ impl<A: Allocator + Copy> LimitTable<A> {
         Ok(LimitTable { entries, limits })
     }
 
+    // promise known added allowed refused err: a limit is added from the start on
     /// Adds a limit that holds from the start, whose amount lies from 0 to 10^18. No entry holds from later.
     ///
     /// It is refused `UnknownObject` or `UnknownGroup` where the scope's is not there, `OutOfRange` for the amount, `TooMany`
@@ -110,6 +114,7 @@ impl<A: Allocator + Copy> LimitTable<A> {
         Ok(())
     }
 
+    // promise known changed allowed refused err last: a limit changes or begins at a place
     /// Changes the limit on a scope from a place on, or begins one there, whose amount lies from 0 to 10^18. The place is at
     /// least 1, and no entry holds from later.
     ///
@@ -145,6 +150,7 @@ impl<A: Allocator + Copy> LimitTable<A> {
         Ok(())
     }
 
+    // promise: as LimitTable::change
     /// Tests whether a change is allowed, and makes none.
     ///
     /// It is refused `UnknownObject` or `UnknownGroup` where the scope's is not there, `OutOfRange` for the amount, and `TooMany`
@@ -190,6 +196,8 @@ impl<A: Allocator + Copy> LimitTable<A> {
         let _ = &self.entries;
     }
 
+    // promise: as LimitTable::new
+    // promise entries: as LimitTable::new
     /// How many scopes have a limit, at most 64.
     pub fn len(&self) -> usize
         ensures len { result ≡ length (latest self.now) }
@@ -199,6 +207,7 @@ impl<A: Allocator + Copy> LimitTable<A> {
         self.limits.len()
     }
 
+    // promise: as LimitTable::new
     /// The scope and the last amount of a limit, by the index of the scope in the order of declaration.
     pub fn get(&self, index: usize) -> (Scope, u64)
         requires { index < length (latest self.now) }
@@ -215,6 +224,7 @@ impl<A: Allocator + Copy> LimitTable<A> {
         &self.limits
     }
 
+    // promise: as LimitTable::new
     /// The entries, in the order of the places from which they hold.
     pub fn entries(&self) -> &[LimitEntry]
         ensures { result.now ≡ self.now }
@@ -222,6 +232,7 @@ impl<A: Allocator + Copy> LimitTable<A> {
         self.entries.as_slice()
     }
 
+    // promise: `is_same` compares all entries
     /// Whether two tables are the same: the same entries, limits and places alike, in the same order.
     pub fn is_same(&self, other: &LimitTable<A>) -> bool
         ensures { IsTrue result ↔ (self.now ≡ other.now) }
@@ -229,6 +240,7 @@ impl<A: Allocator + Copy> LimitTable<A> {
         self.entries() == other.entries()
     }
 
+    // promise over within: `over` answers the first limit in force that a span passes
     /// The index in the order of declaration of the first limit that the span from a place of the log to another passes, if it
     /// passes one. The limits are those in force at the second place.
     ///
@@ -325,6 +337,7 @@ fn weight_of_all<A: Allocator + Copy>(
     weight
 }
 
+// promise known allowed refused: a scope is refused exactly if its object or group is unknown
 /// Tests that the object or group of a scope is there. It is refused `UnknownObject` or `UnknownGroup` where it is not.
 pub fn check_scope<A: Allocator + Copy>(
     objects: &ObjectTable<A>,

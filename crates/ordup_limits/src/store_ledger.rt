@@ -19,6 +19,7 @@ use ordup_objects::{ObjectId, Refusal, SiteId};
 use std::alloc::{Allocator, Global};
 use std::marker::Model;
 
+// promise: as LagLedger
 /// The ledger of a store: the weights of the updates by which its sites lag, kept while the log grows and the sites report.
 ///
 /// It stands at one place of a log up to which updates were added, and for each site at the place up to which it has reported. An
@@ -46,6 +47,7 @@ impl<A: Allocator + Copy> Model for StoreLedger<A> {
 }
 
 impl<A: Allocator + Copy> StoreLedger<A> {
+    // promise count places stands sites: the ledger of a store stands for the log, and answers just the sites newly over a limit
     /// The ledger of a store over sites with these limits, at most 16, that have reported nothing. No update was added.
     ///
     /// It takes all the memory that it ever needs. The only refusal is `NoMemory`.
@@ -71,6 +73,7 @@ impl<A: Allocator + Copy> StoreLedger<A> {
         })
     }
 
+    // promise place sites stands over there: as StoreLedger::new
     /// Adds the updates after the place so far, up to a later one, and answers the sites that the last of them takes over a
     /// limit, a bit for each, where no site was over one before it. It takes no memory.
     pub fn extend(&mut self, log: &Log<A>, groups: &Groups<A>, to: u64) -> u64
@@ -90,6 +93,7 @@ impl<A: Allocator + Copy> StoreLedger<A> {
         self.sites_over(log, groups)
     }
 
+    // promise place count others reported amounts stands: a report or a changed limit leaves the other sites
     /// Takes off the updates up to a place that a site has reported. It takes no memory.
     pub fn reported(&mut self, log: &Log<A>, groups: &Groups<A>, site: SiteId, to: u64)
         requires site { site < length self.old.sites }
@@ -106,6 +110,7 @@ impl<A: Allocator + Copy> StoreLedger<A> {
         self.sites[site.index()].report(log, groups, &self.masks, to);
     }
 
+    // promise count marks refused: marks weigh the updates on each object, up to the place of the ledger or one before
     /// For each object how much the updates up to a place weigh on it. The place is the one so far, or the one before it.
     ///
     /// The only refusal is `NoMemory`.
@@ -132,6 +137,7 @@ impl<A: Allocator + Copy> StoreLedger<A> {
         Ok(marks)
     }
 
+    // promise place count others reported limits stands: as StoreLedger::reported
     /// Changes the amount of the limit of a site on a scope, or begins a limit there, with an amount from 0 to 10^18. It takes no
     /// memory.
     pub fn change(

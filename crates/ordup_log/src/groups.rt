@@ -31,6 +31,7 @@ impl<A: Allocator + Copy> Model for Groups<A> {
 }
 
 impl<A: Allocator + Copy> Groups<A> {
+    // promise: the readers answer the groups; a copy is the same
     /// No groups yet. It takes no memory.
     pub fn new(alloc: A) -> Self
         ensures { result ≡ [] }
@@ -40,6 +41,7 @@ impl<A: Allocator + Copy> Groups<A> {
         }
     }
 
+    // promise copied refused: as Groups::new
     /// A copy of the groups. The only refusal is `NoMemory`.
     pub fn copy(&self, alloc: A) -> Result<Self, Refusal>
         ensures copied { IfOk result (λ groups. groups ≡ self.now) }
@@ -50,6 +52,7 @@ impl<A: Allocator + Copy> Groups<A> {
         Ok(Groups { groups })
     }
 
+    // promise group known declared allowed refused err: a group is declared, or the last group gets a member
     /// Declares a group of objects.
     ///
     /// It is refused `BadName`, `NameTaken`, `UnknownObject` where a member is not in the table, `TooMany` for a 33rd group
@@ -111,6 +114,7 @@ impl<A: Allocator + Copy> Groups<A> {
         }
     }
 
+    // promise known added allowed refused err: as Groups::declare
     /// Adds a member to the last group.
     ///
     /// It is refused `UnknownObject` where the member is not in the table, `TooMany` for a 65th member, `Repeated` where the
@@ -135,6 +139,7 @@ impl<A: Allocator + Copy> Groups<A> {
         Ok(())
     }
 
+    // promise: as Groups::new
     /// The group of this name, if there is one.
     pub fn find(&self, name: &[u8]) -> Option<GroupId>
         ensures index { option_map (λ g. g) result ≡ index_of name.now self.now }
@@ -144,6 +149,8 @@ impl<A: Allocator + Copy> Groups<A> {
         Some(GroupId::new(index as u8))
     }
 
+    // promise: as Groups::new
+    // promise names distinct: as Groups::new
     /// How many groups there are, at most 32.
     pub fn len(&self) -> usize
         ensures len { result ≡ length self.now }
@@ -168,6 +175,7 @@ impl<A: Allocator + Copy> Groups<A> {
         self.groups.keeps();
     }
 
+    // promise: as Groups::new
     /// The name of a group.
     pub fn name(&self, group: GroupId) -> &Name
         requires { group < length self.now }
@@ -176,6 +184,7 @@ impl<A: Allocator + Copy> Groups<A> {
         self.groups.at(group.index()).0
     }
 
+    // promise: as Groups::new
     /// The members of a group, in the order given.
     pub fn members(&self, group: GroupId) -> &[ObjectId]
         requires { group < length self.now }
@@ -185,6 +194,7 @@ impl<A: Allocator + Copy> Groups<A> {
         self.groups.at(group.index()).1.as_slice()
     }
 
+    // promise: `is_same` compares all names and members
     /// Whether both have the same groups: the same names in the same order, each with the same members in the same order.
     pub fn is_same(&self, other: &Groups<A>) -> bool
         ensures { IsTrue result ↔ (self.now ≡ other.now) }

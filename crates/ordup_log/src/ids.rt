@@ -20,6 +20,7 @@ impl Model for GroupId {
 }
 
 impl GroupId {
+    // promise: as Groups::new
     /// The group with this index.
     pub fn new(index: u8) -> Self
         ensures { result ≡ index }
@@ -27,6 +28,7 @@ impl GroupId {
         GroupId { group: index }
     }
 
+    // promise: as Groups::new
     /// The index of the group.
     pub fn index(self) -> usize
         ensures { result ≡ self }

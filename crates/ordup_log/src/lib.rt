@@ -1,4 +1,4 @@
-//! The log: the updates in their global order, groups of objects, and what updates weigh.
+//! The log: the one order of updates, groups, and weights.
 //!
 //! What the layers above rely on: each place of the log holds a set that is legal there, so each prefix of a log is a log; and
 //! spans are sums of weights.

@@ -54,6 +54,7 @@ impl<A: Allocator + Copy> Log<A> {
     ghost use Rattle.ordup_objects.specs.Refusals.{IsRefusal};
     ghost use Rattle.ordup_log.specs.Appending.{append_refusal};
 
+    // promise: the readers answer the log; a copied prefix has its updates alone
     /// A log without updates, over the initial values of the objects. The only refusal is `NoMemory`.
     pub fn new(alloc: A, objects: &ObjectTable<A>) -> Result<Self, Refusal>
         ensures empty { IfOk result (λ log. log ≡ record { start = initial_state objects.now; sets = [] }) }
@@ -63,6 +64,7 @@ impl<A: Allocator + Copy> Log<A> {
         Log::over(alloc, start)
     }
 
+    // promise copied refused: as Log::new
     /// A copy of the log with its first `count` updates. The only refusal is `NoMemory`.
     pub fn copy_prefix(&self, alloc: A, count: u64) -> Result<Self, Refusal>
         requires { count ≤ length self.now.sets }
@@ -108,6 +110,8 @@ impl<A: Allocator + Copy> Log<A> {
         })
     }
 
+    // promise legal: the set at each place is legal there; no wrong body: what the type keeps
+    // promise: as Log::new
     /// How many updates there are.
     pub fn len(&self) -> u64
         ensures len { result ≡ length self.now.sets }
@@ -127,6 +131,7 @@ impl<A: Allocator + Copy> Log<A> {
         let _ = &self.sets;
     }
 
+    // promise: as Log::new
     /// How many objects the log is over.
     pub fn objects(&self) -> usize
         ensures { result ≡ length self.now.start }
@@ -134,6 +139,7 @@ impl<A: Allocator + Copy> Log<A> {
         self.start.len()
     }
 
+    // promise number added allowed refused err: just the given legal set is appended; `append_or_return` gives back a refused one
     /// Adds a message set as the last update, and returns its number.
     ///
     /// It is refused `LogFull` after 1,000,000 updates, `OutOfRange` where a result is out of range, and `NoMemory`.
@@ -151,6 +157,7 @@ impl<A: Allocator + Copy> Log<A> {
         }
     }
 
+    // promise number added allowed refused err returned: as Log::append
     /// Adds a message set as the last update, as `append` does. A set that is refused is given back.
     pub fn append_or_return(&mut self, set: MessageSet<A>) -> Result<u64, (Refusal, MessageSet<A>)>
         requires { AreKnown (length self.old.start) set }
@@ -194,6 +201,8 @@ impl<A: Allocator + Copy> Log<A> {
         Ok(number)
     }
 
+    // promise legal: as Log::len
+    // promise: as Log::new
     /// The set of the update with this number.
     pub fn set(&self, number: u64) -> &MessageSet<A>
         requires first { 0 < number }
@@ -205,6 +214,7 @@ impl<A: Allocator + Copy> Log<A> {
         &self.sets[number as usize - 1]
     }
 
+    // promise: as Log::new
     /// A copy of the set of the update with this number. The only refusal is `NoMemory`.
     pub fn copy_set(&self, number: u64) -> Result<MessageSet<A>, Refusal>
         requires first { 0 < number }
@@ -216,6 +226,7 @@ impl<A: Allocator + Copy> Log<A> {
         self.set(number).copy(alloc)
     }
 
+    // promise: as Log::new
     /// The values after all updates.
     pub fn end(&self) -> &Values<A>
         ensures { result.now ≡ serial self.now (length self.now.sets) }
@@ -223,6 +234,7 @@ impl<A: Allocator + Copy> Log<A> {
         &self.end
     }
 
+    // promise: as Log::new
     /// The value of an object after all updates.
     pub fn end_value(&self, object: ObjectId) -> i64
         requires { object < length self.now.start }
@@ -231,6 +243,7 @@ impl<A: Allocator + Copy> Log<A> {
         self.end.get(object)
     }
 
+    // promise moves: moves say what each change made, and how far it moved
     /// What each change of the update with this number made of its object, in the order of the changes.
     pub fn moves(&self, number: u64) -> &[Moved]
         requires first { 0 < number }

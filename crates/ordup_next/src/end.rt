@@ -20,6 +20,7 @@ use ordup_verdicts::{fault_of_reading, print_verdict};
 use std::alloc::Global;
 use std::io::{Read, Write};
 
+// promise DeclaresEnd: `ordup next --record` prints the last objects and the groups of a valid record
 /// Reads a record and prints the declarations of its objects, at their values after its last update, and of its groups; or the
 /// verdict on it where it is not valid.
 ///

@@ -1,4 +1,4 @@
-//! The jobs that print the declarations of a successor: `next` from a script, and `next --record` from a record.
+//! The jobs `next` and `next --record`. They print the declarations of a successor, from a script and from a record.
 //!
 //! The one contract above this layer: the lines of the successor were printed, or those of the objects and groups that a valid
 //! record ends with; else nothing was written, or the verdict on the record was.

@@ -12,6 +12,7 @@ use ordup_text::TextBuffer;
 use std::alloc::Global;
 use std::io::{Read, Write};
 
+// promise DeclaresSuccessor: `ordup next` prints the lines of the successor
 /// Runs a script and prints the declarations of the successor of its store, in place of the answers.
 ///
 /// The script was run from this reader, and no answer was formed. Then the declarations were printed. Where the run failed, no store

@@ -47,6 +47,7 @@ fn have_alike_ends<const N: usize>(a: &[u8], b: &[u8]) -> bool
         & (a.last_chunk::<N>().unwrap() == b.last_chunk::<N>().unwrap())
 }
 
+// promise: a text is copied as it is
 /// Copies a text of another length each time, as a name is: up to 16 bytes by two moves.
 #[inline(always)]
 pub fn copy_short(to: &mut [u8], from: &[u8])

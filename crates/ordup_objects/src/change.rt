@@ -20,6 +20,7 @@ pub enum NumberOp {
 }
 
 impl NumberOp {
+    // promise: as Op::number
     /// The operation of this kind by a number.
     pub fn with(self, number: i64) -> Op
         ensures { result ≡ op_with self number }
@@ -52,6 +53,7 @@ pub enum Op {
 }
 
 impl Op {
+    // promise: an operation answers its number and its source; a kind makes one
     /// The number of the operation, if it has one.
     pub fn number(self) -> Option<i64>
         ensures { result ≡ number_of self }
@@ -66,6 +68,7 @@ impl Op {
         }
     }
 
+    // promise: as Op::number
     /// The object that the operation takes its value from, if there is one.
     pub fn source(self) -> Option<ObjectId>
         ensures { option_map (λ o. o) result ≡ source_of self }
@@ -76,6 +79,7 @@ impl Op {
         }
     }
 
+    // promise: an operation makes its result of a value
     /// The value after the operation. An operation with a source takes the value that the source had before the message set.
     pub fn result(self, value: i64, source: i64) -> i64
         requires value { IsInRange value }

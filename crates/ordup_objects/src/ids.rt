@@ -20,6 +20,7 @@ impl Model for ObjectId {
 }
 
 impl ObjectId {
+    // promise: identifiers are indexes
     /// The object with this index.
     pub fn new(index: u16) -> Self
         ensures { result ≡ index }
@@ -27,6 +28,7 @@ impl ObjectId {
         ObjectId { object: index }
     }
 
+    // promise: as ObjectId::new
     /// The index of the object.
     pub fn index(self) -> usize
         ensures { result ≡ self }
@@ -52,6 +54,7 @@ impl Model for SiteId {
 }
 
 impl SiteId {
+    // promise: as ObjectId::new
     /// The site with this index.
     pub fn new(index: u8) -> Self
         ensures { result ≡ index }
@@ -59,6 +62,7 @@ impl SiteId {
         SiteId { site: index }
     }
 
+    // promise: as ObjectId::new
     /// The index of the site.
     pub fn index(self) -> usize
         ensures { result ≡ self }

@@ -1,5 +1,4 @@
-//! The objects of the store: their names and values, and the message sets that change them. Sites are named here too, since a
-//! refusal names one.
+//! The objects of the store: names, values, and the message sets that change them. Sites are named here too, since a refusal names one.
 //!
 //! What the layers above rely on: a message set applies as its definition says, as a whole or not at all.
 //!

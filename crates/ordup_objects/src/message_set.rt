@@ -63,6 +63,7 @@ impl<A: Allocator + Copy> Model for MessageSet<A> {
 }
 
 impl<A: Allocator + Copy> MessageSet<A> {
+    // promise set known allowed refused: changes make a message set
     /// The set of these changes.
     ///
     /// It is refused `UnknownObject` where an object is not in the table, `OutOfRange` where a number is out of range,
@@ -82,6 +83,7 @@ impl<A: Allocator + Copy> MessageSet<A> {
         })
     }
 
+    // promise set known allowed refused: as MessageSet::new
     /// The set of a single change. It takes no memory.
     ///
     /// It is refused `UnknownObject` where an object is not in the table, and `OutOfRange` where the number is out of range.
@@ -102,6 +104,7 @@ impl<A: Allocator + Copy> MessageSet<A> {
         })
     }
 
+    // promise: a copy is the same set
     /// A copy of the set. The only refusal is `NoMemory`.
     pub fn copy(&self, alloc: A) -> Result<Self, Refusal>
         ensures copied { IfOk result (λ set. set ≡ self.now) }
@@ -114,6 +117,7 @@ impl<A: Allocator + Copy> MessageSet<A> {
         Ok(MessageSet { changes })
     }
 
+    // promise added known allowed refused err: a set takes one more change
     /// Adds a change as the last of the set.
     ///
     /// It is refused `UnknownObject` where an object is not in the table, `OutOfRange` where its number is out of range,
@@ -130,6 +134,7 @@ impl<A: Allocator + Copy> MessageSet<A> {
         self.changes.push(objects.allocator(), change)
     }
 
+    // promise: as MessageSet::copy
     /// The changes, in the order given.
     pub fn changes(&self) -> &[Change]
         ensures changes { result.now ≡ self.now }
@@ -150,6 +155,7 @@ impl<A: Allocator + Copy> MessageSet<A> {
         let _ = &self.changes;
     }
 
+    // promise known fact: as MessageSet::copy
     /// Whether the objects of each change are among the first `objects`.
     pub fn are_known(&self, objects: usize) -> bool
         ensures known { result ≡ are_known objects self.now }

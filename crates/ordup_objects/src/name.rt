@@ -37,6 +37,7 @@ impl Model for Name {
 }
 
 impl Name {
+    // promise name ok err: names are 1 to 16 bytes of the alphabet, the first a letter
     /// The name that these bytes spell. Bytes that spell no name are refused `BadName`.
     pub fn new(bytes: &[u8]) -> Result<Self, Refusal>
         ensures name { IfOk result (λ n. n ≡ bytes.now) }
@@ -63,6 +64,7 @@ impl Name {
         }
     }
 
+    // promise: as Name::new
     /// The bytes of the name.
     pub fn as_bytes(&self) -> &[u8]
         ensures bytes { result.now ≡ self.now }
@@ -123,6 +125,7 @@ impl PartialEq for Name {
 
     ghost laws = { Prim.search (comparing, rules) };
 
+    // promise: as Name::new
     fn eq(&self, other: &Name) -> bool {
         self.len == other.len && self.bytes == other.bytes
     }

@@ -30,6 +30,7 @@ impl<V, A: Allocator + Copy> Model for NameTable<V, A> {
 }
 
 impl<V, A: Allocator + Copy> NameTable<V, A> {
+    // promise: a table finds exactly its names; none comes twice
     /// A table without names.
     pub fn new(alloc: A) -> Self
         ensures { result ≡ [] }
@@ -45,6 +46,8 @@ impl<V, A: Allocator + Copy> NameTable<V, A> {
         self.entries.allocator()
     }
 
+    // promise: as NameTable::new
+    // promise names distinct: as NameTable::new
     /// How many names there are.
     pub fn len(&self) -> usize
         ensures len { result ≡ length self.now }
@@ -65,6 +68,7 @@ impl<V, A: Allocator + Copy> NameTable<V, A> {
         let _count = self.entries.len();
     }
 
+    // promise: as NameTable::new
     /// The index of the name that these bytes spell, if it is there.
     // The guess is tried before the bytes are hashed: see `bytes`.
     pub fn find(&self, name: &[u8]) -> Option<usize>
@@ -88,6 +92,7 @@ impl<V, A: Allocator + Copy> NameTable<V, A> {
         self.entries.get_index_of(NameBytes { bytes: name })
     }
 
+    // promise: as NameTable::new
     /// The name and the entry at an index.
     pub fn at(&self, index: usize) -> (&Name, &V)
         requires { index < length self.now }
@@ -99,6 +104,7 @@ impl<V, A: Allocator + Copy> NameTable<V, A> {
         self.entries.get_index(index).unwrap()
     }
 
+    // promise replaced before: a replaced entry leaves the names and the other entries
     /// Replaces the entry of the name at an index, and returns the entry that was there.
     pub fn replace(&mut self, index: usize, entry: V) -> V
         requires { index < length self.old }
@@ -108,6 +114,7 @@ impl<V, A: Allocator + Copy> NameTable<V, A> {
         mem::replace(self.entries.get_index_mut(index).unwrap(), entry)
     }
 
+    // promise: as NameTable::new
     /// Adds a name that is not in the table.
     pub fn push(&mut self, name: Name, entry: V) -> Result<(), AllocError>
     where
@@ -124,6 +131,7 @@ impl<V, A: Allocator + Copy> NameTable<V, A> {
 }
 
 impl<V: PartialEq, A: Allocator + Copy> NameTable<V, A> {
+    // promise: `is_same` compares all names and entries, in their order
     /// Whether two tables have the same names in the same order, with equal entries.
     pub fn is_same(&self, other: &NameTable<V, A>) -> bool
         ensures { result ≡ pointwise (λ p q. pointwise nat_eq p.0 q.0 && V.eq p.1 q.1) self.now other.now }

@@ -48,6 +48,7 @@ impl<A: Allocator + Copy> ObjectTable<A> {
         *self.objects.allocator()
     }
 
+    // promise copied refused: as ObjectTable::find
     /// A copy of the table. The only refusal is `NoMemory`.
     pub fn copy(&self, alloc: A) -> Result<Self, Refusal>
         ensures copied { IfOk result (λ table. table ≡ self.now) }
@@ -71,6 +72,7 @@ impl<A: Allocator + Copy> ObjectTable<A> {
         Ok(())
     }
 
+    // promise names values refused: as ObjectTable::find
     /// A copy of the table in which each object begins at its value among these. The only refusal is `NoMemory`.
     pub fn copy_with(&self, alloc: A, values: &Values<A>) -> Result<Self, Refusal>
         requires { length values.now ≡ length self.now }
@@ -85,6 +87,7 @@ impl<A: Allocator + Copy> ObjectTable<A> {
         Ok(ObjectTable { objects })
     }
 
+    // promise object declared allowed refused err: an object is declared
     /// Declares an object with its initial value, which lies from -1,000,000,000 to 1,000,000,000.
     ///
     /// It is refused `BadName`, `NameTaken`, `OutOfRange` for the value, `TooMany` for a 257th object, and `NoMemory`.
@@ -129,6 +132,7 @@ impl<A: Allocator + Copy> ObjectTable<A> {
         }
     }
 
+    // promise: the readers answer the table; a copy has its values, or those given
     /// The object of this name, if there is one.
     pub fn find(&self, name: &[u8]) -> Option<ObjectId>
         ensures index { option_map (λ o. o) result ≡ index_of name.now self.now }
@@ -139,6 +143,8 @@ impl<A: Allocator + Copy> ObjectTable<A> {
         Some(ObjectId::new(index as u16))
     }
 
+    // promise names distinct: as NameTable::new
+    // promise: as ObjectTable::find
     /// How many objects there are, at most 256.
     pub fn len(&self) -> usize
         ensures len { result ≡ length self.now }
@@ -162,6 +168,7 @@ impl<A: Allocator + Copy> ObjectTable<A> {
         self.objects.keeps();
     }
 
+    // promise: as ObjectTable::find
     /// The name of an object.
     pub fn name(&self, object: ObjectId) -> &Name
         requires { object < length self.now }
@@ -170,6 +177,7 @@ impl<A: Allocator + Copy> ObjectTable<A> {
         self.objects.at(object.index()).0
     }
 
+    // promise: as ObjectTable::find
     /// The initial value of an object.
     pub fn initial(&self, object: ObjectId) -> i64
         requires { object < length self.now }
@@ -178,6 +186,7 @@ impl<A: Allocator + Copy> ObjectTable<A> {
         *self.objects.at(object.index()).1
     }
 
+    // promise: as NameTable::is_same
     /// Whether two tables have the same objects: the same names in the same order, with the same initial values.
     pub fn is_same(&self, other: &ObjectTable<A>) -> bool
         ensures { IsTrue result ↔ (self.now ≡ other.now) }

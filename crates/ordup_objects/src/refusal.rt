@@ -92,6 +92,7 @@ impl<T: Drop> From<AllocFailed<T>> for Refusal {
 impl Refusal {
     ghost use Rattle.ordup_objects.specs.Refusals.{refusal_number, refusal_name};
 
+    // promise: each refusal has its number and its name
     /// The number of the refusal in answers, from 1 to 27.
     pub fn number(&self) -> u8
         ensures { result ≡ refusal_number self.now }
@@ -127,6 +128,7 @@ impl Refusal {
         }
     }
 
+    // promise: as Refusal::number
     /// The name of the refusal in answers.
     pub fn name(&self) -> &'static str
         ensures { result.now ≡ refusal_name self.now }

@@ -31,6 +31,7 @@ impl Results {
         }
     }
 
+    // promise: as Values::initial
     /// The results, in the order of the changes. What stands after them has no meaning.
     pub fn as_slice(&self) -> &[i64]
         ensures results { result.now ≡ self.now }

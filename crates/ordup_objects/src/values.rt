@@ -34,6 +34,7 @@ impl<A: Allocator + Copy> Model for Values<A> {
 }
 
 impl<A: Allocator + Copy> Values<A> {
+    // promise: values begin as declared; the readers answer them
     /// The initial values of the objects. The only refusal is `NoMemory`.
     pub fn initial(alloc: A, objects: &ObjectTable<A>) -> Result<Self, Refusal>
         ensures initial { IfOk result (λ values. values ≡ initial_state objects.now) }
@@ -43,6 +44,7 @@ impl<A: Allocator + Copy> Values<A> {
         Ok(Values { values })
     }
 
+    // promise: as Values::initial
     /// A copy of the values. The only refusal is `NoMemory`.
     pub fn copy(&self, alloc: A) -> Result<Self, Refusal>
         ensures copied { IfOk result (λ values. values ≡ self.now) }
@@ -52,6 +54,7 @@ impl<A: Allocator + Copy> Values<A> {
         Ok(Values { values })
     }
 
+    // promise: as Values::initial
     /// How many objects have a value.
     pub fn len(&self) -> usize
         ensures len { result ≡ length self.now }
@@ -69,6 +72,7 @@ impl<A: Allocator + Copy> Values<A> {
         let _ = &self.values;
     }
 
+    // promise: as Values::initial
     /// The value of an object.
     pub fn get(&self, object: ObjectId) -> i64
         requires { object < length self.now }
@@ -78,6 +82,7 @@ impl<A: Allocator + Copy> Values<A> {
         self.values[object.index()]
     }
 
+    // promise: as Values::initial
     /// The values in order of declaration.
     pub fn as_slice(&self) -> &[i64]
         ensures { result.now ≡ self.now }
@@ -85,6 +90,7 @@ impl<A: Allocator + Copy> Values<A> {
         self.values.as_slice()
     }
 
+    // promise: as Values::initial
     /// What a change makes of its object's value.
     pub fn result(&self, change: &Change) -> i64
         requires known { IsKnown (length self.now) change.now }
@@ -94,6 +100,8 @@ impl<A: Allocator + Copy> Values<A> {
         result_at(self.values.as_slice(), change)
     }
 
+    // promise ok len: all changes of a set read the state before it
+    // promise legal err: a set applies as a whole; it is refused exactly for a result out of range
     /// Applies a message set as a whole: all its changes read the values before it.
     ///
     /// The set is refused `OutOfRange` where a result is out of range. Then no value changes.
@@ -110,6 +118,7 @@ impl<A: Allocator + Copy> Values<A> {
         Ok(())
     }
 
+    // promise: as Values::initial
     /// Whether a message set is legal on these values: whether each result is in range.
     pub fn allows(&self, set: &MessageSet<A>) -> bool
         requires { AreKnown (length self.now) set.now }
@@ -118,6 +127,8 @@ impl<A: Allocator + Copy> Values<A> {
         self.results(set, &mut Results::new()).is_ok()
     }
 
+    // promise results: as Values::apply ok
+    // promise legal err: as Values::apply legal
     /// Computes what each change of a set makes of its object's value. The only refusal is `OutOfRange`, where a result is out of
     /// range.
     pub fn results(&self, set: &MessageSet<A>, results: &mut Results) -> Result<(), Refusal>
@@ -129,6 +140,7 @@ impl<A: Allocator + Copy> Values<A> {
         results_of(self.values.as_slice(), set.changes(), &mut results.results)
     }
 
+    // promise: as Values::initial
     /// Adds what each change of a legal set makes of its object to a list that has spare capacity. The results are those of the set on
     /// these values.
     pub fn push_moves(&self, set: &MessageSet<A>, results: &Results, moves: &mut Vec<Moved, A>)
@@ -142,6 +154,7 @@ impl<A: Allocator + Copy> Values<A> {
         put_moves(moves, values, set.changes(), &results.results);
     }
 
+    // promise after len: as Values::apply ok
     /// Applies a legal set. The results are those of the set on these values, and none is computed again.
     pub fn put(&mut self, set: &MessageSet<A>, results: &Results)
         requires known { AreKnown (length self.old) set.now }
@@ -153,6 +166,7 @@ impl<A: Allocator + Copy> Values<A> {
         put_results(&mut self.values, set.changes(), &results.results);
     }
 
+    // promise put len: a value takes the place of one object's; the others stay
     /// Puts a value in the place of an object's.
     #[inline(always)]
     pub fn put_value(&mut self, object: ObjectId, value: i64)

@@ -4,6 +4,7 @@ ghost use Rattle.ordup_plan.specs.Dealing.{AreDealt};
 use ordup_objects::MessageSet;
 use std::alloc::{AllocError, Global};
 
+// promise dealt all: set i is dealt to caller (i-1) mod CALLERS + 1, in order
 /// Deals sets to callers as cards are dealt: one to each caller in turn, and then again from the first caller on.
 pub(crate) fn deal(
     alloc: Global,

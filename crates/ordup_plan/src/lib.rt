@@ -1,5 +1,5 @@
-//! A plan is a list of message sets that several callers propose at once, while each site applies what comes to it. `run_threads`
-//! runs one, in this order:
+//! A plan in threads. It is a list of message sets that several callers propose at once, while each site applies what comes to it.
+//! `run_threads` runs one, in this order:
 //!
 //! 1. It opens a cluster, and deals the sets to the callers (`dealing.rt`).
 //! 2. It starts a thread for the applier of each site, and one for each caller (`running.rt`). A caller proposes its sets one after

@@ -29,6 +29,8 @@ impl Promise<Option<Tally>> for Proposes {
     ghost kept_by = { λ p r. IfSome r (λ t. counted t ≤ p.sets) };
 }
 
+// promise outcome IsOutcome: the outcome is of a closed cluster with the fewest rounds, and no more proposals than sets
+// promise refused: a plan is refused only `NoMemory` or `Mixed`
 /// Opens a cluster, has callers in threads of their own propose the sets, and answers the outcome as text.
 ///
 /// Set i goes to caller `(i - 1) mod callers + 1`, which proposes its sets one after another, with 1,000,000 turns each. Each site

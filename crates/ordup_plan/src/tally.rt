@@ -19,6 +19,8 @@ pub(crate) const NONE: Tally = Tally {
 };
 
 impl Tally {
+    // promise counts: `NotYet` is pending, want of memory and `Stopped` end a caller, other refusals count as refused; the counts are
+    // added up
     /// Counts the answer to one more proposal. There is no tally where the caller has to end: memory was refused before an update
     /// was numbered, or the cluster was stopped.
     pub(crate) fn with(self, answer: Result<u64, Refusal>) -> Option<Tally>
@@ -41,6 +43,7 @@ impl Tally {
         }
     }
 
+    // promise: as Tally::with
     /// The sum of two tallies.
     pub(crate) fn plus(self, other: Tally) -> Tally
         requires { counted self + counted other < 2 ^ 64 }
@@ -53,6 +56,7 @@ impl Tally {
     }
 }
 
+// promise: as Tally::with
 /// The sum of the tallies of all callers. There is none where a caller has no tally.
 pub(crate) fn added_up(tallies: Vec<Option<Tally>>) -> Option<Tally>
     requires { sum_by count_of tallies.items < 2 ^ 64 }

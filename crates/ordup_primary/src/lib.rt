@@ -1,4 +1,4 @@
-//! The primary: what is declared, the log, and when an update is acknowledged.
+//! The primary: declarations, the log, and when an update is acknowledged.
 //!
 //! What the layers above rely on: a settlement decides the head once, by what the sites had reported at that moment, and
 //! acknowledges it exactly when each site that it forced has reported it. So the acknowledged updates that a site has not reported

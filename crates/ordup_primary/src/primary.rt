@@ -58,6 +58,11 @@ impl<A: Allocator + Copy> Primary<A> {
     ghost use Rattle.ordup_primary.specs.Reports.{changes_of};
     ghost use Rattle.ordup_primary.specs.Successors.{limits_from_start, successor_refusal};
 
+    // promise setup log numbers sites limits refused: a primary begins with an empty log and the declared limits
+    // promise sound IsPrimary.lags: acknowledged updates that a site has not reported keep its limits; at most the head is decided
+    // besides
+    // promise sound IsPrimary.sites: rounds are the decided places that forced a site, each reported before the next decision; reports
+    // never fall
     /// A primary with an empty log, to which no site has reported.
     ///
     /// The setup is ready: it has an object and a site. The only refusal is `NoMemory`.
@@ -88,6 +93,9 @@ impl<A: Allocator + Copy> Primary<A> {
         })
     }
 
+    // promise number added allowed refused err: just the given set is numbered as the next update
+    // promise sound IsPrimary.lags: as Primary::new IsPrimary.lags
+    // promise sound IsPrimary.sites: as Primary::new IsPrimary.sites
     /// Numbers a message set as the next update.
     ///
     /// It is refused `LogFull` after 1,000,000 updates, `OutOfRange` where a result is out of range, and `NoMemory`.
@@ -105,6 +113,7 @@ impl<A: Allocator + Copy> Primary<A> {
         appended
     }
 
+    // promise number set allowed refused: the first update not yet sent to a site is copied
     /// A copy of the first update that was not sent to a site.
     ///
     /// It is refused `NothingToSend` where all were sent, and `NoMemory`.
@@ -124,6 +133,9 @@ impl<A: Allocator + Copy> Primary<A> {
         Ok(Parcel { number, set })
     }
 
+    // promise marked: one update more was sent, or a place reported; nothing else changes
+    // promise sound IsPrimary.lags: as Primary::new IsPrimary.lags
+    // promise sound IsPrimary.sites: as Primary::new IsPrimary.sites
     /// Notes that one update more was sent to a site.
     pub fn mark_sent(&mut self, site: SiteId)
         requires site { site < length self.old.sites }
@@ -135,6 +147,10 @@ impl<A: Allocator + Copy> Primary<A> {
         self.keeps();
     }
 
+    // promise noted: as Primary::mark_sent
+    // promise noted: as Primary::settle later
+    // promise sound IsPrimary.lags: as Primary::new IsPrimary.lags
+    // promise sound IsPrimary.sites: as Primary::new IsPrimary.sites
     /// Notes that a site reported to have applied the updates up to a place.
     pub fn report(&mut self, site: SiteId, place: u64)
         requires site { site < length self.old.sites }
@@ -154,6 +170,7 @@ impl<A: Allocator + Copy> Primary<A> {
         self.keeps();
     }
 
+    // promise: the readers answer the primary
     /// What was declared.
     pub fn setup(&self) -> &Setup<A>
         ensures { result.now ≡ self.now.setup }
@@ -161,6 +178,7 @@ impl<A: Allocator + Copy> Primary<A> {
         &self.setup
     }
 
+    // promise: as Primary::new setup
     /// The limits of a site, each with the place from which it holds.
     pub fn limits(&self, site: SiteId) -> &LimitTable<A>
         requires { site < length self.now.sites }
@@ -170,6 +188,7 @@ impl<A: Allocator + Copy> Primary<A> {
         &self.limits[site.index()]
     }
 
+    // promise: as Primary::setup
     /// The updates in their order.
     pub fn log(&self) -> &Log<A>
         ensures { result.now ≡ self.now.log }
@@ -177,6 +196,9 @@ impl<A: Allocator + Copy> Primary<A> {
         &self.log
     }
 
+    // promise sound IsPrimary.lags: as Primary::new IsPrimary.lags
+    // promise sound IsPrimary.sites: as Primary::new IsPrimary.sites
+    // promise: as Primary::setup
     /// How many updates are acknowledged.
     pub fn acked(&self) -> u64
         ensures acked { result ≡ self.now.acked }
@@ -185,6 +207,7 @@ impl<A: Allocator + Copy> Primary<A> {
         self.acked
     }
 
+    // promise: as Primary::setup
     /// How many updates are decided: those that are acknowledged, and the head where a settlement has decided it.
     pub fn decided(&self) -> u64
         ensures { result ≡ self.now.decided }
@@ -192,6 +215,7 @@ impl<A: Allocator + Copy> Primary<A> {
         self.decided
     }
 
+    // promise: as Primary::setup
     /// How many updates were sent to a site.
     pub fn sent(&self, site: SiteId) -> u64
         requires { site < length self.now.sites }
@@ -200,6 +224,7 @@ impl<A: Allocator + Copy> Primary<A> {
         self.sites[site.index()].sent
     }
 
+    // promise: as Primary::setup
     /// How many updates a site last reported as applied.
     pub fn reported(&self, site: SiteId) -> u64
         requires { site < length self.now.sites }
@@ -208,6 +233,7 @@ impl<A: Allocator + Copy> Primary<A> {
         self.sites[site.index()].reported
     }
 
+    // promise: as Primary::setup
     /// What a site had reported at the decision of a decided place.
     pub fn reported_at(&self, site: SiteId, place: u64) -> u64
         requires site { site < length self.now.sites }
@@ -218,6 +244,7 @@ impl<A: Allocator + Copy> Primary<A> {
         self.sites[site.index()].reports.at(place)
     }
 
+    // promise changes decided: report changes are the decided places with a new report
     /// The decided places at which the report of the site changed, in order, each with the new number. Before the first place it is
     /// 0.
     pub fn report_changes(&self, site: SiteId) -> &[(u32, u32)]
@@ -228,6 +255,7 @@ impl<A: Allocator + Copy> Primary<A> {
         self.sites[site.index()].reports.changes()
     }
 
+    // promise: as Primary::setup
     /// The places at which a site was forced, in order.
     pub fn rounds(&self, site: SiteId) -> &[u64]
         requires { site < length self.now.sites }
@@ -236,6 +264,9 @@ impl<A: Allocator + Copy> Primary<A> {
         self.sites[site.index()].rounds.as_slice()
     }
 
+    // promise windows: each round has a window, from the report then to the decided place
+    // promise fewest: as Primary::settle fewest
+    // promise: as Primary::setup
     /// A window for each round of a site, in order: from what the site had reported at the decision to the decided place.
     ///
     /// The updates of a window pass a limit of the site alone, and no two windows share a place. So each schedule that keeps
@@ -257,6 +288,7 @@ impl<A: Allocator + Copy> Primary<A> {
         let _ = &self.acked;
     }
 
+    // promise objects values groups sites limits ready allowed refused: the successor is made exactly if all is acknowledged
     /// The setup of the successor of this store, in which each site begins with all that is in the log.
     ///
     /// - The same objects, each beginning at its value after the whole log.
@@ -283,6 +315,7 @@ impl<A: Allocator + Copy> Primary<A> {
             .successor_with(alloc, self.log.end(), self.limits.as_slice())
     }
 
+    // promise count marks refused: marks weigh the acknowledged updates on each object
     /// For each object, in order of declaration, how much the acknowledged updates weigh on it.
     ///
     /// A query that begins now keeps them as its reference: a read imports the weight of the updates between those that are

@@ -36,6 +36,7 @@ impl<A: Allocator + Copy> Model for Setup<A> {
 }
 
 impl<A: Allocator + Copy> Setup<A> {
+    // promise: the readers answer the setup, all in range; a copy is the same
     /// Nothing declared yet. It takes no memory.
     pub fn new(alloc: A) -> Self
         ensures { result ≡ record { objects = []; groups = []; sites = []; limits = [] } }
@@ -48,6 +49,7 @@ impl<A: Allocator + Copy> Setup<A> {
         }
     }
 
+    // promise copied refused: as Setup::new
     /// A copy of the declarations. The only refusal is `NoMemory`.
     pub fn copy(&self, alloc: A) -> Result<Self, Refusal>
         ensures copied { IfOk result (λ setup. setup ≡ self.now) }
@@ -96,6 +98,7 @@ impl<A: Allocator + Copy> Setup<A> {
         })
     }
 
+    // promise declared object allowed refused err: objects, groups, sites and limits are declared as given
     /// Declares an object with its initial value, which lies from -1,000,000,000 to 1,000,000,000.
     ///
     /// It is refused `BadName`, `NameTaken`, `OutOfRange` for the value, `TooMany` for a 257th object, and `NoMemory`.
@@ -109,6 +112,7 @@ impl<A: Allocator + Copy> Setup<A> {
         self.objects.declare(name, initial)
     }
 
+    // promise declared group allowed refused err: as Setup::object
     /// Declares a group of 1 to 64 objects.
     ///
     /// It is refused `BadName`, `NameTaken`, `UnknownObject`, `TooMany` for a 33rd group or a 65th member, `Empty`, `Repeated`,
@@ -123,6 +127,7 @@ impl<A: Allocator + Copy> Setup<A> {
         self.groups.declare(&self.objects, name, members)
     }
 
+    // promise declared site allowed refused err: as Setup::object
     /// Declares a site with the capacity of its feed, 1 to 1,024 updates.
     ///
     /// It is refused `BadName`, `NameTaken`, `OutOfRange` for the capacity, `TooMany` for a 17th site, and `NoMemory`.
@@ -170,6 +175,7 @@ impl<A: Allocator + Copy> Setup<A> {
         }
     }
 
+    // promise declared allowed refused err: as Setup::object
     /// Declares a limit of a site, whose amount lies from 0 to 10^18.
     ///
     /// It is refused `UnknownObject`, `UnknownGroup`, `UnknownSite`, `OutOfRange` for the amount, `TooMany` for a 65th limit of
@@ -197,6 +203,7 @@ impl<A: Allocator + Copy> Setup<A> {
         let _ = &self.objects;
     }
 
+    // promise: as Setup::new
     /// Whether a store can start: whether there is at least one object and one site.
     pub fn is_ready(&self) -> bool
         ensures { result ≡ is_ready self.now }
@@ -204,6 +211,7 @@ impl<A: Allocator + Copy> Setup<A> {
         self.objects.len() > 0 && self.sites() > 0
     }
 
+    // promise: as Setup::new
     /// The objects.
     pub fn objects(&self) -> &ObjectTable<A>
         ensures { result.now ≡ self.now.objects }
@@ -211,6 +219,7 @@ impl<A: Allocator + Copy> Setup<A> {
         &self.objects
     }
 
+    // promise groups members: as Setup::new
     /// The groups.
     pub fn groups(&self) -> &Groups<A>
         ensures groups { result.now ≡ self.now.groups }
@@ -219,6 +228,7 @@ impl<A: Allocator + Copy> Setup<A> {
         &self.groups
     }
 
+    // promise: as Setup::new
     /// How many sites there are, at most 16.
     pub fn sites(&self) -> usize
         ensures sites { result ≡ length self.now.sites }
@@ -231,6 +241,7 @@ impl<A: Allocator + Copy> Setup<A> {
         self.capacities.len()
     }
 
+    // promise: as Setup::new
     /// The site of this name, if there is one.
     pub fn find_site(&self, name: &[u8]) -> Option<SiteId>
         ensures index { option_map (λ s. s) result ≡ index_of name.now self.now.sites }
@@ -242,6 +253,7 @@ impl<A: Allocator + Copy> Setup<A> {
         }
     }
 
+    // promise: as Setup::new
     /// The name of a site.
     pub fn site_name(&self, site: SiteId) -> &Name
         requires { site < length self.now.sites }
@@ -250,6 +262,7 @@ impl<A: Allocator + Copy> Setup<A> {
         self.capacities.at(site.index()).0
     }
 
+    // promise capacity some few: as Setup::new
     /// How many updates the feed of a site holds at most, as it was declared.
     pub fn capacity(&self, site: SiteId) -> u64
         requires { site < length self.now.sites }
@@ -260,6 +273,7 @@ impl<A: Allocator + Copy> Setup<A> {
         *self.capacities.at(site.index()).1
     }
 
+    // promise limits first known: as Setup::new
     /// The limits of a site, which hold from the start.
     pub fn limits(&self, site: SiteId) -> &LimitTable<A>
         requires { site < length self.now.sites }
@@ -270,6 +284,7 @@ impl<A: Allocator + Copy> Setup<A> {
         &self.limits[site.index()]
     }
 
+    // promise: `is_same` compares all declarations
     /// Whether both declare the same: the objects, the groups, and the sites with their capacities and limits.
     pub fn is_same(&self, other: &Setup<A>) -> bool
         ensures { IsTrue result ↔ (self.now ≡ other.now) }

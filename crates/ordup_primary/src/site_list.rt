@@ -43,6 +43,7 @@ impl SiteList {
         self.count += 1;
     }
 
+    // promise: as Primary::setup
     /// What each list keeps, for the proofs of its users. It does nothing.
     #[inline(always)]
     pub fn keeps(&self)
@@ -51,6 +52,7 @@ impl SiteList {
         let _ = &self.count;
     }
 
+    // promise: as Primary::setup
     /// The sites.
     pub fn as_slice(&self) -> &[SiteId]
         ensures { result.now ≡ self.now }

@@ -1,4 +1,4 @@
-//! Queries: reads at a site that may lag or lead, and what they import.
+//! Queries: reads at a site, and what they import. The site may lag or lead.
 //!
 //! What the layers above rely on: a query's total is within its limit, and each read is charged the weight between the site's place
 //! and the query's reference, where its marks are those of the reference on the site's log. A query stands on no log.

@@ -44,6 +44,7 @@ impl<A: Allocator + Copy> Model for Query<A> {
 }
 
 impl<A: Allocator + Copy> Query<A> {
+    // promise query allowed refused: a query begins as given; exactly a limit above 10^18 is refused
     /// A query without reads, with its reference, the marks of the objects there, and its import limit, 0 to 10^18.
     ///
     /// It is refused `OutOfRange` for the limit; the marks are given up then.
@@ -65,6 +66,7 @@ impl<A: Allocator + Copy> Query<A> {
         })
     }
 
+    // promise: as Query::end
     /// How many objects have a mark.
     pub fn objects(&self) -> usize
         ensures { result ≡ length self.now.marks }
@@ -72,6 +74,10 @@ impl<A: Allocator + Copy> Query<A> {
         self.marks.len()
     }
 
+    // promise value import total query reads: a read answers the value, the charge, from the mark to what was travelled, and the new
+    // total
+    // promise allowed refused err: a read is refused exactly after 256 reads, and else past the limit
+    // promise imported near: the charge is the weight between site and marks; the value is off by no more
     /// Reads an object at a site: its value there, what the read imports, and the new total.
     ///
     /// It is refused `TooMany` after 256 accepted reads, and `OverImport` where the total would pass the limit. The query then
@@ -111,6 +117,7 @@ impl<A: Allocator + Copy> Query<A> {
         })
     }
 
+    // promise answer reads within few: the end answers reference, count and sums; the total is within the limit
     /// Ends the query, and returns what its accepted reads added up to.
     pub fn end(self) -> QueryAnswer
         ensures answer { result ≡ record { place = self.place; sum = self.sum; total = self.total; reads = self.reads } }

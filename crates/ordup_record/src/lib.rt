@@ -1,4 +1,4 @@
-//! How a primary gives the record of a site to an auditor. The record itself is of the audit, which knows no primary.
+//! The record of a site, made of a primary for an auditor. The record itself is of the audit, which knows no primary.
 //!
 //! The one contract above this layer: the record of a site holds what the primary has of it, and is valid. `view_of` lends it and
 //! `record_of` copies it.

@@ -13,6 +13,8 @@ use ordup_objects::{ObjectTable, Refusal, SiteId, or_give_up};
 use ordup_primary::Primary;
 use std::alloc::Allocator;
 
+// promise content allowed refused: the record of a site is what the primary has of it
+// promise valid: the record of a primary is valid
 /// The record of a site of a primary: copies of what `view_of` lends. It promises, clause by clause:
 ///
 /// - `content`: the record holds what the primary has: the declarations, the decided updates, and the limits, reports, rounds and

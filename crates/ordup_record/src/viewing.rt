@@ -7,6 +7,7 @@ use ordup_objects::{Refusal, SiteId, prefixes_of_legal_histories_are_legal};
 use ordup_primary::Primary;
 use std::alloc::Allocator;
 
+// promise content valid allowed refused: the same record is lent, and refused for an unknown site alone
 /// The record of a site of a primary, lent: nothing is copied, and no memory is taken. It promises, clause by clause:
 ///
 /// - `content`: it is the record that [`record_of`](crate::record_of) gives.

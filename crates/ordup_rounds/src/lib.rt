@@ -1,4 +1,4 @@
-//! The law of the fewest rounds: schedules of rounds, and the windows that show how many rounds there have to be.
+//! The law of the fewest rounds. It has schedules of rounds, windows and certificates. Windows show how many rounds there have to be.
 //!
 //! The one contract above this layer: rounds at just the places where the report is too old are the fewest of any schedule that
 //! keeps the limits, shown by as many disjoint windows, each over a limit alone.

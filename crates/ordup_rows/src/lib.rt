@@ -1,4 +1,4 @@
-//! Records as text: rows of comma-separated values, as an auditor gets them.
+//! Records as text: rows of comma-separated values, for an auditor.
 //!
 //! It says which rows tell a record, and has the laws of that. It writes records; the reader stands above it.
 //!

@@ -21,6 +21,7 @@ pub enum RowKind {
 }
 
 impl RowKind {
+    // promise: the first column of a row tells its kind, and the first row the version
     /// The kind of a row with this first column.
     pub fn parse(column: &[u8]) -> Option<RowKind>
         ensures { result ≡ kind_of column.now }

@@ -14,6 +14,7 @@ pub enum Version {
 }
 
 impl Version {
+    // promise: as RowKind::parse
     /// The version that a column spells.
     pub fn parse(column: &[u8]) -> Option<Version>
         ensures { result ≡ version_of column.now }
@@ -27,6 +28,7 @@ impl Version {
         }
     }
 
+    // promise: as write_record version_for
     /// The version that a record with these limits is written in: the first where all of them hold from place 1 on.
     pub fn of(entries: &[LimitEntry]) -> Version
         ensures { result ≡ version_for entries.now }

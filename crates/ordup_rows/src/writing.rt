@@ -27,6 +27,8 @@ pub enum RecordWriteFault {
 /// The most bytes of a column that is formed: a number, the kind of a change and two names have fewer.
 const MOST_COLUMN_BYTES: usize = 64;
 
+// promise written front refused: a record is written as its rows
+// promise version_for: version 1 is written exactly if all limits hold from place 1 on
 /// Writes a record. It does not flush the writer. It promises, clause by clause, of a writer whose bytes are known:
 ///
 /// - `written`: after success the text of the record stands after what the writer held before.
@@ -44,6 +46,8 @@ pub fn write_record<A: Allocator + Copy, W: Write>(
     write_view(alloc, &audited.view(), output)
 }
 
+// promise written front refused: as write_record written
+// promise version_for: as write_record version_for
 /// Writes a record that is lent, as [`write_record`] does: its rows go to the writer as they are formed, and its text is never
 /// held whole. The clauses are those of [`write_record`].
 pub fn write_view<A: Allocator + Copy, W: Write>(

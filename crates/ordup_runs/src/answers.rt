@@ -8,6 +8,7 @@ use ordup_script::run_script;
 use std::alloc::Global;
 use std::io::{Read, Write};
 
+// promise Answers: `ordup run` runs the script over its input and output
 /// Runs a script and prints its answers.
 ///
 /// The script was run over these streams (`Runs`), and the outcome is that of its end: done, or its fault.

@@ -1,4 +1,4 @@
-//! The jobs that run a script: `run` prints its answers, and `record` prints the record of a site in their place.
+//! The jobs `run` and `record`, of a script. `run` prints its answers, and `record` prints the record of a site in their place.
 //!
 //! The one contract above this layer: a script was run over the streams of the job, and the job ended as the run did, or as printing
 //! the record did.

@@ -13,6 +13,7 @@ use ordup_script::{ScriptEnd, follow_script};
 use std::alloc::Global;
 use std::io::{Read, Write};
 
+// promise Records: `ordup record SITE` prints the record of the site after the script
 /// Runs a script and prints the record of a site in place of the answers.
 ///
 /// The script was run from this reader, and no answer was formed. Then the record of what the primary has of the site was

@@ -66,6 +66,7 @@ fn follow_lines<A: Allocator + Copy, R: Read>(
     }
 }
 
+// promise runs fault: `follow_script` ends as a run over some writer, never with a write fault
 /// Runs a script and writes no answers.
 ///
 /// It ends as `run_script` does over a writer that takes everything, and so never with `Write`.

@@ -33,6 +33,7 @@ fn read_into<A: Allocator + Copy, R: Read>(
     }
 }
 
+// promise ReadsPlan.Ok ReadsPlan.Malformed ReadsPlan.Read ReadsPlan.TooLong: as read_plan
 /// Reads a plan of at most `limit` bytes, which are no more than a script may have.
 ///
 /// - `Ok`: the reader was read to its end and had at most as many bytes. The plan is what all of its lines declare and propose: a
@@ -59,6 +60,8 @@ pub fn read_plan_within<A: Allocator + Copy, R: Read>(
     Ok(planning.plan)
 }
 
+// promise ReadsPlan.Ok ReadsPlan.Malformed ReadsPlan.Read ReadsPlan.TooLong: a plan is read as a ready setup and its sets, or up to the
+// first wrong line
 /// Reads a plan: declarations, `start`, and then proposals alone. It answers as `read_plan_within` does with the limit
 /// `MOST_SCRIPT_BYTES`.
 pub fn read_plan<A: Allocator + Copy, R: Read>(

@@ -115,6 +115,9 @@ fn run_in<A: Allocator + Copy, R: Read, W: Write>(
     }
 }
 
+// promise Runs.Ok: as run_script Runs.Ok
+// promise Runs.Read Runs.TooLong: as run_script Runs.Read
+// promise Runs.Write Runs.NoMemory: as run_script Runs.Write
 /// Runs a script of at most `limit` bytes: reads it to its end, answers each line, and writes the answers.
 ///
 /// - `Ok`: the reader was read to its end and had at most `limit` bytes. The answers to all lines were written, and nothing else.
@@ -145,6 +148,10 @@ pub fn run_script_within<A: Allocator + Copy, R: Read, W: Write>(
     Ok(end)
 }
 
+// promise Runs.Ok: a run that succeeds read all, wrote exactly the answers, and ends as its last line leaves it
+// promise Runs.Read Runs.TooLong: a failed read, or too long a script, leaves the answers to the ended lines
+// promise Runs.Write Runs.NoMemory: a failed write, or want of memory, leaves a prefix of the answers; no wrong body: all is written by
+// `send`
 /// Runs a script. It answers as `run_script_within` does with the limit `MOST_SCRIPT_BYTES`.
 pub fn run_script<A: Allocator + Copy, R: Read, W: Write>(
     alloc: A,

@@ -23,6 +23,7 @@ pub struct SeriesAudit<A: Allocator + Copy = Global> {
 }
 
 impl<A: Allocator + Copy> SeriesAudit<A> {
+    // promise: the readers answer the updates and rounds taken; a reason has its name
     /// How many updates the records have together that were taken.
     pub fn places(&self) -> u64
         ensures places { result ≡ self.now.places }
@@ -32,6 +33,7 @@ impl<A: Allocator + Copy> SeriesAudit<A> {
         self.places
     }
 
+    // promise: as SeriesAudit::places
     /// How many rounds the records have together that were taken.
     pub fn rounds(&self) -> u64
         ensures rounds { result ≡ self.now.rounds }

@@ -1,5 +1,5 @@
-//! Records of one site, one after another: what the whole is that they are of, that their rounds are the fewest of it, and an audit
-//! that holds one record at a time.
+//! Records of one site, one after another, and their audit. It says what the whole is that they are of, and that their rounds are the
+//! fewest of it. The audit holds one record at a time.
 //!
 //! The one contract above this layer: a series is answered the number of its rounds exactly where each record is valid and begins with
 //! what the one before ended with, and then no schedule of the whole that keeps the limits has fewer; else the first reason against it.

@@ -11,6 +11,7 @@ use ordup_objects::{Name, ObjectId, ObjectTable, Refusal, or_give_up};
 use std::alloc::{Allocator, Global};
 use std::marker::Model;
 
+// promise objects refused: a legal record has each object at its last value
 /// The objects of a record whose updates are legal, each beginning at its value after the last update. The only refusal is
 /// `NoMemory`.
 pub fn objects_at_end<A: Allocator + Copy>(

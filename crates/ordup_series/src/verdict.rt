@@ -13,6 +13,7 @@ impl SeriesReason {
     ghost use Rattle.std.specs.Prelude.{◌≡◌};
     ghost use Rattle.ordup_series.specs.Reasons.{series_reason_name};
 
+    // promise: as SeriesAudit::places
     /// The name by which verdicts show the reason.
     pub fn name(self) -> &'static str
         ensures { result.now ≡ series_reason_name self }

@@ -1,4 +1,4 @@
-//! A replica site: the values of the objects after the updates that it applied, and how far each value travelled.
+//! A replica site: its values after its updates, and how far each travelled.
 //!
 //! What the layers above rely on: a site holds the serial result of the updates that it applied, and their weights.
 //!

@@ -40,6 +40,7 @@ impl<A: Allocator + Copy> Model for Site<A> {
 }
 
 impl<A: Allocator + Copy> Site<A> {
+    // promise state start refused: a site begins with the initial values, and has applied nothing
     /// A site that applied nothing: it holds the initial values of the objects. The only refusal is `NoMemory`.
     pub fn new(alloc: A, objects: &ObjectTable<A>) -> Result<Self, Refusal>
         ensures state { IfOk result (λ site. site ≡ record { applied = 0; values = initial_state objects.now; travelled = replicate (length objects.now) 0 }) }
@@ -62,6 +63,8 @@ impl<A: Allocator + Copy> Site<A> {
         })
     }
 
+    // promise applied values travelled: a legal set is applied by its changes or moves; values travel as they move
+    // promise last next: the next set of a log gives the next serial result, and the weights of all
     /// Applies a message set. It takes no memory, and its work grows with the changes of the set alone.
     ///
     /// The caller makes sure that the set changes and reads objects of the site (`MessageSet::are_known`), that it is legal on the
@@ -84,6 +87,8 @@ impl<A: Allocator + Copy> Site<A> {
         self.applied += 1;
     }
 
+    // promise applied values travelled: as Site::apply applied
+    // promise last next: as Site::apply last
     /// Applies a message set by its moves, as `apply` does, and computes nothing again. It takes no memory, and its work grows with the
     /// moves alone.
     ///
@@ -110,6 +115,7 @@ impl<A: Allocator + Copy> Site<A> {
         *applied += 1;
     }
 
+    // promise: the readers answer the site
     /// How many objects there are.
     pub fn len(&self) -> usize
         ensures { result ≡ length self.now.values }
@@ -117,6 +123,7 @@ impl<A: Allocator + Copy> Site<A> {
         self.values.len()
     }
 
+    // promise: as Site::len
     /// How many updates the site applied, at most 1,000,000.
     pub fn applied(&self) -> u64
         ensures applied { result ≡ self.now.applied }
@@ -125,6 +132,7 @@ impl<A: Allocator + Copy> Site<A> {
         self.applied
     }
 
+    // promise: as Site::len
     /// The value of an object.
     pub fn value(&self, object: ObjectId) -> i64
         requires { object < length self.now.values }
@@ -134,6 +142,7 @@ impl<A: Allocator + Copy> Site<A> {
         self.values.get(object)
     }
 
+    // promise: as Site::len
     /// How far the value of an object travelled: the weight on the object of all updates that the site applied.
     pub fn travelled(&self, object: ObjectId) -> u64
         requires { object < length self.now.values }
@@ -143,6 +152,7 @@ impl<A: Allocator + Copy> Site<A> {
         self.travelled[object.index()]
     }
 
+    // promise: as Site::len
     /// The values of the objects.
     pub fn values(&self) -> &Values<A>
         ensures { result.now ≡ self.now.values }

@@ -15,6 +15,7 @@ use ordup_primary::Setup;
 use ordup_text::{TextBuffer, push_numbered, push_with_number};
 use std::alloc::{AllocError, Allocator};
 
+// promise: the lines of a setup, or of objects and groups, are written
 /// Adds the lines that declare what a setup has, and the line that starts its store: the objects, the groups, the sites, and the
 /// last limits of each site, in the order in which they were declared.
 ///
@@ -31,6 +32,7 @@ pub fn push_declarations<A: Allocator + Copy>(
     out.push(b"start\n")
 }
 
+// promise: as push_declarations
 /// Adds the lines that declare objects and groups of them. It fails only where an allocation was refused.
 pub fn push_object_declarations<A: Allocator + Copy>(
     out: &mut TextBuffer<A>,

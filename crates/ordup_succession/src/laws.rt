@@ -8,6 +8,7 @@ use ordup_objects::SiteId;
 use ordup_primary::Setup;
 use std::alloc::Allocator;
 
+// promise: the lines of a ready setup, as a script, declare just it and start its store; no wrong body: it has none
 /// The lines of a setup that is ready declare that setup and start its store, where they are run as a script. It changes nothing.
 pub fn declarations_read_back<A: Allocator + Copy>(setup: &Setup<A>)
     ensures { start_refusal setup.now ≡ None → ReadsBack A setup.now }

@@ -1,4 +1,4 @@
-//! Declarations as lines of a script: what is declared of a store, for its successor.
+//! Declarations of a store as lines of a script, for its successor.
 //!
 //! The one contract above this layer: the lines of a setup, run as a script, declare just that setup and start its store.
 #![tactic(auto)]

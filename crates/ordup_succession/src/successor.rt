@@ -10,6 +10,7 @@ use ordup_primary::Primary;
 use ordup_text::TextBuffer;
 use std::alloc::Allocator;
 
+// promise lines allowed refused: the lines of a successor read back; `NotYet` comes just while an update is not acknowledged
 /// Adds the lines that declare the successor of a primary's store, and start it.
 ///
 /// It is refused `NotYet` with the number of the last update while one is not acknowledged, and `NoMemory`. Then the text may have

@@ -1,4 +1,4 @@
-//! Text that is formed in memory, and the one loop that writes it.
+//! Text in memory, and the one loop that writes it.
 //!
 //! The one contract above this layer: a call that succeeds has added its text at the end of the buffer. `send` writes all of its
 //! bytes, or a prefix of them before the writer fails.

@@ -14,6 +14,7 @@ use std::alloc::{AllocError, Allocator};
 /// The most bytes of ` X=V`.
 pub const MOST_VALUE_BYTES: usize = 39;
 
+// promise: as put_named
 /// Puts a text and a number. They must fit into the spare capacity.
 // Inlined, so that the length of the text is known where it is copied.
 #[inline(always)]
@@ -26,6 +27,7 @@ pub fn put_with_number<A: Allocator + Copy>(out: &mut TextBuffer<A>, text: &[u8]
     out.put_number(number);
 }
 
+// promise: as put_named
 /// Adds a text and a number.
 // Inlined, so that the length of the text is known where it is copied.
 #[inline(always)]
@@ -40,6 +42,7 @@ pub fn push_with_number<A: Allocator + Copy>(
     out.push_number(number)
 }
 
+// promise: as put_named
 /// Puts a text and a value. They must fit into the spare capacity.
 // Inlined, so that the length of the text is known where it is copied.
 #[inline(always)]
@@ -52,6 +55,7 @@ pub fn put_with_value<A: Allocator + Copy>(out: &mut TextBuffer<A>, text: &[u8],
     out.put_value(value);
 }
 
+// promise: a line says what was done, and a name, a number, or values
 /// Puts a line: what was done, and a name. It must fit into the spare capacity.
 pub fn put_named<A: Allocator + Copy>(out: &mut TextBuffer<A>, done: &[u8], name: &[u8])
     requires { length done.now + length name.now + 1 ≤ out.old.spare }
@@ -62,6 +66,7 @@ pub fn put_named<A: Allocator + Copy>(out: &mut TextBuffer<A>, done: &[u8], name
     out.put(b"\n");
 }
 
+// promise: as put_named
 /// Puts a line: what was done, and a number. It must fit into the spare capacity.
 #[inline(always)]
 pub fn put_done<A: Allocator + Copy, const N: usize>(
@@ -77,6 +82,7 @@ pub fn put_done<A: Allocator + Copy, const N: usize>(
     out.put(b"\n");
 }
 
+// promise: as put_named
 /// Adds a line: what was done, and a number.
 #[inline(always)]
 pub fn push_done<A: Allocator + Copy, const N: usize>(
@@ -91,6 +97,7 @@ pub fn push_done<A: Allocator + Copy, const N: usize>(
     Ok(())
 }
 
+// promise: as put_named
 /// Puts a line: what was done, a name and a number. It must fit into the spare capacity.
 // Inlined: a call for each length of what was done would save and load five registers.
 #[inline(always)]
@@ -110,6 +117,7 @@ pub fn put_numbered<A: Allocator + Copy, const N: usize>(
     out.put(b"\n");
 }
 
+// promise: as put_named
 /// Adds a line: what was done, a name and a number.
 pub fn push_numbered<A: Allocator + Copy, const N: usize>(
     out: &mut TextBuffer<A>,
@@ -136,6 +144,7 @@ fn put_named_value<A: Allocator + Copy>(out: &mut TextBuffer<A>, name: &Name, va
     out.put_value(value);
 }
 
+// promise: as put_named
 /// Puts ` X=V` for each object, in order of declaration. The most bytes of them must fit into the spare capacity.
 pub fn put_values<A: Allocator + Copy>(
     out: &mut TextBuffer<A>,
@@ -152,6 +161,7 @@ pub fn put_values<A: Allocator + Copy>(
     }
 }
 
+// promise: as put_named
 /// Adds ` X=V` for each object, in order of declaration.
 pub fn push_values<A: Allocator + Copy>(
     out: &mut TextBuffer<A>,

@@ -9,6 +9,7 @@ use std::io::Write;
 #[derive(Clone, Copy, Debug, PartialEq, Eq)]
 pub struct WriteFault;
 
+// promise sent front: all bytes were written, or a prefix until the writer failed
 /// Writes all bytes. Where the writer fails it has written a prefix of them. It does not flush.
 pub fn send<W: Write>(output: &mut W, bytes: &[u8]) -> Result<(), WriteFault>
     ensures sent { OnOk result (Appends (W.contents output.old) (W.contents output.new) bytes.now) }

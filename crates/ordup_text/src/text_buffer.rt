@@ -34,6 +34,7 @@ impl<A: Allocator + Copy> Model for TextBuffer<A> {
 }
 
 impl<A: Allocator + Copy> TextBuffer<A> {
+    // promise: a buffer has just the text that was added to it
     /// A buffer without text.
     pub fn new(alloc: A) -> Self
         ensures { result.text ≡ [] }
@@ -49,6 +50,7 @@ impl<A: Allocator + Copy> TextBuffer<A> {
         self.bytes.allocator()
     }
 
+    // promise: as TextBuffer::new
     /// How many bytes the text has.
     pub fn len(&self) -> usize
         ensures { result ≡ length self.now.text }
@@ -56,6 +58,7 @@ impl<A: Allocator + Copy> TextBuffer<A> {
         self.as_slice().len()
     }
 
+    // promise: as TextBuffer::new
     /// The text.
     pub fn as_slice(&self) -> &[u8]
         ensures { result.now ≡ self.now.text }
@@ -63,6 +66,7 @@ impl<A: Allocator + Copy> TextBuffer<A> {
         &self.bytes[..self.len]
     }
 
+    // promise: as TextBuffer::new
     /// Takes the text away. Its bytes become spare capacity.
     pub fn clear(&mut self)
         ensures { self.new.text ≡ [] }
@@ -70,6 +74,7 @@ impl<A: Allocator + Copy> TextBuffer<A> {
         self.len = 0;
     }
 
+    // promise: as TextBuffer::new
     /// Reserves at least `spare` bytes behind the text.
     #[inline(always)]
     pub fn reserve(&mut self, spare: usize) -> Result<(), AllocError>
@@ -98,6 +103,7 @@ impl<A: Allocator + Copy> TextBuffer<A> {
         Ok(())
     }
 
+    // promise: as TextBuffer::new
     /// Adds a text. It must fit into the spare capacity.
     #[inline(always)]
     pub fn put(&mut self, text: &[u8])
@@ -110,6 +116,7 @@ impl<A: Allocator + Copy> TextBuffer<A> {
         self.len = end;
     }
 
+    // promise: as TextBuffer::new
     /// Adds a text whose length the compiler knows. It must fit into the spare capacity.
     // Its bytes are one value, which is stored as it is: of a slice the compiler would ask first whether it lies in the buffer.
     #[inline(always)]
@@ -123,6 +130,7 @@ impl<A: Allocator + Copy> TextBuffer<A> {
         self.len = end;
     }
 
+    // promise: as TextBuffer::new
     /// Adds the first `len` of an array. All of its bytes must fit into the spare capacity.
     // All are stored, so that nothing depends on how many of them count.
     #[inline(always)]
@@ -147,6 +155,7 @@ impl<A: Allocator + Copy> TextBuffer<A> {
         self.len = end;
     }
 
+    // promise: as TextBuffer::new
     /// Adds a number in digits. The most digits of a number must fit into the spare capacity.
     #[inline(always)]
     pub fn put_number(&mut self, number: u64)
@@ -159,6 +168,7 @@ impl<A: Allocator + Copy> TextBuffer<A> {
         self.len = end;
     }
 
+    // promise: as TextBuffer::new
     /// Adds a value in digits, with a minus before one below 0. A minus and the most digits of a number must fit into the spare
     /// capacity.
     #[inline(always)]
@@ -173,6 +183,7 @@ impl<A: Allocator + Copy> TextBuffer<A> {
         self.put_number(value.unsigned_abs());
     }
 
+    // promise: as TextBuffer::new
     /// Adds a text.
     #[inline(always)]
     pub fn push(&mut self, text: &[u8]) -> Result<(), AllocError>
@@ -183,6 +194,7 @@ impl<A: Allocator + Copy> TextBuffer<A> {
         Ok(())
     }
 
+    // promise: as TextBuffer::new
     /// Adds a number in digits.
     #[inline(always)]
     pub fn push_number(&mut self, number: u64) -> Result<(), AllocError>
@@ -193,6 +205,7 @@ impl<A: Allocator + Copy> TextBuffer<A> {
         Ok(())
     }
 
+    // promise: as TextBuffer::new
     /// Adds a value in digits, with a minus before one below 0.
     #[inline(always)]
     pub fn push_value(&mut self, value: i64) -> Result<(), AllocError>

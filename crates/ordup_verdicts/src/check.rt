@@ -9,6 +9,7 @@ use ordup_faults::Outcome;
 use std::alloc::Global;
 use std::io::{Read, Write};
 
+// promise Checks: `ordup check` prints the verdict on its record, or tells the first bad row
 /// Checks a record and prints the verdict.
 ///
 /// - Where it ends with a status or a write fault, the text is not too long, and it tells a record. The verdict on it was

@@ -12,6 +12,7 @@ use ordup_lag::{Offsets, write_lag};
 use std::alloc::Global;
 use std::io::{Read, Write};
 
+// promise Lags: `ordup lag` prints the lag of a valid record; else it does as `ordup check`
 /// Reads a record and prints its lag, or the verdict on it where it is not valid.
 ///
 /// - Where it ends with a status or a write fault, the text is not too long, and it tells a record. The lag of a valid record

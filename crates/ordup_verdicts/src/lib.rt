@@ -1,4 +1,4 @@
-//! The jobs that judge a record, or a series of them: `check` prints the verdict, and `lag` the lag where it is valid.
+//! The jobs `check` and `lag`, of a record or a series. `check` prints the verdict, and `lag` the lag where it is valid.
 //!
 //! The one contract above this layer: a record was read and judged, and what was printed follows from both; else nothing was written,
 //! or of a series the lag of the records before.

@@ -9,6 +9,7 @@ use ordup_text::send;
 use std::alloc::{AllocError, Global};
 use std::io::{Read, Write};
 
+// promise ChecksSeries: `ordup check --series` prints the verdict on its records, or tells the first bad row
 /// Audits the records of a site, one after another, and prints the verdict on all.
 ///
 /// - Where it ends with a status or a write fault, the verdict on the text was printed, or a prefix of that line.

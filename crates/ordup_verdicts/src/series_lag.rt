@@ -20,6 +20,7 @@ use ordup_series::sizes::MOST_RECORDS;
 use std::alloc::Global;
 use std::io::{Read, Write};
 
+// promise LagsOfSeries: `ordup lag --series` prints the lag of a valid series, then a verdict against the next record
 /// Reads records of one site, one after another, and prints the lag of each, with places and windows counted on; or, after those of
 /// the records before it, the verdict on the first against which there is a reason.
 ///

@@ -14,6 +14,13 @@ use ordup_objects::{Refusal, or_give_up};
 use ordup_primary::Setup;
 use std::alloc::{Allocator, Global};
 
+// promise along: each event of a list keeps the numbers, the feeds and the limits; no wrong body: each event is a `World::step`
+// promise imports: each query keeps its limit after each event; each value is off by at most its import, the sum by the total; with total
+// 0 all are of one state; no wrong body: a query reads by `Query::read` alone
+// promise answers state setup allowed refused: a list of events has the answers of the model; the world then stands for those accepted
+// promise sound: as World::start sound
+// promise limits: as World::start limits
+// promise rounds fewest: as World::start fewest
 /// Starts a store and takes the events in their order. A refused event leaves everything as it was. It promises, clause by clause:
 ///
 /// - `answers`: the answers are the replies to the events, each over those that were accepted before it.

@@ -34,6 +34,13 @@ impl<A: Allocator + Copy> World<A> {
     ghost use Rattle.ordup_world.specs.declared.event.Event.{Event};
     ghost use Rattle.ordup_primary.specs.Primaries.{HasFewestRounds};
 
+    // promise setup state sound limits fewest allowed refused: a store starts exactly with an object and a site, and stands for no event
+    // promise sound: each site holds the serial result of a prefix, with `reported <= applied <= sent <= len` and a feed within capacity;
+    // queries have their marks, and totals within limits
+    // promise limits: acknowledged updates that a site has not applied keep its limits; no wrong body: the world acknowledges by
+    // `Primary::settle` alone
+    // promise fewest: each site has the fewest rounds after each event, as its windows show; no wrong body: the world decides by
+    // `Primary::settle` alone
     /// A started store, in which nothing has happened.
     ///
     /// It is refused `Empty` where the setup lacks an object or a site, and `NoMemory`.
@@ -57,6 +64,12 @@ impl<A: Allocator + Copy> World<A> {
         })
     }
 
+    // promise answer state setup: a world answers the next event as the model, or an allowed `NoMemory`, and then stands for all accepted
+    // promise refused: a refused event changes nothing
+    // promise sound: as World::start sound
+    // promise limits: as World::start limits
+    // promise imports: as run imports
+    // promise fewest: as World::start fewest
     /// Takes one event and answers it. A refused event leaves everything as it was.
     // Inlined, and with it each step: a caller that knows the event moves neither it nor its answer.
     #[inline(always)]
@@ -66,6 +79,12 @@ impl<A: Allocator + Copy> World<A> {
         self.take(event)
     }
 
+    // promise answer state setup: as World::step answer
+    // promise refused: as World::step refused
+    // promise sound: as World::start sound
+    // promise limits: as World::start limits
+    // promise imports: as run imports
+    // promise fewest: as World::start fewest
     /// Takes a read by the open query of this name, and answers it as `step` does. Bytes that spell no name are that of no query.
     // So a caller that has bytes need not make a name of them first.
     #[inline(always)]
@@ -111,6 +130,10 @@ impl<A: Allocator + Copy> World<A> {
         }
     }
 
+    // promise primary: the primary that a world lends is its own; no wrong body: a world has one primary
+    // promise sound: as World::start sound
+    // promise limits: as World::start limits
+    // promise fewest: as World::start fewest
     /// The primary, with what was declared, the log, and what it knows of the sites.
     pub fn primary(&self) -> &Primary<A>
         ensures primary { result.now ≡ self.now.primary }

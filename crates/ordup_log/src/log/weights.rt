@@ -19,6 +19,7 @@ impl<A: Allocator + Copy> Log<A> {
     ghost use Rattle.ordup_log.specs.Spans.{weight, span, IsScopeKnown};
     ghost use Rattle.ordup_log.specs.Postings.{postings_of};
 
+    // promise weight few: a weight is the distance travelled on a scope, or 1; at most 128,000,000,000
     /// The weight of an update on a scope: the distance that values travelled, or 1 on `Count`.
     pub fn weight(&self, number: u64, scope: Scope, groups: &Groups<A>) -> u64
         requires first { 0 < number }
@@ -32,6 +33,7 @@ impl<A: Allocator + Copy> Log<A> {
         self.span(scope, groups, number - 1, number)
     }
 
+    // promise span few: a span weighs the sum of its updates; it fits
     /// The weight of the span from a place to another: the sum over the updates after the first, up to the second.
     ///
     /// Where it has at most 255 updates, it goes over their changes. Else it is the difference of two running weights, each of which
@@ -52,6 +54,7 @@ impl<A: Allocator + Copy> Log<A> {
         }
     }
 
+    // promise postings refused: postings are the places with a weight on an object, with running weights
     /// The places with a weight above 0 on an object, ascending, each with the running weight: that of the span from 0 to it.
     ///
     /// They are made for the call, which goes over all changes of the log once. The only refusal is `NoMemory`.
@@ -85,6 +88,7 @@ impl<A: Allocator + Copy> Log<A> {
         Ok(())
     }
 
+    // promise: as Log::postings
     /// What the updates up to a place weigh on an object. An object that is not there weighs nothing.
     ///
     /// At the end of the log it is at hand. Elsewhere it is that of the last row of marks, and what the updates after the row weigh.

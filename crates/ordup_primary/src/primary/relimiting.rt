@@ -11,6 +11,7 @@ impl<A: Allocator + Copy> Primary<A> {
     ghost use Rattle.ordup_log.specs.Spans.{span, IsScopeKnown};
     ghost use Rattle.ordup_primary.specs.Primaries.{IsPrimary, progress_at, relimit_refusal, relimited};
 
+    // promise place changed allowed refused err sound: a limit changes from the head on; what was decided stays
     /// Changes the limit of a site on a scope from the head on, or begins one there. It returns the place of the head.
     ///
     /// The limits that were in force at a place when it was decided stay so. It is refused `UnknownObject`, `UnknownGroup`,

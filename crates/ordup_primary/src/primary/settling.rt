@@ -14,6 +14,14 @@ use std::alloc::Allocator;
 impl<A: Allocator + Copy> Primary<A> {
     ghost use Rattle.ordup_primary.specs.Primaries.{IsPrimary, settle_refusal, forced_now, waiting_now, waits_for, settled_as, acked_or_round, acked_or_waiting, acked_after, Decides, HasFewestRounds};
 
+    // promise first later: the first settlement alone decides the head, by the reports then
+    // promise answer: the head is acknowledged exactly if each forced site has reported it
+    // promise later: a late report cancels no round
+    // promise allowed refused only_first err: `NothingToSettle` comes exactly if all is acknowledged, never for a decided head
+    // promise fewest: a site has the fewest rounds, as its windows show
+    // promise sound IsPrimary.lags: as Primary::new IsPrimary.lags
+    // promise sound IsPrimary.sites: as Primary::new IsPrimary.sites
+    // promise first: as Primary::windows
     /// Settles the head, the update after the last acknowledged one.
     ///
     /// The first settlement of the head decides it. A site for which the span from what it has reported to the head passes a
@@ -37,6 +45,7 @@ impl<A: Allocator + Copy> Primary<A> {
         settled
     }
 
+    // promise: as Primary::settle answer
     /// Whether the head waits for a site: it is decided and not acknowledged, it forced the site, and the site has not reported it.
     ///
     /// The rounds of a site end with the head exactly where the head forced it, so nothing is weighed again.

@@ -14,6 +14,7 @@ use std::alloc::Allocator;
 use std::mem::replace;
 
 impl<A: Allocator + Copy> SeriesAudit<A> {
+    // promise: an audit takes each valid record that is next; else it answers the first reason
     /// Before the first record.
     pub fn new() -> Self
         ensures { HasAudited result [] }
@@ -26,6 +27,9 @@ impl<A: Allocator + Copy> SeriesAudit<A> {
         }
     }
 
+    // promise whole: records that were taken have the fewest rounds; no series that begins with a refused one is certified
+    // promise refused kept: an audit is as it was if memory is refused
+    // promise verdict: as SeriesAudit::new
     /// Takes the next record, and answers the verdict on all so far.
     ///
     /// After the records of a series, which are valid and each next to the one before, it promises, clause by clause:

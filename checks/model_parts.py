@@ -1,0 +1,107 @@
+"""The parts of pages that checks/model --print writes: what a page says of the code, printed from the code.
+
+- docs/PROOFS.md: the promises, from the comments in src/ (checks/edits/promises.py).
+- docs/ARCHITECTURE.md: each crate of the store with the first sentence of its src/lib.rt, or src/main.rt, in the order of crates.txt.
+- docs/crates.svg: these crates, each above those that it stands on. An edge that others imply is left out.
+- docs/GLOSSARY.md: by crate the words of which it has the first declaration: a type, a call, or a definition in specs/.
+
+In a page a part stands between the lines `<!-- NAME: .. -->` and `<!-- end -->`. The picture is one part.
+"""
+
+import re
+import sys
+from pathlib import Path
+
+TOP = Path(__file__).resolve().parent.parent
+sys.path.insert(0, str(TOP / "checks/edits"))
+
+import promises
+
+BEGINS = "<!-- {}: checks/model --print writes this part -->"
+ENDS = "<!-- end -->"
+
+
+def read(path):
+    return path.read_text(encoding="utf-8")
+
+
+def crates():
+    """The crates of the store in the order of crates.txt, each with those of them that it names."""
+    lines = [line.split("#")[0].partition(":") for line in read(TOP / "crates.txt").split("\n")]
+    named = {name.split()[0]: libraries.split() for name, _, libraries in lines if name.startswith("ordup_")}
+    return {name: [it for it in libraries if it in named] for name, libraries in named.items()}
+
+
+def promise_lines():
+    """The rows of the promises, crate by crate."""
+    section = None
+    yield from ("|promise|carried by|", "|-|-|")
+    for row in promises.Promises(TOP).rows:
+        if row.section != section:
+            section = row.section
+            yield f"|**`{section}`**||"
+        yield f"|{row.promise[:1].upper()}{row.promise[1:]}|{row.contract}|"
+
+
+def crate_lines():
+    yield from ("|crate|what it is|", "|-|-|")
+    for crate in crates():
+        file = next(it for it in (TOP / f"crates/{crate}/src/lib.rt", TOP / f"crates/{crate}/src/main.rt") if it.exists())
+        told = []
+        for line in read(file).split("\n"):
+            if line.strip("/! ") == "" or not line.startswith("//!"):
+                break
+            told.append(line[3:].strip())
+        sentence = re.split(r"\. |\.$", " ".join(told))[0]
+        yield f"|`{crate.removeprefix('ordup_')}`|{sentence}|"
+
+
+def parts_of_name(name):
+    """The words of a name: `MessageSet` and `message_set` are of two."""
+    return " ".join(re.findall(r"[a-z]+|[A-Z][a-z]*", name)).lower()
+
+
+def declared(crate):
+    """The public names that a crate declares, as their words: its own name, its types, and its calls and definitions."""
+    types, calls = [], []
+    for file in (TOP / f"crates/{crate}").glob("src/**/*.rt"):
+        types += re.findall(r"^ *pub (?:struct|enum|trait) (\w+)", read(file), re.M)
+        calls += re.findall(r"^ *pub fn (\w+)", read(file), re.M)
+    for file in (TOP / f"crates/{crate}").glob("specs/*.antt"):
+        calls += re.findall(r"^ *(?:abbrev pub|unfoldable pub|pub record|pub data) ([\w']+)", read(file), re.M)
+    return [{parts_of_name(it) for it in names} for names in ([crate.removeprefix("ordup_")], types, calls)]
+
+
+def glossary_lines():
+    """By crate the words of the glossary: a word is of the crate or the type that has it as its name, and else of the crate with the most
+    names that have it. Of equals the lowest counts. Those of several machines are not of the crates."""
+    text = read(TOP / "docs/GLOSSARY.md").split("## Several machines")[0]
+    words = [it for names in re.findall(r"^- \*\*([^*]+)\*\*", text, re.M) for it in names.split(", ")]
+    names, places = {crate: declared(crate) for crate in crates()}, {}
+    for word in words:
+        forms = {word, word + "s"}
+        named = [crate for crate, (own, types, _) in names.items() if forms & own] or \
+                [crate for crate, (_, types, _) in names.items() if forms & types]
+        counts = {crate: sum(any(f" {form} " in f" {name} " for form in forms) for name in set().union(*all_names))
+                  for crate, all_names in names.items()}
+        most = max(counts.values())
+        if named or most:
+            places.setdefault((named or [crate for crate in counts if counts[crate] == most])[0], []).append(word)
+    return [f"- `{crate}`: {', '.join(places[crate])}" for crate in names if crate in places]
+
+
+PICTURE = "docs/crates.svg"
+PARTS = {
+    "docs/PROOFS.md": {"promises": promise_lines},
+    "docs/ARCHITECTURE.md": {"crates": crate_lines},
+    "docs/GLOSSARY.md": {"places": glossary_lines},
+}
+
+
+def with_part(text, name, lines):
+    """The text of a page with a part in it; None where it has no place for the part."""
+    begin = BEGINS.format(name)
+    if text.count(begin + "\n") != 1 or ENDS + "\n" not in text.split(begin)[1]:
+        return None
+    above, below = text.split(begin + "\n")
+    return f"{above}{begin}\n\n" + "\n".join(lines) + f"\n\n{ENDS}\n" + below.split(ENDS + "\n", 1)[1]

@@ -3,7 +3,7 @@
 - docs/PROOFS.md: the promises, from the comments in src/ (checks/edits/promises.py).
 - docs/ARCHITECTURE.md: each crate of the store with the first sentence of its src/lib.rt, or src/main.rt, in the order of crates.txt.
 - docs/crates.svg: these crates, each above those that it stands on. An edge that others imply is left out.
-- docs/GLOSSARY.md: by crate the words of which it has the first declaration: a type, a call, or a definition in specs/.
+- docs/GLOSSARY.md: by crate the words that name it, or a public type, call or definition of it.
 
 In a page a part stands between the lines `<!-- NAME: .. -->` and `<!-- end -->`. The picture is one part.
 """
@@ -73,21 +73,15 @@ def declared(crate):
 
 
 def glossary_lines():
-    """By crate the words of the glossary: a word is of the crate or the type that has it as its name, and else of the crate with the most
-    names that have it. Of equals the lowest counts. Those of several machines are not of the crates."""
+    """By crate the words of the glossary that name it, or a public type, call or definition of it, in this order. The lowest counts."""
     text = read(TOP / "docs/GLOSSARY.md").split("## Several machines")[0]
     words = [it for names in re.findall(r"^- \*\*([^*]+)\*\*", text, re.M) for it in names.split(", ")]
     names, places = {crate: declared(crate) for crate in crates()}, {}
     for word in words:
-        forms = {word, word + "s"}
-        named = [crate for crate, (own, types, _) in names.items() if forms & own] or \
-                [crate for crate, (_, types, _) in names.items() if forms & types]
-        counts = {crate: sum(any(f" {form} " in f" {name} " for form in forms) for name in set().union(*all_names))
-                  for crate, all_names in names.items()}
-        most = max(counts.values())
-        if named or most:
-            places.setdefault((named or [crate for crate in counts if counts[crate] == most])[0], []).append(word)
-    return [f"- `{crate}`: {', '.join(places[crate])}" for crate in names if crate in places]
+        named = [crate for way in range(3) for crate in names if names[crate][way] & {word, word + "s"}]
+        if named:
+            places.setdefault(named[0], []).append(word)
+    return ["|crate|words|", "|-|-|", *(f"|`{crate}`|{','.join(places[crate])}|" for crate in names if crate in places)]
 
 
 PICTURE = "docs/crates.svg"

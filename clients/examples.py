@@ -7,26 +7,43 @@ PAGE = "docs/EMBEDDING.md"
 TOP = Path(__file__).resolve().parent.parent
 
 
+def only(pattern, what):
+    """What the page has once by a pattern."""
+    found = re.findall(pattern, (TOP / PAGE).read_text(encoding="utf-8"), re.M | re.S)
+    if len(found) != 1:
+        raise ValueError(f"{PAGE} has {len(found)} times {what}, and not once")
+    return found[0]
+
+
 def example(language):
     """The example of a language, and what it prints: the block after it."""
-    text = (TOP / PAGE).read_text(encoding="utf-8")
-    found = re.findall(rf"^```{language}\n(.*?)^```\n.*?^```text\n(.*?)^```\n", text, re.M | re.S)
-    if len(found) != 1:
-        raise ValueError(f"{PAGE} has {len(found)} blocks of {language}, and not one")
-    return found[0]
+    return only(rf"^```{language}\n(.*?)^```\n.*?^```text\n(.*?)^```\n", f"an example in {language}")
+
+
+def command(language):
+    """The command by which the page runs the example of a language, which stands between it and what it prints."""
+    return only(rf"^```{language}\n.*?^```\n(?:(?!^```text).)*?^```proof\n(.*?)\n```\n", f"a command for {language}")
+
+
+def quoted(begin):
+    """The words in backquotes on the page that begin so."""
+    return only(rf"`({re.escape(begin)}[^`\n]*)`", begin)
 
 
 def lay(language, folder, clients):
     """Lays the example into a folder, as a crate of Rust or a module of Go, with the way from there to clients/. Answers what it prints."""
     source, printed = example(language)
+    needs, required, replaced = quoted("ordup = {"), quoted("require ordup"), quoted("replace ordup")
     files = {
         "rust": {"src/main.rs": source, "Cargo.toml": '[package]\nname = "shop"\nversion = "0.1.0"\nedition = "2021"\n\n[dependencies]\n'
-                                                      f'ordup = {{ path = "{clients}/rust" }}\n'},
-        "go": {"main.go": source, "go.mod": f"module shop\n\ngo 1.19\n\nrequire ordup v0.0.0\n\nreplace ordup => {clients}/go\n"},
+                                                      f"{needs}\n"},
+        "go": {"main.go": source, "go.mod": f"module shop\n\ngo 1.19\n\n{required}\n\n{replaced}\n"},
         "c": {"shop.c": source},
         "python": {"shop.py": source},
     }
     for name, text in files[language].items():
+        if name in ("Cargo.toml", "go.mod"):
+            text = text.replace("../ordup/clients", clients)
         (folder / name).parent.mkdir(parents=True, exist_ok=True)
         (folder / name).write_text(text, encoding="utf-8")
     return printed

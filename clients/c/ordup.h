@@ -10,7 +10,9 @@
  *     fwrite(answers, 1, written, stdout);                        // ok object tea
  *     ordup_close(&store);
  *
- * Link with libordup.a, or with libordup.so.
+ * Link with libordup.a, or with libordup.so. Both need nothing but the C library, Linux, and a 64-bit x86 processor of the level
+ * x86-64-v2. The archive is one object, which is position independent and shows only the names of this file; in a shared library
+ * -Wl,--exclude-libs,ALL hides these.
  *
  * The library does what this file says as long as its caller keeps to this:
  *
@@ -18,7 +20,12 @@
  * - No pointer is null, not even for no bytes. Each points to as many bytes as its size says, and none of them overlap.
  * - One call at a time runs on a store. Threads may take turns under a lock. Calls on different stores need no order.
  * - No call is made from a signal handler, or in the forked child of a process with threads.
- * - A call has 128 KB of stack.
+ * - A call has 128 KB of stack. With less the system ends the process.
+ * - malloc, realloc and free are of one allocator, whose blocks are aligned to 16 bytes.
+ *
+ * The library starts no thread, locks nothing, and has no state outside the stores. The caller has the buffers, and the 16 bytes of a
+ * store. The store takes the rest by malloc: for each update, for each open query, and for answers that were not given yet. A log has
+ * at most 1,000,000 updates; the successor begins with what ordup_next gives. How many bytes a store takes in all is not limited.
  */
 #ifndef ORDUP_H
 #define ORDUP_H
@@ -30,7 +37,8 @@
 extern "C" {
 #endif
 
-/* The version of these functions, which ordup_version returns. */
+/* The version of these functions, which ordup_version returns, and with which the name of the shared library ends. A version may add
+ * functions and statuses, and changes none. */
 #define ORDUP_VERSION 1
 
 /* A store that is open, or none. Its members belong to the library: do not read or write them. Between two calls its bytes may be

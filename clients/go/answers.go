@@ -6,7 +6,7 @@ import (
 	"strings"
 )
 
-// An Answer is one of the types below, or a *Refused. The fields are named as in docs/FORMATS.md.
+// An Answer is one of the types below, or a *Refused. A place is the number of an update in the log, from 1.
 type Answer interface{ isAnswer() }
 
 func (Declared) isAnswer()  {}
@@ -28,25 +28,25 @@ func (*Refused) isAnswer()  {}
 // Declared answers a declaration: of an "object", a "group", a "site" or a "limit". The name of a limit is that of its site.
 type Declared struct{ Kind, Name string }
 
-// Started answers start.
+// Started answers start: the store is started.
 type Started struct{}
 
-// Proposed answers propose.
+// Proposed answers propose: the update has this place.
 type Proposed struct{ Place uint64 }
 
-// Sent answers send.
+// Sent answers send: the update at this place is in the feed of the site.
 type Sent struct {
 	Site  string
 	Place uint64
 }
 
-// Applied answers apply.
+// Applied answers apply: the site applied the update at this place.
 type Applied struct {
 	Site  string
 	Place uint64
 }
 
-// Reported answers report.
+// Reported answers report: the primary goes by so many updates that the site has applied.
 type Reported struct {
 	Site    string
 	Applied uint64
@@ -70,20 +70,22 @@ const (
 	Waiting State = "waiting"
 )
 
-// Begun answers begin. The place is the query's reference.
+// Begun answers begin. The place is the query's reference: so many updates were acknowledged then.
 type Begun struct {
 	Query string
 	Place uint64
 }
 
-// Read answers read. The value is no further than Imported from the one at the query's place. Total is what all its reads imported.
+// Read answers read. The value at the query's site is no further than Imported from the one at the query's reference. Total is what all
+// its reads imported, in the unit of the values.
 type Read struct {
 	Query, Object   string
 	Value           int64
 	Imported, Total uint64
 }
 
-// Ended answers end. The sum of all values that were read is no further than Total from the sum at the query's place.
+// Ended answers end. Sum is that of the values of all Reads, no further than Total from the sum at Place, the query's reference. Refused
+// reads do not count.
 type Ended struct {
 	Query        string
 	Place        uint64
@@ -91,17 +93,19 @@ type Ended struct {
 	Total, Reads uint64
 }
 
-// Abandoned answers abandon.
+// Abandoned answers abandon: the query ended without its sum.
 type Abandoned struct{ Query string }
 
-// Shown answers show.
+// Shown answers show: how many updates were Sent to a site, Applied by it and last Reported, how many forced Rounds it had, with one that
+// is waited for, and its values.
 type Shown struct {
 	Site                            string
 	Sent, Applied, Reported, Rounds uint64
 	Values                          map[string]int64
 }
 
-// Certified answers certify. No schedule that keeps the site's limits has fewer rounds. A window {a, b} is of the updates a + 1 to b.
+// Certified answers certify: how many forced rounds a site had. No schedule that keeps its limits has fewer. There is a window for each. A
+// window {a, b} is of the updates a + 1 to b, which pass a limit alone, and no two windows share an update.
 type Certified struct {
 	Site    string
 	Rounds  uint64
@@ -119,9 +123,9 @@ type Verdict struct {
 	Kind VerdictKind
 	// Of Yes: no schedule that keeps the site's limits has fewer rounds.
 	Rounds uint64
-	// Of No and Malformed: the row that is wrong.
+	// Of No and Malformed: the row that is wrong, from 1.
 	Row uint64
-	// Of No: the reason against the record.
+	// Of No: the reason against the record, one of docs/FORMATS.md.
 	Reason string
 }
 

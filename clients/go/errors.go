@@ -14,7 +14,8 @@ var (
 	ErrNotYet      = errors.New("ordup: an update is not acknowledged yet")
 )
 
-// Refused is the store's answer `refused NUMBER NAME` to a line. After it all is as before.
+// Refused is the store's answer `refused NUMBER NAME` to a line. After it all is as before. docs/FORMATS.md has the numbers, 1 to 26, and
+// their names. errors.As finds it.
 type Refused struct {
 	Number int
 	Name   string

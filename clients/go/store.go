@@ -1,7 +1,8 @@
 // Package ordup is a replicated store with a proved bound on its lag, in this process: a binding of libordup.
 //
 // A Store has a method for each command of docs/FORMATS.md, and Run for the lines of many. Goroutines may share it.
-// docs/EMBEDDING.md says what is proved of the library, and what its caller owes, which is what this package keeps to.
+// docs/EMBEDDING.md says what is proved of the library. This package keeps to what ordup.h asks of a caller, but for the
+// allocator and the processor, which are the program's. A store takes memory by malloc, and a *NoMemory says that this has none left.
 //
 // It links libordup.a of out/ in this repository, where ./ordup --library leaves it, or else of the folders that the C compiler knows.
 // Where that is another folder, set CGO_CFLAGS to -I and CGO_LDFLAGS to -L with its name. With the tag pkgconfig it links the library
@@ -42,7 +43,8 @@ type Store struct {
 	taken, written C.size_t
 }
 
-// Open gives a store before its first line. Close gives its memory back.
+// Open gives a store before its first line. Close gives its memory back, and so does the collector for a store that is forgotten. The
+// error is a *NoMemory, or tells that the library has another version than this package.
 func Open() (*Store, error) {
 	if version := C.ordup_version(); version != C.ORDUP_VERSION {
 		return nil, fmt.Errorf("ordup: the library has version %d, and not %d", version, C.ORDUP_VERSION)
@@ -151,7 +153,8 @@ func (store *Store) Commands(lines ...string) ([]Answer, error) {
 	return outcomes, err
 }
 
-// Record gives the record of a site, for an auditor: as `ordup record` prints it.
+// Record gives the record of a site, for an auditor: as `ordup record` prints it. The store is as it was. The error is ErrNotStarted,
+// ErrUnknownSite, ErrClosed or a *NoMemory.
 func (store *Store) Record(site string) (string, error) {
 	name := []byte(site)
 	return store.given(func(room []byte, written *C.size_t) C.uint32_t {
@@ -160,7 +163,7 @@ func (store *Store) Record(site string) (string, error) {
 }
 
 // NextDeclarations gives the declarations of the successor, which begins with what this store ends with, once all updates are
-// acknowledged: as `ordup next` prints them.
+// acknowledged: as `ordup next` prints them. The store is as it was. The error is ErrNotStarted, ErrNotYet, ErrClosed or a *NoMemory.
 func (store *Store) NextDeclarations() (string, error) {
 	return store.given(func(room []byte, written *C.size_t) C.uint32_t {
 		return C.ordup_next(store.at, pointer(room), C.size_t(len(room)), written)
@@ -176,7 +179,8 @@ func (store *Store) given(call func([]byte, *C.size_t) C.uint32_t) (string, erro
 	return given(65536, call)
 }
 
-// Check checks a record, as `ordup check` does. It needs no store.
+// Check checks a record, as `ordup check` does. It needs no store. The error is ErrTooLong where there are more than 8 GiB, or a
+// *NoMemory.
 func Check(record []byte) (Verdict, error) {
 	text, err := given(64, func(room []byte, written *C.size_t) C.uint32_t {
 		return C.ordup_check(pointer(record), C.size_t(len(record)), pointer(room), C.size_t(len(room)), written)
@@ -188,7 +192,7 @@ func Check(record []byte) (Verdict, error) {
 }
 
 // CheckSeries checks the records of a site, one after another, of a store and of those that go on from it, as `ordup check --series`
-// does. It needs no store.
+// does. It needs no store. The error is a *NoMemory.
 func CheckSeries(records []byte) (SeriesVerdict, error) {
 	text, err := given(64, func(room []byte, written *C.size_t) C.uint32_t {
 		return C.ordup_check_series(pointer(records), C.size_t(len(records)), pointer(room), C.size_t(len(room)), written)

@@ -1,8 +1,9 @@
 #!/usr/bin/env python3
 """Measures the module behind a pipe and in the process, and prints a table in Markdown: clients/python/measure.py PROGRAM [RUNS]
 
-The load is one update after another, of five lines each: it is proposed, settled, sent, applied and reported. What it
-prints of each row is the best of RUNS runs, 10 where nothing else is said. bench/README.md has the last table.
+The load is one update after another, of five lines each: it is proposed, settled, sent, applied and reported. A run has 20,000 lines
+that go out one by one, or 100,000 of which many go out at once; then the time of a line is its share of the call. What it prints of
+each row is the best of RUNS runs, 10 where nothing else is said. bench/results/python.csv has the last table.
 """
 
 import os

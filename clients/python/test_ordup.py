@@ -2,7 +2,9 @@
 """Tests the module on the built program: clients/python/test_ordup.py PROGRAM [TEST..]
 
 What both ways to a store have is tried on each: behind a pipe, and in the process, where the library is found. Without it one line
-says so. The transcripts of the pages are run too, and so are the module's own examples and those of docs/CLIENTS.md.
+says so. That is each command, each answer and each refusal of docs/FORMATS.md, the transcripts of the pages, 100,000 lines at once,
+processes that end early, and signals, threads and forks amid a call. The module's own examples are run too, and those of
+docs/CLIENTS.md.
 """
 
 import doctest

@@ -14,7 +14,8 @@ __all__ = [
     "Started", "TimedOut", "Unanswered", "Verdict", "Waiting", "Word", "Yes", "line",
 ]
 
-# A change of an object: `('add', -5)`, or `('take', 'till')` for the value of another object.
+# A change of an object: `('add', -5)`, or `('take', 'till')` for the value of another object. All changes of an update read the values
+# before it.
 Change = Union[Tuple[Literal["add", "set", "mul", "max", "min"], int], Tuple[Literal["take"], str]]
 # What a limit weighs: `('object', 'tea')`, `('group', 'drinks')`, `'all'` or `'count'`.
 Scope = Union[Tuple[Literal["object", "group"], str], Literal["all", "count"]]
@@ -36,7 +37,7 @@ class BadLine(Error, ValueError):
 
 
 class Refused(Error):
-    """The store's answer `refused NUMBER NAME` to a line. After it all is as before."""
+    """The store's answer `refused NUMBER NAME` to a line. After it all is as before. FORMATS has the numbers, 1 to 26, and their names."""
 
     def __init__(self, number: int, name: str, line: str) -> None:
         super().__init__(number, name, line)
@@ -98,39 +99,49 @@ class NoMemory(Unanswered):
 
 
 class Answer:
-    """An answer that begins with `ok`. The fields are named as in FORMATS."""
+    """An answer that begins with `ok`. A place is the number of an update in the log, from 1."""
 
 
 @dataclass(frozen=True)
 class Declared(Answer):
+    """An object, a group, a site or a limit was declared. The name of a limit is that of its site."""
+
     kind: str  # 'object', 'group', 'site' or 'limit'
     name: str
 
 
 @dataclass(frozen=True)
 class Started(Answer):
-    pass
+    """The store is started."""
 
 
 @dataclass(frozen=True)
 class Proposed(Answer):
+    """The update has this place."""
+
     place: int
 
 
 @dataclass(frozen=True)
 class Sent(Answer):
+    """The update at this place is in the feed of the site."""
+
     site: str
     place: int
 
 
 @dataclass(frozen=True)
 class Applied(Answer):
+    """The site applied the update at this place."""
+
     site: str
     place: int
 
 
 @dataclass(frozen=True)
 class Reported(Answer):
+    """The primary goes by so many updates that the site has applied."""
+
     site: str
     applied: int
 
@@ -144,26 +155,31 @@ class Settled(Answer):
 
 
 class Acked(Settled):
-    pass
+    """The head is acknowledged."""
 
 
 class Round(Settled):
-    pass
+    """The head has a forced round: it waits for the reports of these sites."""
 
 
 class Waiting(Settled):
-    pass
+    """The head still waits for these sites."""
 
 
 @dataclass(frozen=True)
 class Begun(Answer):
+    """The query began. Its reference is this place: so many updates were acknowledged then."""
+
     query: str
     place: int
 
 
 @dataclass(frozen=True)
 class Read(Answer):
-    """The value is no further than `imported` from the one at the query's place. `total` is what all its reads imported."""
+    """The value at the query's site, no further than `imported` from the one at the query's reference.
+
+    `total` is what all its reads imported, in the unit of the values.
+    """
 
     query: str
     object: str
@@ -174,7 +190,10 @@ class Read(Answer):
 
 @dataclass(frozen=True)
 class Ended(Answer):
-    """The sum of all values that were read is no further than `total` from the sum at the query's place."""
+    """The `sum` of the values of all `reads`, no further than `total` from the sum at `place`, the query's reference.
+
+    Refused reads do not count.
+    """
 
     query: str
     place: int
@@ -185,11 +204,18 @@ class Ended(Answer):
 
 @dataclass(frozen=True)
 class Abandoned(Answer):
+    """The query ended without its sum."""
+
     query: str
 
 
 @dataclass(frozen=True)
 class Shown(Answer):
+    """How many updates were `sent` to a site, `applied` by it and last `reported`, and its values.
+
+    `rounds` is how many forced rounds it had, with one that is waited for.
+    """
+
     site: str
     sent: int
     applied: int
@@ -200,7 +226,10 @@ class Shown(Answer):
 
 @dataclass(frozen=True)
 class Certified(Answer):
-    """No schedule that keeps the site's limits has fewer rounds. A window (a, b) is of the updates a + 1 to b."""
+    """How many forced rounds a site had: no schedule that keeps its limits has fewer. There is a window for each.
+
+    A window (a, b) is of the updates a + 1 to b, which pass a limit alone, and no two windows share an update.
+    """
 
     site: str
     rounds: int
@@ -209,6 +238,8 @@ class Certified(Answer):
 
 @dataclass(frozen=True)
 class Relimited(Answer):
+    """The limit is in force from this place on."""
+
     site: str
     place: int
 
@@ -225,7 +256,7 @@ class Yes:
 
 @dataclass(frozen=True)
 class No:
-    """There is a reason against the record, in this row."""
+    """There is a reason against the record, in this row, from 1. FORMATS has the reasons."""
 
     row: int
     reason: str

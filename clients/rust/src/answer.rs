@@ -3,23 +3,31 @@
 use crate::error::Refused;
 use std::str::FromStr;
 
-/// An answer that begins with `ok`. The fields are named as in docs/FORMATS.md.
+/// An answer that begins with `ok`. A place is the number of an update in the log, from 1.
 #[derive(Clone, Debug, PartialEq, Eq)]
 pub enum Answer {
     /// An object, a group, a site or a limit was declared. The name of a limit is that of its site.
     Declared { kind: String, name: String },
+    /// The store is started.
     Started,
+    /// The update has this place.
     Proposed { place: u64 },
+    /// The update at this place is in the feed of the site.
     Sent { site: String, place: u64 },
+    /// The site applied the update at this place.
     Applied { site: String, place: u64 },
+    /// The primary goes by so many updates that the site has applied.
     Reported { site: String, applied: u64 },
     Settled(Settled),
+    /// The query began. Its reference is this place: so many updates were acknowledged then.
     Begun { query: String, place: u64 },
     Read(Read),
     Ended(Ended),
+    /// The query ended without its sum.
     Abandoned { query: String },
     Shown(Shown),
     Certified(Certified),
+    /// The limit is in force from this place on.
     Relimited { site: String, place: u64 },
 }
 
@@ -34,7 +42,8 @@ pub enum Settled {
     Waiting { place: u64, sites: Vec<String> },
 }
 
-/// The value is no further than `imported` from the one at the query's place. `total` is what all its reads imported.
+/// What a read gives: the value at the query's site, no further than `imported` from the one at the query's reference. `total` is what
+/// all its reads imported, in the unit of the values.
 #[derive(Clone, Debug, PartialEq, Eq)]
 pub struct Read {
     pub query: String,
@@ -44,7 +53,8 @@ pub struct Read {
     pub total: u64,
 }
 
-/// The sum of all values that were read is no further than `total` from the sum at the query's place.
+/// The `sum` of the values of all `reads`, no further than `total` from the sum at `place`, the query's reference. Refused reads do not
+/// count.
 #[derive(Clone, Debug, PartialEq, Eq)]
 pub struct Ended {
     pub query: String,
@@ -54,7 +64,8 @@ pub struct Ended {
     pub reads: u64,
 }
 
-/// How far a site is, and its values in the order in which the objects were declared.
+/// How far a site is: how many updates were `sent` to it, `applied` by it, and last `reported`, and how many forced `rounds` it had, with
+/// one that is waited for. Its values are in the order in which the objects were declared.
 #[derive(Clone, Debug, PartialEq, Eq)]
 pub struct Shown {
     pub site: String,
@@ -66,13 +77,14 @@ pub struct Shown {
 }
 
 impl Shown {
-    /// The value of an object.
+    /// The value of an object, or None where there is no such object.
     pub fn value(&self, object: &str) -> Option<i64> {
         self.values.iter().find(|(name, _)| name == object).map(|(_, value)| *value)
     }
 }
 
-/// No schedule that keeps the site's limits has fewer rounds. A window `(a, b)` is of the updates a + 1 to b.
+/// How many forced rounds a site had: no schedule that keeps its limits has fewer. There is a window for each. A window `(a, b)` is of the
+/// updates a + 1 to b, which pass a limit alone, and no two windows share an update.
 #[derive(Clone, Debug, PartialEq, Eq)]
 pub struct Certified {
     pub site: String,
@@ -85,7 +97,7 @@ pub struct Certified {
 pub enum Verdict {
     /// No schedule that keeps the site's limits has fewer than these rounds.
     Yes { rounds: u64 },
-    /// There is a reason against the record, in this row.
+    /// There is a reason against the record, in this row. docs/FORMATS.md has the reasons. Rows are counted from 1.
     No { row: u64, reason: String },
     /// This row is the first that breaks a rule of the format.
     Malformed { row: u64 },

@@ -2,7 +2,7 @@
 
 use std::fmt;
 
-/// The store's answer `refused NUMBER NAME`. After it all is as before.
+/// The store's answer `refused NUMBER NAME`. After it all is as before. docs/FORMATS.md has the numbers, 1 to 26, and their names.
 #[derive(Clone, Debug, PartialEq, Eq)]
 pub struct Refused {
     pub number: u32,

@@ -1,7 +1,9 @@
 //! A replicated store with a proved bound on its lag, in this process: a binding of `libordup`.
 //!
-//! A [`Store`] has a method for each command of docs/FORMATS.md, and [`Store::run`] for the lines of many. Threads share a
-//! [`SharedStore`]. docs/EMBEDDING.md says what is proved of the library, and what its caller owes, which is what this crate keeps to.
+//! The crate has no dependencies. A [`Store`] has a method for each command of docs/FORMATS.md, and [`Store::run`] for the lines of many.
+//! Threads share a [`SharedStore`]. docs/EMBEDDING.md says what is proved of the library. This crate keeps to what `ordup.h` asks of a
+//! caller, but for the stack, of which a call wants 128 KB, and for the allocator and the processor, which are the program's. A store takes
+//! memory by `malloc`, and [`Error::NoMemory`] says that this has none left.
 //!
 //! ```
 //! use ordup::{Change, Scope, Settled, Store};

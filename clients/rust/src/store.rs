@@ -28,7 +28,8 @@ pub struct Store(RawStore);
 unsafe impl Send for Store {}
 
 impl Store {
-    /// A store before its first line.
+    /// A store before its first line. The error is `NoMemory`, or `Unknown` if the library has another version than this
+    /// crate.
     pub fn new() -> Result<Store, Error> {
         let mut store = Store(RawStore { held: ptr::null_mut(), mark: 0 });
         // SAFETY: it has no arguments.
@@ -124,7 +125,9 @@ impl Store {
         outcome
     }
 
-    /// The record of a site, for an auditor: as `ordup record` prints it.
+    /// The record of a site, for an auditor: as `ordup record` prints it. The store is as it was.
+    ///
+    /// The error is `NotStarted`, `UnknownSite` or `NoMemory`.
     pub fn record(&mut self, site: &str) -> Result<String, Error> {
         // SAFETY: as in `run`.
         given(65_536, |room, size, written| unsafe {
@@ -133,7 +136,9 @@ impl Store {
     }
 
     /// The declarations of the successor, which begins with what this store ends with, once all updates are acknowledged: as
-    /// `ordup next` prints them.
+    /// `ordup next` prints them. The store is as it was.
+    ///
+    /// The error is `NotStarted`, `NotYet` or `NoMemory`.
     pub fn next_declarations(&mut self) -> Result<String, Error> {
         // SAFETY: as in `run`.
         given(65_536, |room, size, written| unsafe { ordup_next(&mut self.0, room, size, written) })
@@ -147,7 +152,7 @@ impl Drop for Store {
     }
 }
 
-/// Checks a record, as `ordup check` does. It needs no store.
+/// Checks a record, as `ordup check` does. It needs no store. The error is `TooLong` for more than 8 GiB, or `NoMemory`.
 ///
 /// ```
 /// use ordup::{check, Verdict};
@@ -165,7 +170,7 @@ pub fn check(record: &[u8]) -> Result<Verdict, Error> {
 }
 
 /// Checks the records of a site, one after another, of a store and of those that go on from it, as `ordup check --series` does. It
-/// needs no store.
+/// needs no store. The only error is `NoMemory`.
 ///
 /// ```
 /// use ordup::{check_series, SeriesVerdict};

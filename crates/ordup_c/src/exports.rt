@@ -138,7 +138,8 @@ pub extern "C" fn ordup_next(
 }
 
 // promise: a record is judged as by `ordup check`, unless its text is too long
-/// Checks a record, and tells the verdict: how long its line is, and the line where it fits.
+/// Checks a record, and tells the verdict: how long its line is, and the line where it fits. A bad row, a text that is longer than a
+/// record may be, and refused memory each have a status of their own.
 #[unsafe(no_mangle)]
 pub extern "C" fn ordup_check(
     alloc: Global,
@@ -152,7 +153,8 @@ pub extern "C" fn ordup_check(
 }
 
 // promise: a text of records is judged as by `ordup check --series`
-/// Audits records of one site, one after another, and tells the verdict: how long its line is, and the line where it fits.
+/// Audits records of one site, one after another, and tells the verdict: how long its line is, and the line where it fits. A bad row
+/// and refused memory each have a status of their own.
 #[unsafe(no_mangle)]
 pub extern "C" fn ordup_check_series(
     alloc: Global,
@@ -179,7 +181,7 @@ fn status_of(session: &Session, left: usize) -> u32
 }
 
 // promise: a closed store is none, and each call says so
-/// Closes a store, if there is one.
+/// Closes a store, if there is one. Where there is none, each call but `ordup_open` says so and does nothing.
 #[unsafe(no_mangle)]
 pub extern "C" fn ordup_close(alloc: Global, store: &mut Store)
     ensures { store.new.held.session ≡ None }

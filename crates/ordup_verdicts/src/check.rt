@@ -13,7 +13,7 @@ use std::io::{Read, Write};
 /// Checks a record and prints the verdict.
 ///
 /// - Where it ends with a status or a write fault, the text is not too long, and it tells a record. The verdict on it was
-///   printed, or a prefix of that line.
+///   printed, or a prefix of that line. The status is 0 for a valid record, and else 1.
 /// - `Malformed`: the row is the first that breaks a rule. Nothing was written.
 /// - `Read`, `NoMemory`: nothing was written.
 pub fn check_record<R: Read, W: Write>(alloc: Global, input: &mut R, output: &mut W) -> Outcome

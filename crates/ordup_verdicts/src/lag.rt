@@ -16,7 +16,8 @@ use std::io::{Read, Write};
 /// Reads a record and prints its lag, or the verdict on it where it is not valid.
 ///
 /// - Where it ends with a status or a write fault, the text is not too long, and it tells a record. The lag of a valid record
-///   was printed, or a prefix of it; of any other record the verdict was, or a prefix of that line.
+///   was printed, or a prefix of it; of any other record the verdict was, or a prefix of that line. The status is 0 for a valid
+///   record, and else 1.
 /// - `Malformed`: the row is the first that breaks a rule. Nothing was written.
 /// - `Read`, `NoMemory`: nothing was written.
 pub fn print_lag<R: Read, W: Write>(alloc: Global, input: &mut R, output: &mut W) -> Outcome

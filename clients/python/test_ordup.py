@@ -104,7 +104,7 @@ class Commands(TestCase):
 
     def test_transcripts_of_the_pages(self):
         seen = 0
-        for page in ("README.md", "docs/FORMATS.md", "docs/LIMITS.md", "docs/MODEL.md"):
+        for page in ("README.md", "docs/FORMATS.md", "docs/MODEL.md", "docs/TUTORIAL.md"):
             for pairs in transcripts(page):
                 store = self.store()
                 for text, wanted in pairs:
@@ -114,7 +114,7 @@ class Commands(TestCase):
                     with self.subTest(page=page, line=text):
                         self.assertEqual(text_of(store.commands([text])[0]), wanted)
                         seen += 1
-        self.assertGreater(seen, 200)
+        self.assertGreater(seen, 70)
 
 
 class Refusals(TestCase):

@@ -134,7 +134,8 @@ class Store:
         else the launcher of the repository.
 
         `time_limit` is how many seconds the program may take to end once its input was closed. In the process it has no meaning.
-        A program that cannot be started is an `OSError`, such as `FileNotFoundError`. Its standard error is that of this process.
+        A program that cannot be started is an `OSError`, such as `FileNotFoundError`. The program's standard error is that of
+        this process, and has the line of a fault, and the messages of the launcher.
         """
         seconds_of(timeout)
         library = find() if program is None else None

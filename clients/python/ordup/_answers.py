@@ -83,7 +83,7 @@ class Unanswered(Error):
 class ProgramEnded(Unanswered):
     """The program ended, or the store was closed, before all lines were answered. The store is gone, and so is what it was told.
 
-    In the process the status is 0.
+    Each later command raises this too. In the process the status is 0.
     """
 
 

@@ -63,7 +63,8 @@
 // shows no less, however late the place arrives, and whether or not the lease lives by then. What a site tells before it may serve is
 // not told. A primary counts no place of another epoch, and refuses one beyond the updates of the entry that the site names. That ends
 // the site with status 5, and not the primary. A primary that takes over knows what the script has. A site tells its place again, twice a
-// second, as long as the script does not have it. A fleet tells the least place of its sites.
+// second, as long as the script does not have it. While that lacks at most a quarter of what its limits allow, nobody waits for the place: the
+// site tells new ones twenty times a second at most, and else each at once. A fleet tells the least place of its sites.
 //
 // # Epochs
 //

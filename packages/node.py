@@ -11,7 +11,7 @@ from contents import TOP, first_paragraph, said_by, version_of
 
 NAME = "ordup-node"
 SUMMARY = "primaries and sites of ordup over several machines"
-# The settings of a host, for units that have their own: they are a conffile, since as they stand they reach this machine alone.
+# A conffile: as it stands a process that is started with it reaches this machine alone, so it asks no wrong host.
 SETTINGS = "etc/ordup-node/settings"
 PAGE = "docs/MACHINES.md"
 EXAMPLE = "examples/machines/shop.ordup"

@@ -43,7 +43,9 @@ class Answer(NamedTuple):
 class Asking:
     """The clients. The first one is the trial's own, some ask alone, and the others in crowds."""
 
-    def __init__(self, form: Form, crowds: int, note: Callable[[str], None], wrong: Callable[[str], None], look: Callable[[], None]) -> None:
+    def __init__(
+        self, form: Form, crowds: int, note: Callable[[str], None], wrong: Callable[[str], None], look: Callable[[], None]
+    ) -> None:
         """`look` is called again and again while somebody waits."""
         self.form, self.note, self.wrong, self.look = form, note, wrong, look
         self.answers: list[Answer] = []

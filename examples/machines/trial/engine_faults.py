@@ -44,9 +44,14 @@ class EngineFaults(Failing):
 
     def lose_all_disks(self) -> None:
         """What all members have is brought back from a backup that has all that was acknowledged."""
-        backup = self.deployment.folder / "backup"
+        backup, upkeep = self.deployment.folder / "backup", self.trial.upkeep
         with self.trial.alone():
-            self.check(self.trial.upkeep.save(backup), "there was no backup")
+            # What sites told goes into an entry a little later. A process that has run one which the backup lacks would end.
+            ends, saved = time.monotonic() + PATIENCE, 0
+            while saved != (last := upkeep.last_entry()) and time.monotonic() < ends:
+                self.check(upkeep.save(backup), "there was no backup")
+                self.pause(1, 1)
+                saved = last
             self.deployment.kill(*MEMBERS)
             self.restore_members(backup)
         backup.unlink()
@@ -61,12 +66,13 @@ class EngineFaults(Failing):
             self.check(self.trial.upkeep.has_joined(name), f"the member {name} was not restored")
 
     def restore(self) -> None:
-        """A backup is made while clients ask. Then all members are lost with their disks, and brought back from it, with what was acknowledged
-        after it lost. All else is stopped meanwhile, and archives of epochs that had not ended are taken away."""
+        """A backup is made while clients ask. Then all members are lost with their disks, and brought back from it. What was acknowledged
+        after it is lost. All else is stopped meanwhile, and archives of epochs that had not ended in it are taken away."""
         asking, backup = self.trial.asking, self.deployment.folder / "backup"
         self.check(self.trial.soon(self.trial.has_begun), "the next epoch did not begin before a backup")
         began = time.monotonic()
         self.check(self.trial.upkeep.save(backup), "there was no backup")
+        asking.propose_alone("add:tea:1")
         self.pause(1, 3)
         others = [name for name in self.deployment.processes if name not in MEMBERS]
         self.deployment.kill(*MEMBERS, *others)

@@ -53,7 +53,8 @@ class PrimaryFaults(Failing):
             self.renew(name)
             self.check(self.trial.soon(lambda: self.trial.form.is_ready(name)), f"{name} is not ready after it was started again")
         asking.propose_alone("add:tea:1")
-        self.told.append(f"upgrade: {asking.acknowledged(until=began)} updates acknowledged before, {asking.acknowledged(began)} meanwhile; "
+        before, meanwhile = asking.acknowledged(until=began), asking.acknowledged(began)
+        self.told.append(f"upgrade: {before} updates acknowledged before, {meanwhile} meanwhile; "
                          f"the longest wait was {asking.longest(began):.1f} s")
 
     def ask_for_an_epoch_from_afar(self) -> None:
@@ -115,8 +116,8 @@ class PrimaryFaults(Failing):
             self.deployment.start(name)
 
     def kill_primary_as_an_epoch_ends(self) -> None:
-        """The primary that writes is killed as an epoch is to end, once the next one has begun, or once what was before is archived: each in
-        its turn."""
+        """The primary that writes is killed as an epoch is to end, once the next one has begun, or once what was before is archived: each
+        in its turn."""
         writer, step = self.writer(), self.times["kill_primary_as_an_epoch_ends"] % 3
         epoch = self.trial.upkeep.ask(self.engine.epoch)[0]
         self.trial.upkeep.ask(self.trial.want)

@@ -46,7 +46,8 @@ class SiteFaults(Failing):
             process.wait()
 
     def cut_site_that_is_taken_out(self) -> None:
-        """A site that has all is cut off and taken out. Its readers are served while its lease lives, and what comes then is beyond its limits."""
+        """A site that has all is cut off and taken out. Its readers are served while its lease lives, and what comes then is beyond its
+        limits."""
         self.trial.bring_back()
         with self.trial.alone():
             self.deployment.hosts("cut", "south")

@@ -144,6 +144,8 @@ class Trial:
         ends = time.monotonic() + PATIENCE
         while len(self.asking.answers) < CLIENTS and time.monotonic() < ends:
             time.sleep(0.05)
+        # A primary that sees the script first after other declarations were given would end.
+        self.soon(lambda: all(map(self.form.is_ready, PRIMARIES)))
         threading.Thread(target=self.upkeep.look_at_alarms, daemon=True).start()
         began = time.monotonic()
         self.faults.run(lambda: time.monotonic() < began + seconds or self.asking.acknowledged() < updates)

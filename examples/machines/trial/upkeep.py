@@ -48,6 +48,9 @@ class Upkeep:
 
         return until(saves, PATIENCE, 0.3)
 
+    def last_entry(self) -> int:
+        return max((number for number, _ in self.ask(self.engine.entries)), default=0)
+
     def asked(self) -> tuple[int, int]:
         """The epoch, and how many requests its script has."""
         epoch, first = self.ask(self.engine.epoch)

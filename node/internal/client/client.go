@@ -172,7 +172,8 @@ func (client *Client) try(ctx context.Context, address, method, path string, bod
 		if writer = told.Writer; writer != address {
 			client.learn(address, writer)
 		}
-	case errors.As(err, &told) && told.Name != "NotServing" && told.Name != "NotWriter":
+	case told != nil && (told.Name == "Busy" || told.Name == "NotYet"):
+		// It is the right one, and has an answer later.
 	default:
 		client.fail(address)
 	}

@@ -67,6 +67,17 @@ func TestItAsksAgainElsewhere(t *testing.T) {
 	}
 }
 
+// A server that is there and has no answer may be cut off from the engine. Another one is not.
+func TestItDoesNotStayWhereThereIsNoAnswer(t *testing.T) {
+	for _, answer := range []func(http.ResponseWriter){failing(504, "NoAnswer"), failing(500, "Failed"), failing(408, "TooSlow")} {
+		var one, other int64
+		addresses := []string{server(t, &one, answer), server(t, &other, acked)}
+		if told, err := update(t, 2*time.Second, addresses...); err != nil || told.Seen != "1.3" || atomic.LoadInt64(&one) != 1 {
+			t.Error(told, err, atomic.LoadInt64(&one))
+		}
+	}
+}
+
 func TestWhatIsForGoodIsNotAskedAgain(t *testing.T) {
 	for name, status := range map[string]int{"Refused": 422, "Passed": 409, "Differs": 409, "Malformed": 400, "NoToken": 401, "Full": 507} {
 		var count int64

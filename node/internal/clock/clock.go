@@ -2,6 +2,7 @@
 package clock
 
 import (
+	"context"
 	"time"
 
 	"golang.org/x/sys/unix"
@@ -15,4 +16,12 @@ func Now() time.Duration {
 		panic("clock: there is no CLOCK_BOOTTIME: " + err.Error())
 	}
 	return time.Duration(now.Nano())
+}
+
+// Pause waits so long, or until the context ends.
+func Pause(ctx context.Context, most time.Duration) {
+	select {
+	case <-ctx.Done():
+	case <-time.After(most):
+	}
 }

@@ -4,6 +4,7 @@ import (
 	"bufio"
 	"context"
 	"fmt"
+	"io"
 	"net/http"
 	"os"
 	"os/exec"
@@ -21,46 +22,72 @@ import (
 )
 
 // NODE_LOAD=1,10,100,1000 measures so many clients over HTTP, at processes of the program NODE_PROGRAM, for NODE_SECONDS each: the answers a
-// second and the wait of each, beside the engine's own transactions.
-var load, program, loadTime = os.Getenv("NODE_LOAD"), os.Getenv("NODE_PROGRAM"), 4 * time.Second
+// second and the wait of each, beside the engine's own transactions. NODE_READERS=1,100,1000 measures so many readers of one site, each on a
+// connection that it keeps: the readings a second and the wait of each.
+var load, readers, program, loadTime = os.Getenv("NODE_LOAD"), os.Getenv("NODE_READERS"), os.Getenv("NODE_PROGRAM"), 4 * time.Second
 
 func TestLoadOverHTTP(t *testing.T) {
-	if load == "" || program == "" {
-		t.Skip("NODE_LOAD says how many clients ask at once, and NODE_PROGRAM the program")
+	if load+readers == "" || program == "" {
+		t.Skip("NODE_LOAD and NODE_READERS say how many ask at once, and NODE_PROGRAM the program")
 	}
 	if seconds := os.Getenv("NODE_SECONDS"); seconds != "" {
 		fmt.Sscan(seconds, (*int64)(&loadTime))
 		loadTime *= time.Second
 	}
-	members, folder, primary := etcdtest.Start(t, 3), t.TempDir(), freePort(t)
-	declarations := "object tea 1000000\nobject till 0\n"
-	for _, name := range []string{"north", "south", "east", "west"} {
-		declarations += "site " + name + " 1\nlimit " + name + " count 100000\n"
-	}
-	engine := "--engine=" + strings.Join(members.Clients, ",")
-	begin(t, "primary", engine, "--listen", primary, "--archive", folder, "--copies", "1", "--every", "1000000", "--declarations",
-		file(t, "shop", declarations+"start\n"))
-	for _, name := range []string{"north", "south", "east", "west"} {
-		begin(t, "site", engine, "--site", name, "--listen", freePort(t), "--primaries", "http://"+primary)
-	}
+	members, primary, north := beginAll(t)
 	asker, err := client.New(client.Config{Addresses: []string{"http://" + primary}})
 	if err != nil {
 		t.Fatal(err)
 	}
 	asks(t, asker, 1, time.Second)
-	for _, word := range strings.Split(load, ",") {
-		var clients int
-		fmt.Sscan(word, &clients)
+	reader := client.HTTP(nil)
+	for end := time.Now().Add(10 * time.Second); read(reader, north) != nil && time.Now().Before(end); {
+		time.Sleep(100 * time.Millisecond)
+	}
+	for _, clients := range countsOf(load) {
 		entries, bytes := written(t, primary)
 		waits := asks(t, asker, clients, loadTime)
 		moreEntries, moreBytes := written(t, primary)
 		entries, bytes = moreEntries-entries, moreBytes-bytes
-		sort.Slice(waits, func(one, other int) bool { return waits[one] < waits[other] })
 		alone := transactions(t, members, int(bytes/entries))
-		fmt.Printf("%5d clients: %7.0f answers/s, wait %7.2f ms median %7.2f ms p99; %5.0f entries/s of %6.0f bytes; the engine alone %6.2f ms each\n",
-			clients, float64(len(waits))/loadTime.Seconds(), ms(waits[len(waits)/2]), ms(waits[len(waits)*99/100]), entries/loadTime.Seconds(),
-			bytes/entries, ms(alone))
+		fmt.Printf("%5d clients: %s; %5.0f entries/s of %6.0f bytes; the engine alone %6.2f ms each\n", clients, seen(waits, "answers"),
+			entries/loadTime.Seconds(), bytes/entries, ms(alone))
 	}
+	for _, count := range countsOf(readers) {
+		fmt.Printf("%5d readers: %s\n", count, seen(repeat(t, count, loadTime, func(int, int64) error { return read(reader, north) }), "readings"))
+	}
+}
+
+func countsOf(text string) (counts []int) {
+	for _, word := range strings.FieldsFunc(text, func(sign rune) bool { return sign == ',' }) {
+		count := 0
+		fmt.Sscan(word, &count)
+		counts = append(counts, count)
+	}
+	return counts
+}
+
+// seen says how many there were a second, and how long they took.
+func seen(waits []time.Duration, what string) string {
+	sort.Slice(waits, func(one, other int) bool { return waits[one] < waits[other] })
+	return fmt.Sprintf("%7.0f %s/s, wait %7.2f ms median %7.2f ms p99", float64(len(waits))/loadTime.Seconds(), what, ms(waits[len(waits)/2]),
+		ms(waits[len(waits)*99/100]))
+}
+
+// beginAll begins an engine, a primary and four sites.
+func beginAll(t *testing.T) (members *etcdtest.Members, primary, north string) {
+	members, primary, north = etcdtest.Start(t, 3), freePort(t), freePort(t)
+	declarations := "object tea 1000000\nobject till 0\n"
+	for _, name := range []string{"north", "south", "east", "west"} {
+		declarations += "site " + name + " 1\nlimit " + name + " count 100000\n"
+	}
+	engine := "--engine=" + strings.Join(members.Clients, ",")
+	begin(t, "primary", engine, "--listen", primary, "--archive", t.TempDir(), "--copies", "1", "--every", "1000000", "--declarations",
+		file(t, "shop", declarations+"start\n"))
+	for name, address := range map[string]string{"north": north, "south": freePort(t), "east": freePort(t), "west": freePort(t)} {
+		begin(t, "site", engine, "--site", name, "--listen", address, "--primaries", "http://"+primary)
+	}
+	return members, primary, north
 }
 
 func ms(duration time.Duration) float64 { return duration.Seconds() * 1000 }
@@ -97,22 +124,45 @@ func written(t *testing.T, primary string) (entries, bytes float64) {
 
 // asks has clients ask one after another for a time, and returns how long each request took.
 func asks(t *testing.T, asker *client.Client, clients int, most time.Duration) []time.Duration {
+	begun := time.Now().Unix()
+	return repeat(t, clients, most, func(at int, number int64) error {
+		update := wire.Update{Client: fmt.Sprintf("c%d-%d-%d", clients, at, begun), Number: number, Changes: []string{"add:tea:-1", "add:till:1"}}
+		_, err := asker.Update(context.Background(), update)
+		return err
+	})
+}
+
+// read reads a value at a site.
+func read(by *http.Client, site string) error {
+	answer, err := by.Get("http://" + site + "/value/tea")
+	if err != nil {
+		return err
+	}
+	defer answer.Body.Close()
+	if _, err = io.Copy(io.Discard, answer.Body); err == nil && answer.StatusCode != http.StatusOK {
+		err = fmt.Errorf("the status is %d", answer.StatusCode)
+	}
+	return err
+}
+
+// repeat has some do something again and again for a time, and returns how long each took.
+func repeat(t *testing.T, count int, most time.Duration, do func(at int, number int64) error) []time.Duration {
 	end := time.Now().Add(most)
 	var lock sync.Mutex
 	var all []time.Duration
 	var done sync.WaitGroup
-	for at := 0; at < clients; at++ {
+	for at := 0; at < count; at++ {
 		done.Add(1)
 		go func(at int) {
 			defer done.Done()
-			waits, name := []time.Duration{}, fmt.Sprintf("c%d-%d-%d", clients, at, end.Unix())
+			waits := []time.Duration{}
 			for number := int64(1); time.Now().Before(end); number++ {
-				asked := time.Now()
-				if _, err := asker.Update(context.Background(), wire.Update{Client: name, Number: number, Changes: []string{"add:tea:-1", "add:till:1"}}); err != nil {
+				begun := time.Now()
+				if err := do(at, number); err != nil {
 					t.Error(err)
 					return
 				}
-				waits = append(waits, time.Since(asked))
+				waits = append(waits, time.Since(begun))
 			}
 			lock.Lock()
 			defer lock.Unlock()

@@ -9,6 +9,7 @@ import (
 	"os"
 	"regexp"
 	"strings"
+	"sync/atomic"
 	"time"
 
 	"golang.org/x/sys/unix"
@@ -35,7 +36,7 @@ type servingSettings struct {
 	certificate, key                         string
 	clientTokens, siteTokens, operatorTokens string
 	connections, requests                    int64
-	server                                   *listen.Server
+	server                                   atomic.Pointer[listen.Server]
 	guard                                    serve.Guard
 }
 
@@ -108,10 +109,10 @@ func (own *servingSettings) address(given string) (string, error) {
 
 // open is how many connections there are.
 func (own *servingSettings) open() int {
-	if own.server == nil {
-		return 0
+	if server := own.server.Load(); server != nil {
+		return server.Connections()
 	}
-	return own.server.Connections()
+	return 0
 }
 
 // most is how many connections there may be: fewer than the system allows files.
@@ -137,23 +138,24 @@ func (own *servingSettings) run(ctx context.Context, log *logs.Log, handler http
 	if err != nil {
 		return err
 	}
-	own.server, err = listen.Start(own.listen, secure, own.most(), handler, log)
+	server, err := listen.Start(own.listen, secure, own.most(), handler, log)
 	if err != nil {
 		return exit.With(exit.Environment, err)
 	}
-	log.Info("listens", "address", own.server.Address(), "tls", own.isSecure(), "connections", own.most())
+	own.server.Store(server)
+	log.Info("listens", "address", server.Address(), "tls", own.isSecure(), "connections", own.most())
 	running, stop := context.WithCancel(ctx)
 	defer stop()
 	ended := make(chan error, 1)
 	go func() { ended <- run(running) }()
 	select {
 	case err = <-ended:
-	case failure := <-own.server.Ended():
+	case failure := <-server.Ended():
 		stop()
 		<-ended
 		err = fmt.Errorf("it cannot listen any more: %w", failure)
 	}
-	own.server.Stop(answersTime)
+	server.Stop(answersTime)
 	if err == nil {
 		log.Info("ended")
 	}

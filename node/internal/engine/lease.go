@@ -113,7 +113,7 @@ func (lease *Lease) Run(ctx context.Context) {
 		}
 		// The lease may be there still. If it is, nobody else had the key meanwhile.
 		lease.log.Warn("lease", "key", lease.key, "why", err)
-		pause(ctx, afterFailure)
+		clock.Pause(ctx, afterFailure)
 	}
 }
 
@@ -132,7 +132,7 @@ func (lease *Lease) step(ctx context.Context) error {
 		return errors.New("it was lost")
 	}
 	lease.set(id, asked+Relied)
-	pause(ctx, renewAfter)
+	clock.Pause(ctx, renewAfter)
 	return nil
 }
 
@@ -258,13 +258,5 @@ func (lease *Lease) revoke(id clientv3.LeaseID) {
 		if !IsAway(err) {
 			return
 		}
-	}
-}
-
-// pause waits, or until the context ends.
-func pause(ctx context.Context, most time.Duration) {
-	select {
-	case <-ctx.Done():
-	case <-time.After(most):
 	}
 }

@@ -54,7 +54,9 @@ func (engine *Engine) Entries(ctx context.Context, from, revision int64) (entrie
 		if err != nil {
 			return nil, false, 0, err
 		}
-		revision, entries = at0(revision, found.Header.Revision), entriesOf(found.Kvs)
+		if entries = entriesOf(found.Kvs); revision == 0 {
+			revision = found.Header.Revision
+		}
 		if len(entries) > 0 || !found.More {
 			return entries, found.More, revision, nil
 		}
@@ -100,13 +102,6 @@ func (engine *Engine) ReadAll(ctx context.Context, from int64, take func([]Raw) 
 		revision = read.revision
 	}
 	return revision, ctx.Err()
-}
-
-func at0(revision, read int64) int64 {
-	if revision == 0 {
-		return read
-	}
-	return revision
 }
 
 func entriesOf(keys []*mvccpb.KeyValue) []Raw {

@@ -1,4 +1,4 @@
-// Package numbers has what operators see: numbers for Prometheus, and a page. docs/NODE.md says what they mean.
+// Package numbers has what operators see: numbers for Prometheus, and a page. docs/MACHINES.md says what they mean.
 package numbers
 
 import (

@@ -43,10 +43,21 @@ func (err *PassedError) Error() string {
 // An Answer is what the store answered to a request: `ok acked K epoch E`, or `refused N NAME`.
 type Answer struct{ Text string }
 
-// Submit asks for an update, and waits for its answer. While this process does not write it fails at once with a NotWriterError. After
+// mayTake tells why this process takes nothing now, or nil. Once it may not rely on its lease another process may write.
+func (primary *Primary) mayTake() error {
+	switch {
+	case !primary.calls.open:
+		return &NotWriterError{primary.calls.address}
+	case !primary.lease.Relies():
+		return &NotWriterError{}
+	}
+	return nil
+}
+
+// Submit asks for an update, and waits for its answer. While this process may not write it fails at once with a NotWriterError. After
 // any error but a PassedError, ErrDiffers and ErrMalformed, also that of the context, the request may be done or not: ask again.
 func (primary *Primary) Submit(ctx context.Context, request epoch.Request) (Answer, error) {
-	call := &call{request, make(chan outcome, 1)}
+	call := &call{request: request, done: make(chan outcome, 1)}
 	if err := primary.queue(call); err != nil {
 		return Answer{}, err
 	}
@@ -63,9 +74,10 @@ func (primary *Primary) queue(call *call) error {
 	calls := &primary.calls
 	calls.lock.Lock()
 	defer calls.lock.Unlock()
+	if err := primary.mayTake(); err != nil {
+		return err
+	}
 	switch {
-	case !calls.open:
-		return &NotWriterError{calls.address}
 	case atomic.LoadInt64(&primary.counts.Full) > 0:
 		return ErrFull
 	case len(calls.queue) >= MostQueued || calls.waiters >= MostWaiting:
@@ -79,10 +91,13 @@ func (primary *Primary) queue(call *call) error {
 // Tell takes the place of a site, which the site has shown under its lease. After an error it may be told again, but for
 // epoch.ErrNoSite and an epoch.CannotBeError.
 func (primary *Primary) Tell(_ context.Context, place epoch.Place) error {
-	if !primary.calls.isOpen() {
-		return &NotWriterError{primary.calls.writer()}
+	primary.calls.lock.Lock()
+	err := primary.mayTake()
+	primary.calls.lock.Unlock()
+	if err != nil {
+		return err
 	}
-	err := primary.with(func(core *epoch.Core) error {
+	err = primary.with(func(core *epoch.Core) error {
 		if core == nil {
 			return epoch.ErrBehind
 		}
@@ -94,20 +109,27 @@ func (primary *Primary) Tell(_ context.Context, place epoch.Place) error {
 
 // Next asks for the next epoch, and waits until it has begun. It returns the epoch that came after wish.From.
 func (primary *Primary) Next(ctx context.Context, wish epoch.Wish) (int64, error) {
-	next := &nextCall{wish, make(chan outcome, 1)}
-	calls := &primary.calls
-	calls.lock.Lock()
-	if !calls.open {
-		calls.lock.Unlock()
-		return 0, &NotWriterError{calls.address}
+	next := &nextCall{wish: wish, done: make(chan outcome, 1)}
+	if err := primary.queueNext(next); err != nil {
+		return 0, err
 	}
-	calls.nexts = append(calls.nexts, next)
-	calls.lock.Unlock()
-	calls.awaken()
 	select {
 	case done := <-next.done:
 		return wish.From + 1, done.err
 	case <-ctx.Done():
+		primary.calls.dropNext(next)
 		return 0, ctx.Err()
 	}
+}
+
+func (primary *Primary) queueNext(next *nextCall) error {
+	calls := &primary.calls
+	calls.lock.Lock()
+	defer calls.lock.Unlock()
+	if err := primary.mayTake(); err != nil {
+		return err
+	}
+	calls.nexts = append(calls.nexts, next)
+	calls.awaken()
+	return nil
 }

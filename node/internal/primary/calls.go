@@ -10,10 +10,11 @@ import (
 // MostQueued is how many requests wait to be taken at most, and MostWaiting how many of those that were taken wait for an answer.
 const MostQueued, MostWaiting = 20_000, 100_000
 
-// A call waits for what becomes of a request.
+// A call waits for what becomes of a request, until it is gone.
 type call struct {
 	request epoch.Request
 	done    chan outcome
+	isGone  bool
 }
 
 type outcome struct {
@@ -23,8 +24,9 @@ type outcome struct {
 
 // A nextCall waits until a wish has come true.
 type nextCall struct {
-	wish epoch.Wish
-	done chan outcome
+	wish   epoch.Wish
+	done   chan outcome
+	isGone bool
 }
 
 type asked struct {
@@ -122,6 +124,9 @@ func (calls *calls) sort(came []*call, verdicts []epoch.Verdict) int {
 	var later []*call
 	for at, verdict := range verdicts {
 		call := came[at]
+		if call.isGone {
+			continue
+		}
 		switch verdict.Kind {
 		case epoch.Waits:
 			key := asked{call.request.Client, call.request.Number}
@@ -171,6 +176,9 @@ func (calls *calls) tellWishes(core *epoch.Core) {
 	defer calls.lock.Unlock()
 	left := calls.wishes[:0]
 	for _, next := range calls.wishes {
+		if next.isGone {
+			continue
+		}
 		if next.wish.From < core.Begun() {
 			next.done <- outcome{err: core.AskNext(next.wish)}
 		} else {
@@ -184,6 +192,7 @@ func (calls *calls) tellWishes(core *epoch.Core) {
 func (calls *calls) drop(gone *call) {
 	calls.lock.Lock()
 	defer calls.lock.Unlock()
+	gone.isGone = true
 	key := asked{gone.request.Client, gone.request.Number}
 	left := without(calls.waiting[key], gone)
 	calls.waiters -= len(calls.waiting[key]) - len(left)
@@ -193,6 +202,13 @@ func (calls *calls) drop(gone *call) {
 		delete(calls.waiting, key)
 	}
 	calls.queue = without(calls.queue, gone)
+}
+
+// dropNext forgets a call for an epoch for which nobody waits any more, as soon as it is looked at again.
+func (calls *calls) dropNext(gone *nextCall) {
+	calls.lock.Lock()
+	defer calls.lock.Unlock()
+	gone.isGone = true
 }
 
 func without(all []*call, gone *call) []*call {

@@ -101,6 +101,30 @@ func TestAWriterThatIsCutOff(t *testing.T) {
 	is(t, "http://p2", one.Status().Writer)
 }
 
+// A primary that is cut off from the engine alone takes nothing once it may not rely on its lease: what it took would be lost on its way to
+// the one that writes.
+func TestWhatIsToldToAWriterThatIsCutOff(t *testing.T) {
+	deployment := deploy(t, 1)
+	link := deployment.members.Link()
+	config := deployment.config("p1")
+	config.Engine = link.Engine(t)
+	one, _ := deployment.primary(config)
+	until(t, 10*time.Second, "p1 does not write", func() bool { return one.Status().Writes })
+	two, _ := deployment.primary(deployment.config("p2"))
+	deployment.site("north", "")
+	deployment.site("south", "")
+	is(t, "ok acked 1 epoch 1", deployment.ask("ann", 1, "add:tea:-1"))
+	link.Cut()
+	until(t, 9*time.Second, "p2 does not write", func() bool { return two.Status().Writes })
+	// Beyond the limit of north it has to tell p2 its places, though p1 is asked first.
+	for number := int64(2); number <= 9 && !t.Failed(); number++ {
+		is(t, fmt.Sprintf("ok acked %d epoch 1", number), deployment.ask("ann", number, "add:tea:-1"))
+	}
+	begun, err := deployment.next(epoch.Wish{From: 1})
+	is(t, []interface{}{2, nil}, []interface{}{begun, err})
+	link.Mend()
+}
+
 // A site that is cut off as it is taken out serves its readers for a while. Until it does no more, the next epoch does not begin, and no
 // update is acknowledged beyond its limits, though it has told the last place.
 func TestASiteIsCutOffAsItIsTakenOut(t *testing.T) {

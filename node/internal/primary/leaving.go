@@ -51,7 +51,7 @@ func (leaving *leaving) look(ctx context.Context, sites []string) {
 			leaving.gone <- site
 		}
 	}
-	pause(ctx, lookAfter)
+	clock.Pause(ctx, lookAfter)
 }
 
 // hold tells operators what holds a site, and takes away what has had no lease for so long that nobody relies on one any more.

@@ -140,7 +140,7 @@ func (primary *Primary) heed(ctx context.Context, err error) error {
 		return nil
 	case engine.IsAway(err):
 		primary.config.Log.Warn("engine-away", "why", err)
-		pause(ctx, afterFailure)
+		clock.Pause(ctx, afterFailure)
 		return nil
 	}
 	return err
@@ -219,12 +219,4 @@ func (primary *Primary) Status() Status {
 		*count.to = atomic.LoadInt64(count.from)
 	}
 	return status
-}
-
-// pause waits, or until the context ends.
-func pause(ctx context.Context, most time.Duration) {
-	select {
-	case <-ctx.Done():
-	case <-time.After(most):
-	}
 }

@@ -19,7 +19,6 @@ import (
 	"ordup-node/internal/logs"
 	"ordup-node/internal/modelstore"
 	"ordup-node/internal/primary"
-	"ordup-node/internal/script"
 	"ordup-node/internal/site"
 	"ordup-node/internal/store"
 )
@@ -348,44 +347,6 @@ func TestWhoMayNotRun(t *testing.T) {
 	_, process = deployment.site("south", "")
 	deployment.members.Put(fmt.Sprintf("script/%012d", last+1), "\xff")
 	is(t, exit.Gap, exit.Of(<-process.done))
-}
-
-// A primary comes back with the settings with which the script began, after any wish of an operator. With others it does not.
-func TestAPrimaryComesBackAfterAnyWish(t *testing.T) {
-	deployment := deploy(t, 1)
-	_, process := deployment.primary(deployment.config("p1"))
-	deployment.site("north", "")
-	deployment.site("south", "")
-	is(t, "ok acked 1 epoch 1", deployment.ask("ann", 1, "add:tea:-1"))
-	other := append([]string{"object tea 1", "object milk 5"}, shop[2:]...)
-	for at, wish := range []epoch.Wish{{Declarations: other}, {Settings: script.Settings{Every: 500, Remembers: 7}}, {}} {
-		wish.From = int64(at + 1)
-		begun, err := deployment.next(wish)
-		is(t, []interface{}{at + 2, nil}, []interface{}{begun, err})
-	}
-	is(t, nil, process.end())
-	_, process = deployment.primary(deployment.config("p1"))
-	is(t, "ok acked 1 epoch 4", deployment.ask("ann", 2, "add:tea:-1 add:milk:1"))
-	for _, row := range []struct {
-		change func(*primary.Config)
-		says   []string
-	}{
-		{func(config *primary.Config) { config.Declarations = other }, []string{epoch.DigestOf(other), epoch.DigestOf(shop)}},
-		{func(config *primary.Config) { config.Every = 500 }, []string{"500 ", "1000 "}},
-		{func(config *primary.Config) { config.Remembers = 7 }, []string{"7 ", "2 "}},
-	} {
-		config := deployment.config("p2")
-		row.change(&config)
-		_, refused := deployment.primary(config)
-		err := <-refused.done
-		is(t, exit.Words, exit.Of(err))
-		for _, word := range row.says {
-			if err != nil && !strings.Contains(err.Error()+" ", word) {
-				t.Errorf("%v does not name %s", err, word)
-			}
-		}
-	}
-	is(t, nil, process.end())
 }
 
 // Clients ask at once while members and primaries come and go. Each request is done once.

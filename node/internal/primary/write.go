@@ -190,7 +190,7 @@ func (primary *Primary) send(ctx context.Context, turn *epoch.Turn) error {
 			atomic.StoreInt64(&primary.counts.Full, 1)
 		}
 		primary.config.Log.Warn("engine-away", "why", err)
-		pause(ctx, afterFailure)
+		clock.Pause(ctx, afterFailure)
 		if ctx.Err() != nil {
 			return err
 		}

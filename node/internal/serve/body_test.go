@@ -24,7 +24,7 @@ func sent(t *testing.T, address string, send func(net.Conn) error) (int, string)
 		t.Fatal(err)
 	}
 	defer connection.Close()
-	connection.(*net.TCPConn).SetWriteBuffer(64 << 10) // It is not the system that takes the whole body.
+	connection.(*net.TCPConn).SetWriteBuffer(200 << 10) // It is not the system that takes the whole body.
 	connection.SetDeadline(time.Now().Add(20 * time.Second))
 	if err = send(connection); err != nil {
 		return 0, err.Error()
@@ -58,11 +58,8 @@ func TestWhoSendsALargeBodyReadsWhyItIsRefused(t *testing.T) {
 		}
 	}
 	chunked := func(to net.Conn) error {
-		text := "POST /update HTTP/1.1\r\nHost: a\r\nTransfer-Encoding: chunked\r\n\r\n"
-		for at := 0; at < large; at += 1000 {
-			text += "3e8\r\n" + body[:1000] + "\r\n"
-		}
-		_, err := io.WriteString(to, text+"0\r\n\r\n")
+		chunks := strings.Repeat("3e8\r\n"+body[:1000]+"\r\n", large/1000)
+		_, err := fmt.Fprintf(to, "POST /update HTTP/1.1\r\nHost: a\r\nTransfer-Encoding: chunked\r\n\r\n%s0\r\n\r\n", chunks)
 		return err
 	}
 	for _, row := range []struct {

@@ -108,8 +108,11 @@ func (served *Primary) next(ctx context.Context, asked *request) (interface{}, e
 
 func (served *Primary) epoch(ctx context.Context, asked *request) (interface{}, error) {
 	status := served.writer.Status()
-	if !status.Writes {
+	switch {
+	case !status.Writes:
 		return served.orPassed(ctx, asked, &primary.NotWriterError{Address: status.Writer}, &wire.Begun{})
+	case status.Lease == 0:
+		return nil, &primary.NotWriterError{}
 	}
 	return wire.Begun{Epoch: status.Core.Epoch}, nil
 }

@@ -209,7 +209,10 @@ func TestAnotherPrimaryPassesOn(t *testing.T) {
 	other := startPrimary(t, nil, second)
 	second.set("", &primary.NotWriterError{Address: one})
 	second.status.Writer, first.status.Writes, first.status.Core.Epoch = one, true, 2
-	status, text := ask(t, "POST", other+"/update", good)
+	status, text := ask(t, "GET", one+"/epoch", ``)
+	is(t, "without a lease", status, text, 503, `"error":"NotWriter"`)
+	first.status.Lease = time.Second
+	status, text = ask(t, "POST", other+"/update", good)
 	is(t, "update", status, text, 200, `"seen":"2.3"`)
 	status, text = ask(t, "POST", other+"/next", `{"from":2}`)
 	is(t, "next", status, text, 200, `{"epoch":3}`)

@@ -1,6 +1,7 @@
 package serve_test
 
 import (
+	"context"
 	"io"
 	"net/http"
 	"net/http/httptrace"
@@ -10,6 +11,7 @@ import (
 	"time"
 
 	"ordup-node/internal/serve"
+	"ordup-node/internal/site"
 )
 
 func TestReadersThatWaitKeepNobodyOut(t *testing.T) {
@@ -37,10 +39,37 @@ func TestReadersThatWaitKeepNobodyOut(t *testing.T) {
 	waiting.Wait()
 }
 
+// A crowd of readers waits until all are there.
+type crowd struct {
+	reader
+	lock  sync.Mutex
+	most  int
+	count int
+	all   chan struct{}
+}
+
+func (crowd *crowd) Read(ctx context.Context, seen site.Seen) (site.Reading, error) {
+	if ctx.Err() != nil {
+		return crowd.reader.Read(ctx, seen)
+	}
+	crowd.lock.Lock()
+	all := crowd.all
+	if crowd.count++; crowd.count == crowd.most {
+		close(all)
+		crowd.count, crowd.all = 0, make(chan struct{})
+	}
+	crowd.lock.Unlock()
+	select {
+	case <-all:
+	case <-ctx.Done():
+	}
+	return crowd.reader.Read(ctx, site.Seen{})
+}
+
 func TestAThousandReadersKeepTheirConnections(t *testing.T) {
-	config := config(nil)
+	config, readers := config(nil), &crowd{reader: reader{place: 5}, most: 1000, all: make(chan struct{})}
 	config.Requests = 2000
-	address := listenAt(t, func(string) http.Handler { return serve.NewSite(config, "north", &reader{place: 5}) })
+	address := listenAt(t, func(string) http.Handler { return serve.NewSite(config, "north", readers) })
 	asker := &http.Client{Transport: &http.Transport{MaxIdleConnsPerHost: 1000}}
 	var kept int64
 	trace := &httptrace.ClientTrace{GotConn: func(info httptrace.GotConnInfo) {
@@ -55,7 +84,7 @@ func TestAThousandReadersKeepTheirConnections(t *testing.T) {
 			go func() {
 				defer readers.Done()
 				// All wait at the same time, each on a connection of its own.
-				request, _ := http.NewRequest("GET", address+"/values?seen=9.9&wait=1", nil)
+				request, _ := http.NewRequest("GET", address+"/values?seen=9.9&wait=30", nil)
 				answer, err := asker.Do(request.WithContext(httptrace.WithClientTrace(request.Context(), trace)))
 				if err != nil {
 					t.Error(err)

@@ -72,6 +72,18 @@ func (shown *Shown) ValueOf(name string) (int64, bool) {
 	return 0, false
 }
 
+// isFar is whether what the script does not have as told is at most a quarter of what the limits of the site allow. A limit that is not of
+// a count may be reached by one update.
+func (shown *Shown) isFar() bool {
+	for _, limit := range shown.Limits {
+		var most int64
+		if count, _ := fmt.Sscanf(limit, "count %d", &most); count != 1 || shown.Place-shown.Told > most/4 {
+			return false
+		}
+	}
+	return true
+}
+
 // A Status is what an operator may see of a site.
 type Status struct {
 	Serves              bool

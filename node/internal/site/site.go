@@ -21,6 +21,8 @@ import (
 const (
 	// afterFailure is how long the site waits after a failure before it asks again.
 	afterFailure = 200 * time.Millisecond
+	// tellPace is how often a site tells new places at most that is far from its limits, so that nobody waits for them.
+	tellPace = 50 * time.Millisecond
 	// tellAgain is after how long a place is told again that the script does not have.
 	tellAgain = 500 * time.Millisecond
 	// tellStill is after how long a place is told again that is nothing new, so that operators see that the site is there.
@@ -146,7 +148,7 @@ func (site *Site) heed(ctx context.Context, err error) error {
 		return nil
 	case engine.IsAway(err):
 		site.config.Log.Warn("engine-away", "why", err)
-		pause(ctx, afterFailure)
+		clock.Pause(ctx, afterFailure)
 		return nil
 	case errors.Is(err, engine.ErrLaterEpoch):
 		site.config.Log.Info("runs-again", "why", err)
@@ -229,16 +231,22 @@ func (site *Site) show(shown *Shown) {
 	site.changed = make(chan struct{})
 }
 
-// tellAll tells each place that was shown under the lease, until the context ends. A place that cannot be ends the process.
+// tellAll tells places that were shown under the lease, until the context ends. A place that cannot be ends the process.
 func (site *Site) tellAll(ctx context.Context) error {
 	var told epoch.Place
 	for ctx.Err() == nil {
 		relies := site.lease.Changed()
 		shown, changed := site.served()
-		isNew := shown != nil && (shown.Epoch > told.Epoch || shown.Epoch == told.Epoch && shown.Place > told.Applied)
-		since := clock.Now() - time.Duration(atomic.LoadInt64(&site.toldAt))
-		isDue := shown != nil && (since > tellAgain && shown.Told < shown.Place || since > tellStill)
-		if isNew || isDue {
+		if isDue, again := site.isDue(shown, &told); !isDue {
+			timer := time.NewTimer(again)
+			select {
+			case <-ctx.Done():
+			case <-changed:
+			case <-relies:
+			case <-timer.C:
+			}
+			timer.Stop()
+		} else {
 			place := epoch.Place{Site: site.inName, Member: site.config.Name, Epoch: shown.Epoch, Applied: shown.Place, Entry: shown.Entry}
 			err := site.tell(ctx, place)
 			var cannotBe *epoch.CannotBeError
@@ -250,29 +258,31 @@ func (site *Site) tellAll(ctx context.Context) error {
 				atomic.StoreInt64(&site.toldAt, int64(clock.Now()))
 			} else if ctx.Err() == nil {
 				site.config.Log.Warn("place-not-told", "why", err)
-				pause(ctx, afterFailure)
+				clock.Pause(ctx, afterFailure)
 			}
-		}
-		select {
-		case <-ctx.Done():
-		case <-changed:
-		case <-relies:
-		case <-time.After(tellAgain):
 		}
 	}
 	return nil
+}
+
+// isDue is whether what is shown is to be told now, after what was told last, and else after how long it may be.
+func (site *Site) isDue(shown *Shown, told *epoch.Place) (isDue bool, again time.Duration) {
+	if shown == nil {
+		return false, tellAgain
+	}
+	since := clock.Now() - time.Duration(atomic.LoadInt64(&site.toldAt))
+	isNew := shown.Epoch > told.Epoch || shown.Epoch == told.Epoch && shown.Place > told.Applied
+	switch {
+	case isNew && shown.isFar():
+		return since >= tellPace, tellPace - since
+	case shown.Told < shown.Place:
+		return isNew || since >= tellAgain, tellAgain - since
+	}
+	return isNew || since >= tellStill, tellStill - since
 }
 
 func (site *Site) tell(ctx context.Context, place epoch.Place) error {
 	limited, cancel := context.WithTimeout(ctx, tellTime)
 	defer cancel()
 	return site.config.Teller.Tell(limited, place)
-}
-
-// pause waits, or until the context ends.
-func pause(ctx context.Context, most time.Duration) {
-	select {
-	case <-ctx.Done():
-	case <-time.After(most):
-	}
 }

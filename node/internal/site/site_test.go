@@ -7,6 +7,7 @@ import (
 	"testing"
 	"time"
 
+	"ordup-node/internal/clock"
 	"ordup-node/internal/engine"
 	"ordup-node/internal/epoch"
 	"ordup-node/internal/etcdtest"
@@ -112,6 +113,73 @@ func TestASiteTellsNothingWithoutTheLease(t *testing.T) {
 	is(t, epoch.Place{Site: "north", Member: "north", Epoch: 1, Applied: 1, Entry: 2}, listener.told()[0])
 	cancel()
 	is(t, nil, <-ended)
+}
+
+// A place is told at once where somebody may wait for it, and else so often at most.
+func TestWhenAPlaceIsTold(t *testing.T) {
+	site := &Site{}
+	for _, row := range []struct {
+		limits      []string
+		place, told int64
+		isNew       bool
+		since       time.Duration
+		isDue       bool
+		again       time.Duration
+	}{
+		{nil, 9, 0, true, 10 * time.Millisecond, false, tellPace},
+		{nil, 9, 0, true, tellPace, true, 0},
+		{[]string{"count 40"}, 10, 0, true, 0, false, tellPace},
+		{[]string{"count 40"}, 11, 0, true, 0, true, 0},
+		{[]string{"count 3"}, 1, 0, true, 0, true, 0},
+		{[]string{"count 40", "object tea 1000"}, 1, 0, true, 0, true, 0},
+		{nil, 9, 8, false, 100 * time.Millisecond, false, tellAgain},
+		{nil, 9, 8, false, tellAgain, true, 0},
+		{[]string{"count 3"}, 9, 9, false, time.Second, false, tellStill},
+		{nil, 9, 9, false, tellStill, true, 0},
+	} {
+		shown, told := &Shown{Epoch: 1, Place: row.place, Told: row.told, Limits: row.limits}, &epoch.Place{Epoch: 1, Applied: row.place}
+		if row.isNew {
+			told.Applied--
+		}
+		site.toldAt = int64(clock.Now() - row.since)
+		isDue, again := site.isDue(shown, told)
+		if isDue != row.isDue || !isDue && (again > row.again-row.since || again < row.again-row.since-time.Second/50) {
+			t.Errorf("%v: %v, %v", row, isDue, again)
+		}
+	}
+	isDue, again := site.isDue(nil, &epoch.Place{})
+	is(t, []interface{}{false, tellAgain}, []interface{}{isDue, again})
+}
+
+// While many entries come, a site without limits tells some places, and the last one soon.
+func TestASiteThatNobodyWaitsForTellsSeldom(t *testing.T) {
+	members, listener, script := etcdtest.Start(t, 1), &listener{}, newWritten(t)
+	ctx, cancel := context.WithTimeout(context.Background(), 30*time.Second)
+	defer cancel()
+	writer, count := members.Engine(), 0
+	write := func() {
+		for ; count < len(script.entries); count++ {
+			is(t, nil, writer.Write(ctx, &engine.Write{Number: int64(count + 1), Text: script.entries[count].Text(), Epoch: 1, First: 1}))
+		}
+	}
+	write()
+	site, err := New(Config{Engine: members.Engine(), Open: openStore, Name: "south", Host: "h", Versions: []string{"1"}, Teller: listener})
+	is(t, nil, err)
+	go site.Run(ctx)
+	until(t, "it does not serve", func() bool { return site.Status().Serves && len(listener.told()) > 0 })
+	const updates = 100
+	begun, before := time.Now(), len(listener.told())
+	for number := int64(1); number <= updates; number++ {
+		script.ask("ann", number, "add:tea:1")
+		script.write()
+		write()
+	}
+	until(t, "it does not follow", func() bool { return site.Status().Place == updates })
+	most := int(time.Since(begun)/tellPace) + 2
+	until(t, "it does not tell the last place", func() bool { told := listener.told(); return told[len(told)-1].Applied == updates })
+	if told := len(listener.told()) - before; told > most {
+		t.Errorf("it told %d places of %d, and not %d at most", told, updates, most)
+	}
 }
 
 func TestAReaderSeesNoLessThanBefore(t *testing.T) {

@@ -11,6 +11,7 @@ use std::sync::Wait;
 use std::sync::atomic::Ordering;
 
 impl Cluster {
+    // waits: of its site, twice for each look at its feed | until a look that began after `stop` finds the feed empty
     /// Applies what comes to a site, and ends with a turn that began after `stop` and found the feed empty. It answers how many
     /// updates it applied. It runs in a thread of its own, and sleeps while its feed is empty.
     pub fn applier<G: Gate, R: Wait>(&self, rt: &R, site: SiteId, gate: &G) -> u64
@@ -59,12 +60,14 @@ impl Cluster {
         take(rt, &mut cell)
     }
 
+    // waits: as `finish` | until `stop`, or until the store has so many updates
     /// Finishes what callers began and do not wait for, until `stop`: it makes a turn where an update is not acknowledged, or not sent
     /// to each site, whenever a site told something, once a millisecond at most. It runs in a thread of its own, and sleeps else.
     pub fn keeper<R: Wait>(&self, rt: &R) {
         self.keeper_until(rt, u64::MAX);
     }
 
+    // waits: as Cluster::keeper
     /// The same, until `stop` or until the store has this many updates, without those that came before it.
     pub fn keeper_until<R: Wait>(&self, rt: &R, updates: u64) {
         self.due.store(updates, Ordering::SeqCst);
@@ -83,6 +86,8 @@ impl Cluster {
         }
     }
 
+    // waits: of the book, before each turn and in it | until all updates are acknowledged and sent, at most `turns` turns, with a pause
+    // after each
     /// Makes turns until all updates are acknowledged and sent to each site, at most so many. Between two it sleeps until a site told
     /// something, for a millisecond at most.
     pub fn finish<R: Wait>(&self, rt: &R, turns: u64) {

@@ -9,6 +9,7 @@ use ordup_site::Site;
 use std::alloc::Global;
 use std::marker::Model;
 
+// waits: as Cluster::new
 // promise: as Cluster::close
 /// What is left of a cluster: its primary, and its sites in order of declaration.
 #[derive(Drop)]

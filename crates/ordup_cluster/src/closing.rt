@@ -13,6 +13,7 @@ use ordup_primary::{Primary, Setup};
 use ordup_site::Site;
 
 impl Cluster {
+    // waits: as Cluster::new
     // promise closed before start count refused: a closed cluster is the opened one; its sites agree, lag within limits, and have valid
     // records; `Mixed` is for one alone
     /// Takes the store apart, once all threads are joined: it compares what the primary says was declared with what the store was
@@ -64,6 +65,7 @@ impl Cluster {
         }
     }
 
+    // waits: as Cluster::new
     /// Drops it, by one call, and gives its memory back. No site is compared with the log.
     pub fn discard(self) {
         let Cluster {

@@ -73,6 +73,7 @@ impl Model for Cluster {
 }
 
 impl Cluster {
+    // waits: none | never
     // promise cluster allowed refused: a cluster begins as declared, after so many updates, at most 10^18
     /// Opens a store before which no updates came. It is refused `Empty` where the setup lacks an object or a site, and else `NoMemory`
     /// alone.
@@ -84,6 +85,7 @@ impl Cluster {
         Cluster::after(alloc, 0, setup)
     }
 
+    // waits: as Cluster::new
     // promise cluster allowed refused: as Cluster::new
     /// Opens a store in which nothing has happened, and before which this many updates came, from 0 to 10^18. It takes the memory that
     /// `close` needs, and waits for nobody.
@@ -137,6 +139,7 @@ impl Cluster {
         }
     }
 
+    // waits: as Cluster::new
     // promise before bounded: as Cluster::new
     /// How many updates came before it, from 0 to 10^18. They are acknowledged, and each site has applied them.
     pub fn before(&self) -> u64
@@ -146,11 +149,13 @@ impl Cluster {
         self.before
     }
 
+    // waits: as Cluster::new
     /// How many updates it has, without those that came before. Once no proposal is being made, that is the length of its log.
     pub fn numbered(&self) -> u64 {
         self.numbered.load(Ordering::SeqCst)
     }
 
+    // waits: as Cluster::new
     // promise: as Cluster::new
     /// The objects as they were declared, of which callers make their message sets. It takes no lock.
     pub fn objects(&self) -> &ObjectTable
@@ -159,6 +164,7 @@ impl Cluster {
         self.setup.objects()
     }
 
+    // waits: as Cluster::new
     // promise: as Cluster::new
     /// How many sites there are.
     pub fn sites(&self) -> usize
@@ -167,6 +173,8 @@ impl Cluster {
         self.cells.len()
     }
 
+    // waits: of the book, once for each turn; the first turn is made in the hold that numbers the update. Once if it is refused, also
+    // after `stop` | until the update is acknowledged, at most `turns` turns, with a pause before each but the first
     // promise seen some refused err: a success raises what the session has seen, a refusal leaves it; refusals come in no proved order
     /// Numbers a message set as the next update, and waits until it is acknowledged, for at most `turns` turns of the book, which
     /// are 1 or more. The first turn is made in the hold that numbers the update.
@@ -240,6 +248,8 @@ impl Cluster {
         }
     }
 
+    // waits: of the book, once to look up the update, and once for each turn | as `propose`, with a pause before each turn; no turn if the
+    // update was acknowledged already
     // promise seen some refused err: as Cluster::propose
     /// Waits until the update with this number is acknowledged, for at most `turns` turns of the book, which are 1 or more. It
     /// makes no turn where the update is acknowledged already.
@@ -287,6 +297,7 @@ impl Cluster {
         )
     }
 
+    // waits: of the book, once | for that lock
     // promise place allowed refused: a changed limit is refused for what is unknown, exactly then; else some sound primary answers
     /// Changes the limit of a site on a scope from the head on, or begins one there. The amount lies from 0 to 10^18. The updates
     /// that are decided keep the limits by which they were decided.
@@ -335,6 +346,7 @@ impl Cluster {
         Ok(self.before + place)
     }
 
+    // waits: as Cluster::new
     /// Ends the appliers once their feeds are empty, and the keeper. Proposals are refused from now on.
     pub fn stop(&self) {
         self.stopped.store(true, Ordering::SeqCst);

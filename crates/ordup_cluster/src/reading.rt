@@ -13,6 +13,7 @@ use ordup_query::Query;
 use std::sync::Wait;
 
 impl Cluster {
+    // waits: of the site, once | for that lock, held for one read or application at a time, and while the site's gate waits in `at_apply`
     // promise applied before seen allowed refused err: a read tells no fewer updates than were seen or came before the store, which are
     // then seen; no clause rules out `UnknownObject`
     /// Reads the value of an object at a site, with how many updates the site had applied.
@@ -67,6 +68,7 @@ impl Cluster {
         })
     }
 
+    // waits: of the site, once for each read | until the site has applied what the session has seen, at most `pauses` pauses
     // promise applied before seen allowed refused err: as Cluster::read
     /// Reads as `read` does, and where the site is behind the session, makes a turn, sleeps until a site told something and reads again,
     /// at most so many times. Each pause takes a millisecond at most.
@@ -100,6 +102,7 @@ impl Cluster {
         self.read(rt, session, site, object)
     }
 
+    // waits: as Cluster::relimit
     // promise: a query has the given limit; reads add imports and values; the total is within the limit
     /// Begins a query at a site with this import limit, from 0 to 10^18. Its reference is what is acknowledged now.
     ///

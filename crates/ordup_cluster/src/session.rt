@@ -2,6 +2,7 @@ ghost use Rattle.std.specs.Prelude.{◌≡◌, max};
 
 use std::marker::Model;
 
+// waits: as Cluster::new
 /// How many updates one caller has seen by its calls, those before its store too. It sees no less afterwards, in whatever successor
 /// of that store.
 #[derive(Drop)]

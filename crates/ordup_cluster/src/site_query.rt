@@ -32,6 +32,7 @@ impl<'a> Model for SiteQuery<'a> {
 }
 
 impl SiteQuery<'_> {
+    // waits: as Cluster::read
     // promise: as Cluster::begin
     /// Reads an object at the site: its value, what the read imports, and the new total. It takes the lock of the site.
     ///
@@ -63,6 +64,7 @@ impl SiteQuery<'_> {
         self.query.read(site, object)
     }
 
+    // waits: as Cluster::new
     // promise: as Cluster::begin
     /// Ends the query, and answers what its accepted reads added up to. It takes no lock.
     ///

@@ -41,6 +41,7 @@ pub struct Epochs {
 }
 
 impl Epochs {
+    // waits: as Cluster::new
     // promise allowed refused: an epoch without object or site is refused `Empty`, an applier `UnknownSite` alone
     /// Opens the first epoch, in which nothing has happened, as `with_most` with the most updates that a log has.
     pub fn new(alloc: Global, setup: Setup, updates: u64) -> Result<Epochs, Refusal>
@@ -51,6 +52,7 @@ impl Epochs {
         Epochs::with_most(alloc, setup, updates, MOST_UPDATES as u64)
     }
 
+    // waits: as Cluster::new
     // promise allowed refused: as Epochs::new
     /// Opens the first epoch, in which nothing has happened. It waits for nobody.
     ///
@@ -83,6 +85,8 @@ impl Epochs {
         })
     }
 
+    // waits: of the visits and of the open epoch, both shared | if the epoch is full, until a successor is open, the epoch may have more
+    // updates, or `stop` is called. **If no thread runs `keep` or `start_successor`, it waits for ever**
     // promise IsVisited: a visit is to an open epoch; else it is refused for the kept reason
     /// Begins a visit to the epoch that is open. Where that has its updates, it sleeps until its successor is open.
     ///
@@ -120,6 +124,7 @@ impl Epochs {
         }
     }
 
+    // waits: of the open epoch, shared, and as `applier` of a cluster | as that, in each epoch, until `stop`
     // promise refused: as Epochs::new
     /// Applies what comes to a site, in each epoch, and ends after `stop`. It answers how many updates it applied. It runs in a
     /// thread of its own, sleeps while nothing comes, and is refused `UnknownSite` alone.
@@ -155,6 +160,8 @@ impl Epochs {
         }
     }
 
+    // waits: of the visits, exclusive; then as `settle` and `finish`; then of the open epoch, exclusive | until all visits have ended, as
+    // `settle` of the last update and as `finish`, and until the feeds are empty
     // promise: an epoch is stopped only once a session has seen the number taken for its last
     /// Ends the epoch that is open, starts its successor, and hands out the epoch that has ended. No visit begins until that is
     /// done.
@@ -225,6 +232,7 @@ impl Epochs {
         }
     }
 
+    // waits: as `keeper`, and as `start_successor` for each successor | until `stop`. After a refused one it sleeps for a millisecond
     // promise: an epoch is due after its updates, later after a refused successor, at its most at the latest; only `Mixed` ends `keep`
     /// Starts a successor whenever the epoch that is open has its updates, until `stop`, and is the keeper of each epoch, as
     /// `Cluster::keeper`. It answers how many it started, and drops what has ended: who wants the records calls `start_successor`.
@@ -307,6 +315,7 @@ impl Epochs {
         Ok(Some(ended))
     }
 
+    // waits: as `enter` | while a successor is started
     /// Ends the appliers once their feeds are empty, and `keep`. Proposals are refused from now on, and no successor starts. It
     /// waits while one is started; the thread that calls it has no visit.
     pub fn stop<R: Wait>(&self, rt: &R) {
@@ -318,6 +327,7 @@ impl Epochs {
         self.started.notify_all();
     }
 
+    // waits: as Cluster::new
     /// Takes the last epoch out, once all threads are joined, as `Stage::into_ended`. It takes no memory, and waits for nobody.
     ///
     /// It is refused `Mixed` alone, where a site does not agree with the log.

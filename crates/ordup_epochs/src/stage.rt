@@ -6,6 +6,7 @@ use ordup_objects::{Refusal, SiteId};
 use std::alloc::Global;
 use std::mem;
 
+// waits: as Cluster::new
 /// What lies under the lock of the epochs. `Epochs::start_successor` ends with the call of that name here, and `Epochs::close` with
 /// `into_ended`.
 #[derive(Drop)]

@@ -4,6 +4,8 @@
 - docs/ARCHITECTURE.md: each crate of the store with the first sentence of its src/lib.rt, or src/main.rt, in the order of crates.txt.
 - docs/crates.svg: these crates, each above those that it stands on. An edge that others imply is left out.
 - docs/GLOSSARY.md: by crate the words that name it, or a public type, call or definition of it.
+- docs/SERVICE.md: the lock that each call of a cluster and of epochs takes, and for what it waits, from comments above the calls:
+  `// waits: LOCK | WAIT`, or `// waits: as Type::call` of another one. What stands above a type is of all its calls.
 
 In a page a part stands between the lines `<!-- NAME: .. -->` and `<!-- end -->`. The picture is one part.
 """
@@ -17,6 +19,7 @@ sys.path.insert(0, str(TOP / "checks/edits"))
 
 import promises
 
+NEED_WAITS = ("Cluster", "SiteQuery", "Epochs")
 BEGINS = "<!-- {}: checks/model --print writes this part -->"
 ENDS = "<!-- end -->"
 
@@ -84,11 +87,54 @@ def glossary_lines():
     return ["|crate|words|", "|-|-|", *(f"|`{crate}`|{','.join(places[crate])}|" for crate in names if crate in places)]
 
 
+WAITS = re.compile(r"((?: *// (?:(?!promise).)*\n)+)(?: *(?://|#\[).*\n)* *pub (fn|struct|enum) (\w+)")
+
+
+def waits():
+    """The calls, or the types, that have a comment on waits, each with its text, and those of `NEED_WAITS` that have none."""
+    said, missing = {}, []
+    for file in [it for crate in ("ordup_cluster", "ordup_epochs") for it in sorted((TOP / f"crates/{crate}/src").glob("*.rt"))]:
+        for block in re.split(r"^(?=impl\b)", read(file), flags=re.M):
+            owner = re.match(r"impl(?:<.*?>)? (\w+)", block)
+            for comments, kind, name in WAITS.findall(block):
+                text = " ".join(it.strip(" /") for it in comments.split("\n")).strip()
+                if text.startswith("waits: "):
+                    said[f"{owner[1]}::{name}" if kind == "fn" else name] = text.removeprefix("waits: ")
+            calls = re.findall(r"^    pub fn (\w+)", block, re.M) if owner and owner[1] in NEED_WAITS else []
+            missing += [f"{owner[1]}::{it}" for it in calls if f"{owner[1]}::{it}" not in said]
+    return said, missing
+
+
+def wait_lines():
+    """The calls by what they wait for: first those that never wait."""
+    said, missing = waits()
+    if missing:
+        raise ValueError(f"no comment says for what these wait: {', '.join(missing)}")
+    rows = {}
+    for name, text in sorted(said.items(), key=lambda it: it[1].startswith("as ") and "|" not in it[1]):
+        of = text.removeprefix("as ") if "|" not in text else name
+        rows.setdefault(of, []).append(name)
+    yield from ("| call | takes the lock | waits |", "|---|---|---|")
+    for of in sorted(rows, key=lambda it: "never" not in said[it]):
+        yield f"| {calls_by_type(rows[of])} | {said[of]} |"
+
+
+def calls_by_type(names):
+    """Names of calls, those of one type together, and of types."""
+    types = {}
+    for name in names:
+        owner, _, call = name.rpartition("::")
+        types.setdefault(owner or name, []).extend([call] if owner else [])
+    return ", ".join(f"all of `{it}`" if not calls else f"`{it}::{calls[0]}`" if len(calls) == 1 else f"`{it}::{{{', '.join(calls)}}}`"
+                     for it, calls in types.items())
+
+
 PICTURE = "docs/crates.svg"
 PARTS = {
     "docs/PROOFS.md": {"promises": promise_lines},
     "docs/ARCHITECTURE.md": {"crates": crate_lines},
     "docs/GLOSSARY.md": {"places": glossary_lines},
+    "docs/SERVICE.md": {"waits": wait_lines},
 }
 
 

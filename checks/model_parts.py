@@ -109,11 +109,14 @@ def wait_lines():
     """The calls by what they wait for: first those that never wait."""
     said, missing = waits()
     if missing:
-        raise ValueError(f"no comment says for what these wait: {', '.join(missing)}")
+        sys.exit(f"no comment says for what these wait: {', '.join(missing)}")
     rows = {}
     for name, text in sorted(said.items(), key=lambda it: it[1].startswith("as ") and "|" not in it[1]):
         of = text.removeprefix("as ") if "|" not in text else name
         rows.setdefault(of, []).append(name)
+    unknown = [it for it in rows if "|" not in said.get(it, "")]
+    if unknown:
+        sys.exit(f"no comment says for what these wait, which others wait as: {', '.join(unknown)}")
     yield from ("| call | takes the lock | waits |", "|---|---|---|")
     for of in sorted(rows, key=lambda it: "never" not in said[it]):
         yield f"| {calls_by_type(rows[of])} | {said[of]} |"

@@ -102,9 +102,9 @@ class Asking:
             except etcd.Full:
                 self.note("requests that found the engine full")
                 time.sleep(0.2)
-        now = time.monotonic()
         self.count(-len(changes))
-        self.answers += [Answer(began, now, name, self.asked[index], changes[name], text) for name, text in answers.items()]
+        own = self.clients[index].own
+        self.answers += [Answer(began, own[name].heard, name, self.asked[index], changes[name], text) for name, text in answers.items()]
         return answers
 
     def count(self, more: int) -> None:

@@ -49,6 +49,8 @@ class Client:
 
     def __init__(self, name: str, safety: Safety | None) -> None:
         self.name, self.safety = name, safety
+        # When it heard its last answer.
+        self.heard = 0.0
         self.next()
 
     def next(self) -> None:
@@ -56,6 +58,11 @@ class Client:
 
     def propose(self, number: int, changes: str) -> str:
         """The answer in the words of the store. Raises `Refused`, or etcd's `Full`."""
+        answer = self.answer_to(number, changes)
+        self.heard = time.monotonic()
+        return answer
+
+    def answer_to(self, number: int, changes: str) -> str:
         update = json.dumps({"client": self.name, "number": number, "changes": changes.split()}).encode()
         while True:
             status, told = self.http.ask("POST", f"/update?wait={WAIT}", update)

@@ -76,8 +76,8 @@ class EngineFaults(Failing):
         self.pause(1, 3)
         others = [name for name in self.deployment.processes if name not in MEMBERS]
         self.deployment.kill(*MEMBERS, *others)
-        # What was answered is heard by then.
-        self.pause(1, 1)
+        # What was answered is heard by then, also by crowds.
+        self.pause(3, 3)
         ended = time.monotonic()
         self.restore_members(backup)
         backup.unlink()

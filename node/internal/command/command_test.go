@@ -61,16 +61,6 @@ func is(t *testing.T, wantStatus exit.Status, want string, words ...string) {
 	}
 }
 
-func freePort(t *testing.T) string {
-	t.Helper()
-	listener, err := net.Listen("tcp", "127.0.0.1:0")
-	if err != nil {
-		t.Fatal(err)
-	}
-	defer listener.Close()
-	return listener.Addr().String()
-}
-
 func file(t *testing.T, name, text string) string {
 	t.Helper()
 	path := filepath.Join(t.TempDir(), name)
@@ -172,7 +162,7 @@ func (deployment *deployment) start(name string, words ...string) {
 func deploy(t *testing.T, common ...string) *deployment {
 	members := etcdtest.Start(t, 1)
 	deployment := &deployment{t: t, stops: map[string]func() (exit.Status, string){}, words: map[string][]string{},
-		north: freePort(t), primary: [2]string{freePort(t), freePort(t)}}
+		north: etcdtest.FreePort(t), primary: [2]string{etcdtest.FreePort(t), etcdtest.FreePort(t)}}
 	scheme := "http://"
 	if len(common) > 0 {
 		scheme = "https://"
@@ -187,9 +177,9 @@ func deploy(t *testing.T, common ...string) *deployment {
 		deployment.start(host, "primary", "--listen", address, "--host", host, "--archive", filepath.Join(folder, host))
 	}
 	deployment.start("north", "site", "--site", "north", "--listen", deployment.north)
-	far := freePort(t)
+	far := etcdtest.FreePort(t)
 	deployment.start("far", "fleet", "--fleet", "far", "--members", "east", "--listen", far)
-	deployment.start("east", "site", "--site", "east", "--fleet", "far", "--teller", scheme+far, "--listen", freePort(t))
+	deployment.start("east", "site", "--site", "east", "--fleet", "far", "--teller", scheme+far, "--listen", etcdtest.FreePort(t))
 	return deployment
 }
 
@@ -301,10 +291,10 @@ func TestADeploymentWithTLSAndTokens(t *testing.T) {
 		host := fmt.Sprint("p", at+1)
 		deployment.start(host, "primary", "--listen", address, "--host", host, "--archive", filepath.Join(folder, host))
 	}
-	far := freePort(t)
+	far := etcdtest.FreePort(t)
 	deployment.start("north", "site", "--site", "north", "--listen", deployment.north, "--token", sites)
 	deployment.start("far", "fleet", "--fleet", "far", "--members", "east", "--listen", far, "--token", sites)
-	deployment.start("east", "site", "--site", "east", "--fleet", "far", "--teller", "https://"+far, "--listen", freePort(t), "--token", sites)
+	deployment.start("east", "site", "--site", "east", "--fleet", "far", "--teller", "https://"+far, "--listen", etcdtest.FreePort(t), "--token", sites)
 	deployment.is(0, "ok acked 1 epoch 1\n", "update", "ann", "1", "add:tea:-5", "--token", clients)
 	deployment.is(0, "tea=995", "value", "--seen", "1.1", "--token", clients)
 	deployment.is(2, "the token is missing", "update", "ann", "2", "add:tea:-5")

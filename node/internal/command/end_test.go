@@ -3,16 +3,37 @@ package command_test
 import (
 	"context"
 	"fmt"
+	"io"
+	"net/http"
 	"path/filepath"
 	"strings"
 	"testing"
 	"time"
 )
 
+// awaitNumber waits until a primary has this among its numbers.
+func (deployment *deployment) awaitNumber(line string) {
+	deployment.t.Helper()
+	for tries := 0; tries < 200; tries++ {
+		for _, address := range deployment.primary {
+			if answer, err := http.Get("http://" + address + "/metrics"); err == nil {
+				text, _ := io.ReadAll(answer.Body)
+				answer.Body.Close()
+				if strings.Contains(string(text), line+"\n") {
+					return
+				}
+			}
+		}
+		time.Sleep(50 * time.Millisecond)
+	}
+	deployment.t.Fatalf("no primary has the number %s", line)
+}
+
 func TestARequestOutlivesThePrimaryThatItWasAskedAt(t *testing.T) {
 	deployment := deploy(t)
 	deployment.is(0, "ok acked 1 epoch 1\n", "update", "ann", "1", "add:tea:-1")
 	deployment.is(0, "epoch 1 place 1 tea=999", "value", "--seen", "1.1")
+	deployment.awaitNumber(`ordup_site_applied_updates{site="north"} 1`)
 	// Without north three updates pass, and the fourth one waits.
 	deployment.stops["north"]()
 	for number := 2; number <= 4; number++ {

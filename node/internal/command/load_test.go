@@ -76,7 +76,7 @@ func seen(waits []time.Duration, what string) string {
 
 // beginAll begins an engine, a primary and four sites.
 func beginAll(t *testing.T) (members *etcdtest.Members, primary, north string) {
-	members, primary, north = etcdtest.Start(t, 3), freePort(t), freePort(t)
+	members, primary, north = etcdtest.Start(t, 3), etcdtest.FreePort(t), etcdtest.FreePort(t)
 	declarations := "object tea 1000000\nobject till 0\n"
 	for _, name := range []string{"north", "south", "east", "west"} {
 		declarations += "site " + name + " 1\nlimit " + name + " count 100000\n"
@@ -84,7 +84,7 @@ func beginAll(t *testing.T) (members *etcdtest.Members, primary, north string) {
 	engine := "--engine=" + strings.Join(members.Clients, ",")
 	begin(t, "primary", engine, "--listen", primary, "--archive", t.TempDir(), "--copies", "1", "--every", "1000000", "--declarations",
 		file(t, "shop", declarations+"start\n"))
-	for name, address := range map[string]string{"north": north, "south": freePort(t), "east": freePort(t), "west": freePort(t)} {
+	for name, address := range map[string]string{"north": north, "south": etcdtest.FreePort(t), "east": etcdtest.FreePort(t), "west": etcdtest.FreePort(t)} {
 		begin(t, "site", engine, "--site", name, "--listen", address, "--primaries", "http://"+primary)
 	}
 	return members, primary, north

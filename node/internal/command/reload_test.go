@@ -10,6 +10,7 @@ import (
 	"testing"
 	"time"
 
+	"ordup-node/internal/etcdtest"
 	"ordup-node/internal/exit"
 )
 
@@ -17,7 +18,7 @@ import (
 func TestCertificatesAndTokensAreReadAgain(t *testing.T) {
 	own, key := certificate(t)
 	other, otherKey := certificate(t)
-	tokens, address := file(t, "tokens", "operator-token-1\n"), freePort(t)
+	tokens, address := file(t, "tokens", "operator-token-1\n"), etcdtest.FreePort(t)
 	ctx, cancel := context.WithCancel(context.Background())
 	defer cancel()
 	type end struct {

@@ -3,6 +3,7 @@ package etcdtest
 
 import (
 	"fmt"
+	"math/rand"
 	"net"
 	"os/exec"
 	"path/filepath"
@@ -45,8 +46,8 @@ func StartSecure(t *testing.T, count int, config engine.Config, options ...strin
 		scheme = "https://"
 	}
 	for at := 0; at < count; at++ {
-		members.Clients = append(members.Clients, scheme+freePort(t))
-		members.peers = append(members.peers, "http://"+freePort(t))
+		members.Clients = append(members.Clients, scheme+FreePort(t))
+		members.peers = append(members.peers, "http://"+FreePort(t))
 		names = append(names, fmt.Sprintf("m%d=%s", at, members.peers[at]))
 	}
 	members.cluster, members.Config.Members = strings.Join(names, ","), members.Clients
@@ -63,15 +64,22 @@ func StartSecure(t *testing.T, count int, config engine.Config, options ...strin
 	return members
 }
 
-func freePort(t *testing.T) string {
+// FreePort gives an address of this computer at which nobody listens. The system gives none of these ports to who connects somewhere, so
+// none is taken before the test listens there.
+func FreePort(t *testing.T) string {
 	t.Helper()
-	listener, err := net.Listen("tcp", "127.0.0.1:0")
-	if err != nil {
-		t.Fatal(err)
+	for tries := 0; tries < 100; tries++ {
+		address := fmt.Sprintf("127.0.0.1:%d", 10_000+rand.Intn(20_000))
+		if listener, err := net.Listen("tcp", address); err == nil {
+			listener.Close()
+			return address
+		}
 	}
-	defer listener.Close()
-	return listener.Addr().String()
+	t.Fatal("there is no free port")
+	return ""
 }
+
+func init() { rand.Seed(time.Now().UnixNano()) }
 
 // Begin starts a member, with what it has on its disk.
 func (members *Members) Begin(at int) {

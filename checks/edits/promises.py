@@ -19,6 +19,7 @@ one clause or more of its row, or several such with '; ' between them:
 The edit belongs to each row that has the call with all of these clauses. A call without clauses is one whose row names none.
 
 A row without an edit says '; no wrong body: ' and why, at the end of its sentence. A law needs none: its comment begins with 'A law'.
+Each law, a public function without a body and parameters, is in a row.
 """
 
 import glob
@@ -35,6 +36,7 @@ Place = namedtuple("Place", "crate where name doc clauses marks is_public")
 NONE = "; no wrong body: "
 IMPLEMENTS = re.compile(r"impl\b(?:.* for | *<.*?> | )(\w+)")
 DECLARES = re.compile(r"(?:pub(?:\([a-z]+\))? )?(struct|enum|trait) (\w+)")
+LAW = re.compile(r"pub fn \w+\(\)")
 FUNCTION = re.compile(r' *(?:pub(?:\([a-z]+\))? )?(?:const |extern "C" )?fn (\w+)')
 MARK = re.compile(r"// promise((?: [\w.]+)*)(?:: (.*))?$")
 
@@ -52,7 +54,7 @@ def read_places(top):
 
 
 def read_file(crate, path, lines, places, wrong):
-    owner, above, last, of_trait = "", [], None, False
+    owner, above, last, law, of_trait = "", [], None, None, False
     for number, line in enumerate(lines, 1):
         bare, where = line.strip(), f"{path}:{number}"
         implements, declares, function = IMPLEMENTS.match(line), DECLARES.match(line), FUNCTION.match(line)
@@ -72,10 +74,13 @@ def read_file(crate, path, lines, places, wrong):
             name = owner + function[1] if function else declares[2]
             last = Place(crate, where, name, doc, set(), marks, bare.startswith("pub ") or of_trait)
             places.append(last)
+            law = last if LAW.match(bare) else None
         else:
             wrong += [f"{it[0]}: this promise stands above no function and no type" for it in marks]
         if clause and last:
             last.clauses.add(clause[1])
+        if bare == "{}" and law and not law.marks:
+            wrong.append(f"{law.where}: this law is in no promise")
         above = []
     wrong += [f"{it[0]}: this promise stands above nothing" for it in marks_in(above, wrong)]
 

@@ -1,5 +1,5 @@
 -- Refusals of the cluster's calls, and a successor, worked out by hand: no definition can change its meaning unseen.
-use Rattle.std.proofs.Common.{◌≡◌, ◌+◌, Bool, List, [], ◌∷◌, pos, inl, inr, refl, arith}
+use Rattle.std.proofs.Common.{◌≡◌, ◌+◌, ◌≤◌, Bool, List, [], ◌∷◌, pos, inl, inr, refl, arith}
 use Rattle.std.specs.Prelude.{Some, None, codes, true, false, if◌then◌else◌}
 use Rattle.std.specs.Option.{option_or}
 use Rattle.ordup_objects.specs.declared.change.Change.{Change}
@@ -37,7 +37,23 @@ read-ahead refused = elim refused [
   | inr rest ↦ elim rest [
     | inl h ↦ absurd (let is = h.0 in cc)
     | inr last ↦ elim last [
-      | inl h ↦ absurd (let is : 2 ≡ h.0 = cc h.1 in let few = h.2 in omega arith)
+      | inl h ↦ absurd (let is : 2 ≡ h.0 = cc h.1 in let few = h.3 in omega arith)
+      | inr h ↦ absurd (let is = h.0 in cc)
+    ]
+  ]
+]
+
+-- nor has a site applied fewer than came before the store
+abbrev after_100 : ClusterState
+after_100 = record one_of_each { before = 100 }
+
+read-anew : IsReadRefusal after_100 (record of_both { seen = 101 }) (Behind 0) → ⊥
+read-anew refused = elim refused [
+  | inl h ↦ absurd (let is = h.0 in cc)
+  | inr rest ↦ elim rest [
+    | inl h ↦ absurd (let is = h.0 in cc)
+    | inr last ↦ elim last [
+      | inl h ↦ absurd (let is : 0 ≡ h.0 = cc h.1 in let enough : 100 ≤ h.0 = h.2 in omega arith)
       | inr h ↦ absurd (let is = h.0 in cc)
     ]
   ]

@@ -75,12 +75,13 @@ abbrev pub HasBoth : ClusterState → ReadRequest → Type 0
 HasBoth c r = (r.object < length c.start.objects) × (r.site < length c.start.sites)
 
 -- Of a read. An unknown object comes before an unknown site, and only a site that applied fewer updates than the session has seen
--- is behind it. The last case is what the cell says under its lock, which no contract sees.
+-- is behind it, with those that came before the store. The last case is what the cell says under its lock, which no contract sees.
 abbrev pub IsReadRefusal : ClusterState → ReadRequest → Refusal → Type 0
 IsReadRefusal c r e =
     ((e ≡ UnknownObject) × (length c.start.objects ≤ r.object))
     ⊎ ((e ≡ UnknownSite) × (r.object < length c.start.objects) × (length c.start.sites ≤ r.site))
-    ⊎ ((applied : ℕ) × (e ≡ Behind applied) × (applied < r.seen) × HasBoth c r) ⊎ ((e ≡ UnknownObject) × HasBoth c r)
+    ⊎ ((applied : ℕ) × (e ≡ Behind applied) × (c.before ≤ applied) × (applied < r.seen) × HasBoth c r)
+    ⊎ ((e ≡ UnknownObject) × HasBoth c r)
 
 -- why a query with this limit is refused at a site, where there is this number of sites, if it is
 abbrev pub site_query_refusal : ℕ → ℕ → ℕ → Option Refusal

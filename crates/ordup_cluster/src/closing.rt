@@ -14,8 +14,8 @@ use ordup_site::Site;
 
 impl Cluster {
     // waits: as Cluster::new
-    // promise closed before start count refused: a closed cluster is the opened one; its sites agree, lag within limits, and have valid
-    // records; `Mixed` is for one alone
+    // promise closed before start count refused: a closed cluster has the opened one's declarations and count; its sites agree, lag within
+    // limits, and have valid records; it is refused `Mixed` alone, for a site of it
     /// Takes the store apart, once all threads are joined: it compares what the primary says was declared with what the store was
     /// opened with, and each site with the log. It takes no memory, and waits for nobody.
     ///

@@ -1,4 +1,4 @@
-ghost use Rattle.std.specs.Prelude.{◌≡◌, ◌<◌, ◌≤◌, None, pos, length, IfOk, IfErr, OnErr};
+ghost use Rattle.std.specs.Prelude.{◌≡◌, ◌<◌, ◌≤◌, ◌+◌, None, pos, length, IfOk, IfErr, OnErr};
 ghost use Rattle.ordup_objects.specs.Refusals.{IsRefusal};
 ghost use Rattle.ordup_objects.specs.Sizes.{most_updates};
 ghost use Rattle.ordup_query.specs.Queries.{begin_refusal};
@@ -14,15 +14,16 @@ use std::sync::Wait;
 
 impl Cluster {
     // waits: of the site, once | for that lock, held for one read or application at a time, and while the site's gate waits in `at_apply`
-    // promise applied before seen allowed refused err: a read tells no fewer updates than were seen or came before the store, which are
-    // then seen; no clause rules out `UnknownObject`
+    // promise applied before bounded seen allowed refused err: a read tells no fewer updates than were seen or came before the store, no more
+    // than there can be, and they are then seen; no clause rules out `UnknownObject`
     /// Reads the value of an object at a site, with how many updates the site had applied.
     ///
-    /// - The site had applied no fewer than the session had seen, and all that came before the store.
+    /// - The site had applied no fewer than the session had seen, all that came before the store, and at most 1,000,000 more.
     /// - The session has now seen what the site had applied.
     /// - The object and the site are there.
     /// - It is refused `UnknownObject`, `UnknownSite`, and `Behind` where the site applied fewer updates than the session has seen,
-    ///   with how many it applied, in this order.
+    ///   with how many it applied, all those before the store among
+    ///   them, in this order.
     /// - Where it is refused, the session stays as it was.
     pub fn read<R: Wait>(
         &self,
@@ -33,6 +34,7 @@ impl Cluster {
     ) -> Result<SeenValue, Refusal>
         ensures applied { IfOk result (λ read. session.old.seen ≤ read.applied) }
         ensures before { IfOk result (λ read. self.now.before ≤ read.applied) }
+        ensures bounded { IfOk result (λ read. read.applied ≤ self.now.before + most_updates) }
         ensures seen { IfOk result (λ read. session.new.seen ≡ read.applied) }
         ensures allowed { IfOk result (λ _. (object < length self.now.start.objects) × (site < length self.now.start.sites)) }
         ensures refused { IfErr result (IsReadRefusal self.now (record { object = object; site = site; seen = session.old.seen })) }
@@ -58,6 +60,7 @@ impl Cluster {
     fn view<R: Wait>(&self, rt: &R, site: SiteId, object: ObjectId) -> Result<SeenValue, Refusal>
         requires { site < length self.now.start.sites }
         ensures before { IfOk result (λ read. self.now.before ≤ read.applied) }
+        ensures bounded { IfOk result (λ read. read.applied ≤ self.now.before + most_updates) }
         ensures refused { IfErr result (λ e. e ≡ Refusal.UnknownObject) }
     {
         let cell = self.cells[site.index()].lock(rt);
@@ -68,8 +71,9 @@ impl Cluster {
         })
     }
 
-    // waits: of the site, once for each read | until the site has applied what the session has seen, at most `pauses` pauses
-    // promise applied before seen allowed refused err: as Cluster::read
+    // waits: of the site, once for each read; of the book, once for each pause | until the site has applied what the session has seen, at
+    // most `pauses` pauses, with a turn before each
+    // promise applied before bounded seen allowed refused err: as Cluster::read
     /// Reads as `read` does, and where the site is behind the session, makes a turn, sleeps until a site told something and reads again,
     /// at most so many times. Each pause takes a millisecond at most.
     ///
@@ -84,6 +88,7 @@ impl Cluster {
     ) -> Result<SeenValue, Refusal>
         ensures applied { IfOk result (λ read. session.old.seen ≤ read.applied) }
         ensures before { IfOk result (λ read. self.now.before ≤ read.applied) }
+        ensures bounded { IfOk result (λ read. read.applied ≤ self.now.before + most_updates) }
         ensures seen { IfOk result (λ read. session.new.seen ≡ read.applied) }
         ensures allowed { IfOk result (λ _. (object < length self.now.start.objects) × (site < length self.now.start.sites)) }
         ensures refused { IfErr result (IsReadRefusal self.now (record { object = object; site = site; seen = session.old.seen })) }
@@ -107,10 +112,12 @@ impl Cluster {
     /// Begins a query at a site with this import limit, from 0 to 10^18. Its reference is what is acknowledged now.
     ///
     /// - The query has this limit, and has read nothing.
+    /// - Its reference is the number of updates before the store, or up to 1,000,000 more.
     /// - The site is there, and the limit is in range.
     /// - It is refused `UnknownSite`, `OutOfRange` for the limit, and `NoMemory`, in this order.
     pub fn begin<R: Wait>(&self, rt: &R, site: SiteId, limit: u64) -> Result<SiteQuery<'_>, Refusal>
         ensures query { IfOk result (λ q. q ≡ record { place = q.place; marks = q.marks; limit = limit; sum = pos 0; total = 0; reads = 0 }) }
+        ensures place { IfOk result (λ q. (self.now.before ≤ q.place) × (q.place ≤ self.now.before + most_updates)) }
         ensures allowed { IfOk result (λ _. site_query_refusal (length self.now.start.sites) site limit ≡ None) }
         ensures refused { IfErr result (λ e. IsRefusal (site_query_refusal (length self.now.start.sites) site limit) e) }
     {

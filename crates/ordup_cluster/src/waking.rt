@@ -41,10 +41,12 @@ impl Cluster {
     /// Sleeps, for a millisecond at most, before the next turn for the update with this number: until a site told something after this
     /// was heard, where the update is the head, and else until it is.
     pub(crate) fn pause_for<R: Wait>(&self, rt: &R, number: u64, heard: u64) {
-        let number = number.saturating_sub(self.before);
-        let head = self.heads.of(number);
+        let head = self.heads.of(number.saturating_sub(self.before));
         let heard_of_head = head.listen();
-        if self.acked.load(Ordering::SeqCst).saturating_add(1) < number {
+        let acked = self
+            .before
+            .saturating_add(self.acked.load(Ordering::SeqCst));
+        if acked.saturating_add(1) < number {
             head.pause(rt, heard_of_head);
         } else {
             self.told.pause(rt, heard);

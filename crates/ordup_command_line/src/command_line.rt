@@ -238,7 +238,7 @@ fn words_of<'a>(alloc: Global, name: &'a str, about: &'a str, help: &'a str) -> 
 }
 
 /// What `ordup --version` shows after the program's name.
-const VERSION: &str = "0.2.0";
+const VERSION: &str = "0.3.0-dev";
 
 /// What follows the message about a word that the program does not take, such as the name of a file.
 pub const FILE_TIP: &str = "

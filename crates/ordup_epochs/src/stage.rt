@@ -9,6 +9,9 @@ use std::mem;
 // waits: as Cluster::new
 /// What lies under the lock of the epochs. `Epochs::start_successor` ends with the call of that name here, and `Epochs::close` with
 /// `into_ended`.
+///
+/// The stores that it hands out go on from one another, so a site has had the fewest rounds of them all:
+/// `successive_stores_have_the_fewest_rounds` of `ordup_interleavings`.
 #[derive(Drop)]
 pub enum Stage {
     /// Callers work in this epoch.

@@ -9,7 +9,7 @@ use ordup_limits::check_scope;
 use ordup_log::Scope;
 use ordup_objects::{Refusal, SiteId};
 
-// promise place changed allowed refused err: a limit changes as by the primary; scope and site are refused first
+// promise place changed allowed refused err sound: a limit changes as by the primary; scope and site are refused first
 /// Changes the limit of a site on a scope from the head of a book on, or begins one there, whose amount lies from 0 to 10^18. It
 /// answers the place of the head.
 ///

@@ -1,5 +1,6 @@
 ghost use Rattle.std.specs.Prelude.{◌≡◌, ◌+◌, ◌≤◌, ◌<◌, length, IfOk, IfErr, IfSome, IfNone};
 ghost use Rattle.ordup_objects.specs.Serial.{serial};
+ghost use Rattle.ordup_objects.specs.Sizes.{most_updates};
 ghost use Rattle.ordup_objects.specs.States.{value_at};
 ghost use Rattle.ordup_feed.specs.Parcels.{history_of};
 ghost use Rattle.ordup_holds.specs.Cells.{HoldsTaken, TakesNext};
@@ -99,6 +100,7 @@ pub fn take<R: Wait>(rt: &R, cell: &mut SiteCell) -> Option<u64>
 pub fn view(cell: &SiteCell, object: ObjectId) -> Result<SeenValue, Refusal>
     ensures value { IfOk result (λ seen. seen.value ≡ value_at (serial (history_of cell.now.end.start cell.now.end.taken) (length cell.now.end.taken)) object) }
     ensures applied { IfOk result (λ seen. seen.applied ≡ length cell.now.end.taken) }
+    ensures bounded { IfOk result (λ seen. seen.applied ≤ most_updates) }
     ensures allowed { IfOk result (λ _. object < length cell.now.end.start) }
     ensures refused { IfErr result (λ e. (e ≡ Refusal.UnknownObject) × (length cell.now.end.start ≤ object)) }
 {

@@ -1,4 +1,4 @@
-ghost use Rattle.std.specs.Prelude.{◌≡◌, ◌<◌, ◌≤◌, ℕ, false, length, IfOk, IfErr, OnOk, OnErr};
+ghost use Rattle.std.specs.Prelude.{◌≡◌, ◌↔◌, ◌<◌, ◌≤◌, ℕ, false, length, IfOk, IfErr, OnOk, OnErr};
 ghost use Rattle.ordup_primary.specs.Primaries.{progress_at};
 ghost use Rattle.ordup_holds.specs.Books.{KeepsBook, IsTied};
 ghost use Rattle.ordup_holds.specs.Turning.{Reported, Sent, SentOut, AtEachSite, SameFeeds, Acknowledges, SettlesOut, Turned, TurnedInPart, IsAtRest, kept_at, with_progress, send_bound};
@@ -30,10 +30,10 @@ pub fn turn<R: Wait>(rt: &R, book: &mut Book) -> Result<u64, Refusal>
     Ok(primary.acked())
 }
 
-// promise: a turn is left out only if all is acknowledged and sent
+// promise: `has_work` says no exactly if all is acknowledged and sent
 /// Whether an update is not acknowledged, or not sent to each site.
 pub fn has_work(primary: &Primary) -> bool
-    ensures { result ≡ false → IsAtRest primary.now }
+    ensures { (result ≡ false) ↔ IsAtRest primary.now }
 {
     primary.keeps();
     let last = primary.log().len();

@@ -27,14 +27,17 @@ pub fn limits_in_force_are_a_limit_test()
     ensures { LimitsInForceAreALimitTest }
 {}
 
+// promise: as longer_histories_keep_limits
 /// A law: limits that are others at each place are a test of spans too, by those of the place where a span ends.
 pub fn limits_by_place_are_tests()
     ensures { LimitsByPlaceAreTests }
 {}
 
+// promise: the tests of limits of two epochs join, if the next one begins where the first one ends
 /// A law: the test of a history that goes on in a next one is that of each on its part, whatever limits each has at its places.
 ///
-/// So the rounds of a store and of one that goes on from it are the fewest of both together (`fewest_rounds_join`).
+/// So the rounds of a store and of one that goes on from it are the fewest of both together (`fewest_rounds_join`), where a site counts
+/// as having reported all of the first in the next one.
 pub fn tests_join()
     ensures { TestsJoin }
 {}

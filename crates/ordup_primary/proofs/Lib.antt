@@ -1,7 +1,7 @@
 pub mod DecisionLemmas
 pub mod SettlingLemmas
 mod LedgerLemmas
-mod RelimitLemmas
+pub mod RelimitLemmas
 pub mod ReportLemmas
 mod KeptLemmas
 pub mod PrimaryLemmas

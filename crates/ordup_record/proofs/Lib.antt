@@ -1,3 +1,4 @@
 mod ChangeLemmas
 mod CertificateLemmas
 mod RecordOfLemmas
+mod SuccessiveLemmas

@@ -1,1 +1,2 @@
 pub mod RecordsOf
+pub mod Successive

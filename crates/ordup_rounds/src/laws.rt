@@ -27,13 +27,13 @@ pub fn certified_rounds_are_fewest()
     ensures { CertifiedRoundsAreFewest }
 {}
 
-// promise: the rounds and windows of the rule are the fewest (`AreFewest`)
+// promise: the rounds and windows of the rule are the fewest at each place (`AreFewest`)
 /// A law: rounds just where the report is too old are the fewest, up to each decided place, and their windows show it.
 pub fn forced_rounds_are_fewest()
     ensures { ForcedRoundsAreFewest }
 {}
 
-// promise: the certificates of two epochs join, and so do fewest rounds, if the tests join
+// promise: the certificates of two epochs join, and so do rounds that are the fewest at each place, if the tests join
 /// A law: the certificates of two epochs, the second moved by the length of the first, are a certificate of both, where the test of the
 /// whole is that of each epoch (`JoinsTests`).
 ///
@@ -42,7 +42,7 @@ pub fn certificates_join()
     ensures { CertificatesJoin }
 {}
 
-// promise: a certificate of two epochs parts into one for each
+// promise: a certificate of two epochs parts into one for each, if the tests join
 /// A law: a certificate of two epochs, the second moved by the length of the first, is a certificate of each, where its rounds and
 /// windows are within it, and the test of the whole is that of each epoch (`JoinsTests`).
 pub fn certificates_part()

@@ -35,7 +35,7 @@ distance-add a b c d = grind (arith, ints)
 distance-zero : (a b : ℤ) → distance a b ≤ 0 → a ≡ b
 distance-zero a b h = grind (arith, ints)
 
-KeepsImport-read : (v : State) (o : Opened) (r : ReadMade) → KeepsImport v o → import_total o.reads + r.import ≤ o.limit
+pub KeepsImport-read : (v : State) (o : Opened) (r : ReadMade) → KeepsImport v o → import_total o.reads + r.import ≤ o.limit
     → distance r.value (value_at v r.object) ≤ r.import
     → KeepsImport v (record { site = o.site; place = o.place; limit = o.limit; reads = r ∷ o.reads })
 KeepsImport-read v o r keeps within near = record {
@@ -51,7 +51,7 @@ KeepsImport-read v o r keeps within near = record {
       rw here (ap (λ values. value_at v r.object ∷ values) (keeps.exact (omega (arith, none)))));
 }
 
-KeepsImport-begun : (v : State) (s p limit : ℕ) → KeepsImport v (record { site = s; place = p; limit = limit; reads = [] })
+pub KeepsImport-begun : (v : State) (s p limit : ℕ) → KeepsImport v (record { site = s; place = p; limit = limit; reads = [] })
 KeepsImport-begun v s p limit = record {
   total = omega arith;
   near = All-nil (λ r. distance r.value (value_at v r.object) ≤ r.import);

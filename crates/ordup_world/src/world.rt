@@ -39,8 +39,8 @@ impl<A: Allocator + Copy> World<A> {
     // queries have their marks, and totals within limits
     // promise limits: acknowledged updates that a site has not applied keep its limits; no wrong body: the world acknowledges by
     // `Primary::settle` alone
-    // promise fewest: each site has the fewest rounds after each event, as its windows show; no wrong body: the world decides by
-    // `Primary::settle` alone
+    // promise fewest: each site has the fewest rounds at each place after each event, as its windows show; no wrong body: the world decides
+    // by `Primary::settle` alone
     /// A started store, in which nothing has happened.
     ///
     /// It is refused `Empty` where the setup lacks an object or a site, and `NoMemory`.

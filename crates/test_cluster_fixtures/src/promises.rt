@@ -54,6 +54,7 @@ pub fn read_at<R: Wait>(
 ) -> Result<SeenValue, Refusal>
     ensures applied { IfOk result (λ read. session.old.seen ≤ read.applied) }
     ensures before { IfOk result (λ read. cluster.now.before ≤ read.applied) }
+    ensures bounded { IfOk result (λ read. read.applied ≤ cluster.now.before + most_updates) }
     ensures seen { IfOk result (λ read. session.new.seen ≡ read.applied) }
     ensures allowed { IfOk result (λ _. (object < length cluster.now.start.objects) × (site < length cluster.now.start.sites)) }
     ensures refused { IfErr result (IsReadRefusal cluster.now (record { object = object; site = site; seen = session.old.seen })) }
@@ -73,6 +74,7 @@ pub fn read_when_level<R: Wait>(
 ) -> Result<SeenValue, Refusal>
     ensures applied { IfOk result (λ read. session.old.seen ≤ read.applied) }
     ensures before { IfOk result (λ read. cluster.now.before ≤ read.applied) }
+    ensures bounded { IfOk result (λ read. read.applied ≤ cluster.now.before + most_updates) }
     ensures seen { IfOk result (λ read. session.new.seen ≡ read.applied) }
     ensures allowed { IfOk result (λ _. (object < length cluster.now.start.objects) × (site < length cluster.now.start.sites)) }
     ensures refused { IfErr result (IsReadRefusal cluster.now (record { object = object; site = site; seen = session.old.seen })) }
@@ -104,6 +106,7 @@ pub fn begin<'a, R: Wait>(
     limit: u64,
 ) -> Result<SiteQuery<'a>, Refusal>
     ensures query { IfOk result (λ q. q ≡ record { place = q.place; marks = q.marks; limit = limit; sum = pos 0; total = 0; reads = 0 }) }
+    ensures place { IfOk result (λ q. (cluster.now.before ≤ q.place) × (q.place ≤ cluster.now.before + most_updates)) }
     ensures allowed { IfOk result (λ _. site_query_refusal (length cluster.now.start.sites) site limit ≡ None) }
     ensures refused { IfErr result (λ e. IsRefusal (site_query_refusal (length cluster.now.start.sites) site limit) e) }
 {

@@ -18,7 +18,7 @@ impl<A: Allocator + Copy> Primary<A> {
     // promise answer: the head is acknowledged exactly if each forced site has reported it
     // promise later: a late report cancels no round
     // promise allowed refused only_first err: `NothingToSettle` comes exactly if all is acknowledged, never for a decided head
-    // promise fewest: a site has the fewest rounds, as its windows show
+    // promise fewest: a site has the fewest rounds at each place, as its windows show
     // promise sound IsPrimary.lags: as Primary::new IsPrimary.lags
     // promise sound IsPrimary.sites: as Primary::new IsPrimary.sites
     // promise first: as Primary::windows

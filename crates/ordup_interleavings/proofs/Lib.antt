@@ -1,0 +1,12 @@
+pub mod TurnLemmas
+pub mod SoundLemmas
+pub mod SiteLemmas
+pub mod SessionLemmas
+pub mod QueryLemmas
+pub mod RunLemmas
+pub mod RefinementLemmas
+pub mod RunOfHoldsLemmas
+pub mod CallLemmas
+mod Examples
+mod StoreLemmas
+mod StoreExamples

@@ -1,6 +1,7 @@
 # A picture of the lag of a site: gnuplot -c examples/lag.gp LAG PICTURE
 # LAG is a file with what `ordup lag` printed, or the header and a stretch of its rows, and PICTURE the PNG to write. There is a
-# panel for each limit. The colours are told apart by readers who are colour-blind too, and each thing has a form of its own.
+# panel for each limit. What is acknowledged of a place that waited is nothing: the site had reported it by then. The colours are told
+# apart by readers who are colour-blind too, and each thing has a form of its own.
 lag = ARG1
 cell(line, column) = system(sprintf("%s -n 1 '%s' | cut -d , -f %d", line, lag, column))
 columns = int(system(sprintf("head -n 1 '%s' | tr , '\n' | wc -l", lag)))
@@ -42,8 +43,8 @@ do for [i = 1:limits] {
     band(parity) = valid(window) && int(column(window)) % 2 == parity ? top : NaN
     plot lag skip 1 using 1:(band(1)):(1) with boxes lc rgb "#CFE3F1" fs solid border lc rgb "#CFE3F1" title (i == 1 && WINDOW_records > 0 ? "window" : ""), \
          lag skip 1 using 1:(band(0)):(1) with boxes lc rgb "#EAD9E6" fs solid border lc rgb "#EAD9E6" title (i == 1 && WINDOW_records > 0 && WINDOW_max > 1 ? "next window" : ""), \
-         lag skip 1 using 1:weight with histeps lw 2 lc rgb "#0072B2" title (i == 1 ? "not reported" : ""), \
+         lag skip 1 using 1:(column(round) == 1 ? 0 : column(weight)) with histeps lw 2 lc rgb "#0072B2" title (i == 1 ? "acknowledged" : ""), \
          lag skip 1 using ($1 - 0.5):amount:(1):(0) with vectors nohead lw 2 lc rgb "#000000" title (i == 1 ? "amount" : ""), \
-         lag skip 1 using 1:(column(round) == 1 ? column(weight) : NaN) with points pt 9 ps 1.4 lc rgb "#D55E00" title (i == 1 ? "round" : "")
+         lag skip 1 using 1:(column(round) == 1 ? column(weight) : NaN) with points pt 9 ps 1.4 lc rgb "#D55E00" title (i == 1 ? "waits" : "")
 }
 unset multiplot

@@ -35,24 +35,29 @@
 //   - The answers of a store depend on the lines that it takes alone. An entry has these lines, in few words. So each process that runs
 //     the script comes to the same, and what it comes to is compared: a primary compares each answer of its store with the one in the
 //     entry, a site each refusal, and at the end of an epoch each value with the one that the next epoch begins with. What differs ends
-//     the process with status 3.
-//   - An entry is created where there is none of its number and the one before it is there. So of two primaries that write, one is refused,
-//     whatever they believe of their leases. It drops what it ran, and runs the script again. The lease is for speed alone.
+//     the process with status 3, and so does an entry that no right primary writes: package epoch says which.
+//   - An entry is created where there is none of its number, the one before it is there, and no later epoch has begun. So of two primaries
+//     that write, one is refused, whatever they believe of their leases. It drops what it ran, and runs the script again. The lease is for
+//     speed alone.
 //   - A primary that does not know whether its entry was written writes it again: it is there and its own, or created now, or another
 //     primary was faster. The name of the process in the entry tells its own from others.
 //   - A request stands in the same entry as its update. A client's last number, the digest of its changes and its answer are in a table
 //     that follows from the entries. So whichever primary is asked again gives the same answer once that is written, lets the client
 //     wait for it before, refuses the number for other changes, and refuses a number before the last one.
-//   - A client is remembered for so many whole epochs after its last request, a setting of the script. At the end of each epoch the table
-//     is carried over by entries of its own, as many as it needs. Who asks again under an old number after that is a new client.
+//   - A client is remembered for so many whole epochs after its last request, and for so many seconds at least: settings of the script, in
+//     which the writer notes the seconds as they pass. At the end of each epoch the table is carried over by entries of its own, as many as
+//     it needs. Who asks again under an old number after that is a new client.
 //
 // # Leases, and what a site promises its readers
 //
 // The engine drops a lease five seconds after it was renewed. Its holder relies on it for three, from before it asked, by a clock that
-// also counts the time asleep. A site serves its readers
+// also counts the time asleep. A lease that was given back is not taken up again, though its key is there still: the engine may hear of
+// that at any time. A site serves its readers
 //
-//   - only while it relies on its lease, which it looks at after it took the values, and
-//   - only once it has run the entry that was the last one when it got the lease. The process before told no place after that one.
+//   - only while it relies on its lease, which it looks at after it took the values,
+//   - only once it has run the entry that was the last one when it got the lease: the process before told no place after that one; and
+//   - only once a place of it was taken since it got the lease, so who does not count for the limits serves nobody. It tells its places under
+//     the lease before it serves, and goes on serving though no primary is there later.
 //
 // So readers of a site never see less than a place that it told, from whichever process. As the limits of the site hold for what it told,
 // they hold for what its readers see. A reader who says what it has seen (epoch and place) sees no less, and waits or is told how far the
@@ -61,10 +66,14 @@
 // Places travel from the site to the primary by HTTP, and not by keys. A place costs the engine no write then, and a round one way less.
 // It is safe since a site tells a place only after it has shown it and found its lease alive after that: who serves the site from then on
 // shows no less, however late the place arrives, and whether or not the lease lives by then. What a site tells before it may serve is
-// not told. A primary counts no place of another epoch, and refuses one beyond the updates of the entry that the site names. That ends
-// the site with status 5, and not the primary. A primary that takes over knows what the script has. A site tells its place again, twice a
+// not told. A primary counts no place of another epoch, and refuses one beyond the updates of the entry that the site names. A place has
+// the digest of that entry, so one of another script is refused too. That ends the site with status 5, and not the primary. A primary that takes over knows what the script has. A site tells its place again, twice a
 // second, as long as the script does not have it. While that lacks at most a quarter of what its limits allow, nobody waits for the place: the
-// site tells new ones twenty times a second at most, and else each at once. A fleet tells the least place of its sites.
+// site tells new ones twenty times a second at most, and else each at once.
+//
+// A fleet tells the least place of its sites. It takes places of its members alone, so no other process comes to serve; and it tells nothing
+// before it has seen that the engine has no key of another one, which may have begun under a process of the fleet that knew it. A fleet and
+// a site of the same name exclude each other: none gets its key while the engine has one of the other.
 //
 // # Epochs
 //
@@ -87,8 +96,12 @@
 // What all primaries go by (requests an epoch, how long a client is remembered, the version of ordup, the digest of the declarations that an
 // operator gave last) stands in the entry that begins an epoch, and changes by a wish. Beside it stands with what the script began. A primary
 // that was started with other settings than those ends with status 2, before it stands by. So it comes back with its settings after any
-// wish. As for the version: a program says which versions it has, old and new processes run side by side, and the next epoch that is wished
-// for by the new program is run by the new version. Who has not got that one ends with status 2.
+// wish.
+//
+// A program has its own version of ordup, and those before it whose answers are the same. So a new one goes on with the script of an old
+// one, beside old processes. All entries of an epoch have one version: that of the epoch before, or the one that a wish names. A primary
+// takes no wish for a version that it has not. One that took over such a wish ends with status 2 where it would begin that epoch, and so
+// does who meets an entry of a version that it has not.
 //
 // # Archives
 //
@@ -127,6 +140,6 @@
 //	1  something outside cannot be used: a file, a port, memory, the user of the engine
 //	2  words, settings or declarations are wrong, or not those of the script, also its version
 //	3  the script lacks an entry, has one that is none, or comes to something else at this process
-//	4  the site is not among those of the script
-//	5  the site told a place that no site can have told
+//	4  the site is not among those of the script, or of its fleet
+//	5  the site told a place that no site can have told, or one of another script
 package main

@@ -1,12 +1,11 @@
 package main
 
 import (
-	"context"
 	"os"
-	"os/signal"
-	"syscall"
+	"strings"
 
 	"ordup-node/internal/command"
+	"ordup-node/internal/exit"
 	"ordup-node/internal/library"
 	"ordup-node/internal/logs"
 )
@@ -14,9 +13,13 @@ import (
 // version is that of ordup, whose library is linked. node/build sets it.
 var version = "0.0.0"
 
+// before are the versions before it whose answers the library gives too, the last one first. `checks/versions --set` adds to them.
+var before = "0.2.0"
+
 func main() {
-	ctx, cancel := signal.NotifyContext(context.Background(), syscall.SIGTERM, syscall.SIGINT)
-	program := &command.Program{Version: version, Open: library.Open, Out: os.Stdout, Err: os.Stderr, Log: logs.New(os.Stderr)}
+	ctx, cancel := exit.Until()
+	versions := strings.Fields(version + " " + before)
+	program := &command.Program{Versions: versions, Open: library.Open, Out: os.Stdout, Err: os.Stderr, Log: logs.New(os.Stderr)}
 	status := program.Run(ctx, os.Args[1:])
 	cancel()
 	os.Exit(int(status))

@@ -26,11 +26,11 @@ class Http:
     """One connection to a process, as long as that lasts. Where it fails, the status is 0."""
 
     def __init__(self, name: str, seconds: float, role: str, safety: Safety | None) -> None:
-        host, self.headers = address_of(name), {}
+        host, self.headers = address_of(name), {"Content-Type": "application/json"}
         self.connection = http.client.HTTPConnection(host, PORT, timeout=seconds)
         if safety:
             self.connection = http.client.HTTPSConnection(host, PORT, timeout=seconds, context=safety.context)
-            self.headers = {"Authorization": f"Bearer {safety.tokens[role]}"} if role else {}
+            self.headers.update({"Authorization": f"Bearer {safety.tokens[role]}"} if role else {})
 
     def ask(self, method: str, path: str, body: bytes | None = None) -> tuple[int, Json]:
         try:
@@ -104,16 +104,17 @@ class Clients:
 class Wish(threading.Thread):
     """Asks for the next epoch until it has begun, under the number of the one that is to end. So it is done once."""
 
-    def __init__(self, engine: etcd.Engine, declarations: str, safety: Safety | None) -> None:
+    def __init__(self, engine: etcd.Engine, declarations: str, safety: Safety | None, version: str) -> None:
         super().__init__(daemon=True)
-        self.engine, self.declarations, self.safety, self.wrong = engine, declarations, safety, ""
+        self.engine, self.safety, self.wrong = engine, safety, ""
+        self.wanted = {"declarations": declarations, **({"ordup": version} if version else {})}
 
     def run(self) -> None:
         since = 0
         while True:
             try:
                 since = since or self.engine.epoch()[0]
-                wish = json.dumps({"from": since, "declarations": self.declarations}).encode()
+                wish = json.dumps({"from": since, **self.wanted}).encode()
                 host = Http(random.choice(PRIMARIES), LONGER, "operator", self.safety)
                 status, told = host.ask("POST", f"/next?wait={WAIT}", wish)
                 host.connection.close()

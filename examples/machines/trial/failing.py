@@ -93,7 +93,7 @@ class Failing:
             time.sleep(0.001)
         return writer
 
-    def begins_next(self, words: str) -> None:
+    def begins_next(self, words: str, version: str = "") -> None:
         """Asks for the next epoch, and waits until it has begun."""
-        self.check(self.trial.soon(self.trial.want), f"the next epoch could not be asked for {words}")
+        self.check(self.trial.soon(lambda: self.trial.want(version)), f"the next epoch could not be asked for {words}")
         self.check(self.trial.soon(self.trial.has_begun), f"the next epoch did not begin {words}")

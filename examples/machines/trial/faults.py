@@ -12,6 +12,8 @@ from site_faults import SiteFaults
 KINDS = ("kill_", "stop_", "cut_", "start_", "lose_", "fill_", "slow_", "ask_", "end_", "put_", "thin_")
 # Two have no more than these names.
 WHOLE = ("upgrade", "restore")
+# These come only where they are named: they take minutes.
+LONG_ONES = ("fill_log_and_lose_sites",)
 
 
 def is_fault(name: str) -> bool:
@@ -19,14 +21,15 @@ def is_fault(name: str) -> bool:
 
 
 class Faults(SiteFaults, PrimaryFaults, EngineFaults):
-    # Those that come, and whether these are all.
+    # Those that there are, those that come, which are all but a long one, and whether no others were chosen.
+    known = sorted(name for kind in (SiteFaults, PrimaryFaults, EngineFaults) for name in vars(kind) if is_fault(name))
     are_all = True
-    names = sorted(name for kind in (SiteFaults, PrimaryFaults, EngineFaults) for name in vars(kind) if is_fault(name))
+    names = [name for name in known if name not in LONG_ONES]
 
     @classmethod
     def meanings(cls) -> dict[str, str]:
         """What each fault does, which it says itself."""
-        meanings = {name: " ".join((inspect.getdoc(getattr(cls, name)) or "").split()) for name in cls.names}
+        meanings = {name: " ".join((inspect.getdoc(getattr(cls, name)) or "").split()) for name in cls.known}
         if silent := [name for name, meaning in meanings.items() if not meaning]:
             raise LookupError(f"{', '.join(silent)}: it is not said what this fault does")
         return meanings

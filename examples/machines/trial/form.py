@@ -25,11 +25,12 @@ class Form:
     odd_keys = [f"{begin}{end}".encode("latin-1") for begin in ("script/", "site/", "archive/", "epoch", "primary", "request/", "next")
                 for end in ("\xff\xfe/1", "ann/9\xff", "\xff", "0", "abc", "~\n/", "000000000002x")]
 
-    def __init__(self, engine: etcd.Engine, node: Path, safety: Safety | None) -> None:
-        self.engine, self.node, self.safety = engine, node, safety
+    def __init__(self, engine: etcd.Engine, nodes: tuple[Path, Path], safety: Safety | None) -> None:
+        # The program, the one that runs its scripts too, and that of the two with which processes are started.
+        self.engine, self.nodes, self.node, self.safety = engine, nodes, nodes[0], safety
         # What was found to be wrong.
         self.wrong: list[str] = []
-        self.wish, self.wishing = Wish(engine, "", safety), threading.Lock()
+        self.wish, self.wishing = Wish(engine, "", safety, ""), threading.Lock()
 
     # How its processes are started.
 
@@ -65,7 +66,13 @@ class Form:
 
     def words_of_fleet(self) -> list[str]:
         sites = [site for site in SITES if SITES[site] == FLEET]
-        return [*self.words("fleet", USERS, address_of(USERS)), *self.primaries(), "--fleet", FLEET, "--members", ",".join(sites)]
+        own = [*self.words("fleet", USERS, address_of(USERS)), *self.engine_words(), *self.primaries()]
+        return [*own, "--fleet", FLEET, "--members", ",".join(sites)]
+
+    def version(self) -> str:
+        """The version of the first program."""
+        said = subprocess.run([self.nodes[0], "--version"], stdout=subprocess.PIPE, text=True, check=True).stdout
+        return said.split()[-1]
 
     def words_of_reader(self) -> list[str]:
         """With which `observer.py` reads the site of its host."""
@@ -78,12 +85,12 @@ class Form:
     def clients(self, names: list[str]) -> Clients:
         return Clients(names, self.safety)
 
-    def want(self, declarations: str) -> bool:
-        """Asks for the next epoch, and does not wait for it. Returns whether nobody else has asked."""
+    def want(self, declarations: str, version: str = "") -> bool:
+        """Asks for the next epoch, by another version if one is named, and does not wait for it. Returns whether nobody else has asked."""
         with self.wishing:
             if self.wish.is_alive():
                 return False
-            self.wish = Wish(self.engine, declarations, self.safety)
+            self.wish = Wish(self.engine, declarations, self.safety, version)
             self.wish.start()
             return True
 
@@ -192,7 +199,7 @@ class Form:
 
     def audit(self, archives: list[Path]) -> list[str]:
         """What `ordup-node fsck` finds to be wrong in these folders and in the engine."""
-        words = [str(self.node), "fsck", *self.engine_words(), *map(str, archives)]
+        words = [str(self.nodes[-1]), "fsck", *self.engine_words(), *map(str, archives)]
         ran = subprocess.run(words, stdout=subprocess.PIPE, stderr=subprocess.STDOUT, text=True)
         last = ran.stdout.strip().rpartition("\n")[2]
         return [] if ran.returncode == 0 and last.startswith("ok ") else [f"fsck ended with {ran.returncode}: {last}"]

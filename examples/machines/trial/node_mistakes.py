@@ -6,7 +6,7 @@ Mistakes = dict[str, list[Edit]]
 
 TAKEN = "case request.Number > last.number:\n"
 OVER = "	return site.applied < updates || site.leaves && !site.gone\n"
-SERVED = "	shown, changed, first, term := site.shown, site.changed, site.first, site.term\n"
+SERVED = "	shown, changed, first, term, taken := site.shown, site.changed, site.first, site.term, site.taken\n"
 SERVES = "	if shown == nil || shown.Entry < first || !site.lease.Lives(term) {\n"
 SHOWS = "		site.show(shown)\n		if shown != nil && shown.Entry >= site.end {\n"
 RUNS = "			if err := site.run(raw); err != nil {\n				return err\n			}\n"
@@ -79,12 +79,11 @@ MISTAKES: Mistakes = {
     ],
     # Two processes of a site serve readers, since neither looks at the lease.
     "serves_without_the_lease": [
-        ("internal/site/read.go", SERVED, "	shown, changed, first := site.shown, site.changed, site.first\n"),
         ("internal/site/read.go", SERVES, "	if shown == nil || shown.Entry < first {\n"),
     ],
     # A site shows old values to readers while it applies the script from the beginning.
     "serves_before_it_has_caught_up": [
-        ("internal/site/read.go", SERVED, "	shown, changed := site.shown, site.changed\n"),
+        ("internal/site/read.go", SERVED, "	shown, changed, term, taken := site.shown, site.changed, site.term, site.taken\n"),
         ("internal/site/read.go", SERVES, "	if shown == nil {\n"),
         (
             "internal/site/site.go",
@@ -97,9 +96,8 @@ MISTAKES: Mistakes = {
         (
             "internal/site/site.go",
             SHOWS,
-            "		if shown != nil && site.lease.Held() {\n"
-            "			site.tell(ctx, epoch.Place{Site: site.inName, Member: site.config.Name, Epoch: shown.Epoch, Applied: shown.Place,\n"
-            "				Entry: shown.Entry})\n			time.Sleep(300 * time.Millisecond)\n		}\n" + SHOWS,
+            "		if shown != nil && site.lease.Held() {\n			site.tell(ctx, site.placeOf(shown))\n"
+            "			time.Sleep(300 * time.Millisecond)\n		}\n" + SHOWS,
         ),
     ],
     # A site that lost its connection takes the next entry as read.
@@ -110,8 +108,9 @@ MISTAKES: Mistakes = {
             "		if site.replica != nil {\n			site.replica.entry++\n		}\n",
         ),
     ],
-    # A site that is taken out goes on.
+    # A site that is taken out goes on, whatever the script and the primary say.
     "serves_after_it_was_taken_out": [
+        ("internal/site/site.go", " || errors.Is(err, epoch.ErrNoSite)\n", "\n"),
         ("internal/site/replica.go", "			delete(replica.sites, step.Name)\n", ""),
         (
             "internal/site/replica.go",
@@ -126,8 +125,8 @@ MISTAKES: Mistakes = {
     "tells_without_the_lease": [
         (
             "internal/site/site.go",
-            "		shown, changed := site.served()\n",
-            "		site.lock.Lock()\n		shown, changed := site.shown, site.changed\n		site.lock.Unlock()\n",
+            "		now := site.now()\n",
+            "		now := site.now()\n		site.lock.Lock()\n		now.shown = site.shown\n		site.lock.Unlock()\n",
         ),
     ],
     # Other changes under a number that was taken have the answer to those before.
@@ -135,5 +134,21 @@ MISTAKES: Mistakes = {
     # A primary stands by though it was started with other settings.
     "stands_by_with_other_settings": [
         ("internal/primary/standby.go", "			if err = primary.agrees(core); err != nil {\n", "			if false {\n"),
+    ],
+    # A lease that was given back is taken up again, before the engine hears of that.
+    "takes_up_what_it_gave_back": [("internal/engine/lease.go", "	if id == lease.given {\n", "	if false {\n")],
+    # A site serves readers before anybody has taken a place of it, and goes on though it is told that it is no site.
+    "serves_though_nobody_lists_it": [
+        ("internal/site/read.go", "	if !now.isTaken {\n", "	if false {\n"),
+        ("internal/site/site.go", " || errors.Is(err, epoch.ErrNoSite)\n", "\n"),
+    ],
+    # A fleet tells of the sites that it lists, whoever else serves readers as one of it.
+    "tells_without_a_site_that_serves": [
+        ("internal/fleet/fleet.go", "fleet.looked && len(fleet.unlisted) == 0\n", "true\n"),
+    ],
+    # A turn counts whatever comes, and is written unread.
+    "writes_what_nobody_reads": [
+        ("internal/epoch/turn.go", "	turnCounts = 200_000\n", "	turnCounts = 1 << 40\n"),
+        ("internal/epoch/turn.go", "	if err := script.Check(turn.Text); err != nil {\n", "	if err := script.Check(nil); false {\n"),
     ],
 }

@@ -3,10 +3,15 @@
 import signal
 import subprocess
 import time
+from pathlib import Path
 
 from addresses import DECLARATIONS, FLEET, MEMBERS, PRIMARIES, SITES, SPARE
 from asking import PATIENCE
 from failing import LONG, Failing
+from recipe import NEWER
+
+# So many updates has the log of an epoch that goes on while sites are lost.
+LONG_LOG = 600_000
 
 
 class PrimaryFaults(Failing):
@@ -43,9 +48,24 @@ class PrimaryFaults(Failing):
             self.check(self.trial.upkeep.has_joined(name), f"the member {name} does not answer after it was started again")
 
     def upgrade(self) -> None:
-        """All processes are started anew, one at a time, in the order of an upgrade, while clients ask: members of the engine, sites, the
-        fleet, the primary that stands by, and the one that writes."""
-        asking, began = self.trial.asking, time.monotonic()
+        """The deployment goes to a newer version of the program, if there is one, and then back, while clients ask."""
+        form = self.trial.form
+        self.renew_all(form.nodes[1])
+        if form.nodes[1] != form.nodes[0]:
+            self.goes_on_by(NEWER)
+            self.goes_on_by(form.version())
+            self.renew_all(form.nodes[0])
+
+    def goes_on_by(self, version: str) -> None:
+        """The script goes to a version that all processes have."""
+        self.begins_next(f"of version {version}", version)
+        _, last = max(self.trial.upkeep.ask(self.engine.entries))
+        self.check(f" ordup {version} " in last.partition("\n")[0], f"the script is not run by {version}")
+
+    def renew_all(self, node: Path) -> None:
+        """All processes are started anew of a program, one at a time, in the order of an upgrade: members of the engine, sites, the fleet,
+        the primary that stands by, and the one that writes."""
+        asking, began, self.trial.form.node = self.trial.asking, time.monotonic(), node
         for name in [*MEMBERS, *SITES, FLEET]:
             self.renew(name)
         writer = self.writer()
@@ -66,6 +86,33 @@ class PrimaryFaults(Failing):
                 self.begins_next("from afar")
                 self.pause(0.2, 0.4)
                 self.deployment.hosts("mend", member)
+
+    def fill_log_and_lose_sites(self) -> None:
+        """Two sites are lost, and the epoch goes on until its log is long. Then they are taken out, both at once, as the others tell all."""
+        self.trial.bring_back()
+        with self.trial.alone():
+            self.trial.lost = ["lost", "gone"]
+            self.begins_next("with two sites more")
+            self.deployment.kill(*PRIMARIES)
+            number, last = max(self.trial.upkeep.ask(self.engine.entries))
+            for first in range(1, LONG_LOG, 20_000):
+                asks = [f"ask filler {first + at} add:till:0" for at in range(20_000)]
+                number = self.add_entry(number + 1, "\n".join([last.partition("\n")[0], *asks, ""]))
+            self.trial.lost = []
+            for name in PRIMARIES:
+                self.deployment.start(name)
+            self.begins_next("after a long one")
+
+    def add_entry(self, number: int, text: str) -> int:
+        """Writes an entry in the place of a primary, and returns its number. What one of them sent before it was killed may come first."""
+
+        def is_written() -> bool:
+            key = f"script/{number:012d}"
+            return self.engine.create(key, text) or self.engine.value(key) == text
+
+        while not self.trial.upkeep.ask(is_written):
+            number += 1
+        return number
 
     def ask_under_many_names(self) -> None:
         """New clients ask once each. In the next epoch, and of another primary, they have the same answers."""

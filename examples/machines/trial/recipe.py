@@ -4,6 +4,7 @@
 `recipe.py` sees that each mistake can be made of the files as they are, and says how many there are.
 """
 
+import os
 import shutil
 import subprocess
 import sys
@@ -13,6 +14,8 @@ from node_mistakes import MISTAKES, Edit
 
 TOP = Path(__file__).resolve().parents[3]
 NODE = Path("node")
+# The version of a program that comes after the one of the sources, and runs its scripts too.
+NEWER = "newer"
 
 
 class Unmade(Exception):
@@ -31,17 +34,19 @@ def edit(folder: Path, edits: list[Edit]) -> None:
         file.write_text(file.read_text().replace(old, new))
 
 
-def build(sources: Path, library: Path, to: Path, edits: list[Edit]) -> Path:
-    """The program ordup-node, of a copy of the sources with these edits."""
+def build(sources: Path, library: Path, to: Path, edits: list[Edit]) -> tuple[Path, Path]:
+    """The program ordup-node, of a copy of the sources with these edits, and the one of the next version."""
     shutil.copytree(sources / NODE, to / NODE)
     for folder in ("clients/go", "clients/rust"):
         shutil.copytree(sources / folder, to / folder)
     edit(to / NODE, edits)
-    program = to / "ordup-node"
-    made = subprocess.run([to / NODE / "build", library, program], stdout=subprocess.PIPE, stderr=subprocess.STDOUT, text=True)
-    if made.returncode:
-        raise Unmade(made.stdout)
-    return program
+    programs = to / "ordup-node", to / f"ordup-node-{NEWER}"
+    for program, version in zip(programs, ("", NEWER)):
+        words = [to / NODE / "build", library, program]
+        made = subprocess.run(words, env={**os.environ, "NODE_VERSION": version}, stdout=subprocess.PIPE, stderr=subprocess.STDOUT, text=True)
+        if made.returncode:
+            raise Unmade(made.stdout)
+    return programs
 
 
 def main() -> int:

@@ -1,9 +1,16 @@
 """What fails of sites. Each public method is a fault from its beginning to its end."""
 
 import signal
+import threading
+import time
 
-from addresses import FLEET, SPARE
+from addresses import FLEET, MACHINES, MEMBERS, SITES, SPARE, USERS, address_of
+from deployment import Process
+from etcd import PORT
 from failing import LONG, Failing
+
+# By so many seconds a process says late that it gives a lease back. By then it has taken it up again, if it does that.
+LATE = 6.0
 
 
 class SiteFaults(Failing):
@@ -44,6 +51,81 @@ class SiteFaults(Failing):
         for process in (second, reader):
             process.kill()
             process.wait()
+
+    def start_site_that_no_fleet_lists(self) -> None:
+        """A process of a fleet is started under a name that the fleet does not list. It serves nobody, and ends."""
+        words = self.deployment.words_of("west")
+        words[words.index("--site") + 1] = "middle"
+        process = self.deployment.begin(SPARE, words)
+        reader = self.deployment.start_reader("west", SPARE)
+        served, ends = False, time.monotonic() + LONG
+        while process.poll() is None and time.monotonic() < ends:
+            served = self.trial.serves(SPARE) or served
+            time.sleep(0.05)
+        self.check(not served, "a process that its fleet does not list served a reader")
+        self.check(process.poll() == 4, f"a process that its fleet does not list ended with {process.poll()}")
+        for started in (process, reader):
+            started.kill()
+            started.wait()
+
+    def start_fleet_without_a_site(self) -> None:
+        """The fleet is started anew without a site that serves readers, and is asleep for a moment. That ends once it is told so."""
+        west = self.deployment.processes["west"]
+        with self.trial.alone():
+            west.send_signal(signal.SIGSTOP)
+            self.deployment.kill(FLEET)
+            words = self.deployment.words_of(FLEET)
+            words[words.index("east,west")] = "east"
+            fleet = self.deployment.begin(USERS, words)
+            asks = threading.Thread(target=self.trial.asking.propose_alone, args=("add:tea:200",), daemon=True)
+            asks.start()
+            # The lease of the site lives.
+            self.pause(1.5, 1.8)
+            west.send_signal(signal.SIGCONT)
+            self.pause(1, 1)
+            fleet.kill()
+            fleet.wait()
+            self.deployment.start(FLEET)
+            if west.poll() is not None:
+                self.check(west.returncode == 4, f"west ended with {west.returncode}")
+                self.deployment.start("west")
+            asks.join()
+
+    def slow_return_of_lease(self) -> None:
+        """A process gets the lease of its site and cannot read the script. So it gives the lease back, and the engine hears of that seconds
+        later, as the process is cut off and another one waits for the lease. Readers read both."""
+        self.trial.bring_back()
+        site, at, to = "north", f"{address_of(MEMBERS[0])}:{PORT + 20}", f"{address_of(MEMBERS[0])}:{PORT}"
+        road = self.deployment.begin(MEMBERS[0], [str(MACHINES / "late.py"), at, to, "60", str(LATE)])
+        words = self.deployment.words_of(site)
+        words[words.index("--engine") + 1] = f"http://{at}"
+        second = self.deployment.begin(SPARE, words)
+        reader = self.deployment.start_reader(site, SPARE)
+        self.pause(2, 2)
+        self.deployment.processes[site].terminate()
+        self.deployment.down.add(site)
+        if self.has_lease(site, second):
+            road.send_signal(signal.SIGUSR1)
+            self.note("leases that were taken behind a slow road")
+        # Its calls for the end of the script, and then to give the lease back, have no answer in time.
+        self.pause(1, 1)
+        self.deployment.start(site)
+        self.pause(LATE + 1.8, LATE + 1.8)
+        self.deployment.hosts("cut", SPARE)
+        self.pause(LONG / 2, LONG / 2)
+        self.deployment.hosts("mend", SPARE)
+        for process in (second, reader, road):
+            process.kill()
+            process.wait()
+
+    def has_lease(self, site: str, process: Process) -> bool:
+        """Whether the process gets the lease of its site in time. Returns at once when it does."""
+        ends = time.monotonic() + LONG
+        while time.monotonic() < ends:
+            held = self.trial.upkeep.ask(lambda: self.engine.value(f"site/{SITES[site]}/{site}"))
+            if held and f"-{process.pid}-" in held:
+                return True
+        return False
 
     def cut_site_that_is_taken_out(self) -> None:
         """A site that has all is cut off and taken out. Its readers are served while its lease lives, and what comes then is beyond its

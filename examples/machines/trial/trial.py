@@ -27,6 +27,8 @@ class Trial:
         self.seconds = self.start = 0.0
         # The sites that are to be taken out, those that may be, and how often declarations were wanted.
         self.goes: set[str] = set()
+        # The sites of the next epoch that nobody starts.
+        self.lost: list[str] = []
         self.out: set[str] = set()
         self.wants = 0
         # How many epochs may have been asked for.
@@ -42,16 +44,17 @@ class Trial:
     # The next epoch.
 
     def wanted(self) -> str:
-        """Declarations without the site south, or with it, and with one object more."""
+        """Declarations without the site south, or with it, with those that nobody starts, and with one object more."""
         self.wants += 1
         lines = DECLARATIONS.read_text().splitlines()
         lines = [line for line in lines if not self.goes.intersection(line.split())]
+        lines[-1:] = [*(words for site in self.lost for words in (f"site {site} 1", f"limit {site} object till 0")), "start"]
         return "\n".join(["object milk 7", *lines] if self.wants % 2 else lines)
 
-    def want(self) -> bool:
+    def want(self, version: str = "") -> bool:
         """Asks for the next epoch. Returns whether nobody else has asked for it."""
         self.asked_for += 1
-        asked = self.form.want(self.wanted())
+        asked = self.form.want(self.wanted(), version)
         # Of one whose answer was lost it is not known.
         self.asked_for -= not asked
         return asked

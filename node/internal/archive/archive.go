@@ -22,6 +22,9 @@ import (
 	"ordup-node/internal/script"
 )
 
+// sync has a file on the disk, or the names of a folder.
+var sync = (*os.File).Sync
+
 // tryAfter is after how long archives that wait are looked at again.
 const tryAfter = 2 * time.Second
 
@@ -37,7 +40,7 @@ type Keeper struct {
 	Log    *logs.Log
 	// Ended tells that an epoch has ended.
 	Ended <-chan struct{}
-	// looked are the archives whose files this process has written or read.
+	// looked are the archives whose files this process has written or read, of epochs that are still in the engine.
 	looked  map[engine.Archive]bool
 	waiting int64
 }
@@ -47,6 +50,10 @@ func (keeper *Keeper) Waiting() int64 { return atomic.LoadInt64(&keeper.waiting)
 
 // NameOf is the name of the file of an epoch.
 func NameOf(epoch int64) string { return fmt.Sprintf("epoch-%d.ordup", epoch) }
+
+// MakeFolder makes a folder for archives, unless it is there. They have what each client asked, so they are for the user and the group of
+// the process alone.
+func MakeFolder(folder string) error { return os.MkdirAll(folder, 0o750) }
 
 // Run archives what has ended, and what ends, until the context ends. Then it closes its engine.
 func (keeper *Keeper) Run(ctx context.Context) {
@@ -71,7 +78,7 @@ func (keeper *Keeper) Run(ctx context.Context) {
 // Pass archives each epoch that has ended and is still in the engine, and takes it out of there once enough hosts have it. It returns
 // whether one of them waits for another host.
 func (keeper *Keeper) Pass(ctx context.Context) (waits bool, err error) {
-	_, end, err := keeper.Engine.Epoch(ctx)
+	last, end, err := keeper.Engine.Epoch(ctx)
 	if err != nil {
 		return false, err
 	}
@@ -79,26 +86,50 @@ func (keeper *Keeper) Pass(ctx context.Context) (waits bool, err error) {
 	if err != nil || from == 0 {
 		return false, err
 	}
+	for own := range keeper.looked {
+		if own.Before <= from {
+			delete(keeper.looked, own)
+		}
+	}
 	left := int64(0)
-	defer func() { atomic.StoreInt64(&keeper.waiting, left) }()
 	for from < end {
-		archives, err := keeper.Engine.Archives(ctx)
+		before, removed, err := keeper.passOne(ctx, from, end)
 		if err != nil {
+			if !engine.IsAway(err) {
+				atomic.StoreInt64(&keeper.waiting, left+keeper.stuck(ctx, from, last))
+			}
 			return false, err
 		}
-		epoch, own, err := keeper.own(ctx, archives, from, end)
-		if err != nil {
-			return false, err
-		}
-		removed, err := keeper.remove(ctx, epoch, own)
-		if err != nil {
-			return false, err
-		}
-		if from = own.Before; !removed {
+		if from = before; !removed {
 			left++
 		}
 	}
+	atomic.StoreInt64(&keeper.waiting, left)
 	return left > 0, nil
+}
+
+// passOne does it for the epoch that begins with an entry. It returns the first entry behind the epoch, and whether it left the engine.
+func (keeper *Keeper) passOne(ctx context.Context, from, end int64) (before int64, removed bool, err error) {
+	archives, err := keeper.Engine.Archives(ctx)
+	if err != nil {
+		return 0, false, err
+	}
+	epoch, own, err := keeper.own(ctx, archives, from, end)
+	if err != nil {
+		return 0, false, err
+	}
+	removed, err = keeper.remove(ctx, epoch, own)
+	return own.Before, removed, err
+}
+
+// stuck is how many epochs before the last one wait behind an entry whose epoch cannot be archived, as far as the entry tells.
+func (keeper *Keeper) stuck(ctx context.Context, from, last int64) int64 {
+	epoch := int64(0)
+	text, _, _ := keeper.Engine.Entry(ctx, from)
+	if fmt.Sscanf(string(text), "ordup-node 1 epoch %d ", &epoch); epoch < 1 || epoch >= last {
+		return 1
+	}
+	return last - epoch
 }
 
 // own is the archive of this host that begins with an entry. It is written, if it is not there yet.
@@ -159,7 +190,7 @@ func (keeper *Keeper) remove(ctx context.Context, epoch int64, own engine.Archiv
 
 // write writes the archive of the epoch that begins with an entry, whole or not at all.
 func (keeper *Keeper) write(ctx context.Context, from, end int64) (epoch int64, own engine.Archive, err error) {
-	if err = os.MkdirAll(keeper.Folder, 0o755); err != nil {
+	if err = MakeFolder(keeper.Folder); err != nil {
 		return 0, own, err
 	}
 	part, err := os.CreateTemp(keeper.Folder, "epoch-*.part")
@@ -172,10 +203,10 @@ func (keeper *Keeper) write(ctx context.Context, from, end int64) (epoch int64, 
 	if err != nil {
 		return 0, own, err
 	}
-	if err = part.Sync(); err != nil {
+	if err = sync(part); err != nil {
 		return 0, own, err
 	}
-	if err = os.Chmod(part.Name(), 0o644); err != nil {
+	if err = os.Chmod(part.Name(), 0o640); err != nil {
 		return 0, own, err
 	}
 	return epoch, own, keeper.name(part.Name(), filepath.Join(keeper.Folder, NameOf(epoch)), own.Digest)
@@ -194,7 +225,7 @@ func (keeper *Keeper) name(part, name, digest string) error {
 		return err
 	}
 	defer folder.Close()
-	return folder.Sync()
+	return sync(folder)
 }
 
 // copy copies the entries of one epoch, all of one revision.

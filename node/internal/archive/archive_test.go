@@ -2,6 +2,8 @@ package archive_test
 
 import (
 	"context"
+	"errors"
+	"fmt"
 	"os"
 	"path/filepath"
 	"strings"
@@ -62,6 +64,10 @@ func TestAnEpochStaysUntilEnoughHostsHaveIt(t *testing.T) {
 	}
 	pass(t, again, 2)
 	pass(t, other, 0)
+	pass(t, again, 0)
+	if again.Looked() > 0 {
+		t.Error("a keeper remembers what has left the engine")
+	}
 	first, err := own.First(context.Background())
 	archives, failure := own.Archives(context.Background())
 	if first != 6 || err != nil || len(archives) != 0 || failure != nil {
@@ -73,10 +79,72 @@ func TestAnEpochStaysUntilEnoughHostsHaveIt(t *testing.T) {
 			if err != nil || strings.Count(string(text), "\npropose add:tea:1\n") != wants {
 				t.Errorf("%s, %v", text, err)
 			}
+			isFor(t, filepath.Join(keeper.Folder, archive.NameOf(epoch)), 0o640)
 		}
+		isFor(t, keeper.Folder, 0o750)
 		files, _ := os.ReadDir(keeper.Folder)
 		if len(files) != 2 {
 			t.Error(files)
+		}
+	}
+}
+
+// isFor looks whether nobody else may do anything with a file.
+func isFor(t *testing.T, name string, most os.FileMode) {
+	t.Helper()
+	if found, err := os.Stat(name); err != nil || found.Mode().Perm()&^most != 0 {
+		t.Error(name, found.Mode(), err)
+	}
+}
+
+// An archive is on the disk before it has its name, and its name before other hosts are told. Where that fails nobody is told.
+func TestAnArchiveIsOnTheDiskFirst(t *testing.T) {
+	members := etcdtest.Start(t, 1)
+	own, folder := members.Engine(), t.TempDir()
+	write(t, own, 1, 2)
+	name := filepath.Join(folder, archive.NameOf(1))
+	synced, fails := []string{}, ""
+	defer archive.SyncBy(func(file *os.File) error {
+		what := "names"
+		if strings.HasSuffix(file.Name(), ".part") {
+			what = "file"
+		}
+		if _, err := os.Stat(name); err == nil {
+			what += " of an archive"
+		}
+		archives, err := own.Archives(context.Background())
+		if synced = append(synced, what); err != nil || len(archives) > 0 || what == fails {
+			return errors.New("the disk fails")
+		}
+		return nil
+	})()
+	for _, fails = range []string{"file", "names of an archive", ""} {
+		keeper := &archive.Keeper{Engine: own, Folder: folder, Host: "p1", Copies: 2}
+		waits, err := keeper.Pass(context.Background())
+		archives, _ := own.Archives(context.Background())
+		if isWell := fails == ""; waits != isWell || (err == nil) != isWell || len(archives) == 1 != isWell {
+			t.Errorf("%q: %v, %v, %v", fails, waits, err, archives)
+		}
+		os.Remove(name)
+	}
+	if said := strings.Join(synced, ", "); said != "file, file, names of an archive, file, names of an archive" {
+		t.Error(said)
+	}
+}
+
+// While an epoch cannot be archived, the number of those that wait counts it and those behind it.
+func TestAnEpochThatCannotBeArchivedIsCounted(t *testing.T) {
+	members := etcdtest.Start(t, 1)
+	own := members.Engine()
+	write(t, own, 1, 1, 2, 3, 4)
+	keeper := &archive.Keeper{Engine: own, Folder: t.TempDir(), Host: "p1", Copies: 1}
+	for _, row := range []struct {
+		number int
+		wants  int64
+	}{{2, 3}, {1, 1}} {
+		members.Put(fmt.Sprintf("script/%012d", row.number), "by hand")
+		if _, err := keeper.Pass(context.Background()); err == nil || keeper.Waiting() != row.wants {
+			t.Error(row, err, keeper.Waiting())
 		}
 	}
 }

@@ -52,7 +52,10 @@ func TestAnArchiveIsReadAsItWasWritten(t *testing.T) {
 			}
 		}
 	}
-	if err := archive.Read(bytes.NewReader(text[:len(text)-1]), keep); err == nil {
-		t.Error("a line that is not whole is read")
+	// Nor may it be cut off within a line.
+	for cut := 1; cut < len(text); cut++ {
+		if err := archive.Read(bytes.NewReader(text[:cut]), keep); err == nil && text[cut-1] != '\n' {
+			t.Errorf("%q is read", text[:cut])
+		}
 	}
 }

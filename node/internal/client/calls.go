@@ -7,6 +7,7 @@ import (
 	"fmt"
 	"net/http"
 	"net/url"
+	"strings"
 	"time"
 
 	"ordup-node/internal/epoch"
@@ -15,29 +16,34 @@ import (
 
 // Update asks for an update until there is an answer, or the context ends. What the store refuses is a *wire.Error.
 func (client *Client) Update(ctx context.Context, update wire.Update) (acked wire.Acked, err error) {
-	return acked, client.post(ctx, wire.UpdatePath+waiting(tryWait), update, &acked)
+	err = client.post(ctx, wire.UpdatePath+waiting(waitIn(ctx)), update, &acked)
+	return acked, err
 }
 
 // Next asks for the next epoch until it has begun, or the context ends.
 func (client *Client) Next(ctx context.Context, next wire.Next) (begun wire.Begun, err error) {
-	return begun, client.post(ctx, wire.NextPath+waiting(tryWait), next, &begun)
+	err = client.post(ctx, wire.NextPath+waiting(waitIn(ctx)), next, &begun)
+	return begun, err
 }
 
 // Epoch asks for the epoch.
 func (client *Client) Epoch(ctx context.Context) (begun wire.Begun, err error) {
-	return begun, client.ask(ctx, http.MethodGet, wire.EpochPath, nil, &begun)
+	err = client.ask(ctx, http.MethodGet, wire.EpochPath, nil, &begun)
+	return begun, err
 }
 
 // Value reads a value. Where the site does not get in time to what was seen, that is a *wire.Error.
 func (client *Client) Value(ctx context.Context, object, seen string, wait time.Duration) (value wire.Value, err error) {
 	path := wire.ValuePath + url.PathEscape(object) + waiting(wait) + "&seen=" + url.QueryEscape(seen)
-	return value, client.ask(ctx, http.MethodGet, path, nil, &value)
+	err = client.ask(ctx, http.MethodGet, path, nil, &value)
+	return value, err
 }
 
 // Values reads all values.
 func (client *Client) Values(ctx context.Context, seen string, wait time.Duration) (values wire.Values, err error) {
 	path := wire.ValuesPath + waiting(wait) + "&seen=" + url.QueryEscape(seen)
-	return values, client.ask(ctx, http.MethodGet, path, nil, &values)
+	err = client.ask(ctx, http.MethodGet, path, nil, &values)
+	return values, err
 }
 
 // Tell tells a place, at each address once.
@@ -72,8 +78,10 @@ func refusalOf(err error, place epoch.Place) error {
 	switch told.Name {
 	case "CannotBe":
 		return &epoch.CannotBeError{Place: place, Updates: told.Updates}
+	case "OtherScript":
+		return epoch.ErrOtherScript
 	case "NoSite":
-		return epoch.ErrNoSite
+		return fmt.Errorf("%w%s", epoch.ErrNoSite, strings.TrimPrefix(told.Message, epoch.ErrNoSite.Error()))
 	}
 	return err
 }
@@ -84,6 +92,19 @@ func (client *Client) post(ctx context.Context, path string, value, to interface
 		return err
 	}
 	return client.ask(ctx, http.MethodPost, path, body, to)
+}
+
+// waitIn is how long a server is asked to wait for an answer: less than there is time, so that it can say why there is none.
+func waitIn(ctx context.Context) time.Duration {
+	end, hasEnd := ctx.Deadline()
+	wait := time.Until(end) * 3 / 4
+	if !hasEnd || wait > tryWait {
+		return tryWait
+	}
+	if wait < 0 {
+		return 0
+	}
+	return wait
 }
 
 func waiting(wait time.Duration) string { return fmt.Sprintf("?wait=%g", wait.Seconds()) }

@@ -115,7 +115,7 @@ func isForGood(err error) bool {
 		return false
 	}
 	switch told.Name {
-	case "NotWriter", "NotServing", "NotYet", "Busy", "NoAnswer", "TooSlow", "Failed":
+	case "NotWriter", "NotServing", "NotYet", "Busy", "NoAnswer", "TooSlow", "Failed", "Full":
 		return false
 	}
 	return true
@@ -131,15 +131,17 @@ func (client *Client) address() string {
 	return client.config.Addresses[client.at]
 }
 
-// learn keeps where an answer came from, or which primary it named. An address of another scheme is not asked, since it would get the
-// token.
-func (client *Client) learn(address, writer string) {
+// learn has an address asked from now on.
+func (client *Client) learn(address string) {
 	client.lock.Lock()
 	defer client.lock.Unlock()
 	client.named = address
-	if scheme, _, _ := strings.Cut(address, "://"); writer != "" && IsAddress(writer) && strings.HasPrefix(writer, scheme+"://") {
-		client.named = writer
-	}
+}
+
+// mayBeAsked is whether an answer of one address may name another one. One of another scheme is not asked, since it would get the token.
+func mayBeAsked(address, named string) bool {
+	scheme, _, _ := strings.Cut(address, "://")
+	return IsAddress(named) && strings.HasPrefix(named, scheme+"://")
 }
 
 // fail has the next call begin elsewhere. Where the one that an address named does not answer, that is the next address.
@@ -165,14 +167,16 @@ func (client *Client) try(ctx context.Context, address, method, path string, bod
 	}
 	writer, err := answer(client.http, request, to)
 	var told *wire.Error
+	if errors.As(err, &told) && told.Writer != "" {
+		writer = told.Writer
+	}
+	isNamed := writer != address && mayBeAsked(address, writer)
 	switch {
+	case isNamed && (err == nil || isForGood(err) || told != nil && told.Name == "NotWriter"):
+		client.learn(writer)
 	case err == nil || isForGood(err):
-		client.learn(address, writer)
-	case errors.As(err, &told) && told.Name == "NotWriter" && (told.Writer != "" || writer != ""):
-		if writer = told.Writer; writer != address {
-			client.learn(address, writer)
-		}
-	case told != nil && (told.Name == "Busy" || told.Name == "NotYet"):
+		client.learn(address)
+	case told != nil && (told.Name == "Busy" || told.Name == "NotYet" || told.Name == "Full"):
 		// It is the right one, and has an answer later.
 	default:
 		client.fail(address)

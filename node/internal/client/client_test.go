@@ -10,6 +10,7 @@ import (
 	"time"
 
 	"ordup-node/internal/client"
+	"ordup-node/internal/epoch"
 	"ordup-node/internal/exit"
 	"ordup-node/internal/wire"
 )
@@ -41,6 +42,14 @@ func naming(writer string) func(http.ResponseWriter) {
 	return func(to http.ResponseWriter) { wire.Write(to, 503, wire.Error{Name: "NotWriter", Writer: writer}) }
 }
 
+// passed is the answer of a primary that passed a request on to one that does not write any more.
+func passed(writer string) func(http.ResponseWriter) {
+	return func(to http.ResponseWriter) {
+		to.Header().Set(wire.WriterHeader, writer)
+		naming("")(to)
+	}
+}
+
 func noNode(to http.ResponseWriter) { to.WriteHeader(502) }
 
 func update(t *testing.T, most time.Duration, addresses ...string) (wire.Acked, error) {
@@ -57,12 +66,74 @@ func update(t *testing.T, most time.Duration, addresses ...string) (wire.Acked, 
 func TestItAsksAgainElsewhere(t *testing.T) {
 	var one, other int64
 	nobody := "http://127.0.0.1:1"
-	right := server(t, &other, failing(503, "Busy"), failing(504, "NoAnswer"), acked)
+	right := server(t, &other, failing(503, "Busy"), failing(507, "Full"), failing(504, "NoAnswer"), acked)
+	own := ""
+	itself := server(t, &one, func(to http.ResponseWriter) { naming(own)(to) })
+	own = itself
 	for _, addresses := range [][]string{{nobody, right}, {right}, {server(t, &one, noNode), right}, {server(t, &one, naming("")), right},
-		{server(t, &one, naming(right))}, {server(t, &one, naming(nobody)), right}, {server(t, &one, failing(503, "NotServing")), right}} {
+		{server(t, &one, naming(right))}, {server(t, &one, passed(right))}, {itself, right},
+		{server(t, &one, naming(nobody)), right}, {server(t, &one, failing(503, "NotServing")), right}} {
 		atomic.StoreInt64(&other, 0)
-		if answer, err := update(t, 10*time.Second, addresses...); err != nil || answer.Seen != "1.3" || atomic.LoadInt64(&other) != 3 {
+		if answer, err := update(t, 10*time.Second, addresses...); err != nil || answer.Seen != "1.3" || atomic.LoadInt64(&other) != 4 {
 			t.Errorf("%v: %v, %v, %d", addresses, answer, err, other)
+		}
+	}
+}
+
+// Where only the header names the primary that writes, that one is asked next, and not the one that passed the request on.
+func TestTheHeaderNamesWhoIsAskedNext(t *testing.T) {
+	var one, other int64
+	first := server(t, &one, passed(server(t, &other, acked)))
+	if answer, err := update(t, 5*time.Second, first); err != nil || answer.Seen != "1.3" || one != 1 || other != 1 {
+		t.Error(answer, err, one, other)
+	}
+}
+
+// A token that came by TLS goes to no address without it, whoever names that.
+func TestAnAddressOfAnotherSchemeIsNotAsked(t *testing.T) {
+	var plain, next int64
+	named := server(t, &plain, acked)
+	for _, names := range []func(http.ResponseWriter){naming(named), passed(named)} {
+		secure := httptest.NewTLSServer(http.HandlerFunc(func(to http.ResponseWriter, _ *http.Request) {
+			atomic.AddInt64(&next, 1)
+			names(to)
+		}))
+		defer secure.Close()
+		asker, err := client.New(client.Config{Addresses: []string{secure.URL}, Token: func() string { return "secret" },
+			TLS: secure.Client().Transport.(*http.Transport).TLSClientConfig})
+		if err != nil {
+			t.Fatal(err)
+		}
+		ctx, cancel := context.WithTimeout(context.Background(), time.Second)
+		defer cancel()
+		if _, err = asker.Update(ctx, wire.Update{Client: "ann", Number: 1}); err == nil || plain != 0 || atomic.SwapInt64(&next, 0) == 0 {
+			t.Error(err, plain)
+		}
+	}
+}
+
+// Whatever is asked by POST says that it is JSON, since a node takes nothing else.
+func TestABodySaysThatItIsJSON(t *testing.T) {
+	kinds := make(chan string, 3)
+	server := httptest.NewServer(http.HandlerFunc(func(to http.ResponseWriter, asked *http.Request) {
+		kinds <- asked.Header.Get("Content-Type")
+		to.Write([]byte("{}"))
+	}))
+	defer server.Close()
+	asker, err := client.New(client.Config{Addresses: []string{server.URL}})
+	if err != nil {
+		t.Fatal(err)
+	}
+	ctx := context.Background()
+	if _, err = asker.Update(ctx, wire.Update{}); err == nil {
+		_, err = asker.Next(ctx, wire.Next{})
+	}
+	if err == nil {
+		err = asker.Tell(ctx, epoch.Place{})
+	}
+	for count := 0; count < 3; count++ {
+		if kind := <-kinds; kind != "application/json" || err != nil {
+			t.Error(kind, err)
 		}
 	}
 }
@@ -79,7 +150,7 @@ func TestItDoesNotStayWhereThereIsNoAnswer(t *testing.T) {
 }
 
 func TestWhatIsForGoodIsNotAskedAgain(t *testing.T) {
-	for name, status := range map[string]int{"Refused": 422, "Passed": 409, "Differs": 409, "Malformed": 400, "NoToken": 401, "Full": 507} {
+	for name, status := range map[string]int{"Refused": 422, "Passed": 409, "Differs": 409, "Malformed": 400, "NoToken": 401, "Closed": 403} {
 		var count int64
 		_, err := update(t, 10*time.Second, server(t, &count, failing(status, name)))
 		var told *wire.Error

@@ -33,7 +33,7 @@ func (own *askingSettings) add(set *settings.Set, key, help string) {
 	own.key = key
 	set.List(&own.addresses, key, help)
 	set.Text(&own.authority, "authority", "", "`FILE` in PEM with the authority of their certificates")
-	set.Text(&own.token, "token", "", "`FILE` with the own token")
+	set.Text(&own.token, "token", "", "`FILE` with the own token, in its first line")
 }
 
 func (own *askingSettings) addPatience(set *settings.Set) {
@@ -50,11 +50,11 @@ func (own *askingSettings) client(log *logs.Log) (*client.Client, error) {
 		return nil, err
 	}
 	if own.token != "" {
-		tokens, err := reload.New(log, func() ([]string, error) { return serve.TokensOf(own.token) }, own.token)
+		tokens, err := reload.New(log, func() ([]serve.Token, error) { return serve.TokensOf(own.token) }, own.token)
 		if err != nil {
 			return nil, err
 		}
-		config.Token = func() string { return tokens.Now()[0] }
+		config.Token = func() string { return tokens.Now()[0].Text }
 	}
 	return client.New(config)
 }
@@ -80,7 +80,7 @@ func endingOf(err error) error {
 		return err
 	}
 	switch told.Name {
-	case "Malformed", "NoToken", "NoSuchPath", "NoSuchObject", "NoSuchMethod", "Passed", "Differs", "TooLarge", "NoWish":
+	case "Malformed", "NoToken", "Closed", "NoSuchPath", "NoSuchObject", "NoSuchMethod", "Passed", "Differs", "TooLarge", "NoWish":
 		return exit.With(exit.Words, err)
 	}
 	return err
@@ -156,6 +156,7 @@ func nextSettings(program *Program, set *settings.Set) func(context.Context, []s
 	set.Number(&next.From, "from", 0, 0, 1<<53, "`EPOCH` that is to end: 0 stands for the one that there is")
 	set.Number(&next.Every, "every", 0, 0, 1_000_000, "`NUMBER` of requests that an epoch takes from then on: 0 leaves it")
 	set.Number(&next.Remembers, "remembers", 0, 0, 1_000_000, "`NUMBER` of epochs that a client is remembered: 0 leaves it")
+	set.Number(&next.RemembersSeconds, "remembers-seconds", 0, 0, 1_000_000, "`NUMBER` of seconds that it is remembered at least: 0 leaves it")
 	set.Text(&next.Ordup, "ordup", "", "`VERSION` of ordup that runs the script from then on")
 	set.Switch(&next.Replaces, "replaces", "take the place of what was asked for before and has not come")
 	return own.asks(program.Log, func(ctx context.Context, asker *client.Client, words []string) error {

@@ -16,8 +16,9 @@ import (
 
 // A Program is what the commands share.
 type Program struct {
-	Version string
-	Open    store.Open
+	// Versions are the versions of ordup whose answers the stores give. The first one is that of the program.
+	Versions []string
+	Open     store.Open
 	// Out is for what was asked for, and Err for help. Events go to Log.
 	Out, Err io.Writer
 	Log      *logs.Log
@@ -42,6 +43,8 @@ func commands() []command {
 	}
 }
 
+func (program *Program) version() string { return program.Versions[0] }
+
 // Run does what the words say, until the context ends, and returns the status.
 func (program *Program) Run(ctx context.Context, words []string) exit.Status {
 	name := ""
@@ -50,7 +53,7 @@ func (program *Program) Run(ctx context.Context, words []string) exit.Status {
 	}
 	switch name {
 	case "--version", "version":
-		fmt.Fprintln(program.Out, "ordup-node", program.Version)
+		fmt.Fprintln(program.Out, "ordup-node", program.version())
 		return exit.Done
 	case "--help", "-h", "help":
 		program.help(program.Out)

@@ -46,8 +46,13 @@ func (text *text) String() string {
 
 // run does a command, and gives its status, what it printed and what it logged.
 func run(ctx context.Context, words ...string) (exit.Status, string, string) {
+	return runAs(ctx, []string{"1.0"}, words...)
+}
+
+// runAs does a command by a program of these versions.
+func runAs(ctx context.Context, versions []string, words ...string) (exit.Status, string, string) {
 	out, log := &text{}, &text{}
-	program := &command.Program{Version: "1.0", Open: library.Open, Out: out, Err: log, Log: logs.New(log)}
+	program := &command.Program{Versions: versions, Open: library.Open, Out: out, Err: log, Log: logs.New(log)}
 	status := program.Run(ctx, words)
 	return status, out.String(), log.String()
 }
@@ -80,6 +85,7 @@ func TestWordsAndSettingsThatAreWrongAreNamed(t *testing.T) {
 	is(t, exit.Words, "there is no command")
 	engine := "--engine=http://127.0.0.1:1"
 	archive := "--archive=" + t.TempDir()
+	tokens := file(t, "tokens", "one-of-the-tokens\n")
 	for _, row := range []struct {
 		status exit.Status
 		says   string
@@ -101,6 +107,9 @@ func TestWordsAndSettingsThatAreWrongAreNamed(t *testing.T) {
 		{2, "are not a host", "primary --host a/b " + engine + " " + archive},
 		{1, "/nowhere", "primary --declarations /nowhere " + engine + " " + archive},
 		{1, "/nowhere", "primary --client-tokens /nowhere " + engine + " " + archive},
+		{2, "who-may-ask clients=tokens sites=open operators=closed", "primary --client-tokens " + tokens + " --site-tokens open"},
+		{2, "who-may-ask clients=open sites=open operators=open", "primary"},
+		{1, "only a token of a site names one", "primary --client-tokens " + file(t, "named", "one-of-the-tokens north\n")},
 		{1, "/nowhere", "primary --certificate /nowhere --key /nowhere " + engine + " " + archive},
 		{1, "/proc/nowhere", "primary --archive /proc/nowhere " + engine},
 		{1, "listen tcp", "primary --listen 192.0.2.1:7002 " + engine + " " + archive},
@@ -109,6 +118,9 @@ func TestWordsAndSettingsThatAreWrongAreNamed(t *testing.T) {
 		{2, "fleet and teller belong together", "site --site north --fleet far --primaries http://a:1 " + engine},
 		{2, "fleet and members", "fleet --fleet far --members ? --primaries http://a:1"},
 		{2, "members: ", "fleet --fleet far --primaries http://a:1"},
+		{2, "has the name of its fleet", "fleet --fleet far --members east,far --primaries http://a:1 " + engine},
+		{2, "has the name of its fleet", "site --site far --fleet far --teller http://a:1 " + engine},
+		{2, "engine: ", "fleet --fleet far --members east --primaries http://a:1"},
 		{2, "primaries: ", "update ann 1 add:tea:1"},
 		{2, "is no address", "update --primaries a:1 ann 1 add:tea:1"},
 		{2, "is no number", "update --primaries http://a:1 ann x add:tea:1"},
@@ -123,26 +135,28 @@ func TestWordsAndSettingsThatAreWrongAreNamed(t *testing.T) {
 	}
 }
 
-// A deployment runs the commands in this process, on an engine of its own.
+// A deployment runs the commands in this process, on an engine of its own. Its program has these versions.
 type deployment struct {
-	t       *testing.T
-	common  []string
-	primary [2]string
-	north   string
-	stops   map[string]func() (exit.Status, string)
-	words   map[string][]string
+	t        *testing.T
+	versions []string
+	common   []string
+	primary  [2]string
+	north    string
+	stops    map[string]func() (exit.Status, string)
+	words    map[string][]string
 }
 
 // start runs a command until its stop is called, which gives its status and its log.
 func (deployment *deployment) start(name string, words ...string) {
 	ctx, cancel := context.WithCancel(context.Background())
+	versions := deployment.versions
 	type end struct {
 		status exit.Status
 		log    string
 	}
 	ended := make(chan end, 1)
 	go func() {
-		status, _, log := run(ctx, append(words, deployment.common...)...)
+		status, _, log := runAs(ctx, versions, append(words, deployment.common...)...)
 		ended <- end{status, log}
 	}()
 	var once sync.Once
@@ -161,7 +175,7 @@ func (deployment *deployment) start(name string, words ...string) {
 
 func deploy(t *testing.T, common ...string) *deployment {
 	members := etcdtest.Start(t, 1)
-	deployment := &deployment{t: t, stops: map[string]func() (exit.Status, string){}, words: map[string][]string{},
+	deployment := &deployment{t: t, versions: []string{"1.0"}, stops: map[string]func() (exit.Status, string){}, words: map[string][]string{},
 		north: etcdtest.FreePort(t), primary: [2]string{etcdtest.FreePort(t), etcdtest.FreePort(t)}}
 	scheme := "http://"
 	if len(common) > 0 {
@@ -274,7 +288,7 @@ func certificate(t *testing.T) (string, string) {
 
 func TestADeploymentWithTLSAndTokens(t *testing.T) {
 	own, key := certificate(t)
-	clients, sites, operators := file(t, "c", "client-token-0001\n"), file(t, "s", "site-token-00001\n"), file(t, "o", "operator-token-1\n")
+	clients, sites, operators := file(t, "c", "client-token-0001\n"), file(t, "s", "site-token-00001\ntoken-of-north-01 north\n"), file(t, "o", "operator-token-1\n")
 	deployment := deploy(t, "--authority", own)
 	for _, stop := range deployment.stops {
 		stop() // They do not listen by TLS.
@@ -292,7 +306,7 @@ func TestADeploymentWithTLSAndTokens(t *testing.T) {
 		deployment.start(host, "primary", "--listen", address, "--host", host, "--archive", filepath.Join(folder, host))
 	}
 	far := etcdtest.FreePort(t)
-	deployment.start("north", "site", "--site", "north", "--listen", deployment.north, "--token", sites)
+	deployment.start("north", "site", "--site", "north", "--listen", deployment.north, "--token", file(t, "n", "token-of-north-01 north\n"))
 	deployment.start("far", "fleet", "--fleet", "far", "--members", "east", "--listen", far, "--token", sites)
 	deployment.start("east", "site", "--site", "east", "--fleet", "far", "--teller", "https://"+far, "--listen", etcdtest.FreePort(t), "--token", sites)
 	deployment.is(0, "ok acked 1 epoch 1\n", "update", "ann", "1", "add:tea:-5", "--token", clients)

@@ -39,7 +39,7 @@ func TestARequestOutlivesThePrimaryThatItWasAskedAt(t *testing.T) {
 	for number := 2; number <= 4; number++ {
 		deployment.is(0, fmt.Sprintf("ok acked %d epoch 1\n", number), "update", "ann", fmt.Sprint(number), "add:tea:-1")
 	}
-	deployment.is(1, "there is no answer yet", "update", "ann", "5", "add:tea:-1", "--patience", "0.5")
+	deployment.is(1, "there is no answer yet: the update waits for north", "update", "ann", "5", "add:tea:-1", "--patience", "2")
 	answered := make(chan string, 1)
 	go func() {
 		_, out, log := run(context.Background(), append([]string{"update", "ann", "5", "add:tea:-1"}, deployment.common...)...)

@@ -5,6 +5,7 @@ import (
 	"errors"
 	"os"
 
+	"ordup-node/internal/archive"
 	"ordup-node/internal/engine"
 	"ordup-node/internal/epoch"
 	"ordup-node/internal/numbers"
@@ -18,7 +19,7 @@ type primaryOwn struct {
 	engine                                    engineSettings
 	serving                                   servingSettings
 	address, authority, archive, declarations string
-	copies, every, remembers                  int64
+	copies, every, remembers, seconds         int64
 }
 
 func primarySettings(program *Program, set *settings.Set) func(context.Context, []string) error {
@@ -33,6 +34,8 @@ func primarySettings(program *Program, set *settings.Set) func(context.Context, 
 	set.Number(&own.every, "every", 0, 0, epoch.MostEvery, "`NUMBER` of requests that an epoch takes: 0 stands for that of the script, or 100,000")
 	set.Number(&own.remembers, "remembers", 0, 0, epoch.MostEvery,
 		"`NUMBER` of epochs that a client is remembered: 0 stands for that of the script, or 10")
+	set.Number(&own.seconds, "remembers-seconds", 0, 0, epoch.MostSeconds,
+		"`NUMBER` of seconds that it is remembered at least: 0 stands for that of the script, or 600")
 	return func(ctx context.Context, _ []string) error { return own.run(ctx, program) }
 }
 
@@ -43,8 +46,8 @@ func (own *primaryOwn) config(program *Program) (config primary.Config, err erro
 	if own.archive == "" {
 		return config, wrong("archive: the folder is missing")
 	}
-	config = primary.Config{Open: program.Open, Host: own.serving.host, Versions: []string{program.Version}, Every: own.every,
-		Remembers: own.remembers, Folder: own.archive, Copies: int(own.copies), Log: program.Log}
+	config = primary.Config{Open: program.Open, Host: own.serving.host, Versions: program.Versions, Every: own.every,
+		Remembers: own.remembers, Seconds: own.seconds, Folder: own.archive, Copies: int(own.copies), Log: program.Log}
 	if config.Address, err = own.serving.address(own.address); err != nil {
 		return config, err
 	}
@@ -55,7 +58,7 @@ func (own *primaryOwn) config(program *Program) (config primary.Config, err erro
 		}
 		config.Declarations = epoch.Declarations(string(text))
 	}
-	if err = os.MkdirAll(own.archive, 0o755); err != nil {
+	if err = archive.MakeFolder(own.archive); err != nil {
 		return config, err
 	}
 	config.Engine, err = own.engine.open(program.Log)
@@ -77,11 +80,11 @@ func (own *primaryOwn) run(ctx context.Context, program *Program) error {
 		return err
 	}
 	lag := &numbers.Lag{}
-	seen := numbers.OfPrimary(program.Version, own.serving.open, process.Status)
+	seen := numbers.OfPrimary(program.version(), own.serving.open, process.Status)
 	handler := serve.NewPrimary(serve.Config{Guard: &own.serving.guard, Requests: own.serving.mostRequests(),
 		Ready: func() error { return isReady(process.Status()) }, Numbers: seen.Handler(),
 		Page: numbers.PageOfPrimary(config.Host, lag, process.Status)}, process, serve.NewPasser(config.Address, secure), seen.Waited)
-	program.Log.Info("starts", "command", "primary", "version", program.Version, "host", config.Host, "address", config.Address)
+	program.Log.Info("starts", "command", "primary", "version", program.version(), "host", config.Host, "address", config.Address)
 	return own.serving.run(ctx, program.Log, handler, func(ctx context.Context) error {
 		go lag.Run(ctx, process.Status)
 		return process.Run(ctx)

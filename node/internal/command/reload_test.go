@@ -27,7 +27,7 @@ func TestCertificatesAndTokensAreReadAgain(t *testing.T) {
 	}
 	ended := make(chan end, 1)
 	go func() {
-		status, _, log := run(ctx, "fleet", "--fleet", "far", "--members", "east", "--listen", address, "--primaries", "http://127.0.0.1:1",
+		status, _, log := run(ctx, "fleet", "--fleet", "far", "--members", "east", "--listen", address, "--primaries", "http://127.0.0.1:1", "--engine", "http://127.0.0.1:1",
 			"--certificate", own, "--key", key, "--operator-tokens", tokens)
 		ended <- end{status, log}
 	}()

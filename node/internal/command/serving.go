@@ -5,7 +5,6 @@ import (
 	"crypto/tls"
 	"fmt"
 	"net"
-	"net/http"
 	"os"
 	"regexp"
 	"strings"
@@ -46,9 +45,9 @@ func (own *servingSettings) add(set *settings.Set, usual string) {
 	set.Text(&own.host, "host", regexp.MustCompile(`[^A-Za-z0-9._-]`).ReplaceAllString(name, "-"), "`NAME` of this host among those of the deployment")
 	set.Text(&own.certificate, "certificate", "", "`FILE` in PEM with the certificate of this process: so it listens with TLS")
 	set.Text(&own.key, "key", "", "`FILE` in PEM with the key of this certificate")
-	set.Text(&own.clientTokens, "client-tokens", "", "`FILE` with the tokens of clients and readers, one a line")
-	set.Text(&own.siteTokens, "site-tokens", "", "`FILE` with the tokens of sites and fleets")
-	set.Text(&own.operatorTokens, "operator-tokens", "", "`FILE` with the tokens of operators")
+	set.Text(&own.clientTokens, "client-tokens", "", "`FILE` with the tokens of clients and readers, one a line, or open for anybody")
+	set.Text(&own.siteTokens, "site-tokens", "", "`FILE` with the tokens of sites and fleets, maybe each with the site that it is of, or open")
+	set.Text(&own.operatorTokens, "operator-tokens", "", "`FILE` with the tokens of operators, or open")
 	set.Number(&own.connections, "connections", 10_000, 16, 1_000_000, "`NUMBER` of connections at most")
 	set.Number(&own.requests, "requests", 5_000, 1, 1_000_000, "`NUMBER` of requests under way at most")
 }
@@ -85,6 +84,8 @@ func (own *servingSettings) check(log *logs.Log) error {
 			return err
 		}
 	}
+	log.Info("who-may-ask", "clients", own.guard.Asks(serve.Clients), "sites", own.guard.Asks(serve.Sites),
+		"operators", own.guard.Asks(serve.Operators))
 	return nil
 }
 
@@ -133,7 +134,7 @@ func (own *servingSettings) mostRequests() int {
 }
 
 // run listens, and runs the process until the context ends or the process does. Then what is under way is answered.
-func (own *servingSettings) run(ctx context.Context, log *logs.Log, handler http.Handler, run func(context.Context) error) error {
+func (own *servingSettings) run(ctx context.Context, log *logs.Log, handler serve.Handler, run func(context.Context) error) error {
 	secure, err := own.secure(log)
 	if err != nil {
 		return err
@@ -148,6 +149,9 @@ func (own *servingSettings) run(ctx context.Context, log *logs.Log, handler http
 	defer stop()
 	ended := make(chan error, 1)
 	go func() { ended <- run(running) }()
+	go func() { <-running.Done(); handler.End(); tellSystemd("STOPPING=1") }()
+	go goOn(running, handler.Look)
+	tellSystemd("READY=1")
 	select {
 	case err = <-ended:
 	case failure := <-server.Ended():

@@ -45,7 +45,7 @@ func (own *siteOwn) config(program *Program) (config site.Config, err error) {
 	if err != nil {
 		return config, err
 	}
-	config = site.Config{Open: program.Open, Name: own.name, Fleet: own.fleet, Host: own.serving.host, Versions: []string{program.Version},
+	config = site.Config{Open: program.Open, Name: own.name, Fleet: own.fleet, Host: own.serving.host, Versions: program.Versions,
 		Teller: teller, Log: program.Log}
 	config.Engine, err = own.engine.open(program.Log)
 	return config, err
@@ -61,7 +61,7 @@ func (own *siteOwn) run(ctx context.Context, program *Program) error {
 	if err != nil {
 		return err
 	}
-	seen := numbers.OfSite(program.Version, own.name, own.serving.open, process.Status)
+	seen := numbers.OfSite(program.version(), own.name, own.serving.open, process.Status)
 	handler := serve.NewSite(serve.Config{Guard: &own.serving.guard, Requests: own.serving.mostRequests(),
 		Ready: func() error {
 			if !process.Status().Serves {
@@ -69,12 +69,13 @@ func (own *siteOwn) run(ctx context.Context, program *Program) error {
 			}
 			return nil
 		}, Numbers: seen.Handler(), Page: numbers.PageOfSite(own.name, process.Status)}, own.name, process)
-	program.Log.Info("starts", "command", "site", "version", program.Version, "host", config.Host, "site", own.name)
+	program.Log.Info("starts", "command", "site", "version", program.version(), "host", config.Host, "site", own.name)
 	return own.serving.run(ctx, program.Log, handler, process.Run)
 }
 
 // fleetOwn are the settings of a fleet.
 type fleetOwn struct {
+	engine  engineSettings
 	serving servingSettings
 	telling askingSettings
 	name    string
@@ -83,6 +84,7 @@ type fleetOwn struct {
 
 func fleetSettings(program *Program, set *settings.Set) func(context.Context, []string) error {
 	own := &fleetOwn{}
+	own.engine.add(set)
 	own.serving.add(set, "127.0.0.1:7003")
 	own.telling.add(set, "primaries", "`ADDRESS,..` of the primaries, as http://10.0.0.1:7002")
 	set.Text(&own.name, "fleet", "", "`NAME` of the fleet in the script")
@@ -102,25 +104,38 @@ func (own *fleetOwn) run(ctx context.Context, program *Program) error {
 	if len(own.members) == 0 {
 		return wrong("members: the sites of the fleet are missing")
 	}
+	for _, name := range own.members {
+		if name == own.name {
+			return wrong("members: the site %s has the name of its fleet", name)
+		}
+	}
 	teller, err := own.telling.client(program.Log)
 	if err != nil {
 		return err
 	}
+	keys, err := own.engine.open(program.Log)
+	if err != nil {
+		return err
+	}
+	defer keys.Close()
 	process := fleet.New(own.name, own.members, teller)
-	seen := numbers.OfFleet(program.Version, own.serving.open, process.Status)
+	seen := numbers.OfFleet(program.version(), own.serving.open, process.Status)
 	handler := serve.NewFleet(serve.Config{Guard: &own.serving.guard, Requests: own.serving.mostRequests(),
 		Ready: func() error { return haveTold(process.Status()) }, Numbers: seen.Handler(),
 		Page: numbers.PageOfFleet(own.name, process.Status)}, process)
-	program.Log.Info("starts", "command", "fleet", "version", program.Version, "host", own.serving.host, "fleet", own.name)
-	return own.serving.run(ctx, program.Log, handler, func(ctx context.Context) error {
-		<-ctx.Done()
-		return nil
-	})
+	program.Log.Info("starts", "command", "fleet", "version", program.version(), "host", own.serving.host, "fleet", own.name)
+	return own.serving.run(ctx, program.Log, handler, func(ctx context.Context) error { return process.Run(ctx, keys, program.Log) })
 }
 
-// haveTold is nil once each site of a fleet has told a place.
-func haveTold(members []fleet.MemberStatus) error {
-	for _, member := range members {
+// haveTold is nil once each site of a fleet has told a place, and nobody else serves as one.
+func haveTold(status fleet.Status) error {
+	if !status.Looked {
+		return errors.New("the engine does not answer")
+	}
+	if len(status.Unlisted) > 0 {
+		return errors.New("there is the key " + status.Unlisted[0] + ", which is of none of the members")
+	}
+	for _, member := range status.Members {
 		if member.Place.Epoch == 0 {
 			return errors.New("the site " + member.Place.Member + " has told nothing yet")
 		}

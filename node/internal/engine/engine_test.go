@@ -58,6 +58,27 @@ func TestAnEntryIsWrittenOnce(t *testing.T) {
 	is(t, []interface{}{4, nil}, []interface{}{found, err})
 }
 
+// A write may come when its whole epoch was archived and removed, and the last entry of the epoch before was not.
+func TestAWriteThatIsLateByAnEpochIsRefused(t *testing.T) {
+	members, ctx := etcdtest.Start(t, 1), within(t, 20*time.Second)
+	own := members.Engine()
+	for _, write := range []*engine.Write{{Number: 1, Epoch: 1, First: 1}, {Number: 2, Last: 1, Since: 1}, {Number: 3, Epoch: 2, First: 3, Last: 1, Since: 1},
+		{Number: 4, Last: 2, Since: 3}, {Number: 5, Epoch: 3, First: 5, Last: 2, Since: 3}} {
+		write.Text = []byte(fmt.Sprint("entry ", write.Number))
+		is(t, nil, own.Write(ctx, write))
+		is(t, nil, own.Write(ctx, write)) // The answer was lost.
+	}
+	removed, err := own.RemoveEpoch(ctx, 2, nil, engine.Archive{From: 3, Before: 5})
+	is(t, []interface{}{true, nil}, []interface{}{removed, err})
+	for _, late := range []*engine.Write{{Number: 3, Last: 1, Since: 1}, {Number: 3, Epoch: 2, First: 3, Last: 1, Since: 1}, {Number: 6, Last: 2, Since: 3}} {
+		late.Text = []byte("late")
+		var taken *engine.TakenError
+		is(t, true, errors.As(own.Write(ctx, late), &taken))
+	}
+	epoch, first, err := own.Epoch(ctx)
+	is(t, []interface{}{3, 5, nil}, []interface{}{epoch, first, err})
+}
+
 func TestKeysOfAnyBytesArePassedOver(t *testing.T) {
 	members := etcdtest.Start(t, 1)
 	own := members.Engine()
@@ -170,6 +191,7 @@ func TestAMemberThatIsAwayIsLeft(t *testing.T) {
 	members.Signal(1, syscall.SIGSTOP)
 	_, _, err := own.Epoch(ctx)
 	is(t, true, engine.IsAway(err)) // There is no majority.
+	is(t, true, errors.Unwrap(err) != nil && strings.HasSuffix(err.Error(), errors.Unwrap(err).Error()))
 	members.Signal(1, syscall.SIGCONT)
 	asked := time.Now()
 	for err = errors.New("not asked"); err != nil; err = write(t, own, 2, "2") {

@@ -13,7 +13,7 @@ import (
 // next call goes to another member.
 type AwayError struct {
 	Member string
-	Why    string
+	Cause  error
 	// Full says that the engine has no space for a write. What it has stays.
 	Full bool
 }
@@ -22,8 +22,11 @@ func (err *AwayError) Error() string {
 	if err.Full {
 		return "the engine is full, and takes no write"
 	}
-	return fmt.Sprintf("the engine's member %s: %s", err.Member, err.Why)
+	return fmt.Sprintf("the engine's member %s: %s", err.Member, err.Cause)
 }
+
+// Unwrap is why the member is away.
+func (err *AwayError) Unwrap() error { return err.Cause }
 
 // A WrongError says that the engine will never do what it was asked: a wrong user, or a key that is not of the deployment.
 type WrongError struct{ Why string }
@@ -71,12 +74,12 @@ func IsFull(err error) bool {
 func errorOf(member string, err error) error {
 	switch cause := rpctypes.Error(err); cause {
 	case rpctypes.ErrNoSpace:
-		return &AwayError{Member: member, Why: cause.Error(), Full: true}
+		return &AwayError{Member: member, Cause: cause, Full: true}
 	case rpctypes.ErrCompacted, rpctypes.ErrFutureRev:
 		return errCompacted
 	case rpctypes.ErrRequestTooLarge, rpctypes.ErrTooManyOps, rpctypes.ErrAuthFailed, rpctypes.ErrPermissionDenied,
 		rpctypes.ErrUserEmpty, rpctypes.ErrAuthNotEnabled, rpctypes.ErrUserNotFound:
 		return &WrongError{fmt.Sprintf("the engine's member %s: %s", member, cause)}
 	}
-	return &AwayError{Member: member, Why: err.Error()}
+	return &AwayError{Member: member, Cause: err}
 }

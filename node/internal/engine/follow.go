@@ -44,7 +44,8 @@ func (engine *Engine) Follow(ctx context.Context, from int64, take func([]Raw) e
 	}
 }
 
-// watch gives what is put from a revision on. What it should have told and did not is to be read, which is said by errCompacted.
+// watch gives what is put from a revision on. What it should have told and did not is to be read, which is said by errCompacted. Client.Watch
+// returns once a member has answered.
 func (engine *Engine) watch(ctx context.Context, next *int64, revision int64, takes func([]Raw) error) error {
 	client, member, err := engine.connected()
 	if err != nil {
@@ -52,7 +53,11 @@ func (engine *Engine) watch(ctx context.Context, next *int64, revision int64, ta
 	}
 	watching, cancel := context.WithCancel(clientv3.WithRequireLeader(ctx))
 	defer cancel()
+	unanswered := time.AfterFunc(mostLooks*lookAfter, cancel)
 	events := client.Watch(watching, scriptKeys, clientv3.WithRange(scriptEnd), clientv3.WithRev(revision), clientv3.WithFragment())
+	if !unanswered.Stop() {
+		return errCompacted
+	}
 	look := time.NewTicker(lookAfter)
 	defer look.Stop()
 	for looks := 0; looks < mostLooks; {

@@ -4,6 +4,8 @@ import (
 	"fmt"
 	"strconv"
 	"strings"
+
+	"ordup-node/internal/exit"
 )
 
 // The keys of a deployment:
@@ -51,6 +53,9 @@ func archiveOf(key []byte) (epoch int64, host string, isOne bool) {
 	return epoch, host, err == nil && string(key) == archiveKey(epoch, host)
 }
 
+// epochValue is the value of the key `epoch`.
+func epochValue(epoch, first int64) string { return fmt.Sprintf("%d %d", epoch, first) }
+
 // epochOf reads the value of the key `epoch`.
 func epochOf(value []byte) (epoch, first int64, err error) {
 	one, other, _ := strings.Cut(string(value), " ")
@@ -59,7 +64,7 @@ func epochOf(value []byte) (epoch, first int64, err error) {
 		first, err = strconv.ParseInt(other, 10, 64)
 	}
 	if err != nil || epoch < 1 || first < 1 {
-		return 0, 0, &WrongError{fmt.Sprintf("the key %s has %.40q, which is not an epoch and an entry", epochKey, value)}
+		return 0, 0, exit.With(exit.Gap, &WrongError{fmt.Sprintf("the key %s has %.40q, which is not an epoch and an entry", epochKey, value)})
 	}
 	return epoch, first, nil
 }

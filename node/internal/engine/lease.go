@@ -30,13 +30,17 @@ const (
 type Lease struct {
 	engine     *Engine
 	key, value string
-	whenHeld   func(context.Context, Term) error
-	log        *logs.Log
-	lock       sync.Mutex
-	until      time.Duration
-	term       Term
-	id         clientv3.LeaseID
-	changed    chan struct{}
+	// From and to are the range of the keys that exclude this one, if there are such.
+	from, to string
+	whenHeld func(context.Context, Term) error
+	log      *logs.Log
+	lock     sync.Mutex
+	until    time.Duration
+	term     Term
+	id       clientv3.LeaseID
+	changed  chan struct{}
+	// The last lease that was given back, of Run alone. The engine may hear of that at any time, so it is never taken up again.
+	given clientv3.LeaseID
 }
 
 // A Term counts the times that a process got its key. Within one nobody else had it.
@@ -46,6 +50,16 @@ type Term int64
 // and before it relies on it, whenHeld is called with the term that begins; with an error the key is given up.
 func (engine *Engine) NewLease(key, value string, log *logs.Log, whenHeld func(context.Context, Term) error) *Lease {
 	return &Lease{engine: engine.Apart(), key: key, value: value, whenHeld: whenHeld, log: log, changed: make(chan struct{})}
+}
+
+// NewSiteLease gives the lease of a process that serves a site of a fleet, or one that is none of a fleet and has its own name there. Of a
+// name in the script there are only the sites of a fleet at a time or only the one site, which tells for that name alone.
+func (engine *Engine) NewSiteLease(fleet, site, value string, log *logs.Log, whenHeld func(context.Context, Term) error) *Lease {
+	lease := engine.NewLease(SiteKey(fleet, site), value, log, whenHeld)
+	if lease.from, lease.to = keysOf(fleet); fleet != site {
+		lease.from, lease.to = SiteKey(fleet, fleet), SiteKey(fleet, fleet)+"\x00"
+	}
+	return lease
 }
 
 // Lives is whether this term of the lease goes on, and the process may rely on it now.
@@ -159,14 +173,13 @@ func (lease *Lease) renew(ctx context.Context, id clientv3.LeaseID) (isOurs bool
 
 func (lease *Lease) acquire(ctx context.Context) error {
 	asked := clock.Now()
-	var found *clientv3.GetResponse
-	err := lease.engine.call(ctx, leaseCall, func(ctx context.Context, client *clientv3.Client) (err error) {
-		found, err = client.Get(ctx, lease.key)
-		return err
-	})
+	found, excludes, err := lease.find(ctx)
 	switch {
 	case err != nil:
 		return err
+	case excludes != "":
+		clock.Pause(ctx, lookAfter)
+		return fmt.Errorf("there is the key %s: a name is that of one site or of a fleet", excludes)
 	case len(found.Kvs) == 0:
 		return lease.create(ctx)
 	case found.Kvs[0].Lease == 0:
@@ -174,16 +187,38 @@ func (lease *Lease) acquire(ctx context.Context) error {
 	case string(found.Kvs[0].Value) != lease.value:
 		return lease.awaitEnd(ctx, found.Header.Revision+1)
 	}
-	// An earlier call created it, whose answer was lost.
 	id := clientv3.LeaseID(found.Kvs[0].Lease)
+	if id == lease.given {
+		return lease.awaitEnd(ctx, found.Header.Revision+1)
+	}
+	// An earlier call created it, whose answer was lost.
 	if isOurs, err := lease.renew(ctx, id); err != nil || !isOurs {
 		return err
 	}
 	return lease.take(ctx, id, asked)
 }
 
+// find looks for the key, and where it is not there for one that excludes it.
+func (lease *Lease) find(ctx context.Context) (found *clientv3.GetResponse, excludes string, err error) {
+	err = lease.engine.call(ctx, leaseCall, func(ctx context.Context, client *clientv3.Client) (err error) {
+		if found, err = client.Get(ctx, lease.key); err != nil || len(found.Kvs) > 0 || lease.from == "" {
+			return err
+		}
+		others, err := client.Get(ctx, lease.from, clientv3.WithRange(lease.to), clientv3.WithKeysOnly(), clientv3.WithLimit(1))
+		if err == nil && len(others.Kvs) > 0 && string(others.Kvs[0].Key) != lease.key {
+			excludes = string(others.Kvs[0].Key)
+		}
+		return err
+	})
+	return found, excludes, err
+}
+
 func (lease *Lease) create(ctx context.Context) error {
 	asked := clock.Now()
+	isFree := []clientv3.Cmp{clientv3.Compare(clientv3.CreateRevision(lease.key), "=", 0)}
+	if lease.from != "" {
+		isFree = append(isFree, clientv3.Compare(clientv3.CreateRevision(lease.from), "=", 0).WithRange(lease.to))
+	}
 	var id clientv3.LeaseID
 	isOurs := false
 	err := lease.engine.call(ctx, leaseCall, func(ctx context.Context, client *clientv3.Client) error {
@@ -192,8 +227,7 @@ func (lease *Lease) create(ctx context.Context) error {
 			return err
 		}
 		id = granted.ID
-		done, err := client.Txn(ctx).If(clientv3.Compare(clientv3.CreateRevision(lease.key), "=", 0)).
-			Then(clientv3.OpPut(lease.key, lease.value, clientv3.WithLease(id))).Commit()
+		done, err := client.Txn(ctx).If(isFree...).Then(clientv3.OpPut(lease.key, lease.value, clientv3.WithLease(id))).Commit()
 		isOurs = err == nil && done.Succeeded
 		return err
 	})
@@ -248,8 +282,9 @@ func (lease *Lease) giveUp() {
 	}
 }
 
-// revoke gives a lease back, by any member.
+// revoke gives a lease back, by any member. Where none answers, the engine may be told of it later, or ends the lease in its time.
 func (lease *Lease) revoke(id clientv3.LeaseID) {
+	lease.given = id
 	for range lease.engine.config.Members {
 		err := lease.engine.call(context.Background(), leaseCall, func(ctx context.Context, client *clientv3.Client) error {
 			_, err := client.Revoke(ctx, id)

@@ -3,6 +3,7 @@ package engine
 import (
 	"context"
 	"crypto/sha256"
+	"encoding/hex"
 	"errors"
 	"fmt"
 
@@ -32,6 +33,21 @@ type Mark struct {
 // Set marks an entry.
 func (mark *Mark) Set(number int64, text []byte) {
 	mark.number, mark.sum = number, sha256.Sum256(text)
+}
+
+// A Digest tells an entry from others.
+type Digest [8]byte
+
+// String is the digest as it travels.
+func (digest Digest) String() string { return hex.EncodeToString(digest[:]) }
+
+// Number is that of the entry.
+func (mark *Mark) Number() int64 { return mark.number }
+
+// Digest is that of the entry.
+func (mark *Mark) Digest() (digest Digest) {
+	copy(digest[:], mark.sum[:])
+	return digest
 }
 
 // Resume looks whether a process may go on behind the entry that it has run last. Else the error is ErrLaterEpoch or a ChangedError. It

@@ -17,11 +17,13 @@ type Write struct {
 	Absent []string
 	// Where the entry begins an epoch: the epoch, and its first entry.
 	Epoch, First int64
+	// Last is the last epoch that its writer has run, and Since the first entry of that. Where Last is 0 the epoch is not looked at.
+	Last, Since int64
 }
 
-// Write creates an entry by one transaction, where there is none of its number and the one before it is there. It is written, also by
-// an earlier call whose answer was lost, or the error says why it is not: a TakenError, a ServedError or a MissingError. After an
-// AwayError that is not known, and Write may be called again.
+// Write creates an entry by one transaction, where there is none of its number, the one before it is there, and the last epoch is the one
+// that the writer has run. It is written, also by an earlier call whose answer was lost, or the error says why it is not: a TakenError, a
+// ServedError or a MissingError. After an AwayError that is not known, and Write may be called again.
 func (engine *Engine) Write(ctx context.Context, write *Write) error {
 	key := entryKey(write.Number)
 	holds := []clientv3.Cmp{clientv3.Compare(clientv3.CreateRevision(key), "=", 0)}
@@ -30,13 +32,17 @@ func (engine *Engine) Write(ctx context.Context, write *Write) error {
 	} else {
 		holds = append(holds, clientv3.Compare(clientv3.CreateRevision(epochKey), "=", 0))
 	}
+	if write.Last > 0 {
+		// The entry before may be there, though all of the epoch of this one were removed.
+		holds = append(holds, clientv3.Compare(clientv3.Value(epochKey), "=", epochValue(write.Last, write.Since)))
+	}
 	for _, fleet := range write.Absent {
 		from, to := keysOf(fleet)
 		holds = append(holds, clientv3.Compare(clientv3.CreateRevision(from), "=", 0).WithRange(to))
 	}
 	puts := []clientv3.Op{clientv3.OpPut(key, string(write.Text))}
 	if write.First > 0 {
-		puts = append(puts, clientv3.OpPut(epochKey, fmt.Sprintf("%d %d", write.Epoch, write.First)))
+		puts = append(puts, clientv3.OpPut(epochKey, epochValue(write.Epoch, write.First)))
 	}
 	looks := []clientv3.Op{clientv3.OpGet(key), clientv3.OpGet(epochKey), clientv3.OpGet(entryKey(write.Number-1), clientv3.WithKeysOnly())}
 	var done *clientv3.TxnResponse
@@ -64,7 +70,7 @@ func (write *Write) refusal(found []*pb.ResponseOp) error {
 		if err != nil {
 			return err
 		}
-		if first > write.Number {
+		if first > write.Number || write.Last > 0 && first != write.Since {
 			return &TakenError{fmt.Sprintf("another primary went over to a later epoch, with the entry %d", first)}
 		}
 	}

@@ -65,7 +65,8 @@ func (plain *plain) Close() error                      { return nil }
 // written gives the entries of so many updates, a thousand a turn, with four sites.
 func written(b *testing.B, updates int) []*script.Entry {
 	config := Config{Open: func() (store.Store, error) { return &plain{places: map[string]int64{}}, nil }, Writer: "p1", Versions: []string{"1"}}
-	begin := &script.Entry{Epoch: 1, Ordup: "1", Writer: "p1", Steps: beginning(script.Settings{Every: MostEvery, Remembers: 1, Origin: "0", Ordup: "1"},
+	begin := &script.Entry{Epoch: 1, Ordup: "1", Writer: "p1", Steps: beginning(script.Settings{Every: MostEvery, Remembers: 1, Origin: "0", Ordup: "1",
+		Began: script.Began{Every: 1, Remembers: 1, Origin: "0"}},
 		[]string{"object tea 1", "site north 1", "site south 1", "site east 1", "site west 1", "start"})}
 	core, entries := New(config, 1), []*script.Entry{begin}
 	if err := core.Replay(1, begin); err != nil {
@@ -125,4 +126,32 @@ func BenchmarkReplay(b *testing.B) {
 			b.Fatal(err)
 		}
 	}
+}
+
+// BenchmarkCarry is a client that is carried over to the next epoch, from the end of the one before to the text of its entry. No update is
+// taken meanwhile, so it tells also how many entries that is, one after another, for 300,000 clients, and of how many bytes.
+func BenchmarkCarry(b *testing.B) {
+	core := New(Config{Open: func() (store.Store, error) { return &plain{places: map[string]int64{}}, nil }, Writer: "p1", Versions: []string{"1"}}, 1)
+	begins := beginning(script.Settings{Every: MostEvery, Remembers: 1, Origin: "0", Ordup: "1"}, []string{"object tea 1", "site north 1", "start"})
+	if err := core.Replay(1, &script.Entry{Epoch: 1, Ordup: "1", Writer: "p1", Steps: begins}); err != nil {
+		b.Fatal(err)
+	}
+	for at := 0; at < b.N; at++ {
+		core.clients.take(client{name: fmt.Sprintf("client-%d", at), number: 1, digest: script.DigestOf("add:tea:-1"), epoch: 1, asked: 1})
+		core.clients.answer(asker{fmt.Sprintf("client-%d", at), 1, ""}, ackedText(int64(at+1), 1), 1)
+	}
+	core.startCarry(2)
+	b.ReportAllocs()
+	b.ResetTimer()
+	entries, bytes := 0, 0
+	for carried := 0; carried < b.N; entries++ {
+		turn, err := core.Seal(time.Hour)
+		if err != nil {
+			b.Fatal(err)
+		}
+		core.Written(turn.Number)
+		carried, bytes = carried+len(turn.Entry().Steps), bytes+len(turn.Text)
+	}
+	b.ReportMetric(float64(entries)*300_000/float64(b.N), "entries")
+	b.ReportMetric(float64(bytes)/float64(b.N), "bytes/client")
 }

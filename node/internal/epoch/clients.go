@@ -14,63 +14,77 @@ type asker struct {
 	digest string
 }
 
-// A client is the last request of a client: its number, the digest of its changes, its answer, the entry that has the answer, and the
-// epoch that took the request. Without an answer it waits for one.
+// A client is the last request of a client: its number and the digest of its changes, the epoch and the entry that took it, and at which
+// second of the epoch, its answer and the entry that has that. Without an answer it waits for one. The name is a copy of its own: a map
+// keeps the name under which it was written last, and one that is a part of an entry would keep the whole entry in memory.
 type client struct {
-	number int64
-	digest string
-	text   string
-	entry  int64
-	epoch  int64
+	name               string
+	number             int64
+	digest             string
+	epoch, asked, time int64
+	text               string
+	entry              int64
 }
 
 // clients has the last request of each client.
 type clients map[string]client
 
-// take notes that a request is taken. A new name is copied, since it may be a part of a whole entry, which would stay in memory.
-func (clients clients) take(asked asker, epoch int64) {
-	if _, isKnown := clients[asked.name]; !isKnown {
-		asked.name = strings.Clone(asked.name)
+// take notes a request, and returns the copy of its client's name.
+func (clients clients) take(last client) string {
+	name := clients[last.name].name
+	if name == "" {
+		name = strings.Clone(last.name)
 	}
-	clients[asked.name] = client{number: asked.number, digest: asked.digest, epoch: epoch}
+	last.name = name
+	clients[name] = last
+	return name
+}
+
+// carry notes what an entry carries over.
+func (clients clients) carry(known *script.Step, entry int64) {
+	name := strings.Clone(known.Name)
+	clients[name] = client{name: name, number: known.Number, digest: strings.Clone(known.Digest), epoch: known.Count, asked: entry,
+		time: -known.Age, text: strings.Clone(known.Text), entry: entry}
 }
 
 // answer notes the answer to a request. Where the client has asked under a later number since, nobody may ask for it.
 func (clients clients) answer(asked asker, text string, entry int64) {
 	if last := clients[asked.name]; last.number == asked.number {
 		last.text, last.entry = text, entry
-		clients[asked.name] = last
+		clients[last.name] = last
 	}
 }
 
-// remembered is whether the client is carried over to the epoch after this one.
-func (last *client) remembered(epoch int64, settings *script.Settings) bool {
-	return epoch-last.epoch < settings.Remembers
+// remembers is whether a client is carried over to the epoch after this one.
+func (core *Core) remembers(last *client) bool {
+	return core.epoch-last.epoch < core.settings.Remembers || core.clock-last.time < core.settings.Seconds
 }
 
 // checkCarried looks whether an entry carries over the last requests of clients, and where it begins the next epoch whether none is missing,
-// and whether that tells the same of the beginning of the script.
+// and whether it begins as it must.
 func (core *Core) checkCarried(number int64, entry *script.Entry) error {
 	for at := range entry.Steps {
 		step := &entry.Steps[at]
-		last := core.clients[step.Name]
-		carried := client{step.Number, step.Digest, step.Text, last.entry, step.Count}
-		if step.Kind == script.Known && (carried != last || !last.remembered(core.epoch, &core.settings)) {
+		if step.Kind != script.Known {
+			continue
+		}
+		last, isKnown := core.clients[step.Name]
+		carried := last
+		carried.number, carried.digest, carried.epoch, carried.text = step.Number, step.Digest, step.Count, step.Text
+		carried.time = core.clock - step.Age
+		if !isKnown || carried != last || !core.remembers(&last) {
 			return &BrokenError{number, fmt.Sprintf("it does not carry over the last request of %s", step.Name)}
 		}
 	}
 	if !entry.Begins() {
 		return nil
 	}
-	if began := entry.Steps[0].Settings.Began; began != core.settings.Began {
-		return &BrokenError{number, fmt.Sprintf("the script began with %v, and not with %v", core.settings.Began, began)}
-	}
 	for name, last := range core.clients {
-		if _, isCarried := core.carry.clients[name]; !isCarried && last.remembered(core.epoch, &core.settings) {
+		if _, isCarried := core.carry.clients[name]; !isCarried && core.remembers(&last) {
 			return &BrokenError{number, fmt.Sprintf("the client %s is not carried over", name)}
 		}
 	}
-	return nil
+	return core.checkBeginning(number, entry)
 }
 
 // A queue has who waits for acknowledgements, in the order of the log.

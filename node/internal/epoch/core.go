@@ -20,6 +20,8 @@ type Config struct {
 	Versions []string
 	// Ended, if it is there, is told of each epoch that ends in this core, with the forced rounds of its sites.
 	Ended func(epoch int64, rounds map[string]int64)
+	// What the steps of a turn count at most. Tests make it small.
+	room script.Room
 }
 
 // A Core is what the entries of a script come to, up to one of them, and an open turn after them.
@@ -27,21 +29,21 @@ type Core struct {
 	config Config
 	// How many entries were run or sealed, and how many of them are known to be in the script.
 	entries, written int64
-	// The epoch, and the numbers of its first entry and of the one that begins it. Before the first one the epoch is 0.
-	epoch, first, begun int64
-	settings            script.Settings
-	store               store.Store
-	clients             clients
-	sites               sites
-	// How many requests the epoch took, how many updates its log has, and how many are acknowledged. Who waits for the others.
-	asks, updates, acknowledged int64
-	waiting                     queue
+	// What the epoch came to, and the numbers of its first entry and of the one that begins it.
+	state
+	first, begun int64
+	store        store.Store
+	clients      clients
+	// Who waits for the updates that are not acknowledged.
+	waiting queue
 	// The sites that the head waits for, and since when.
 	round      []string
 	roundSince time.Duration
-	// What an operator wishes of the next epoch, and since when the next one is due.
-	wish     *Wish
+	// Since when the next epoch is due.
 	dueSince time.Duration
+	// How many seconds the entries of the epoch note, and up to when this writer has noted them: it begins anew with each take-over.
+	clock int64
+	timed time.Duration
 	// What is carried over to the next epoch, from which entry on, and which clients are still to come.
 	carry *carry
 	// The entry whose steps are run, and what was decided in it.
@@ -58,7 +60,16 @@ type Core struct {
 type openTurn struct {
 	steps  []script.Step
 	bytes  int
+	room   script.Room
 	absent []string
+}
+
+// most is as much of a count as the turn has room for.
+func (turn *openTurn) most(count int64) int64 {
+	if room := int64(turn.room); room < count {
+		return room
+	}
+	return count
 }
 
 // A GapError says that the script lacks an entry.
@@ -82,7 +93,7 @@ func (err *BrokenError) Error() string { return fmt.Sprintf("the entry %d: %s", 
 // ExitStatus is that of a process which meets it.
 func (*BrokenError) ExitStatus() exit.Status { return exit.Gap }
 
-// A VersionError says that an entry is run by a version of ordup which this program is not.
+// A VersionError says that an entry is run by a version of ordup which this program has not. Of a wish the number is 0.
 type VersionError struct {
 	Number    int64
 	Version   string
@@ -90,6 +101,9 @@ type VersionError struct {
 }
 
 func (err *VersionError) Error() string {
+	if err.Number == 0 {
+		return fmt.Sprintf("the next epoch cannot be run by ordup %s: this program has %v", err.Version, err.Supported)
+	}
 	return fmt.Sprintf("the entry %d is run by ordup %s, and this program has %v", err.Number, err.Version, err.Supported)
 }
 
@@ -108,7 +122,10 @@ func Parse(number int64, text []byte) (*script.Entry, error) {
 
 // New gives a core before the entry of this number, which is the first one of an epoch.
 func New(config Config, first int64) *Core {
-	return &Core{config: config, entries: first - 1, written: first - 1, clients: clients{}}
+	if config.room == 0 {
+		config.room = turnCounts
+	}
+	return &Core{config: config, entries: first - 1, written: first - 1, clients: clients{}, turn: openTurn{room: config.room}}
 }
 
 // Close gives the store back.
@@ -158,7 +175,7 @@ func (core *Core) Replay(number int64, entry *script.Entry) error {
 	if err := core.compare(answers); err != nil {
 		return err
 	}
-	core.written, core.decided = number, nil
+	core.written, core.decided, core.timed = number, nil, 0
 	return nil
 }
 
@@ -168,32 +185,43 @@ func (core *Core) enter(number int64, entry *script.Entry) error {
 		core.epoch, core.carry = entry.Epoch-1, &carry{first: number, clients: clients{}}
 	}
 	if core.carry == nil && entry.Epoch == core.epoch+1 {
+		if why := core.unended(); why != "" {
+			return &BrokenError{number, why}
+		}
 		core.startCarry(number)
 	}
 	if entry.Epoch != core.entryEpoch() {
 		return &BrokenError{number, fmt.Sprintf("it is of epoch %d, and not of %d", entry.Epoch, core.entryEpoch())}
 	}
 	for at := range entry.Steps {
-		if kind := entry.Steps[at].Kind; !core.belongs(kind, entry.Begins()) {
+		if kind := entry.Steps[at].Kind; !belongs(kind, core.carry != nil, entry.Begins()) {
 			return &BrokenError{number, fmt.Sprintf("the step %s does not belong there", kind)}
 		}
 	}
 	if core.store != nil && core.carry != nil {
 		return core.checkCarried(number, entry)
 	}
-	return nil
+	return core.takeAgain(number, entry)
 }
 
-// belongs is whether a step of this kind may be in the entry, which begins an epoch or does not.
-func (core *Core) belongs(kind script.Kind, begins bool) bool {
-	switch kind {
-	case script.Begin, script.Declare:
-		return core.carry != nil && begins
-	case script.Known:
-		return core.carry != nil && !begins
-	default:
-		return core.carry == nil
+// takeAgain takes the requests of an entry, each under a number that its client has not come to before.
+func (core *Core) takeAgain(number int64, entry *script.Entry) error {
+	clock := core.clock
+	for at := range entry.Steps {
+		step := &entry.Steps[at]
+		if step.Kind == script.Elapsed {
+			clock += step.Count
+		}
+		if step.Kind != script.Ask {
+			continue
+		}
+		if last := core.clients[step.Name].number; step.Number <= last {
+			return &BrokenError{number, asksAgain(step, last)}
+		}
+		step.Digest = script.DigestOf(step.Text)
+		step.Name = core.clients.take(client{name: step.Name, number: step.Number, digest: step.Digest, epoch: core.epoch, asked: number, time: clock})
 	}
+	return nil
 }
 
 // compare looks whether the answers of an entry are those that were decided as it was run.
@@ -212,6 +240,14 @@ func (core *Core) entryEpoch() int64 {
 		return core.epoch + 1
 	}
 	return core.epoch
+}
+
+// entryVersion is the version of ordup that runs the epoch of the next entry.
+func (core *Core) entryVersion() string {
+	if core.carry != nil && core.wish != nil {
+		return core.wish.Settings.Ordup
+	}
+	return core.settings.Ordup
 }
 
 func (core *Core) runs(version string) bool {

@@ -17,6 +17,9 @@ const MostDeclarationsBytes = 256 << 10
 // MostEvery is how many requests an epoch may take: as many as the log of a store has updates.
 const MostEvery = 1_000_000
 
+// MostSeconds is for how many seconds a client may be remembered at least.
+const MostSeconds = 1_000_000
+
 // A Wish is what an operator wishes of the next epoch.
 type Wish struct {
 	// From is the epoch that is to end.
@@ -33,6 +36,8 @@ type Wish struct {
 var (
 	// ErrOtherWish says that another wish for this epoch was taken.
 	ErrOtherWish = errors.New("somebody has asked already, and the epoch has not ended yet")
+	// ErrNotNow says that what decides of the wish is not written yet, or that the turn is full: ask again in the next turn.
+	ErrNotNow = errors.New("it is not decided yet what becomes of the wish")
 	// ErrNotYet says that the epoch which is to end has not begun.
 	ErrNotYet = errors.New("the epoch that is to end has not begun")
 )
@@ -90,6 +95,9 @@ func checkSettings(settings *script.Settings) error {
 			return fmt.Errorf("an epoch takes 1 to %d requests, and a client is remembered for so many epochs: not %d", MostEvery, number)
 		}
 	}
+	if settings.Seconds < 0 || settings.Seconds > MostSeconds {
+		return fmt.Errorf("a client is remembered for 0 to %d seconds: not %d", MostSeconds, settings.Seconds)
+	}
 	return nil
 }
 
@@ -101,15 +109,16 @@ func FirstTurn(config Config, settings script.Settings, declarations []string) (
 	if err := Check(config.Open, &settings, declarations); err != nil {
 		return nil, err
 	}
-	settings.Began = script.Began{Every: settings.Every, Remembers: settings.Remembers, Origin: settings.Origin}
-	entry := &script.Entry{Epoch: 1, Ordup: settings.Ordup, Writer: config.Writer, Steps: beginning(settings, declarations)}
-	return &Turn{Number: 1, Text: entry.Text(), Epoch: 1, First: 1, entry: entry}, nil
+	settings.Began = script.Began{Every: settings.Every, Remembers: settings.Remembers, Seconds: settings.Seconds, Origin: settings.Origin}
+	turn := &Turn{Number: 1, Epoch: 1, First: 1}
+	turn.entry = &script.Entry{Epoch: 1, Ordup: settings.Ordup, Writer: config.Writer, Steps: beginning(settings, declarations)}
+	return turn, turn.seal()
 }
 
 // TakeOver is an entry by which the writer takes over. It is not run: Replay it once it is written.
 func (core *Core) TakeOver() *Turn {
-	turn := &Turn{Number: core.entries + 1}
-	turn.entry = &script.Entry{Epoch: core.entryEpoch(), Ordup: core.settings.Ordup, Writer: core.config.Writer}
+	turn := &Turn{Number: core.entries + 1, Last: core.epoch, Since: core.first}
+	turn.entry = &script.Entry{Epoch: core.entryEpoch(), Ordup: core.entryVersion(), Writer: core.config.Writer}
 	turn.Text = turn.entry.Text()
 	return turn
 }
@@ -130,16 +139,14 @@ func beginning(settings script.Settings, declarations []string) []script.Step {
 func (core *Core) AskNext(wish Wish) error {
 	core.complete(&wish)
 	switch {
-	case wish.From < core.epoch && wish.Settings == core.settings:
-		return nil
-	case wish.From < core.epoch || core.carry != nil:
-		return ErrOtherWish
 	case wish.From > core.epoch:
 		return ErrNotYet
-	case core.wish != nil && wish.Settings == core.wish.Settings:
-		return nil
-	case core.wish != nil && !wish.Replaces:
-		return ErrOtherWish
+	case wish.From < core.epoch:
+		return core.compareWish(&wish, &core.settings, core.begun)
+	case core.wish != nil && (wish.Settings == core.wish.Settings || !wish.Replaces || core.carry != nil):
+		return core.compareWish(&wish, &core.wish.Settings, core.wished)
+	case core.carry != nil || core.turn.bytes >= askBytes:
+		return ErrNotNow
 	}
 	if err := core.mayWish(&wish); err != nil {
 		return err
@@ -156,6 +163,17 @@ func (core *Core) AskNext(wish Wish) error {
 	return core.add(steps)
 }
 
+// compareWish tells whether a wish is for what an entry says. That it is not is told once the entry is written.
+func (core *Core) compareWish(wish *Wish, instead *script.Settings, entry int64) error {
+	switch {
+	case wish.Settings == *instead:
+		return nil
+	case entry > core.written:
+		return ErrNotNow
+	}
+	return ErrOtherWish
+}
+
 // complete fills in what stays. Then two wishes are for the same if their settings are, since these have the digest of declarations.
 func (core *Core) complete(wish *Wish) {
 	if wish.Settings.Every == 0 {
@@ -163,6 +181,9 @@ func (core *Core) complete(wish *Wish) {
 	}
 	if wish.Settings.Remembers == 0 {
 		wish.Settings.Remembers = core.settings.Remembers
+	}
+	if wish.Settings.Seconds == 0 {
+		wish.Settings.Seconds = core.settings.Seconds
 	}
 	if wish.Settings.Ordup == "" {
 		wish.Settings.Ordup = core.settings.Ordup
@@ -176,7 +197,7 @@ func (core *Core) complete(wish *Wish) {
 // mayWish tells why the next epoch cannot be as it is wished.
 func (core *Core) mayWish(wish *Wish) error {
 	if !core.runs(wish.Settings.Ordup) {
-		return &VersionError{core.Next(), wish.Settings.Ordup, core.config.Versions}
+		return &VersionError{0, wish.Settings.Ordup, core.config.Versions}
 	}
 	if len(wish.Declarations) == 0 {
 		return checkSettings(&wish.Settings)
@@ -205,18 +226,16 @@ func (core *Core) Leaving() []string {
 }
 
 // Gone says that the engine had no lease of a site that is taken out. The entry that counts it as gone is written only where that is so
-// still. The site counts as at the end from there on: a process that gets its lease later has read before that it is taken out.
+// still. The site counts as at the end from there on: a process that gets its lease later has read before that it is taken out. What the
+// turn has no room for is told by Work later.
 func (core *Core) Gone(name string) error {
 	site := core.sites.of(name)
 	if site == nil || !site.leaves || site.gone || core.carry != nil {
 		return nil
 	}
 	core.turn.absent = append(core.turn.absent, name)
-	return core.add([]script.Step{{Kind: script.Gone, Name: name, Count: core.updates - site.applied}})
+	return core.add([]script.Step{{Kind: script.Gone, Name: name, Count: core.turn.most(core.updates - site.applied)}})
 }
-
-// isDue is whether the epoch is to end.
-func (core *Core) isDue() bool { return core.wish != nil || core.asks >= core.settings.Every }
 
 // ends is whether no more requests are taken. While a site is away, which would hold all up, the epoch goes on.
 func (core *Core) ends(now time.Duration) bool {
@@ -234,20 +253,12 @@ func (core *Core) ends(now time.Duration) bool {
 	return true
 }
 
-// isOver is whether all is acknowledged, and each site has told the last place or is gone.
+// isOver is whether the next epoch may be written.
 func (core *Core) isOver(now time.Duration) bool {
 	if core.carry != nil {
 		return true
 	}
-	if !core.ends(now) || core.acknowledged < core.updates {
-		return false
-	}
-	for _, site := range core.sites.all {
-		if site.holdsUp(core.updates) {
-			return false
-		}
-	}
-	return true
+	return core.ends(now) && core.unended() == ""
 }
 
 // A carry is what is carried over to the next epoch, and from which entry on.
@@ -263,8 +274,12 @@ func (core *Core) startCarry(first int64) {
 	core.carry = &carry{first: first, clients: clients{}}
 }
 
-// closing gives the next steps of the end of an epoch: clients that are carried over, or else the beginning of the next one.
+// closing gives the next steps of the end of an epoch: clients that are carried over, or else the beginning of the next one. A program
+// that took over and has not the version which is wished for begins none.
 func (core *Core) closing(turn *Turn) ([]script.Step, int64, error) {
+	if core.wish != nil && !core.runs(core.wish.Settings.Ordup) {
+		return nil, 0, &VersionError{turn.Number, core.wish.Settings.Ordup, core.config.Versions}
+	}
 	core.running = turn.Number
 	if core.carry == nil {
 		core.startCarry(turn.Number)
@@ -288,7 +303,7 @@ func (core *Core) carried() []script.Step {
 	carry := core.carry
 	if !carry.sorted {
 		for name, last := range core.clients {
-			if _, isCarried := carry.clients[name]; !isCarried && last.remembered(core.epoch, &core.settings) {
+			if _, isCarried := carry.clients[name]; !isCarried && core.remembers(&last) {
 				carry.left = append(carry.left, name)
 			}
 		}
@@ -296,11 +311,13 @@ func (core *Core) carried() []script.Step {
 		carry.sorted = true
 	}
 	steps, bytes := []script.Step{}, 0
-	for len(carry.left) > 0 && bytes < turnBytes {
+	for len(carry.left) > 0 && bytes < carryBytes {
 		name := carry.left[0]
 		last := core.clients[name]
-		step := script.Step{Kind: script.Known, Name: name, Number: last.number, Digest: last.digest, Count: last.epoch, Text: last.text}
-		steps, bytes, carry.left = append(steps, step), bytes+sizeOf(&step), carry.left[1:]
+		step := script.Step{Kind: script.Known, Name: name, Number: last.number, Digest: last.digest, Count: last.epoch,
+			Age: core.clock - last.time, Text: last.text}
+		core.lines = step.Append(core.lines[:0])
+		steps, bytes, carry.left = append(steps, step), bytes+len(core.lines), carry.left[1:]
 	}
 	return steps
 }
@@ -312,11 +329,8 @@ func (core *Core) following() (script.Settings, []string, error) {
 		return script.Settings{}, nil, err
 	}
 	declarations := Declarations(text)
-	if core.wish == nil {
-		return core.settings, declarations, nil
-	}
-	if len(core.wish.Declarations) == 0 {
-		return core.wish.Settings, declarations, nil
+	if core.wish == nil || len(core.wish.Declarations) == 0 {
+		return core.nextSettings(), declarations, nil
 	}
 	values := map[string]string{}
 	for _, line := range declarations {
@@ -356,6 +370,6 @@ func (core *Core) begin(settings *script.Settings) error {
 	core.epoch, core.first, core.begun = core.epoch+1, core.carry.first, core.running
 	core.clients, core.carry, core.wish = core.carry.clients, nil, nil
 	core.sites, core.waiting, core.round = sites{}, queue{}, nil
-	core.asks, core.updates, core.acknowledged, core.dueSince = 0, 0, 0, 0
+	core.asks, core.updates, core.acknowledged, core.dueSince, core.clock = 0, 0, 0, 0, 0
 	return nil
 }

@@ -85,6 +85,23 @@ func TestAnEpochDoesNotEndBeforeASiteThatIsHereHasToldAll(t *testing.T) {
 	is(t, int64(2), world.core.Epoch())
 }
 
+// A site is here by what it tells that is new: one that tells the same again holds up no client.
+func TestASiteThatTellsNothingNewIsAway(t *testing.T) {
+	short := settings
+	short.Every = 2
+	world := newWorld(t, short, shop)
+	world.ask("ann", 1, "add:tea:-1")
+	world.ask("bob", 1, "add:tea:-1")
+	world.write()
+	world.tell("north", 1)
+	world.tell("south", 2)
+	world.write()
+	is(t, NotNow, world.ask("dan", 1, "add:tea:-1").Kind)
+	world.now += Away
+	world.tell("north", 1)
+	is(t, Waits, world.ask("dan", 1, "add:tea:-1").Kind)
+}
+
 func TestAClientIsForgottenAtItsAge(t *testing.T) {
 	world := newWorld(t, settings, shop)
 	world.ask("ann", 1, "add:tea:-1")
@@ -113,9 +130,9 @@ func TestOneWishEndsOneEpoch(t *testing.T) {
 	world.ask("ann", 1, "add:tea:-1")
 	world.write()
 	world.next()
+	is(t, 1, world.write())
 	is(t, ErrOtherWish, world.core.AskNext(Wish{From: 2, Declarations: shop[1:]}))
 	is(t, ErrOtherWish, world.core.AskNext(Wish{From: 2, Settings: script.Settings{Every: 7}}))
-	is(t, 1, world.write())
 	is(t, int64(2), world.core.Epoch())
 	// Another writer has the wish from the script.
 	world.core = world.replay(config("p2"))
@@ -206,9 +223,10 @@ func TestASiteLeavesOnceItHasNoLease(t *testing.T) {
 	world.tell("south", 2)
 	without := []string{"object tea 5", "object milk 7", "site south 1", "start"}
 	world.next(without...)
+	is(t, ErrBehind, world.core.Tell(Place{Site: "north", Epoch: 1, Applied: 2, Entry: 2}, world.now)) // Another primary may never hear of it.
 	world.write()
 	is(t, []string{"north"}, world.core.Leaving())
-	is(t, ErrNoSite, world.core.Tell(Place{Site: "north", Epoch: 1, Applied: 2, Entry: 2}, world.now))
+	is(t, true, errors.Is(world.core.Tell(Place{Site: "north", Epoch: 1, Applied: 2, Entry: 2}, world.now), ErrNoSite))
 	is(t, int64(1), world.core.acknowledged) // Its limit holds as long as a process may serve.
 	is(t, 0, world.write())
 	is(t, nil, world.core.Gone("south"))
@@ -311,18 +329,34 @@ func TestAnotherVersionOfOrdup(t *testing.T) {
 	world.core = world.replay(both)
 	world.next()
 	world.write()
+	world.ask("ann", 1, "x")
 	is(t, []string{"1", "1"}, []string{world.core.Settings().Ordup, world.replay(config("p1")).Settings().Ordup})
 	wish := Wish{From: 2, Settings: script.Settings{Ordup: "2"}}
 	var version *VersionError
 	is(t, true, errors.As(world.replay(config("p1")).AskNext(wish), &version))
 	is(t, nil, world.core.AskNext(wish))
+	world.keep(world.seal())
+	// The old one may take over with this wish in the script. It begins no epoch that it cannot run, unless another wish replaces this one.
+	old := world.replay(config("p1"))
+	turn, err := old.Seal(world.now)
+	is(t, []interface{}{(*Turn)(nil), true, exit.Words}, []interface{}{turn, errors.As(err, &version), exit.Of(err)})
+	is(t, nil, old.AskNext(Wish{From: 2, Settings: script.Settings{Every: 7, Ordup: "1"}, Replaces: true}))
+	for turn == nil || turn.First == 0 {
+		turn, err = old.Seal(world.now)
+		is(t, nil, err)
+	}
+	is(t, []interface{}{"1", 3, 3}, []interface{}{turn.Entry().Ordup, turn.Epoch, old.Epoch()})
 	world.write()
 	is(t, []interface{}{"2", 3}, []interface{}{world.core.Settings().Ordup, world.core.Epoch()})
-	entry, err := script.Parse(world.script[len(world.script)-1])
-	is(t, []interface{}{"2", nil}, []interface{}{entry.Ordup, err})
-	err = New(config("p1"), int64(len(world.script))).Replay(int64(len(world.script)), entry)
-	is(t, true, errors.As(err, &version))
-	is(t, exit.Words, exit.Of(err))
+	// All entries of an epoch have its version, also those that carry clients over.
+	is(t, int64(len(world.script)-1), world.first)
+	for number := world.first; number <= int64(len(world.script)); number++ {
+		entry, err := script.Parse(world.script[number-1])
+		is(t, []interface{}{"2", nil}, []interface{}{entry.Ordup, err})
+		err = New(config("p1"), number).Replay(number, entry)
+		is(t, true, errors.As(err, &version))
+		is(t, exit.Words, exit.Of(err))
+	}
 }
 
 func TestAStoreThatAnswersOtherwiseIsNoticed(t *testing.T) {

@@ -1,6 +1,7 @@
 package epoch
 
 import (
+	"errors"
 	"fmt"
 	"strings"
 	"testing"
@@ -31,6 +32,7 @@ type world struct {
 	now    time.Duration
 	absent []string
 	told   []string
+	config func(writer string) Config
 }
 
 func newWorld(t *testing.T, settings script.Settings, declarations []string) *world {
@@ -39,7 +41,7 @@ func newWorld(t *testing.T, settings script.Settings, declarations []string) *wo
 	if err != nil {
 		t.Fatal(err)
 	}
-	world := &world{t: t, script: [][]byte{turn.Text}, first: 1, now: time.Hour}
+	world := &world{t: t, script: [][]byte{turn.Text}, first: 1, now: time.Hour, config: config}
 	world.core = world.replay(config("p1"))
 	return world
 }
@@ -60,12 +62,17 @@ func (world *world) replay(config Config) *Core {
 	return core
 }
 
-// seal closes the open turn, and returns the turn.
-func (world *world) seal() *Turn {
+func (world *world) work() {
 	world.t.Helper()
 	if _, err := world.core.Work(world.now); err != nil {
 		world.t.Fatal(err)
 	}
+}
+
+// seal closes the open turn, and returns the turn.
+func (world *world) seal() *Turn {
+	world.t.Helper()
+	world.work()
 	turn, err := world.core.Seal(world.now)
 	if err != nil {
 		world.t.Fatal(err)
@@ -138,7 +145,7 @@ func TestEachNumberIsAnsweredOnce(t *testing.T) {
 	world := newWorld(t, settings, shop)
 	is(t, Verdict{Kind: Waits}, world.ask("ann", 5, "add:tea:-1"))
 	is(t, Verdict{Kind: Waits}, world.ask("ann", 5, "add:tea:-1"))
-	is(t, Verdict{Kind: Differs}, world.ask("ann", 5, "add:tea:-2"))
+	is(t, Verdict{Kind: NotNow}, world.ask("ann", 5, "add:tea:-2"))
 	is(t, 1, world.write())
 	is(t, "ann 5 ok acked 1 epoch 1", world.answer())
 	is(t, Verdict{Kind: Answered, Text: "ok acked 1 epoch 1"}, world.ask("ann", 5, "add:tea:-1"))
@@ -163,7 +170,10 @@ func TestAClientThatDoesNotWait(t *testing.T) {
 	verdicts, err := world.core.Ask([]Request{{"ann", 1, "add:tea:-1"}, {"ann", 1, "add:tea:-1"}, {"ann", 2, "add:tea:-1"},
 		{"ann", 1, "add:tea:-1"}, {"ann", 2, "add:tea:-3"}}, world.now)
 	is(t, nil, err)
-	is(t, []Verdict{{Kind: Waits}, {Kind: Waits}, {Kind: Waits}, {Kind: Passed, Last: 2}, {Kind: Differs}}, verdicts)
+	is(t, []Verdict{{Kind: Waits}, {Kind: Waits}, {Kind: Waits}, {Kind: NotNow}, {Kind: NotNow}}, verdicts)
+	world.keep(world.seal())
+	is(t, Verdict{Kind: Passed, Last: 2}, world.ask("ann", 1, "add:tea:-1"))
+	is(t, Verdict{Kind: Differs}, world.ask("ann", 2, "add:tea:-3"))
 	world.ask("ann", 3, "add:tea:-1")
 	world.write()
 	is(t, 3, world.count("ask"))
@@ -200,6 +210,30 @@ func TestAnAnswerIsToldOnceItsEntryIsWritten(t *testing.T) {
 	is(t, "bob 1 ok acked 2 epoch 1", world.answer())
 }
 
+// What a client is told for good stands in the script: where the turn is lost, the other request may be done.
+func TestNothingIsToldForGoodOfWhatIsNotWritten(t *testing.T) {
+	world := newWorld(t, settings, shop)
+	world.ask("ann", 1, "add:tea:-1")
+	world.ask("bob", 2, "add:tea:-1")
+	for _, isSealed := range []bool{false, true} {
+		if isSealed {
+			world.seal()
+		}
+		is(t, NotNow, world.ask("ann", 1, "add:tea:-2").Kind)
+		is(t, NotNow, world.ask("bob", 1, "add:tea:-1").Kind)
+	}
+	world.core = world.replay(config("p2")) // The turn is lost.
+	is(t, Waits, world.ask("ann", 1, "add:tea:-2").Kind)
+	is(t, Waits, world.ask("bob", 1, "add:tea:-1").Kind)
+	world.ask("bob", 2, "add:tea:-1")
+	world.write()
+	for _, core := range []*Core{world.core, world.replay(config("p3"))} {
+		world.core = core
+		is(t, Verdict{Kind: Differs}, world.ask("ann", 1, "add:tea:-1"))
+		is(t, Verdict{Kind: Passed, Last: 2}, world.ask("bob", 1, "add:tea:-1"))
+	}
+}
+
 func TestPlacesThatCannotBe(t *testing.T) {
 	world := newWorld(t, settings, shop)
 	world.ask("ann", 1, "add:tea:-1")
@@ -209,13 +243,15 @@ func TestPlacesThatCannotBe(t *testing.T) {
 	is(t, ErrBehind, core.Tell(Place{Site: "north", Epoch: 1, Applied: 2, Entry: turn.Number}, world.now))
 	is(t, ErrBehind, core.Tell(Place{Site: "north", Epoch: 2, Applied: 0, Entry: turn.Number + 9}, world.now))
 	world.keep(turn)
-	for _, place := range []Place{{"north", "", 1, 2, turn.Number}, {"north", "", 1, 1 << 62, 0}, {"north", "", 1, -1, 0}, {"north", "", 1, -1 << 63, 1 << 62}} {
+	for _, place := range []Place{{Applied: 2, Entry: turn.Number}, {Applied: 1 << 62}, {Applied: -1}, {Applied: -1 << 63, Entry: 1 << 62}} {
+		place.Site, place.Epoch = "north", 1
 		if _, cannotBe := core.Tell(place, world.now).(*CannotBeError); !cannotBe {
 			t.Errorf("%v is taken", place)
 		}
 	}
-	is(t, ErrNoSite, core.Tell(Place{Site: "east", Epoch: 1, Applied: 0, Entry: 1}, world.now))
-	is(t, ErrNoSite, core.Tell(Place{Site: "\xff", Epoch: 1, Applied: 0, Entry: 1}, world.now))
+	for _, name := range []string{"east", "\xff"} {
+		is(t, true, errors.Is(core.Tell(Place{Site: name, Epoch: 1, Applied: 0, Entry: 1}, world.now), ErrNoSite))
+	}
 	is(t, nil, core.Tell(Place{Site: "north", Epoch: 0, Applied: 77, Entry: 1}, world.now))
 	is(t, int64(0), core.Status(world.now).Sites[0].Applied)
 }
@@ -284,5 +320,12 @@ func TestWhatIsNoScript(t *testing.T) {
 	is(t, nil, core.Replay(1, entry(0)))
 	if _, isBroken := core.Replay(2, &wrong).(*BrokenError); !isBroken {
 		t.Error("an answer differs")
+	}
+}
+
+func holds(t *testing.T, part, text string) {
+	t.Helper()
+	if !strings.Contains(text, part) {
+		t.Errorf("%q is not in %q", part, text)
 	}
 }

@@ -19,20 +19,41 @@ type randomRun struct {
 	changes map[string]string
 	answers map[string]string
 	flying  *Turn
+	// What the steps of a turn count at most, if that is less than usual.
+	room script.Room
+}
+
+func newRun(t *testing.T, every script.Settings, seed int64) *randomRun {
+	return &randomRun{newWorld(t, every, shop), rand.New(rand.NewSource(seed)), map[string]int64{}, map[string]string{}, map[string]string{}, nil, 0}
 }
 
 func TestRandomRuns(t *testing.T) {
 	for seed := int64(1); seed <= 60; seed++ {
 		every := settings
-		every.Every, every.Remembers = 30, 2
-		run := &randomRun{newWorld(t, every, shop), rand.New(rand.NewSource(seed)), map[string]int64{}, map[string]string{}, map[string]string{}, nil}
-		for step := 0; step < 1500; step++ {
+		every.Every, every.Remembers, every.Seconds = 30, 2, seed%3*20
+		run, steps := newRun(t, every, seed), 1500
+		if seed%4 == 0 {
+			run.limit(2 + script.Room(seed)%5)
+			steps = 2000
+		}
+		for step := 0; step < steps; step++ {
 			run.step()
 		}
 		if run.judge(); t.Failed() || run.core.Epoch() < 3 || len(run.answers) < 50 {
 			t.Fatalf("seed %d: %d epochs, %d answers", seed, run.core.Epoch(), len(run.answers))
 		}
 	}
+}
+
+// limit has each turn count so much at most, of which many then have no more room.
+func (run *randomRun) limit(room script.Room) {
+	run.room = room
+	run.config = func(writer string) Config {
+		config := config(writer)
+		config.room = room
+		return config
+	}
+	run.core = run.replay(run.config("p1"))
 }
 
 func (run *randomRun) step() {
@@ -57,7 +78,7 @@ func (run *randomRun) step() {
 
 // written is how many updates of the epoch stand in the script, where a site may be.
 func (run *randomRun) written() int64 {
-	core := run.replay(config("site"))
+	core := run.replay(run.config("site"))
 	if core.Epoch() != run.core.Epoch() || core.updates == 0 {
 		return 0
 	}
@@ -116,7 +137,7 @@ func (run *randomRun) takeOver() {
 		}
 	}
 	run.flying = nil
-	run.core = run.replay(config(fmt.Sprintf("p%d", len(run.script))))
+	run.core = run.replay(run.config(fmt.Sprintf("p%d", len(run.script))))
 	turn := run.core.TakeOver()
 	if err := run.core.Replay(turn.Number, turn.Entry()); err != nil {
 		run.t.Error(err)
@@ -126,12 +147,14 @@ func (run *randomRun) takeOver() {
 
 // judge looks at the whole script: each number is asked once and answered once, as was told; each epoch begins with what was before.
 func (run *randomRun) judge() {
-	asked, answered, tea, epoch := map[string]bool{}, map[string]string{}, int64(100), int64(0)
-	for _, text := range run.script {
+	asked, answered, tea, epoch, judge := map[string]bool{}, map[string]string{}, int64(100), int64(0), &Judge{}
+	for at, text := range run.script {
 		entry, err := script.Parse(text)
 		if err != nil {
 			run.t.Fatal(err)
 		}
+		run.keepsToRoom(entry)
+		is(run.t, nil, judge.Take(int64(at+1), entry))
 		if entry.Begins() {
 			if epoch++; entry.Epoch != epoch || entry.Steps[1].Text != fmt.Sprintf("object tea %d", tea) {
 				run.t.Errorf("epoch %d begins with %s, and not %d", entry.Epoch, entry.Steps[1].Text, tea)
@@ -162,12 +185,21 @@ func (run *randomRun) judge() {
 	}
 }
 
+func (run *randomRun) keepsToRoom(entry *script.Entry) {
+	room := run.room
+	for at := range entry.Steps {
+		if run.room > 0 && !room.Take(&entry.Steps[at]) {
+			run.t.Errorf("an entry counts more than %d: %s", run.room, entry.Text())
+		}
+	}
+}
+
 // Entries of any bytes, and steps at places where they do not belong, are refused or run, and never a panic.
 func TestAnyEntries(t *testing.T) {
 	chance := rand.New(rand.NewSource(7))
 	every := settings
 	every.Every = 5
-	run := &randomRun{newWorld(t, every, shop), chance, map[string]int64{}, map[string]string{}, map[string]string{}, nil}
+	run := newRun(t, every, 7)
 	for step := 0; step < 400; step++ {
 		run.step()
 	}

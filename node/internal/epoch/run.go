@@ -39,6 +39,9 @@ func (core *Core) runAll(steps []script.Step) error {
 		answers.rest = given
 	}
 	for at := range steps {
+		if why := core.lawless(&steps[at]); why != "" {
+			return &BrokenError{core.running, why}
+		}
 		core.note(&steps[at], &answers)
 		if answers.bad != "" {
 			return &BrokenError{core.running, fmt.Sprintf("the store answers %.80q to the step %s", answers.bad, steps[at].Kind)}
@@ -58,9 +61,11 @@ func (core *Core) note(step *script.Step, answers *answers) {
 			site.limits = append(site.limits, strings.Join(words[2:], " "))
 		}
 	case script.Known:
-		core.carry.clients[step.Name] = client{step.Number, step.Digest, step.Text, core.running, step.Count}
+		core.carry.clients.carry(step, core.running)
 	case script.Ask:
 		core.noteAsk(step, answers)
+	case script.Elapsed:
+		core.clock += step.Count
 	case script.Settle:
 		for count := int64(0); count < step.Count; count++ {
 			core.noteSettle(answers)
@@ -68,28 +73,20 @@ func (core *Core) note(step *script.Step, answers *answers) {
 	case script.Tell:
 		core.noteTell(step, answers)
 	case script.Wish:
-		core.wish = &Wish{From: core.epoch, Settings: *step.Settings}
+		core.noteWish(step, core.running)
 	case script.Want:
 		core.wish.Declarations = append(core.wish.Declarations, step.Text)
 	case script.Leave:
-		if site := core.sites.of(step.Name); site != nil {
-			site.leaves = true
-		}
+		core.sites.leave(step.Name, core.running)
 	case script.Gone:
 		core.noteTell(step, answers)
-		if site := core.sites.of(step.Name); site != nil {
-			site.gone = true
-		}
+		core.sites.of(step.Name).gone = true
 	}
 }
 
 func (core *Core) noteAsk(step *script.Step, answers *answers) {
 	asked := asker{step.Name, step.Number, step.Digest}
-	if asked.digest == "" {
-		asked.digest = script.DigestOf(step.Text)
-	}
 	core.asks++
-	core.clients.take(asked, core.epoch)
 	line := answers.next()
 	if place, isProposed := numberAfter(line, "ok proposed "); isProposed && place == core.updates+1 {
 		core.updates++
@@ -137,7 +134,7 @@ func (core *Core) noteTell(step *script.Step, answers *answers) {
 	site := core.sites.of(step.Name)
 	line := answers.next()
 	place, isReported := numberAfter(line, "ok reported "+step.Name+" ")
-	if site == nil || !isReported || place != site.applied+step.Count {
+	if !isReported || place != site.applied+step.Count {
 		answers.refuse(line)
 		return
 	}

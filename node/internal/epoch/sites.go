@@ -14,7 +14,8 @@ const Near = 1000
 // Away is after how long a site that lacks updates and tells nothing is away.
 const Away = 5 * time.Second
 
-// A Place is what a site told: how many updates of an epoch it has applied and shown, and the last entry that it has run.
+// A Place is what a site told: how many updates of an epoch it has applied and shown, and the last entry that it has run. The digest of that
+// says of which script it is.
 type Place struct {
 	// Site is the name in the script. Member is the site itself, which has another name where Site is its fleet.
 	Site, Member string
@@ -22,12 +23,16 @@ type Place struct {
 	Epoch   int64
 	Applied int64
 	Entry   int64
+	Digest  string
 }
 
 // Why a place is not taken.
 var (
-	// ErrNoSite says that the script has no such site, or that it is taken out.
-	ErrNoSite = errors.New("the script has no such site")
+	// ErrNoSite says that the script, or the fleet, has no such site, or that it is taken out.
+	ErrNoSite = exit.With(exit.NotInScript, errors.New("there is no such site"))
+	// ErrOtherScript says that a place names an entry which is another one here: the site is of another deployment, or of a past from which
+	// the script was restored.
+	ErrOtherScript = exit.With(exit.NoPlace, errors.New("the place is of another script"))
 	// ErrBehind says that this core has not run the script as far as the site has. It may tell the place again.
 	ErrBehind = errors.New("the script was not run as far yet")
 )
@@ -58,8 +63,9 @@ type site struct {
 	// When it told any place, and whether it has.
 	spoke     time.Duration
 	spokeOnce bool
-	// Whether it is taken out, and whether no process serves it any more.
+	// Whether it is taken out, by which entry, and whether no process serves it any more.
 	leaves, gone bool
+	left         int64
 	limits       []string
 }
 
@@ -67,6 +73,13 @@ type site struct {
 type sites struct{ all []*site }
 
 func (sites *sites) add(name string) { sites.all = append(sites.all, &site{name: name}) }
+
+// leave takes the site of a name out, if there is one.
+func (sites *sites) leave(name string, entry int64) {
+	if site := sites.of(name); site != nil {
+		site.leaves, site.left = true, entry
+	}
+}
 
 // of is the site of a name, or nil. There are at most 16.
 func (sites *sites) of(name string) *site {
@@ -107,8 +120,10 @@ func (core *Core) Tell(place Place, now time.Duration) error {
 	}
 	site := core.sites.of(place.Site)
 	switch {
+	case site == nil && core.begun > core.written || site != nil && site.left > core.written:
+		return ErrBehind // That it is no site is not written yet.
 	case site == nil || site.leaves:
-		return ErrNoSite
+		return fmt.Errorf("%w: the script has no site %s", ErrNoSite, place.Site)
 	case place.Applied < 0 || place.Applied > core.updates && place.Entry <= core.written:
 		return &CannotBeError{place, core.updates}
 	case place.Applied > core.updates:

@@ -33,3 +33,31 @@ func TestAStatusSaysWhatIsWaitedFor(t *testing.T) {
 	status := world.core.Status(world.now)
 	is(t, []interface{}{true, time.Minute}, []interface{}{status.Due, status.DueSince})
 }
+
+// Each head waits for its own round, and between two of them none does.
+func TestAHeadWaitsSinceItsOwnRound(t *testing.T) {
+	world := newWorld(t, settings, shop)
+	waits := func() time.Duration { return world.core.Status(world.now).HeadWaits }
+	for round := int64(1); round <= 2; round++ {
+		world.ask("ann", 2*round-1, "add:tea:-1")
+		world.ask("ann", 2*round, "add:tea:-1")
+		world.write()
+		is(t, time.Duration(0), waits())
+		world.now += time.Minute
+		is(t, time.Minute, waits())
+		world.tell("north", world.core.updates)
+		world.write()
+		is(t, time.Duration(0), waits())
+	}
+}
+
+func TestACoreIsIdleOnceAllIsWritten(t *testing.T) {
+	world := newWorld(t, settings, shop)
+	is(t, true, world.core.IsIdle())
+	world.ask("ann", 1, "add:tea:-1")
+	is(t, false, world.core.IsIdle())
+	turn := world.seal()
+	is(t, false, world.core.IsIdle())
+	world.keep(turn)
+	is(t, true, world.core.IsIdle())
+}

@@ -1,16 +1,21 @@
 package epoch
 
 import (
+	"fmt"
 	"time"
 
 	"ordup-node/internal/script"
 )
 
 const (
-	// askBytes is how large the open turn is when it takes no more requests, and turnBytes when it asks for no more acknowledgements.
-	// What one step adds then is small. So an entry is far below script.MostEntryBytes.
+	// askBytes is how large the open turn is when it takes no more requests and no wish, and turnBytes when it asks for no more
+	// acknowledgements. What one step adds then is small. So an entry is below script.MostEntryBytes.
 	askBytes, turnBytes = 256 << 10, 512 << 10
-	// mostTold is how many updates that sites told are written by one entry.
+	// carryBytes is how large an entry is that carries over clients. No request is taken until all have come, so they are few.
+	carryBytes = 896 << 10
+	// turnCounts is what the steps of a turn count at most: less than script.MostCounted, since who reads it runs it at once.
+	turnCounts = 200_000
+	// mostTold is how many updates that sites told are added by one call of Work.
 	mostTold = 20_000
 	// Later is how long after an entry sites are written that told something for which nobody waits.
 	Later = 100 * time.Millisecond
@@ -43,7 +48,7 @@ const (
 	Passed
 	// Differs says that the client asked for other changes under this number before.
 	Differs
-	// NotNow says that the turn is full or the epoch ends: ask again in the next turn.
+	// NotNow says that the turn is full, the epoch ends, or what decides is not written yet: ask again in the next turn.
 	NotNow
 	// Malformed says that the client, the number or the changes have not the form.
 	Malformed
@@ -57,6 +62,8 @@ type Turn struct {
 	Absent []string
 	// Of an entry that begins an epoch: the epoch, and its first entry.
 	Epoch, First int64
+	// Last is the epoch of the script before the entry, and Since the first entry of that.
+	Last, Since int64
 	// Answers may be told once the entry is written.
 	Answers []script.Step
 	entry   *script.Entry
@@ -65,7 +72,11 @@ type Turn struct {
 // Ask takes requests. The verdicts are in their order. With an error the core is of no more use.
 func (core *Core) Ask(requests []Request, now time.Duration) ([]Verdict, error) {
 	verdicts := make([]Verdict, len(requests))
-	steps := make([]script.Step, 0, len(requests))
+	steps := core.elapsed(make([]script.Step, 0, len(requests)+1), now)
+	clock, none := core.clock, len(steps)
+	for at := range steps {
+		clock += steps[at].Count
+	}
 	ends, bytes := core.ends(now), core.turn.bytes
 	for at := range requests {
 		verdict := core.verdict(&requests[at])
@@ -74,16 +85,35 @@ func (core *Core) Ask(requests []Request, now time.Duration) ([]Verdict, error) 
 		case ends || bytes >= askBytes:
 			verdict.Kind = NotNow
 		default:
-			asked := asker{requests[at].Client, requests[at].Number, script.DigestOf(requests[at].Changes)}
-			step := script.Step{Kind: script.Ask, Name: asked.name, Number: asked.number, Digest: asked.digest, Text: requests[at].Changes}
-			core.clients.take(asked, core.epoch)
+			step := script.Step{Kind: script.Ask, Name: requests[at].Client, Number: requests[at].Number,
+				Digest: script.DigestOf(requests[at].Changes), Text: requests[at].Changes}
+			step.Name = core.clients.take(client{name: step.Name, number: step.Number, digest: step.Digest, epoch: core.epoch,
+				asked: core.Next(), time: clock})
 			steps = append(steps, step)
 			bytes += sizeOf(&step)
 			verdict.Kind = Waits
 		}
 		verdicts[at] = verdict
 	}
+	if len(steps) == none {
+		return verdicts, nil
+	}
 	return verdicts, core.add(steps)
+}
+
+// elapsed appends the step for the whole seconds that have passed since this writer noted some.
+func (core *Core) elapsed(steps []script.Step, now time.Duration) []script.Step {
+	if core.timed == 0 {
+		core.timed = now
+	}
+	seconds := int64((now - core.timed) / time.Second)
+	if seconds > script.MostCounted {
+		seconds = script.MostCounted
+	}
+	if seconds > 0 {
+		steps = append(steps, script.Step{Kind: script.Elapsed, Count: seconds})
+	}
+	return steps
 }
 
 // verdict is what becomes of a request, if it need not be run.
@@ -95,6 +125,8 @@ func (core *Core) verdict(request *Request) Verdict {
 	switch {
 	case request.Number > last.number:
 		return Verdict{}
+	case last.asked > core.written && (request.Number < last.number || script.DigestOf(request.Changes) != last.digest):
+		return Verdict{Kind: NotNow}
 	case request.Number < last.number:
 		return Verdict{Kind: Passed, Last: last.number}
 	case script.DigestOf(request.Changes) != last.digest:
@@ -118,6 +150,10 @@ func (core *Core) add(steps []script.Step) error {
 	core.turn.steps = append(core.turn.steps, steps...)
 	for at := range steps {
 		core.turn.bytes += sizeOf(&steps[at])
+		core.turn.room.Take(&steps[at])
+		if steps[at].Kind == script.Elapsed {
+			core.timed += time.Duration(steps[at].Count) * time.Second
+		}
 	}
 	for at := decided; at < len(core.decided); at++ {
 		core.turn.bytes += sizeOf(&core.decided[at])
@@ -144,6 +180,11 @@ func (core *Core) Work(now time.Duration) (time.Duration, error) {
 	if err := core.settle(); err != nil {
 		return 0, err
 	}
+	if passed := core.elapsed(nil, now); len(core.turn.steps) > 0 {
+		if err := core.add(passed); err != nil {
+			return 0, err
+		}
+	}
 	if core.round == nil {
 		core.roundSince = 0
 	} else if core.roundSince == 0 {
@@ -154,7 +195,7 @@ func (core *Core) Work(now time.Duration) (time.Duration, error) {
 
 // addTold adds the steps for what sites told. Where nobody waits for them, that is later.
 func (core *Core) addTold(now time.Duration) (time.Duration, error) {
-	steps, left := []script.Step{}, int64(mostTold)
+	steps, left := []script.Step{}, core.turn.most(mostTold)
 	for _, site := range core.sites.all {
 		places := site.known()
 		if site.gone {
@@ -198,7 +239,7 @@ func (core *Core) maySettle() bool {
 func (core *Core) settle() error {
 	step := script.Step{Kind: script.Settle, Count: 1}
 	count := int64(0)
-	for core.turn.bytes < turnBytes && core.headIsFree() {
+	for core.turn.bytes < turnBytes && core.turn.most(1) > 0 && core.headIsFree() {
 		if err := core.addSettle(&step); err != nil {
 			return err
 		}
@@ -219,6 +260,7 @@ func (core *Core) addSettle(step *script.Step) error {
 	if err := core.run([]script.Step{*step}); err != nil {
 		return err
 	}
+	core.turn.room.Take(step)
 	for at := decided; at < len(core.decided); at++ {
 		core.turn.bytes += sizeOf(&core.decided[at])
 	}
@@ -243,7 +285,7 @@ func (core *Core) Seal(now time.Duration) (*Turn, error) {
 	if core.store == nil {
 		return nil, nil
 	}
-	turn := &Turn{Number: core.entries + 1, Absent: core.turn.absent}
+	turn := &Turn{Number: core.entries + 1, Absent: core.turn.absent, Last: core.epoch, Since: core.first}
 	steps, epoch := core.turn.steps, core.entryEpoch()
 	if len(steps) == 0 && core.isOver(now) {
 		var err error
@@ -255,10 +297,25 @@ func (core *Core) Seal(now time.Duration) (*Turn, error) {
 		return nil, nil
 	}
 	turn.Answers = core.decided
-	turn.entry = &script.Entry{Epoch: epoch, Ordup: core.settings.Ordup, Writer: core.config.Writer, Steps: append(steps, turn.Answers...)}
-	turn.Text = turn.entry.Text()
-	core.entries, core.sealed, core.turn, core.decided = turn.Number, now, openTurn{}, nil
+	turn.entry = &script.Entry{Epoch: epoch, Ordup: core.entryVersion(), Writer: core.config.Writer, Steps: append(steps, turn.Answers...)}
+	if err := turn.seal(); err != nil {
+		core.failure = err
+		return nil, err
+	}
+	core.entries, core.sealed, core.turn, core.decided = turn.Number, now, openTurn{room: core.config.room}, nil
 	return turn, nil
+}
+
+// seal has the text of the entry. One that this program does not read, or that is too large for the engine, is never written.
+func (turn *Turn) seal() error {
+	turn.Text = turn.entry.Text()
+	if len(turn.Text) > script.MostEntryBytes {
+		return &BrokenError{turn.Number, fmt.Sprintf("it is not written, since it has %d bytes", len(turn.Text))}
+	}
+	if err := script.Check(turn.Text); err != nil {
+		return &BrokenError{turn.Number, fmt.Sprintf("it is not written, since nobody reads it: %v", err)}
+	}
+	return nil
 }
 
 // Written says that the entry of this number, and so all before it, is in the script.

@@ -79,6 +79,16 @@ func FreePort(t *testing.T) string {
 	return ""
 }
 
+// Until waits until something is so. Where it is not so in time, the test fails with what it is told.
+func Until(t *testing.T, what string, isSo func() bool) {
+	t.Helper()
+	for end := time.Now().Add(30 * time.Second); !isSo(); time.Sleep(2 * time.Millisecond) {
+		if time.Now().After(end) {
+			t.Fatal(what)
+		}
+	}
+}
+
 func init() { rand.Seed(time.Now().UnixNano()) }
 
 // Begin starts a member, with what it has on its disk.

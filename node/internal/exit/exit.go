@@ -18,7 +18,7 @@ const (
 	Gap Status = 3
 	// NotInScript says that the site is not among those of the script.
 	NotInScript Status = 4
-	// NoPlace says that the site told a place that no site can have told.
+	// NoPlace says that the site told a place that no site can have told, or one of another script.
 	NoPlace Status = 5
 )
 

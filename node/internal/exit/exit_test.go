@@ -3,7 +3,13 @@ package exit
 import (
 	"errors"
 	"fmt"
+	"os"
+	"os/signal"
+	"regexp"
+	"strings"
+	"syscall"
 	"testing"
+	"time"
 )
 
 func TestOf(t *testing.T) {
@@ -15,5 +21,53 @@ func TestOf(t *testing.T) {
 	}
 	if !errors.Is(With(Words, cause), cause) {
 		t.Error("the cause is lost")
+	}
+}
+
+func TestUntilTheProcessIsAskedToEnd(t *testing.T) {
+	heard := make(chan os.Signal, 9)
+	defer signal.Reset()
+	for _, row := range []struct {
+		sent            syscall.Signal
+		isIgnored, ends bool
+	}{{syscall.SIGTERM, false, true}, {syscall.SIGINT, false, true}, {syscall.SIGHUP, false, true}, {syscall.SIGHUP, true, false}} {
+		signal.Notify(heard, row.sent) // Whoever runs the tests may ignore it.
+		if row.isIgnored {
+			signal.Ignore(row.sent)
+		}
+		ctx, cancel := Until()
+		if err := syscall.Kill(os.Getpid(), row.sent); err != nil {
+			t.Fatal(err)
+		}
+		ends := false
+		select {
+		case <-ctx.Done():
+			ends = true
+		case <-time.After(time.Second):
+		}
+		if cancel(); ends != row.ends {
+			t.Error(row, ends)
+		}
+	}
+}
+
+// The comment of the program has each status with what it means here, and no other one.
+func TestTheProgramTellsTheStatuses(t *testing.T) {
+	own, err := os.ReadFile("exit.go")
+	if err != nil {
+		t.Fatal(err)
+	}
+	program, err := os.ReadFile("../../doc.go")
+	if err != nil {
+		t.Fatal(err)
+	}
+	statuses := regexp.MustCompile(`\t// \w+ (?:is|says that) (.*)\.\n\t\w+ Status = (\d)\n`).FindAllStringSubmatch(string(own), -1)
+	for _, status := range statuses {
+		if !strings.Contains(string(program), "\n//\t"+status[2]+"  "+status[1]) {
+			t.Errorf("it does not tell %s: %s", status[2], status[1])
+		}
+	}
+	if rows := regexp.MustCompile(`\n//\t\d  `).FindAllString(string(program), -1); len(rows) != len(statuses) || len(rows) != int(NoPlace)+1 {
+		t.Error(len(rows), len(statuses))
 	}
 }

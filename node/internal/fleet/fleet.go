@@ -1,32 +1,44 @@
 // Package fleet tells for sites that have one name in the script: the least place that each of them has told.
 //
 // So each site of the fleet has shown what the fleet tells, and the limits of the fleet hold at each. A fleet keeps nothing: a site tells
-// its place again while the script does not have it.
+// its place again while the script does not have it. A process that serves as a site which is not among the members has shown who knows
+// what, so the fleet tells nothing while the engine has a key of one.
 package fleet
 
 import (
 	"context"
 	"errors"
 	"fmt"
+	"strings"
 	"sync"
 	"time"
 
 	"ordup-node/internal/clock"
+	"ordup-node/internal/engine"
 	"ordup-node/internal/epoch"
+	"ordup-node/internal/logs"
 	"ordup-node/internal/site"
 )
 
-// ErrNoMember says that a site is none of the fleet.
-var ErrNoMember = errors.New("this is no site of the fleet")
+// lookAfter is after how long it is looked again for keys of the fleet.
+const lookAfter = time.Second
+
+// An Engine has the keys of the processes that serve.
+type Engine interface {
+	Holds(ctx context.Context, fleet string) ([]engine.Hold, error)
+}
 
 // A Fleet takes the places of its members, and tells the least one.
 type Fleet struct {
 	name   string
 	teller site.Teller
+	names  []string
 	lock   sync.Mutex
 	places map[string]epoch.Place
 	told   map[string]time.Duration
-	names  []string
+	// Whether the engine was looked at, and its keys of the fleet that are of no member.
+	looked   bool
+	unlisted []string
 }
 
 // A MemberStatus is the last place of a member, of epoch 0 where it told none, and since when it told nothing.
@@ -35,18 +47,28 @@ type MemberStatus struct {
 	Told  time.Duration
 }
 
-// Status tells the places of the members, in their order.
-func (fleet *Fleet) Status() []MemberStatus {
-	fleet.lock.Lock()
-	defer fleet.lock.Unlock()
-	all, now := []MemberStatus{}, clock.Now()
-	for _, name := range fleet.names {
-		all = append(all, MemberStatus{fleet.places[name], now - fleet.told[name]})
-	}
-	return all
+// A Status is what an operator may see of a fleet.
+type Status struct {
+	// Members are in their order.
+	Members []MemberStatus
+	// Looked is whether the engine was looked at, and Unlisted its keys of the fleet that are of no member. Before a look, and while there
+	// are such keys, nothing is told.
+	Looked   bool
+	Unlisted []string
 }
 
-// New gives a fleet of these members, which tells by the teller.
+// Status tells what there is.
+func (fleet *Fleet) Status() Status {
+	fleet.lock.Lock()
+	defer fleet.lock.Unlock()
+	status, now := Status{Looked: fleet.looked, Unlisted: fleet.unlisted}, clock.Now()
+	for _, name := range fleet.names {
+		status.Members = append(status.Members, MemberStatus{fleet.places[name], now - fleet.told[name]})
+	}
+	return status
+}
+
+// New gives a fleet of these members, which tells by the teller once Look found no other ones.
 func New(name string, members []string, teller site.Teller) *Fleet {
 	fleet := &Fleet{name: name, teller: teller, places: map[string]epoch.Place{}, told: map[string]time.Duration{}, names: members}
 	for _, member := range members {
@@ -55,14 +77,71 @@ func New(name string, members []string, teller site.Teller) *Fleet {
 	return fleet
 }
 
-// Tell takes the place of a member, and tells the least of all, once each has told one. A place before one that the member told is
-// passed over.
+// Run looks at the engine again and again, until the context ends.
+func (fleet *Fleet) Run(ctx context.Context, of Engine, log *logs.Log) error {
+	for ctx.Err() == nil {
+		switch err := fleet.Look(ctx, of); {
+		case err == nil || ctx.Err() != nil:
+		case engine.IsAway(err):
+			log.Warn("engine-away", "why", err)
+		default:
+			return err
+		}
+		if unlisted := fleet.Status().Unlisted; len(unlisted) > 0 {
+			log.Warn("fleet-tells-nothing", "why", "there are keys of sites that are not its members", "keys", strings.Join(unlisted, ","))
+		}
+		clock.Pause(ctx, lookAfter)
+	}
+	return nil
+}
+
+// Look looks which keys of the fleet the engine has. After an error what was found before holds: a process gets to serve only once the
+// fleet has taken a place of it.
+func (fleet *Fleet) Look(ctx context.Context, of Engine) error {
+	holds, err := of.Holds(ctx, fleet.name)
+	if err != nil {
+		return err
+	}
+	isListed, unlisted := map[string]bool{}, []string{}
+	for _, name := range fleet.names {
+		isListed[engine.SiteKey(fleet.name, name)] = true
+	}
+	for _, hold := range holds {
+		if !isListed[hold.Key] {
+			unlisted = append(unlisted, hold.Key)
+		}
+	}
+	fleet.lock.Lock()
+	defer fleet.lock.Unlock()
+	fleet.looked, fleet.unlisted = true, unlisted
+	return nil
+}
+
+// Tell takes the place of a member, and tells the least of all, once each has told one and nobody else serves. A place before one that the
+// member told is passed over.
 func (fleet *Fleet) Tell(ctx context.Context, place epoch.Place) error {
 	least, isThere, err := fleet.take(place)
 	if err != nil || !isThere {
 		return err
 	}
-	return fleet.teller.Tell(ctx, least)
+	told := least
+	told.Member = fleet.name
+	err = fleet.teller.Tell(ctx, told)
+	var cannotBe *epoch.CannotBeError
+	if least != place && (errors.As(err, &cannotBe) || errors.Is(err, epoch.ErrOtherScript)) {
+		fleet.forget(least)
+		return fmt.Errorf("the place of %s is refused: %v", least.Member, err) // It ends who tells it again, and not this site.
+	}
+	return err
+}
+
+// forget drops the last place of a member.
+func (fleet *Fleet) forget(place epoch.Place) {
+	fleet.lock.Lock()
+	defer fleet.lock.Unlock()
+	if fleet.places[place.Member] == place {
+		fleet.places[place.Member] = epoch.Place{Site: fleet.name, Member: place.Member}
+	}
 }
 
 func (fleet *Fleet) take(place epoch.Place) (least epoch.Place, isThere bool, err error) {
@@ -70,13 +149,13 @@ func (fleet *Fleet) take(place epoch.Place) (least epoch.Place, isThere bool, er
 	defer fleet.lock.Unlock()
 	before, isMember := fleet.places[place.Member]
 	if !isMember || place.Site != fleet.name {
-		return least, false, fmt.Errorf("%w %s: %q", ErrNoMember, fleet.name, place.Member)
+		return least, false, fmt.Errorf("%w: the sites of the fleet %s are %s", epoch.ErrNoSite, fleet.name, strings.Join(fleet.names, ", "))
 	}
 	fleet.told[place.Member] = clock.Now()
 	if isBefore(before, place) {
 		fleet.places[place.Member] = place
 	}
-	least, isThere = fleet.places[place.Member], true
+	least, isThere = fleet.places[place.Member], fleet.looked && len(fleet.unlisted) == 0
 	for _, other := range fleet.places {
 		isThere = isThere && other.Epoch > 0
 		if isBefore(other, least) {

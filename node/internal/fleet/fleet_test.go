@@ -2,36 +2,125 @@ package fleet
 
 import (
 	"context"
+	"errors"
 	"fmt"
+	"strings"
 	"testing"
 
+	"ordup-node/internal/engine"
 	"ordup-node/internal/epoch"
+	"ordup-node/internal/exit"
 )
 
-type teller struct{ told []string }
+// A teller keeps what it is told, and answers with its error.
+type teller struct {
+	told []string
+	err  error
+}
 
 func (teller *teller) Tell(_ context.Context, place epoch.Place) error {
-	teller.told = append(teller.told, fmt.Sprint(place.Site, place.Epoch, place.Applied, place.Entry))
-	return nil
+	teller.told = append(teller.told, fmt.Sprint(place.Site, place.Member, place.Epoch, place.Applied, place.Entry))
+	return teller.err
+}
+
+// Keys are those of the fleet far in an engine, or an error.
+type keys struct {
+	names []string
+	err   error
+}
+
+func (keys *keys) Holds(context.Context, string) (holds []engine.Hold, err error) {
+	for _, name := range keys.names {
+		holds = append(holds, engine.Hold{Key: name, IsLeased: true})
+	}
+	return holds, keys.err
+}
+
+func start(up *teller, engine Engine) (*Fleet, func(member string, epochs, applied, entry int64) error) {
+	fleet := New("far", []string{"east", "west"}, up)
+	fleet.Look(context.Background(), engine)
+	return fleet, func(member string, epochs, applied, entry int64) error {
+		return fleet.Tell(context.Background(), epoch.Place{Site: "far", Member: member, Epoch: epochs, Applied: applied, Entry: entry})
+	}
 }
 
 func TestAFleetTellsTheLeastPlace(t *testing.T) {
 	up := &teller{}
-	fleet := New("far", []string{"east", "west"}, up)
-	tell := func(member string, epochs, applied, entry int64) error {
-		return fleet.Tell(context.Background(), epoch.Place{Site: "far", Member: member, Epoch: epochs, Applied: applied, Entry: entry})
-	}
+	_, tell := start(up, &keys{})
 	for _, err := range []error{tell("east", 1, 5, 7), tell("west", 1, 3, 5), tell("west", 1, 2, 4), tell("west", 1, 9, 9),
 		tell("east", 2, 0, 12), tell("east", 2, 4, 13), tell("west", 2, 1, 14)} {
 		if err != nil {
 			t.Error(err)
 		}
 	}
-	if tell("north", 1, 1, 1) == nil || tell("\xff", 1, 1, 1) == nil {
-		t.Error("who is no member tells")
+	for _, stranger := range []string{"north", "\xff", "far"} {
+		if err := tell(stranger, 1, 1, 1); !errors.Is(err, epoch.ErrNoSite) || exit.Of(err) != exit.NotInScript {
+			t.Error("who is no member tells", err)
+		}
 	}
-	wants := "[far1 3 5 far1 3 5 far1 5 7 far1 9 9 far1 9 9 far2 1 14]"
+	wants := "[farfar1 3 5 farfar1 3 5 farfar1 5 7 farfar1 9 9 farfar1 9 9 farfar2 1 14]"
 	if fmt.Sprint(up.told) != wants {
+		t.Error(up.told)
+	}
+}
+
+// A fleet tells nothing before it saw which keys of it there are, and while one of them is of no member.
+func TestAFleetTellsNothingWhileOthersServe(t *testing.T) {
+	up, seen := &teller{}, &keys{err: errors.New("the engine is away")}
+	fleet, tell := start(up, seen)
+	tells := func(wants bool, why string) {
+		t.Helper()
+		before := len(up.told)
+		for _, member := range []string{"east", "west"} {
+			if err := tell(member, 1, 5, 7); err != nil {
+				t.Error(err)
+			}
+		}
+		if (len(up.told) > before) != wants {
+			t.Errorf("%s: %v", why, up.told)
+		}
+	}
+	look := func(err error, names ...string) {
+		seen.names, seen.err = names, err
+		if got := fleet.Look(context.Background(), seen); got != err {
+			t.Error(got)
+		}
+	}
+	tells(false, "the engine was not seen yet")
+	look(nil, "site/far/east", "site/far/mid")
+	tells(false, "mid may serve")
+	if got := fleet.Status(); !got.Looked || fmt.Sprint(got.Unlisted) != "[site/far/mid]" {
+		t.Error(got)
+	}
+	look(seen.err, "site/far/east")
+	look(errors.New("away"), "site/far/west")
+	tells(true, "mid has gone, and the engine is away")
+	look(nil, "site/far/far")
+	tells(false, "a process serves as the fleet itself")
+}
+
+// A place that is refused for good ends the site that told it, and not the one by whose place the fleet told.
+func TestAPlaceOfAnotherMemberIsRefused(t *testing.T) {
+	up := &teller{}
+	_, tell := start(up, &keys{})
+	tell("west", 1, 3, 5)
+	up.err = &epoch.CannotBeError{Updates: 2}
+	var cannotBe *epoch.CannotBeError
+	if err := tell("east", 1, 5, 7); err == nil || errors.As(err, &cannotBe) || !strings.Contains(err.Error(), "west") {
+		t.Error(err)
+	}
+	if err := tell("west", 1, 3, 5); !errors.As(err, &cannotBe) {
+		t.Error(err)
+	}
+	// What a member told before its script was restored is forgotten, and what it tells then counts.
+	up.err = epoch.ErrOtherScript
+	if err := tell("east", 1, 2, 3); err == nil || errors.Is(err, epoch.ErrOtherScript) {
+		t.Error(err)
+	}
+	up.err, up.told = nil, nil
+	tell("west", 1, 2, 3)
+	tell("east", 1, 1, 2)
+	if fmt.Sprint(up.told) != "[farfar1 2 3 farfar1 2 3]" {
 		t.Error(up.told)
 	}
 }

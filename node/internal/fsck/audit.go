@@ -179,6 +179,16 @@ func (audit *Audit) check(number int64, site, record string) (uint64, error) {
 	return verdict.Rounds, nil
 }
 
+// HasEnded is whether the last epoch is over: its end was due, all is acknowledged, and it waits for no site.
+func (audit *Audit) HasEnded() bool {
+	status := audit.core.Status(0)
+	hasEnded := status.Due && status.Acknowledged == status.Updates
+	for _, site := range status.Sites {
+		hasEnded = hasEnded && !site.JoinWaits
+	}
+	return hasEnded
+}
+
 // End checks the last epoch up to its last entry.
 func (audit *Audit) End() error {
 	if audit.store == nil || audit.core.Epoch() == 0 {

@@ -52,16 +52,18 @@ type Config struct {
 // A reader gives an audit what it reads, and counts it.
 type reader struct {
 	Config
-	ctx               context.Context
 	audit             *Audit
 	archives, entries int64
 }
 
 // Run checks all, up to the first fault. It returns how many archives and entries it has read.
 func Run(ctx context.Context, config Config) (archives, entries int64, err error) {
-	reader := &reader{Config: config, ctx: ctx}
-	if err = reader.readFolders(); err == nil && config.Engine != nil {
-		err = reader.readEngine()
+	reader := &reader{Config: config}
+	if err = reader.readFolders(ctx); err == nil && config.Engine != nil {
+		err = reader.readEngine(ctx)
+	}
+	if err == nil && config.Engine == nil && reader.audit != nil && !reader.audit.HasEnded() {
+		err = &LostError{fmt.Sprintf("the archive of the epoch %d is not whole: the epoch does not end in it", reader.audit.Core().Epoch())}
 	}
 	if reader.audit != nil {
 		if err == nil {
@@ -76,9 +78,9 @@ func Run(ctx context.Context, config Config) (archives, entries int64, err error
 }
 
 // take has an entry checked. The first one begins the audit.
-func (reader *reader) take(number int64, entry *script.Entry) error {
-	if reader.ctx.Err() != nil {
-		return reader.ctx.Err()
+func (reader *reader) take(ctx context.Context, number int64, entry *script.Entry) error {
+	if ctx.Err() != nil {
+		return ctx.Err()
 	}
 	if reader.audit == nil {
 		reader.audit = New(reader.Versions, number, reader.Tell)
@@ -88,7 +90,7 @@ func (reader *reader) take(number int64, entry *script.Entry) error {
 }
 
 // readFolders reads the archives of all epochs, one after another.
-func (reader *reader) readFolders() error {
+func (reader *reader) readFolders(ctx context.Context) error {
 	number := reader.From
 	for ; ; number++ {
 		name, err := fileOf(reader.Folders, number)
@@ -98,7 +100,8 @@ func (reader *reader) readFolders() error {
 		if name == "" {
 			break
 		}
-		if err = readFile(name, number, reader.take); err != nil {
+		take := func(at int64, entry *script.Entry) error { return reader.take(ctx, at, entry) }
+		if err = readFile(name, number, take); err != nil {
 			return fmt.Errorf("%s: %w", name, err)
 		}
 		reader.archives++
@@ -176,22 +179,24 @@ func readFile(name string, number int64, take func(int64, *script.Entry) error) 
 }
 
 // readEngine reads what the engine has after the archives, and looks whether the epoch that it names is that of the script.
-func (reader *reader) readEngine() error {
-	next, err := reader.Engine.First(reader.ctx)
+func (reader *reader) readEngine(ctx context.Context) error {
+	next, err := reader.Engine.First(ctx)
 	if err != nil {
 		return err
 	}
 	if reader.audit != nil {
 		if next > reader.audit.Next() {
-			return &epoch.GapError{Number: reader.audit.Next(), Instead: next}
+			return fmt.Errorf("the archives end with the epoch %d, and behind them %w", reader.audit.Core().Epoch(),
+				&epoch.GapError{Number: reader.audit.Next(), Instead: next})
 		}
 		next = reader.audit.Next()
 	}
-	named, first, err := reader.Engine.Epoch(reader.ctx)
+	named, first, err := reader.Engine.Epoch(ctx)
 	if err != nil {
 		return err
 	}
-	if _, err = reader.Engine.ReadAll(reader.ctx, next, reader.takeAll); err != nil || reader.audit == nil {
+	takeAll := func(raws []engine.Raw) error { return reader.takeAll(ctx, raws) }
+	if _, err = reader.Engine.ReadAll(ctx, next, takeAll); err != nil || reader.audit == nil {
 		return err
 	}
 	if core := reader.audit.Core(); core.Epoch() < named || core.Epoch() == named && core.First() != first {
@@ -201,11 +206,11 @@ func (reader *reader) readEngine() error {
 	return nil
 }
 
-func (reader *reader) takeAll(raws []engine.Raw) error {
+func (reader *reader) takeAll(ctx context.Context, raws []engine.Raw) error {
 	for _, raw := range raws {
 		entry, err := epoch.Parse(raw.Number, raw.Text)
 		if err == nil {
-			err = reader.take(raw.Number, entry)
+			err = reader.take(ctx, raw.Number, entry)
 		}
 		if err != nil {
 			return err

@@ -23,6 +23,13 @@ var declarations = []string{"object tea 1000", "object till 0", "site north 1", 
 // scriptOf runs epochs of a few updates, and gives their entries.
 func scriptOf(t *testing.T, epochs int64) []*script.Entry {
 	t.Helper()
+	return redeclared(t, epochs, nil)
+}
+
+// redeclared gives those of a script in which an operator gives other declarations for the second epoch.
+func redeclared(t *testing.T, epochs int64, second []string) []*script.Entry {
+	t.Helper()
+	wishes := map[int64][]string{1: second}
 	config := epoch.Config{Open: library.Open, Writer: "p1", Versions: []string{"1"}}
 	settings := script.Settings{Every: 1000, Remembers: 2, Origin: epoch.DigestOf(declarations), Ordup: "1"}
 	turn, err := epoch.FirstTurn(config, settings, declarations)
@@ -42,7 +49,7 @@ func scriptOf(t *testing.T, epochs int64) []*script.Entry {
 	for number := int64(1); err == nil && core.Epoch() <= epochs; number++ {
 		if number%5 != 0 {
 			_, err = core.Ask([]epoch.Request{{Client: fmt.Sprint("c", number%3), Number: number, Changes: "add:tea:-1 add:till:3"}}, 0)
-		} else if err = core.AskNext(epoch.Wish{From: core.Epoch()}); err != nil {
+		} else if err = core.AskNext(epoch.Wish{From: core.Epoch(), Declarations: wishes[core.Epoch()]}); err != nil {
 			break
 		}
 		for err == nil {
@@ -118,6 +125,22 @@ func TestWhatIsWrongIsFound(t *testing.T) {
 			return strings.ReplaceAll(text, old, new)
 		}
 	}
+	third := func(change func(string) string) func(string, string) string {
+		return func(name, text string) string {
+			if name == "epoch-3.ordup" {
+				return change(text)
+			}
+			return text
+		}
+	}
+	of := func(epoch int64) (text string) {
+		for at, entry := range entries {
+			if entry.Epoch == epoch {
+				text += string(entry.AppendArchive(nil, int64(at+1)))
+			}
+		}
+		return text
+	}
 	for _, row := range []struct {
 		change func(name, text string) string
 		says   string
@@ -129,9 +152,18 @@ func TestWhatIsWrongIsFound(t *testing.T) {
 		{second("add:tea:-1", "add:tea:-2"), ""},
 		{second("# known c1", "# known c9"), "it does not carry over the last request of c9"},
 		{second("# tell north", "# tell south"), ""},
+		{second("# ask c0 9 ", "# ask c0 6 "), "c0 asks under 6 after 6"},
+		{second("# settle 1\nsettle\n", "# gone north 0\nreport north\n"), "the site north is gone, and was not taken out"},
 		{func(name, text string) string { return strings.Replace(text, "# known", "#  known", 1) }, "line"},
 		{func(name, text string) string { return map[bool]string{true: "", false: text}[name == "epoch-2.ordup"] }, "no folder has the archive of the epoch 2"},
 		{func(name, text string) string { return map[bool]string{true: "", false: text}[name == "epoch-1.ordup"] }, "no folder has the archive of the epoch 1"},
+		{third(func(string) string { return of(2) }), "it is of epoch 2"},
+		{third(func(text string) string { return text + text }), "the script has the entry"},
+		{third(func(text string) string { return text + of(2) }), "it is of epoch 2"},
+		{third(func(text string) string { return text[:strings.LastIndex(text, "# answer ")] }), "its answers are not those"},
+		{third(func(text string) string {
+			return text[:strings.LastIndex(text[:strings.LastIndex(text, "# tell north")], "# entry ")]
+		}), "the archive of the epoch 3 is not whole"},
 		{second("# entry ", "# entry 1"), ""},
 		{func(string, string) string { return "# nothing\n" }, ""},
 		{func(_, text string) string { return text[:len(text)/2] }, ""},
@@ -150,6 +182,14 @@ func TestWhatIsWrongIsFound(t *testing.T) {
 	}
 }
 
+// Where an operator gives other declarations, the records of a site begin anew.
+func TestAScriptIsRightThatWasDeclaredAnew(t *testing.T) {
+	folder := write(t, redeclared(t, 3, append([]string{"object milk 7"}, declarations...)), asItIs)
+	if text, err := run([]string{folder}, nil); err != nil || strings.Count(text, "\n") != 3 {
+		t.Error(err, text)
+	}
+}
+
 func TestAClientThatIsLeftOutIsFound(t *testing.T) {
 	entries := scriptOf(t, 2)
 	for _, entry := range entries {
@@ -163,8 +203,8 @@ func TestAClientThatIsLeftOutIsFound(t *testing.T) {
 }
 
 func TestTheEngineGoesOnFromTheArchives(t *testing.T) {
-	opened, entries := etcdtest.Start(t, 1).Engine(), scriptOf(t, 3)
-	last, ctx := int64(0), context.Background()
+	members, entries := etcdtest.Start(t, 1), scriptOf(t, 3)
+	opened, last, ctx := members.Engine(), int64(0), context.Background()
 	for at, entry := range entries {
 		write := &engine.Write{Number: int64(at + 1), Text: entry.Text()}
 		if entry.Begins() {
@@ -185,12 +225,22 @@ func TestTheEngineGoesOnFromTheArchives(t *testing.T) {
 			t.Error(err, text)
 		}
 	}
+	// The engine names the last epoch and its first entry.
+	for _, row := range []struct {
+		named string
+		right bool
+	}{{fmt.Sprintf("4 %d", last+1), false}, {fmt.Sprintf("5 %d", last), false}, {fmt.Sprintf("4 %d", last), true}} {
+		members.Put("epoch", row.named)
+		if _, err := run(nil, opened); (err == nil) != row.right || err != nil && !strings.Contains(err.Error(), "the engine names the epoch") {
+			t.Error(row, err)
+		}
+	}
 	// Without the archive of the third epoch, and with its entries gone.
 	if removed, err := opened.RemoveEpoch(ctx, 3, nil, engine.Archive{From: 1, Before: last}); err != nil || !removed {
 		t.Fatal(removed, err)
 	}
 	os.Remove(filepath.Join(folder, "epoch-3.ordup"))
-	if _, err := run([]string{folder}, opened); exit.Of(err) != exit.Gap || !strings.Contains(err.Error(), "the script has the entry") {
+	if _, err := run([]string{folder}, opened); exit.Of(err) != exit.Gap || !strings.Contains(err.Error(), "the archives end with the epoch 2, and behind them the script has the entry") {
 		t.Error(err)
 	}
 }

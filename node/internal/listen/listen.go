@@ -13,7 +13,6 @@ import (
 	"log"
 	"net"
 	"net/http"
-	"strings"
 	"time"
 
 	"ordup-node/internal/logs"
@@ -104,9 +103,10 @@ func Body(asked *http.Request, most int) (body []byte, err error) {
 	if asked.ContentLength > int64(most) {
 		return nil, ErrTooLarge
 	}
+	end := time.Now().Add(bodyTime)
 	if member, isMember := asked.Context().Value(memberKey{}).(*member); isMember {
 		member.body = begun
-		member.SetReadDeadline(time.Now().Add(bodyTime))
+		member.SetReadDeadline(end)
 		defer func() {
 			if err != ErrTooLarge {
 				member.body = over
@@ -117,9 +117,8 @@ func Body(asked *http.Request, most int) (body []byte, err error) {
 		}()
 	}
 	body, err = io.ReadAll(io.LimitReader(asked.Body, int64(most)+1))
-	var late net.Error
 	switch {
-	case err != nil && (errors.As(err, &late) && late.Timeout() || strings.Contains(err.Error(), "i/o timeout")):
+	case err != nil && !time.Now().Before(end): // Where a trailer stops, the error does not say that it was the time.
 		return nil, ErrTooSlow
 	case err != nil:
 		return nil, err

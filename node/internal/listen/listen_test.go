@@ -3,12 +3,15 @@ package listen_test
 import (
 	"bufio"
 	"bytes"
+	"crypto/tls"
 	"errors"
 	"fmt"
 	"io"
 	"net"
 	"net/http"
+	"net/http/httptest"
 	"strings"
+	"sync"
 	"testing"
 	"time"
 
@@ -20,26 +23,32 @@ import (
 func start(t *testing.T, most int) (*listen.Server, chan struct{}) {
 	t.Helper()
 	goOn := make(chan struct{})
-	server, err := listen.Start("127.0.0.1:0", nil, most, http.HandlerFunc(func(to http.ResponseWriter, asked *http.Request) {
+	server, err := listen.Start("127.0.0.1:0", nil, most, echo(goOn), nil)
+	if err != nil {
+		t.Fatal(err)
+	}
+	t.Cleanup(func() { server.Stop(time.Second) })
+	return server, goOn
+}
+
+func echo(goOn chan struct{}) http.HandlerFunc {
+	return func(to http.ResponseWriter, asked *http.Request) {
 		body, err := listen.Body(asked, 10)
 		defer listen.Begin(asked)()
 		switch {
 		case errors.Is(err, listen.ErrTooLarge):
 			to.WriteHeader(http.StatusRequestEntityTooLarge)
-		case err != nil:
+		case errors.Is(err, listen.ErrTooSlow):
 			to.WriteHeader(http.StatusRequestTimeout)
+		case err != nil:
+			to.WriteHeader(http.StatusBadRequest)
 		case asked.URL.Path == "/wait":
 			<-goOn
 		case asked.URL.Path == "/context":
 			<-asked.Context().Done()
 		}
 		fmt.Fprintf(to, "%s", body)
-	}), nil)
-	if err != nil {
-		t.Fatal(err)
 	}
-	t.Cleanup(func() { server.Stop(time.Second) })
-	return server, goOn
 }
 
 func dial(t *testing.T, server *listen.Server) net.Conn {
@@ -103,13 +112,40 @@ func TestABodyHasASizeAndATime(t *testing.T) {
 	if answer, err := http.ReadResponse(bufio.NewReader(connection), nil); err != nil || answer.StatusCode != http.StatusRequestEntityTooLarge {
 		t.Error(answer, err)
 	}
-	slow := dial(t, server)
-	fmt.Fprint(slow, "POST / HTTP/1.1\r\nHost: a\r\nContent-Length: 9\r\n\r\nhalf")
-	began := time.Now()
-	answer, err := http.ReadResponse(bufio.NewReader(slow), nil)
-	if took := time.Since(began); err != nil || answer.StatusCode != http.StatusRequestTimeout || took < 4*time.Second || took > 8*time.Second {
-		t.Error(answer, err, took)
+}
+
+// Wherever a body stops, it is told from one that is none.
+func TestABodyThatStopsIsTooSlow(t *testing.T) {
+	plain, _ := start(t, 32)
+	own := httptest.NewTLSServer(nil)
+	own.Close()
+	secure, err := listen.Start("127.0.0.1:0", own.TLS, 32, echo(nil), nil)
+	if err != nil {
+		t.Fatal(err)
 	}
+	t.Cleanup(func() { secure.Stop(time.Second) })
+	chunked := "Transfer-Encoding: chunked\r\n\r\n"
+	var all sync.WaitGroup
+	for _, rest := range []string{"Content-Length: 9\r\n\r\n", "Content-Length: 9\r\n\r\nhalf", chunked, chunked + "8", chunked + "8\r\n0123", chunked + "2\r\n01",
+		chunked + "2\r\n01\r\n0", chunked + "2\r\n01\r\n0\r\n", chunked + "2\r\n01\r\n0\r\nA: b\r\n"} {
+		for _, server := range []*listen.Server{plain, secure} {
+			connection := dial(t, server)
+			if server == secure {
+				connection = tls.Client(connection, &tls.Config{InsecureSkipVerify: true})
+			}
+			all.Add(1)
+			go func(rest string) {
+				defer all.Done()
+				began := time.Now()
+				fmt.Fprint(connection, "POST / HTTP/1.1\r\nHost: a\r\n"+rest)
+				answer, err := http.ReadResponse(bufio.NewReader(connection), nil)
+				if took := time.Since(began); err != nil || answer.StatusCode != http.StatusRequestTimeout || took < 4*time.Second || took > 8*time.Second {
+					t.Errorf("%q: %v %v %v", rest, answer, err, took)
+				}
+			}(rest)
+		}
+	}
+	all.Wait()
 }
 
 func TestAHandlerThatFailsIsTold(t *testing.T) {

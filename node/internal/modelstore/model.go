@@ -152,7 +152,7 @@ func (model *Model) propose(changes []string) string {
 		return refused
 	}
 	model.values = values
-	model.log = append(model.log, strings.Join(changes, " "))
+	model.log = append(model.log, strings.Clone(strings.Join(changes, " ")))
 	return fmt.Sprintf("ok proposed %d", len(model.log))
 }
 

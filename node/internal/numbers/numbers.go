@@ -3,7 +3,6 @@ package numbers
 
 import (
 	"net/http"
-	"time"
 
 	"github.com/prometheus/client_golang/prometheus"
 	"github.com/prometheus/client_golang/prometheus/collectors"
@@ -61,14 +60,11 @@ func (collect collector) Collect(to chan<- prometheus.Metric) {
 }
 
 // A Numbers is those of a process.
-type Numbers struct {
-	registry *prometheus.Registry
-	waits    prometheus.Histogram
-}
+type Numbers struct{ registry *prometheus.Registry }
 
 // newNumbers gives those that all processes have.
 func newNumbers(kind, version string, connections func() int, samples collector) *Numbers {
-	numbers := &Numbers{registry: prometheus.NewRegistry()}
+	numbers := &Numbers{prometheus.NewRegistry()}
 	numbers.registry.MustRegister(samples, collectors.NewGoCollector(),
 		collectors.NewProcessCollector(collectors.ProcessCollectorOpts{}),
 		collector(func() []sample {
@@ -85,6 +81,3 @@ func newNumbers(kind, version string, connections func() int, samples collector)
 func (numbers *Numbers) Handler() http.Handler {
 	return promhttp.HandlerFor(numbers.registry, promhttp.HandlerOpts{})
 }
-
-// Waited takes how long an update waited for its answer.
-func (numbers *Numbers) Waited(wait time.Duration) { numbers.waits.Observe(wait.Seconds()) }

@@ -56,10 +56,10 @@ func TestNumbersOfAPrimary(t *testing.T) {
 }
 
 func TestNumbersHaveTheFormOfPrometheus(t *testing.T) {
-	members := func() []fleet.MemberStatus {
-		return []fleet.MemberStatus{{Place: epoch.Place{Member: "east", Epoch: 2}}}
+	members := func() fleet.Status {
+		return fleet.Status{Members: []fleet.MemberStatus{{Place: epoch.Place{Member: "east", Epoch: 2}}}}
 	}
-	for _, numbers := range []*Numbers{OfPrimary("1", zero, func() primary.Status { return status }),
+	for _, numbers := range []*Numbers{OfPrimary("1", zero, func() primary.Status { return status }).Numbers,
 		OfSite("1", "north", zero, func() site.Status { return site.Status{HasTold: true, HasSeen: true} }), OfFleet("1", zero, members)} {
 		problems, err := testutil.GatherAndLint(numbers.registry)
 		if err != nil || len(problems) > 0 {
@@ -76,7 +76,7 @@ func TestThePageOfAPrimary(t *testing.T) {
 		lag.add(&now)
 	}
 	text := get(t, PageOfPrimary("p1", lag, func() primary.Status { return status }))
-	has(t, text, "It writes the script.", "The update 7 waits since 12.0 s for north.", "The next epoch is due since 3.0 s, and waits for north.",
+	has(t, text, "It writes the script.", "The update 7 waits for north, for 12.0 s already.", "The next epoch has been due for 3.0 s, and waits for north.",
 		"<td class=\"\">count 3, object tea 20</td>", "by the head, by the next epoch", "taken out, held by 3 keys in the engine", "<svg", `points="60.0,`, "&lt;b&gt;", `class="left">49</text>`)
 	if strings.Contains(text, "<b>") {
 		t.Error("a name is not quoted")
@@ -97,10 +97,13 @@ func TestNumbersOfASiteAndAFleet(t *testing.T) {
 	has(t, get(t, PageOfSite("north", seen)), "It serves readers.", "the site north")
 	now.Serves = false
 	has(t, get(t, PageOfSite("north", seen)), "It serves no reader now.")
-	members := func() []fleet.MemberStatus {
-		return []fleet.MemberStatus{{Place: epoch.Place{Member: "east", Epoch: 2, Applied: 5}, Told: time.Second}, {Place: epoch.Place{Member: "west"}}}
-	}
+	far := fleet.Status{Looked: true, Members: []fleet.MemberStatus{
+		{Place: epoch.Place{Member: "east", Epoch: 2, Applied: 5}, Told: time.Second}, {Place: epoch.Place{Member: "west"}}}}
+	members := func() fleet.Status { return far }
 	has(t, get(t, OfFleet("1", zero, members).Handler()), `ordup_member_applied_updates{site="east"} 5`, `ordup_member_told_seconds{site="east"} 1`,
-		`ordup_member_epoch{site="west"} 0`)
+		`ordup_member_epoch{site="west"} 0`, "ordup_unlisted_keys 0")
 	has(t, get(t, PageOfFleet("far", members)), fmt.Sprintf("<td class=%q>not yet</td>", "n bad"))
+	far.Looked, far.Unlisted = false, []string{"site/far/mid"}
+	has(t, get(t, OfFleet("1", zero, members).Handler()), "ordup_unlisted_keys 1")
+	has(t, get(t, PageOfFleet("far", members)), "the engine does not answer", "the key site/far/mid")
 }

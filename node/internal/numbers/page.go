@@ -54,7 +54,8 @@ func serve(look func() content) http.Handler {
 			return
 		}
 		to.Header().Set("Content-Type", "text/html; charset=utf-8")
-		to.Header().Set("Content-Security-Policy", "default-src 'none'; style-src 'unsafe-inline'")
+		to.Header().Set("Content-Security-Policy", "default-src 'none'; style-src 'unsafe-inline'; frame-ancestors 'none'")
+		to.Header().Set("X-Frame-Options", "DENY")
 		to.Header().Set("Cache-Control", "no-store")
 		to.Write(text.Bytes())
 	})
@@ -117,14 +118,14 @@ func saysOf(status *primary.Status) []cell {
 		}
 	}
 	if len(waited) > 0 {
-		says = append(says, cell{Bad: true, Text: fmt.Sprintf("The update %d waits since %s for %s.", core.Acknowledged+1, ago(core.HeadWaits),
-			strings.Join(waited, ", "))})
+		says = append(says, cell{Bad: true, Text: fmt.Sprintf("The update %d waits for %s, for %s already.", core.Acknowledged+1,
+			strings.Join(waited, ", "), ago(core.HeadWaits))})
 	}
 	switch {
 	case core.Ending:
 		says = append(says, cell{Text: "The next epoch is being written."})
 	case core.Due && len(join) > 0:
-		says = append(says, cell{Bad: true, Text: fmt.Sprintf("The next epoch is due since %s, and waits for %s.", ago(core.DueSince),
+		says = append(says, cell{Bad: true, Text: fmt.Sprintf("The next epoch has been due for %s, and waits for %s.", ago(core.DueSince),
 			strings.Join(join, ", "))})
 	}
 	if status.Counts.Full > 0 {
@@ -145,11 +146,18 @@ func PageOfSite(name string, status func() site.Status) http.Handler {
 }
 
 // PageOfFleet is the page of a fleet.
-func PageOfFleet(name string, status func() []fleet.MemberStatus) http.Handler {
+func PageOfFleet(name string, status func() fleet.Status) http.Handler {
 	return serve(func() content {
 		shown := content{Title: "ordup: the fleet " + name,
 			Heads: []cell{{Text: "site"}, {Text: "epoch", N: true}, {Text: "applied", N: true}, {Text: "told", N: true}}}
-		for _, member := range status() {
+		now := status()
+		if !now.Looked {
+			shown.Says = append(shown.Says, cell{Text: "It tells nothing: the engine does not answer.", Bad: true})
+		}
+		for _, key := range now.Unlisted {
+			shown.Says = append(shown.Says, cell{Text: "It tells nothing: there is the key " + key + ", which is of none of its sites.", Bad: true})
+		}
+		for _, member := range now.Members {
 			told := "not yet"
 			if member.Place.Epoch > 0 {
 				told = ago(member.Told)

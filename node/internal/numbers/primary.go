@@ -1,23 +1,33 @@
 package numbers
 
 import (
+	"time"
+
 	"github.com/prometheus/client_golang/prometheus"
 
 	"ordup-node/internal/primary"
 )
 
+// A PrimaryNumbers is those of a primary.
+type PrimaryNumbers struct {
+	*Numbers
+	waits prometheus.Histogram
+}
+
 // OfPrimary gives the numbers of a primary.
-func OfPrimary(version string, connections func() int, status func() primary.Status) *Numbers {
-	numbers := newNumbers("primary", version, connections, func() []sample {
+func OfPrimary(version string, connections func() int, status func() primary.Status) *PrimaryNumbers {
+	numbers := &PrimaryNumbers{newNumbers("primary", version, connections, func() []sample {
 		now := status()
 		return append(ofPrimary(&now), ofSites(&now)...)
-	})
-	numbers.waits = prometheus.NewHistogram(prometheus.HistogramOpts{Name: "ordup_update_wait_seconds",
+	}), prometheus.NewHistogram(prometheus.HistogramOpts{Name: "ordup_update_wait_seconds",
 		Help:    "how long updates waited for their answer at this process",
-		Buckets: []float64{.001, .002, .005, .01, .02, .05, .1, .2, .5, 1, 2, 5, 10, 30, 60}})
+		Buckets: []float64{.001, .002, .005, .01, .02, .05, .1, .2, .5, 1, 2, 5, 10, 30, 60}})}
 	numbers.registry.MustRegister(numbers.waits)
 	return numbers
 }
+
+// Waited takes how long an update waited for its answer.
+func (numbers *PrimaryNumbers) Waited(wait time.Duration) { numbers.waits.Observe(wait.Seconds()) }
 
 func ofPrimary(status *primary.Status) []sample {
 	core := &status.Core

@@ -31,10 +31,11 @@ func ofSite(name string, now *site.Status) []sample {
 }
 
 // OfFleet gives the numbers of a fleet.
-func OfFleet(version string, connections func() int, status func() []fleet.MemberStatus) *Numbers {
+func OfFleet(version string, connections func() int, status func() fleet.Status) *Numbers {
 	return newNumbers("fleet", version, connections, func() []sample {
-		samples := []sample{}
-		for _, member := range status() {
+		now := status()
+		samples := []sample{gauge("unlisted_keys", "keys of the fleet in the engine that are of none of its sites", float64(len(now.Unlisted)))}
+		for _, member := range now.Members {
 			samples = append(samples,
 				gauge("member_epoch", "the epoch of the place that the site told", float64(member.Place.Epoch)).of("site", member.Place.Member),
 				gauge("member_applied_updates", "updates of it that the site told as applied", float64(member.Place.Applied)).

@@ -4,6 +4,7 @@ import (
 	"context"
 	"errors"
 	"fmt"
+	"strings"
 	"sync/atomic"
 
 	"ordup-node/internal/clock"
@@ -43,7 +44,8 @@ func (err *PassedError) Error() string {
 // An Answer is what the store answered to a request: `ok acked K epoch E`, or `refused N NAME`.
 type Answer struct{ Text string }
 
-// mayTake tells why this process takes nothing now, or nil. Once it may not rely on its lease another process may write.
+// mayTake tells why this process takes nothing now, or nil. Once it may not rely on its lease another process may write. Whoever asks has
+// the lock of the calls.
 func (primary *Primary) mayTake() error {
 	switch {
 	case !primary.calls.open:
@@ -66,8 +68,30 @@ func (primary *Primary) Submit(ctx context.Context, request epoch.Request) (Answ
 		return Answer{done.text}, done.err
 	case <-ctx.Done():
 		primary.calls.drop(call)
-		return Answer{}, ctx.Err()
+		return Answer{}, primary.noAnswer(ctx.Err(), "the update", func(site *epoch.SiteStatus) bool { return site.Waited })
 	}
+}
+
+// noAnswer is the error of what has none in time. It names the sites for which that waits: an update for those of the first one that has no
+// answer, as all behind it do. While the core is at work it names none.
+func (primary *Primary) noAnswer(err error, what string, isWaited func(*epoch.SiteStatus) bool) error {
+	if !primary.coreLock.TryLock() {
+		return err
+	}
+	defer primary.coreLock.Unlock()
+	if primary.core == nil {
+		return err
+	}
+	waited := []string{}
+	for _, site := range primary.core.Status(clock.Now()).Sites {
+		if isWaited(&site) {
+			waited = append(waited, site.Name)
+		}
+	}
+	if len(waited) == 0 {
+		return err
+	}
+	return fmt.Errorf("%s waits for %s: %w", what, strings.Join(waited, " and "), err)
 }
 
 func (primary *Primary) queue(call *call) error {
@@ -89,7 +113,7 @@ func (primary *Primary) queue(call *call) error {
 }
 
 // Tell takes the place of a site, which the site has shown under its lease. After an error it may be told again, but for
-// epoch.ErrNoSite and an epoch.CannotBeError.
+// epoch.ErrNoSite, epoch.ErrOtherScript and an epoch.CannotBeError.
 func (primary *Primary) Tell(_ context.Context, place epoch.Place) error {
 	primary.calls.lock.Lock()
 	err := primary.mayTake()
@@ -100,6 +124,11 @@ func (primary *Primary) Tell(_ context.Context, place epoch.Place) error {
 	err = primary.with(func(core *epoch.Core) error {
 		if core == nil {
 			return epoch.ErrBehind
+		}
+		if place.Epoch == core.Epoch() {
+			if err := primary.digests.check(&place); err != nil {
+				return err
+			}
 		}
 		return core.Tell(place, clock.Now())
 	})
@@ -118,7 +147,7 @@ func (primary *Primary) Next(ctx context.Context, wish epoch.Wish) (int64, error
 		return wish.From + 1, done.err
 	case <-ctx.Done():
 		primary.calls.dropNext(next)
-		return 0, ctx.Err()
+		return 0, primary.noAnswer(ctx.Err(), "the next epoch", func(site *epoch.SiteStatus) bool { return site.JoinWaits })
 	}
 }
 

@@ -1,6 +1,7 @@
 package primary
 
 import (
+	"errors"
 	"sync"
 
 	"ordup-node/internal/epoch"
@@ -15,6 +16,8 @@ type call struct {
 	request epoch.Request
 	done    chan outcome
 	isGone  bool
+	// Where it is among those that wait for the answer to its request, if it is there.
+	at int
 }
 
 type outcome struct {
@@ -130,6 +133,7 @@ func (calls *calls) sort(came []*call, verdicts []epoch.Verdict) int {
 		switch verdict.Kind {
 		case epoch.Waits:
 			key := asked{call.request.Client, call.request.Number}
+			call.at = len(calls.waiting[key])
 			calls.waiting[key] = append(calls.waiting[key], call)
 			calls.waiters++
 		case epoch.NotNow:
@@ -164,10 +168,19 @@ func (calls *calls) tell(answers []script.Step) {
 	}
 }
 
-func (calls *calls) keepWish(next *nextCall) {
+// keepWish has a call wait for its epoch, or to be taken in a later turn, or tells why it is not taken.
+func (calls *calls) keepWish(next *nextCall, err error) {
 	calls.lock.Lock()
 	defer calls.lock.Unlock()
-	calls.wishes = append(calls.wishes, next)
+	switch {
+	case next.isGone:
+	case err == nil:
+		calls.wishes = append(calls.wishes, next)
+	case errors.Is(err, epoch.ErrNotNow):
+		calls.nexts = append(calls.nexts, next)
+	default:
+		next.done <- outcome{err: err}
+	}
 }
 
 // tellWishes tells who waits for an epoch that has begun, whether it is as it was wished.
@@ -188,20 +201,23 @@ func (calls *calls) tellWishes(core *epoch.Core) {
 	calls.wishes = left
 }
 
-// drop forgets a call for which nobody waits any more.
+// drop forgets a call for which nobody waits any more: at once if it was taken, and else as the queue is.
 func (calls *calls) drop(gone *call) {
 	calls.lock.Lock()
 	defer calls.lock.Unlock()
 	gone.isGone = true
 	key := asked{gone.request.Client, gone.request.Number}
-	left := without(calls.waiting[key], gone)
-	calls.waiters -= len(calls.waiting[key]) - len(left)
-	if len(left) > 0 {
-		calls.waiting[key] = left
-	} else {
+	waiters, at := calls.waiting[key], gone.at
+	if at >= len(waiters) || waiters[at] != gone {
+		return
+	}
+	last := len(waiters) - 1
+	waiters[at], waiters[last].at = waiters[last], at
+	waiters[last] = nil
+	if calls.waiting[key] = waiters[:last]; last == 0 {
 		delete(calls.waiting, key)
 	}
-	calls.queue = without(calls.queue, gone)
+	calls.waiters--
 }
 
 // dropNext forgets a call for an epoch for which nobody waits any more, as soon as it is looked at again.
@@ -211,12 +227,14 @@ func (calls *calls) dropNext(gone *nextCall) {
 	gone.isGone = true
 }
 
-func without(all []*call, gone *call) []*call {
-	left := all[:0]
-	for _, call := range all {
-		if call != gone {
-			left = append(left, call)
+// take empties the queue, and gives those of it for which somebody waits.
+func (calls *calls) take() []*call {
+	came := calls.queue[:0]
+	for _, call := range calls.queue {
+		if !call.isGone {
+			came = append(came, call)
 		}
 	}
-	return left
+	calls.queue = nil
+	return came
 }

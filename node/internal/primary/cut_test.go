@@ -4,11 +4,13 @@ import (
 	"context"
 	"errors"
 	"fmt"
+	"strings"
 	"testing"
 	"time"
 
 	"ordup-node/internal/engine"
 	"ordup-node/internal/epoch"
+	"ordup-node/internal/exit"
 	"ordup-node/internal/primary"
 	"ordup-node/internal/site"
 )
@@ -99,6 +101,58 @@ func TestAWriterThatIsCutOff(t *testing.T) {
 	until(t, 5*time.Second, "p1 does not stand by", func() bool { return one.Status().Core.Written == two.Status().Core.Written })
 	is(t, false, one.Status().Writes)
 	is(t, "http://p2", one.Status().Writer)
+}
+
+// A primary that is cut off as it takes over has a lease that may be over by the time that it can go on. It takes over no more.
+func TestNobodyTakesOverWithALeaseThatMayBeOver(t *testing.T) {
+	deployment := deploy(t, 1)
+	_, before := deployment.primary(deployment.config("p1"))
+	is(t, "ok acked 1 epoch 1", deployment.ask("ann", 1, "add:tea:-1"))
+	is(t, nil, before.end())
+	leases, entries := deployment.members.Link(), deployment.members.Link()
+	config := deployment.config("p2")
+	config.Engine = leases.Engine(t)
+	two, err := primary.New(config)
+	is(t, nil, err)
+	two.ScriptBy(entries.Engine(t))
+	entries.Cut()
+	deployment.run(two.Run)
+	until(t, 10*time.Second, "it has no lease", func() bool { return two.Status().Lease > 0 })
+	leases.Cut()
+	until(t, 5*time.Second, "its lease is not over", func() bool { return two.Status().Lease == 0 })
+	time.Sleep(engine.CallTime + time.Second) // What it asked while it had the lease has failed.
+	last, err := deployment.members.Engine().Last(context.Background(), 1)
+	is(t, nil, err)
+	entries.Mend()
+	until(t, 10*time.Second, "it does not follow", func() bool { return two.Status().Core.Written == last })
+	time.Sleep(500 * time.Millisecond)
+	now, err := deployment.members.Engine().Last(context.Background(), 1)
+	is(t, []interface{}{last, nil, false}, []interface{}{now, err, two.Status().Writes})
+	leases.Mend()
+	until(t, 20*time.Second, "it does not take over", func() bool { return two.Status().Writes })
+}
+
+// A primary that was cut off meanwhile goes on behind the entry that it has run, and not behind another one of this number.
+func TestAnEntryChangesBehindACutLink(t *testing.T) {
+	deployment := deploy(t, 1)
+	one, _ := deployment.primary(deployment.config("p1"))
+	is(t, "ok acked 1 epoch 1", deployment.ask("ann", 1, "add:tea:-1"))
+	link := deployment.members.Link()
+	config := deployment.config("p2")
+	config.Engine = link.Engine(t)
+	two, standby := deployment.primary(config)
+	last := one.Status().Core.Written
+	until(t, 10*time.Second, "p2 does not follow", func() bool { return two.Status().Core.Written == last })
+	time.Sleep(time.Second) // From here on it watches.
+	failures := two.Status().EngineFailures
+	link.Cut()
+	until(t, 30*time.Second, "p2 notices nothing", func() bool { return two.Status().EngineFailures > failures })
+	text, isThere, err := deployment.members.Engine().Entry(context.Background(), last)
+	is(t, []interface{}{true, nil}, []interface{}{isThere, err})
+	deployment.members.Put(fmt.Sprintf("script/%012d", last), strings.Replace(string(text), "writer p1-", "writer p9-", 1))
+	link.Mend()
+	until(t, 20*time.Second, "p2 goes on", func() bool { return len(standby.done) > 0 })
+	is(t, exit.Gap, exit.Of(<-standby.done))
 }
 
 // A primary that is cut off from the engine alone takes nothing once it may not rely on its lease: what it took would be lost on its way to

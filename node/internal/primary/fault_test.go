@@ -2,12 +2,15 @@ package primary_test
 
 import (
 	"context"
+	"errors"
 	"fmt"
+	"strings"
 	"testing"
 	"time"
 
 	"ordup-node/internal/epoch"
 	"ordup-node/internal/exit"
+	"ordup-node/internal/modelstore"
 	"ordup-node/internal/primary"
 	"ordup-node/internal/site"
 )
@@ -30,6 +33,20 @@ func TestAFullEngineTakesNoRequests(t *testing.T) {
 	is(t, "ok acked 3 epoch 1", deployment.ask("bob", 1, "add:tea:-1"))
 }
 
+// A store that fails under a request ends the process. Who asked is told at once to ask elsewhere.
+func TestWhoAsksAStoreThatFails(t *testing.T) {
+	deployment := deploy(t, 1)
+	config := deployment.config("p1")
+	config.Open = modelstore.OpenWrong(func(_, answer string) string { return strings.Replace(answer, "ok proposed", "ok posed", 1) })
+	own, process := deployment.primary(config)
+	until(t, 10*time.Second, "p1 does not write", func() bool { return own.Status().Writes })
+	limited, cancel := context.WithTimeout(context.Background(), 20*time.Second)
+	defer cancel()
+	_, err := own.Submit(limited, epoch.Request{Client: "ann", Number: 1, Changes: "add:tea:-1"})
+	var other *primary.NotWriterError
+	is(t, []interface{}{true, exit.Gap}, []interface{}{errors.As(err, &other), exit.Of(<-process.done)})
+}
+
 // A script that is written by hand, or that lacks what a process has run, ends the processes that meet it.
 func TestAScriptThatChanges(t *testing.T) {
 	deployment := deploy(t, 1)
@@ -47,6 +64,15 @@ func TestAScriptThatChanges(t *testing.T) {
 	is(t, nil, writer.end())
 	_, writer = deployment.primary(deployment.config("p3"))
 	is(t, exit.Gap, exit.Of(<-writer.done))
+}
+
+// The key of the last epoch is written by hand: who starts then cannot know where to begin.
+func TestAnEpochThatIsNone(t *testing.T) {
+	deployment := deploy(t, 1)
+	deployment.members.Put("epoch", "by hand")
+	_, writer := deployment.primary(deployment.config("p1"))
+	_, process := deployment.site("south", "")
+	is(t, []exit.Status{exit.Gap, exit.Gap}, []exit.Status{exit.Of(<-writer.done), exit.Of(<-process.done)})
 }
 
 func TestAScriptThatLacksAnEntry(t *testing.T) {

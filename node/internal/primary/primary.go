@@ -35,8 +35,8 @@ const (
 	retryAfter = 50 * time.Millisecond
 )
 
-// UsualEvery and UsualRemembers begin a script where the settings have none.
-const UsualEvery, UsualRemembers = 100_000, 10
+// UsualEvery, UsualRemembers and UsualSeconds begin a script where the settings have none.
+const UsualEvery, UsualRemembers, UsualSeconds = 100_000, 10, 600
 
 // A Config is what a primary is made with.
 type Config struct {
@@ -46,10 +46,10 @@ type Config struct {
 	Host, Address string
 	// Versions are the versions of ordup whose answers the stores give. The first one begins an empty script.
 	Versions []string
-	// Every, Remembers and Declarations begin an empty script. Of a script that is there they must be those with which it began, or none. The
+	// Every, Remembers, Seconds and Declarations begin an empty script. Of a script that is there they must be those with which it began, or none. The
 	// number 0 is none, and begins a script with the usual one.
-	Every, Remembers int64
-	Declarations     []string
+	Every, Remembers, Seconds int64
+	Declarations              []string
 	// Folder is where archives go, and Copies how many hosts have one before its entries leave the engine.
 	Folder string
 	Copies int
@@ -73,7 +73,9 @@ type Primary struct {
 	// The last entry of the core that is in the script, and when it came.
 	mark   engine.Mark
 	markAt time.Duration
-	rounds rounds
+	// The digests of what the core has run or sealed.
+	digests digests
+	rounds  rounds
 	// What holds sites that are taken out, by the last look of this process.
 	held   map[string]Held
 	keeper *archive.Keeper
@@ -154,7 +156,7 @@ func (primary *Primary) forget() {
 		primary.core.Close()
 		primary.core = nil
 	}
-	primary.mark = engine.Mark{}
+	primary.mark, primary.digests = engine.Mark{}, digests{}
 }
 
 // with has the core looked at, or worked on, by one goroutine at a time.

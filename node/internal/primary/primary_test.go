@@ -232,7 +232,7 @@ func TestTheWayOfAnUpdate(t *testing.T) {
 	ctx, cancel := context.WithTimeout(context.Background(), 300*time.Millisecond)
 	defer cancel()
 	_, err = one.Submit(ctx, epoch.Request{Client: "ann", Number: 4, Changes: "add:tea:-1"})
-	is(t, context.DeadlineExceeded, err)
+	is(t, true, errors.Is(err, context.DeadlineExceeded))
 	north, processNorth := deployment.site("north", "")
 	is(t, "ok acked 4 epoch 1", deployment.ask("ann", 4, "add:tea:-1"))
 	is(t, "epoch 1 place 4 tea=999996", deployment.read(north, site.Seen{Epoch: 1, Place: 4}))

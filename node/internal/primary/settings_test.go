@@ -18,7 +18,7 @@ func TestAPrimaryComesBackAfterAnyWish(t *testing.T) {
 	deployment.site("south", "")
 	is(t, "ok acked 1 epoch 1", deployment.ask("ann", 1, "add:tea:-1"))
 	other := append([]string{"object tea 1", "object milk 5"}, shop[2:]...)
-	for at, wish := range []epoch.Wish{{Declarations: other}, {Settings: script.Settings{Every: 500, Remembers: 7}}, {}} {
+	for at, wish := range []epoch.Wish{{Declarations: other}, {Settings: script.Settings{Every: 500, Remembers: 7, Seconds: 30}}, {}} {
 		wish.From = int64(at + 1)
 		begun, err := deployment.next(wish)
 		is(t, []interface{}{at + 2, nil}, []interface{}{begun, err})
@@ -33,6 +33,7 @@ func TestAPrimaryComesBackAfterAnyWish(t *testing.T) {
 		{func(config *primary.Config) { config.Declarations = other }, []string{epoch.DigestOf(other), epoch.DigestOf(shop)}},
 		{func(config *primary.Config) { config.Every = 500 }, []string{"500 ", "1000 "}},
 		{func(config *primary.Config) { config.Remembers = 7 }, []string{"7 ", "2 "}},
+		{func(config *primary.Config) { config.Seconds = 30 }, []string{"30 ", "600 "}},
 	} {
 		config := deployment.config("p2")
 		row.change(&config)

@@ -102,6 +102,7 @@ func (primary *Primary) replay(entries []engine.Raw) error {
 			}
 			primary.mark.Set(raw.Number, raw.Text)
 			primary.markAt = clock.Now()
+			primary.digests.add(&primary.mark, entry.Begins())
 			if address := addressOf(entry.Writer); address != primary.calls.writer() {
 				primary.calls.set(false, address)
 			}
@@ -136,6 +137,8 @@ func (primary *Primary) agrees(core *epoch.Core) error {
 		return differs("every: %d requests, and %d", own.Every, began.Every)
 	case own.Remembers != 0 && own.Remembers != began.Remembers:
 		return differs("remembers: %d epochs, and %d", own.Remembers, began.Remembers)
+	case own.Seconds != 0 && own.Seconds != began.Seconds:
+		return differs("remembers-seconds: %d seconds, and %d", own.Seconds, began.Seconds)
 	case len(own.Declarations) > 0 && digest != began.Origin:
 		return differs("declarations: those of the digest %s, and %s", digest, began.Origin)
 	}
@@ -191,7 +194,10 @@ func (primary *Primary) takeOver(ctx context.Context) error {
 		}
 		primary.config.Log.Info("took-over", "entry", turn.Number, "writer", primary.own)
 		primary.mark.Set(turn.Number, turn.Text)
-		return primary.with(func(core *epoch.Core) error { return core.Replay(turn.Number, turn.Entry()) })
+		return primary.with(func(core *epoch.Core) error {
+			primary.digests.add(&primary.mark, turn.First > 0)
+			return core.Replay(turn.Number, turn.Entry())
+		})
 	}
 }
 
@@ -207,7 +213,10 @@ func (primary *Primary) firstTurn() (*epoch.Turn, error) {
 	if own.Remembers == 0 {
 		own.Remembers = UsualRemembers
 	}
-	settings := script.Settings{Every: own.Every, Remembers: own.Remembers, Origin: epoch.DigestOf(own.Declarations), Ordup: own.Versions[0]}
+	if own.Seconds == 0 {
+		own.Seconds = UsualSeconds
+	}
+	settings := script.Settings{Every: own.Every, Remembers: own.Remembers, Seconds: own.Seconds, Origin: epoch.DigestOf(own.Declarations), Ordup: own.Versions[0]}
 	turn, err := epoch.FirstTurn(epoch.Config{Open: own.Open, Writer: primary.own, Versions: own.Versions}, settings, own.Declarations)
 	if err != nil {
 		return nil, exit.With(exit.Words, err)

@@ -13,8 +13,9 @@ import (
 // A writing is what one time as the writer needs: from a take-over to its end.
 type writing struct {
 	*Primary
-	// What is on its way to the engine, and what became of it.
+	// What is on its way to the engine, its mark, and what became of it.
 	flying *epoch.Turn
+	sealed engine.Mark
 	landed chan error
 	// Until when no requests are taken, since the turn had no room for one, or the epoch ends.
 	retry   time.Duration
@@ -112,18 +113,14 @@ func (writing *writing) take() error {
 	var came []*call
 	calls.lock.Lock()
 	if now >= writing.retry {
-		came, calls.queue, writing.retry = calls.queue, nil, 0
+		came, writing.retry = calls.take(), 0
 	}
 	nexts := calls.nexts
 	calls.nexts = nil
 	calls.lock.Unlock()
 	return writing.with(func(core *epoch.Core) (err error) {
 		for _, next := range nexts {
-			if err := core.AskNext(next.wish); err != nil {
-				next.done <- outcome{err: err}
-			} else {
-				calls.keepWish(next)
-			}
+			calls.keepWish(next, core.AskNext(next.wish))
 		}
 		if err = writing.ask(core, came, now); err != nil {
 			return err
@@ -168,6 +165,11 @@ func (writing *writing) seal(ctx context.Context) error {
 	}
 	err := writing.with(func(core *epoch.Core) (err error) {
 		writing.flying, err = core.Seal(clock.Now())
+		if turn := writing.flying; err == nil && turn != nil {
+			// A site may know the entry before this process knows that it is written.
+			writing.sealed.Set(turn.Number, turn.Text)
+			writing.digests.add(&writing.sealed, turn.First > 0)
+		}
 		return err
 	})
 	if turn := writing.flying; err == nil && turn != nil {
@@ -179,7 +181,8 @@ func (writing *writing) seal(ctx context.Context) error {
 
 // send writes a turn, and tries again until it is known what became of it.
 func (primary *Primary) send(ctx context.Context, turn *epoch.Turn) error {
-	write := &engine.Write{Number: turn.Number, Text: turn.Text, Absent: turn.Absent, Epoch: turn.Epoch, First: turn.First}
+	write := &engine.Write{Number: turn.Number, Text: turn.Text, Absent: turn.Absent, Epoch: turn.Epoch, First: turn.First,
+		Last: turn.Last, Since: turn.Since}
 	for {
 		err := primary.config.Engine.Write(ctx, write)
 		if !engine.IsAway(err) {
@@ -204,7 +207,7 @@ func (writing *writing) land(err error) error {
 		return err
 	}
 	writing.flying = nil
-	writing.mark.Set(turn.Number, turn.Text)
+	writing.mark = writing.sealed
 	atomic.AddInt64(&writing.counts.Entries, 1)
 	atomic.AddInt64(&writing.counts.Bytes, int64(len(turn.Text)))
 	writing.with(func(core *epoch.Core) error {

@@ -35,6 +35,8 @@ const (
 	MostClientBytes = 64
 	// MostWriterBytes is how many bytes the name of a writer may have.
 	MostWriterBytes = 256
+	// MostCounted is what the steps of an entry count in sum at most: as many updates as a store may have.
+	MostCounted = 1_000_000
 	// MostNumber is the greatest number of a request.
 	MostNumber = 999_999_999_999_999_999
 )
@@ -93,6 +95,18 @@ func (entry *Entry) Answers() []Step {
 		}
 	}
 	return nil
+}
+
+// A Room is how much the steps that still come in an entry may count. Who reads an entry keeps to it, and who writes one.
+type Room int64
+
+// Take takes the room of a step. It is false where there is not so much.
+func (room *Room) Take(step *Step) bool {
+	switch step.Kind {
+	case Tell, Gone, Settle:
+		*room -= Room(step.Count)
+	}
+	return *room >= 0
 }
 
 // Begins is whether the entry begins its epoch.

@@ -1,6 +1,7 @@
 package script
 
 import (
+	"bytes"
 	"fmt"
 	"strconv"
 	"strings"
@@ -9,11 +10,25 @@ import (
 // mostWordBytes is how many bytes a version or a digest may have.
 const mostWordBytes = 64
 
-// mostCount is as many updates as a store may have: what the steps of an entry count in sum at most.
-const mostCount = 1_000_000
-
 // Parse reads the text of an entry. Any bytes that are none have an error.
 func Parse(text []byte) (*Entry, error) {
+	steps := make([]Step, 0, bytes.Count(text, []byte{'\n'}))
+	entry, err := read(text, func(step Step) { steps = append(steps, step) })
+	if err != nil {
+		return nil, err
+	}
+	entry.Steps = steps
+	return entry, nil
+}
+
+// Check has the error that Parse has, and keeps nothing.
+func Check(text []byte) error {
+	_, err := read(text, func(Step) {})
+	return err
+}
+
+// read reads an entry, and takes its steps one by one.
+func read(text []byte, take func(Step)) (*Entry, error) {
 	if len(text) > 2*MostEntryBytes {
 		return nil, fmt.Errorf("an entry has %d bytes", len(text))
 	}
@@ -25,18 +40,16 @@ func Parse(text []byte) (*Entry, error) {
 	if !ended || rest != "" && !strings.HasSuffix(rest, "\n") {
 		return nil, fmt.Errorf("an entry does not end with a line feed")
 	}
-	entry.Steps = make([]Step, 0, strings.Count(rest, "\n"))
-	for count := int64(0); rest != ""; {
+	last := Kind(0)
+	for room := Room(MostCounted); rest != ""; {
 		var line string
 		line, rest, _ = strings.Cut(rest, "\n")
 		step, isStep := parseStep(line)
-		if step.Kind == Tell || step.Kind == Gone || step.Kind == Settle {
-			count += step.Count
-		}
-		if !isStep || !fits(entry.Steps, &step) || count > mostCount {
+		if !isStep || !fits(last, step.Kind) || !room.Take(&step) {
 			return nil, fmt.Errorf("%.60q is no line of an entry there", line)
 		}
-		entry.Steps = append(entry.Steps, step)
+		last = step.Kind
+		take(step)
 	}
 	return entry, nil
 }
@@ -62,14 +75,12 @@ func parseHeader(line string) (*Entry, error) {
 	return entry, nil
 }
 
-// fits is whether a step may follow these: a beginning is the first one with what it declares, and behind an answer come answers alone.
-func fits(before []Step, step *Step) bool {
-	if len(before) == 0 {
-		return step.Kind != Declare && step.Kind != Want
-	}
-	switch last := before[len(before)-1].Kind; step.Kind {
+// fits is whether a step may follow the last one, which is 0 before the first: a beginning is the first one with what it declares, and
+// behind an answer come answers alone.
+func fits(last, kind Kind) bool {
+	switch kind {
 	case Begin:
-		return false
+		return last == 0
 	case Declare:
 		return last == Begin || last == Declare
 	case Want:
@@ -86,22 +97,20 @@ func parseStep(line string) (Step, bool) {
 	step := Step{Kind: kindOf(words.next())}
 	switch step.Kind {
 	case Begin, Wish:
-		step.Settings = &Settings{Every: words.number(1, mostCount), Remembers: words.number(1, mostCount),
-			Origin: words.word(mostWordBytes), Ordup: words.word(mostWordBytes),
-			Began: Began{words.number(1, mostCount), words.number(1, mostCount), words.word(mostWordBytes)}}
+		step.Settings = words.settings()
 	case Declare, Want:
 		step.Text = words.text()
 	case Known:
 		step.Name, step.Number, step.Digest = words.client(), words.number(1, MostNumber), words.word(mostWordBytes)
-		step.Count, step.Text = words.number(1, MostNumber), words.text()
+		step.Count, step.Age, step.Text = words.number(1, MostNumber), words.age(), words.text()
 	case Tell:
-		step.Name, step.Count = words.site(), words.number(1, mostCount)
+		step.Name, step.Count = words.site(), words.number(1, MostCounted)
 	case Gone:
-		step.Name, step.Count = words.site(), words.number(0, mostCount)
+		step.Name, step.Count = words.site(), words.number(0, MostCounted)
 	case Ask:
 		step.Name, step.Number, step.Text = words.client(), words.number(1, MostNumber), words.text()
-	case Settle:
-		step.Count = words.number(1, mostCount)
+	case Settle, Elapsed:
+		step.Count = words.number(1, MostCounted)
 	case Leave:
 		step.Name = words.site()
 	case Answer:
@@ -163,6 +172,30 @@ func (words *words) number(least, most int64) int64 {
 	number, err := strconv.ParseInt(word, 10, 64)
 	words.keep(err == nil && least <= number && number <= most && strconv.FormatInt(number, 10) == word)
 	return number
+}
+
+// settings are those of an epoch. Scripts that began before clients were remembered for seconds do not have these.
+func (words *words) settings() *Settings {
+	settings := &Settings{Every: words.number(1, MostCounted), Remembers: words.number(1, MostCounted),
+		Origin: words.word(mostWordBytes), Ordup: words.word(mostWordBytes)}
+	began := &settings.Began
+	began.Every, began.Remembers, began.Origin = words.number(1, MostCounted), words.number(1, MostCounted), words.word(mostWordBytes)
+	if !words.over {
+		settings.Seconds, began.Seconds = words.number(0, MostCounted), words.number(0, MostCounted)
+		words.keep(settings.Seconds+began.Seconds > 0)
+	}
+	return settings
+}
+
+// age is the next word if it is a number, and else 0: an answer does not begin with one.
+func (words *words) age() int64 {
+	before := *words
+	age := words.number(1, MostNumber)
+	if words.bad || words.over {
+		*words = before
+		return 0
+	}
+	return age
 }
 
 // text is the rest of the line.

@@ -10,11 +10,11 @@ import (
 
 // whole has a step of each kind.
 func whole() *Entry {
-	settings := &Settings{Every: 100, Remembers: 2, Origin: "00ff", Ordup: "0.2.0", Began: Began{1000, 10, "00aa"}}
+	settings := &Settings{Every: 100, Remembers: 2, Seconds: 60, Origin: "00ff", Ordup: "0.2.0", Began: Began{1000, 10, 0, "00aa"}}
 	return &Entry{Epoch: 2, Ordup: "0.2.0", Writer: "p1-17", Steps: []Step{
 		{Kind: Begin, Settings: settings},
 		{Kind: Declare, Text: "object tea 5"},
-		{Kind: Known, Name: "ann", Number: 3, Digest: "ab", Count: 1, Text: "ok acked 7 epoch 1"},
+		{Kind: Known, Name: "ann", Number: 3, Digest: "ab", Count: 1, Age: 17, Text: "ok acked 7 epoch 1"},
 		{Kind: Tell, Name: "south", Count: 2},
 		{Kind: Ask, Name: "ann", Number: 4, Text: "add:tea:-1 set:till:3"},
 		{Kind: Settle, Count: 2},
@@ -22,21 +22,23 @@ func whole() *Entry {
 		{Kind: Want, Text: "start"},
 		{Kind: Leave, Name: "south"},
 		{Kind: Gone, Name: "south", Count: 0},
+		{Kind: Elapsed, Count: 5},
 		{Kind: Answer, Name: "ann", Number: 4, Digest: "cd", Text: "refused 9 OutOfRange"},
 	}}
 }
 
 const wholeText = `ordup-node 1 epoch 2 ordup 0.2.0 writer p1-17
-begin 100 2 00ff 0.2.0 1000 10 00aa
+begin 100 2 00ff 0.2.0 1000 10 00aa 60 0
 declare object tea 5
-known ann 3 ab 1 ok acked 7 epoch 1
+known ann 3 ab 1 17 ok acked 7 epoch 1
 tell south 2
 ask ann 4 add:tea:-1 set:till:3
 settle 2
-wish 100 2 00ff 0.2.0 1000 10 00aa
+wish 100 2 00ff 0.2.0 1000 10 00aa 60 0
 want start
 leave south
 gone south 0
+elapsed 5
 answer ann 4 cd refused 9 OutOfRange
 `
 
@@ -50,6 +52,22 @@ func TestAnEntryIsItsText(t *testing.T) {
 	}
 	if answers := entry.Answers(); len(answers) != 1 || answers[0].Text != "refused 9 OutOfRange" {
 		t.Errorf("the answers are %v", answers)
+	}
+}
+
+// Scripts that began before clients were remembered for seconds have neither these nor ages.
+func TestAnEntryWithoutSeconds(t *testing.T) {
+	text := "ordup-node 1 epoch 2 ordup 1 writer p\nbegin 100 2 00ff 0.2.0 1000 10 00aa\nknown ann 3 ab 1 ok acked 7 epoch 1\n"
+	entry, err := Parse([]byte(text))
+	if err != nil {
+		t.Fatal(err)
+	}
+	settings, known := entry.Steps[0].Settings, entry.Steps[1]
+	if settings.Seconds != 0 || settings.Began != (Began{1000, 10, 0, "00aa"}) || known.Age != 0 || known.Text != "ok acked 7 epoch 1" {
+		t.Errorf("%v, %v", settings, known)
+	}
+	if string(entry.Text()) != text {
+		t.Errorf("its text is\n%s", entry.Text())
 	}
 }
 
@@ -75,7 +93,9 @@ func TestWhatIsNoEntry(t *testing.T) {
 		header + "tell South 1\n", header + "tell south 1 \n", header + "settle 1000001\n", header + "settle -1\n", header + "settle +1\n",
 		header + "ask ann 0 add:tea:1\n", header + "ask Ann 1 add:tea:1\n", header + "ask ann 1000000000000000000 x\n",
 		header + "ask ann 1 caf\xc3\xa9\n", header + "ask ann 1 \xff\n", header + "ask ann 1 " + strings.Repeat("x", 4001) + "\n",
-		header + "declare start\n", header + "want start\n", header + "settle 1\nbegin 1 1 a b 1 1 a\n", header + "begin 1 1 a b\n", header + "begin 1 1 a b 1 0 a\n", header + "settle 1\ndeclare start\n",
+		header + "declare start\n", header + "want start\n", header + "settle 1\nbegin 1 1 a b 1 1 a\n", header + "begin 1 1 a b\n", header + "begin 1 1 a b 1 0 a\n",
+		header + "begin 1 1 a b 1 1 a 0 0\n", header + "begin 1 1 a b 1 1 a 5\n", header + "begin 1 1 a b 1 1 a 5 1000001\n",
+		header + "elapsed 0\n", header + "elapsed 1000001\n", header + "elapsed\n", header + "known ann 3 ab 1\n", header + "settle 1\ndeclare start\n",
 		header + "answer ann 1 ab ok\nsettle 1\n", header + "leave \xff\n", header + "leave south north\n",
 		strings.Repeat("x", 2*MostEntryBytes+1),
 	} {

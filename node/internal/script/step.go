@@ -1,6 +1,7 @@
 package script
 
 import (
+	"fmt"
 	"strconv"
 )
 
@@ -13,7 +14,8 @@ const (
 	Begin Kind = iota + 1
 	// Declare is a line of the declarations: Text.
 	Declare
-	// Known carries the last answer of a client from the epochs before: Name, Number, Digest, Count (the epoch of the request), Text.
+	// Known carries the last answer of a client from the epochs before: Name, Number, Digest, Count (the epoch of the request), Age, where
+	// that is not 0, and Text.
 	Known
 	// Tell says that a site has applied more updates than it had told: Name, Count.
 	Tell
@@ -29,6 +31,8 @@ const (
 	Leave
 	// Gone says that no process has a lease of a site that is taken out, which counts as at the end: Name, Count.
 	Gone
+	// Elapsed says that more seconds have passed, by the clock of the writer: Count.
+	Elapsed
 	// Answer is what was decided for a client in this entry: Name, Number, Digest, Text.
 	Answer
 )
@@ -36,7 +40,7 @@ const (
 // kindNames are the first words of the lines.
 var kindNames = [...]string{
 	Begin: "begin", Declare: "declare", Known: "known", Tell: "tell", Ask: "ask", Settle: "settle",
-	Wish: "wish", Want: "want", Leave: "leave", Gone: "gone", Answer: "answer",
+	Wish: "wish", Want: "want", Leave: "leave", Gone: "gone", Elapsed: "elapsed", Answer: "answer",
 }
 
 // String is the first word of the line of a step of this kind.
@@ -51,8 +55,8 @@ func (kind Kind) String() string {
 type Settings struct {
 	// Every is how many requests an epoch takes.
 	Every int64
-	// Remembers is for how many whole epochs a client is remembered after its last request.
-	Remembers int64
+	// Remembers is for how many whole epochs a client is remembered after its last request, and Seconds for how long at least.
+	Remembers, Seconds int64
 	// Origin is the digest of the declarations that an operator gave last.
 	Origin string
 	// Ordup is the version of ordup that runs the epoch.
@@ -63,18 +67,20 @@ type Settings struct {
 
 // Began has the settings of a primary that began the script, which those of all others are compared with.
 type Began struct {
-	Every, Remembers int64
+	Every, Remembers, Seconds int64
 	// Origin is the digest of the declarations.
 	Origin string
 }
 
 // A Step is one line of an entry. Which fields it has is said at its kind.
 type Step struct {
-	Kind     Kind
-	Name     string
-	Number   int64
-	Digest   string
-	Count    int64
+	Kind   Kind
+	Name   string
+	Number int64
+	Digest string
+	Count  int64
+	// Age is how many seconds the request is older than what is carried over.
+	Age      int64
 	Text     string
 	Settings *Settings
 }
@@ -86,13 +92,7 @@ func (step *Step) Append(to []byte) []byte {
 	number := func(value int64) { to = strconv.AppendInt(append(to, ' '), value, 10) }
 	switch step.Kind {
 	case Begin, Wish:
-		number(step.Settings.Every)
-		number(step.Settings.Remembers)
-		word(step.Settings.Origin)
-		word(step.Settings.Ordup)
-		number(step.Settings.Began.Every)
-		number(step.Settings.Began.Remembers)
-		word(step.Settings.Began.Origin)
+		to = step.Settings.append(to)
 	case Declare, Want:
 		word(step.Text)
 	case Known:
@@ -100,6 +100,9 @@ func (step *Step) Append(to []byte) []byte {
 		number(step.Number)
 		word(step.Digest)
 		number(step.Count)
+		if step.Age != 0 {
+			number(step.Age)
+		}
 		word(step.Text)
 	case Tell, Gone:
 		word(step.Name)
@@ -108,7 +111,7 @@ func (step *Step) Append(to []byte) []byte {
 		word(step.Name)
 		number(step.Number)
 		word(step.Text)
-	case Settle:
+	case Settle, Elapsed:
 		number(step.Count)
 	case Leave:
 		word(step.Name)
@@ -119,6 +122,17 @@ func (step *Step) Append(to []byte) []byte {
 		word(step.Text)
 	}
 	return append(to, '\n')
+}
+
+// append appends the settings as words. Those in seconds are there where one is not 0.
+func (settings *Settings) append(to []byte) []byte {
+	began := &settings.Began
+	to = append(to, fmt.Sprintf(" %d %d %s %s %d %d %s", settings.Every, settings.Remembers, settings.Origin, settings.Ordup,
+		began.Every, began.Remembers, began.Origin)...)
+	if settings.Seconds != 0 || began.Seconds != 0 {
+		to = append(to, fmt.Sprintf(" %d %d", settings.Seconds, began.Seconds)...)
+	}
+	return to
 }
 
 // AppendLines appends the lines that a store is given for the step. `ordup run` reads the same ones in an archive.

@@ -39,13 +39,15 @@ func sent(t *testing.T, address string, send func(net.Conn) error) (int, string)
 
 func startWithTokens(t *testing.T, writer *writer) string {
 	guard := &serve.Guard{}
-	if err := guard.Load(serve.Sites, tokens(t, "site-token-00001\n")); err != nil {
-		t.Fatal(err)
+	for role, file := range map[serve.Role]string{serve.Clients: serve.Open, serve.Sites: tokens(t, "site-token-00001\n"), serve.Operators: serve.Open} {
+		if err := guard.Load(role, file); err != nil {
+			t.Fatal(err)
+		}
 	}
 	return startPrimary(t, guard, writer)
 }
 
-const large = 2_000_000
+const large, isJSON = 2_000_000, "Content-Type: application/json\r\n"
 
 func TestWhoSendsALargeBodyReadsWhyItIsRefused(t *testing.T) {
 	writer := &writer{text: "ok acked 1 epoch 1"}
@@ -53,13 +55,13 @@ func TestWhoSendsALargeBodyReadsWhyItIsRefused(t *testing.T) {
 	body := strings.Repeat("x", large)
 	whole := func(line string) func(net.Conn) error {
 		return func(to net.Conn) error {
-			_, err := fmt.Fprintf(to, "%s HTTP/1.1\r\nHost: a\r\nContent-Length: %d\r\n\r\n%s", line, large, body)
+			_, err := fmt.Fprintf(to, "%s HTTP/1.1\r\nHost: a\r\n"+isJSON+"Content-Length: %d\r\n\r\n%s", line, large, body)
 			return err
 		}
 	}
 	chunked := func(to net.Conn) error {
 		chunks := strings.Repeat("3e8\r\n"+body[:1000]+"\r\n", large/1000)
-		_, err := fmt.Fprintf(to, "POST /update HTTP/1.1\r\nHost: a\r\nTransfer-Encoding: chunked\r\n\r\n%s0\r\n\r\n", chunks)
+		_, err := fmt.Fprintf(to, "POST /update HTTP/1.1\r\nHost: a\r\n"+isJSON+"Transfer-Encoding: chunked\r\n\r\n%s0\r\n\r\n", chunks)
 		return err
 	}
 	for _, row := range []struct {
@@ -71,6 +73,10 @@ func TestWhoSendsALargeBodyReadsWhyItIsRefused(t *testing.T) {
 		{"an update", whole("POST /update"), 413, `{"error":"TooLarge"`},
 		{"the next epoch", whole("POST /next"), 413, `{"error":"TooLarge"`},
 		{"in chunks", chunked, 413, `{"error":"TooLarge"`},
+		{"no JSON", func(to net.Conn) error {
+			_, err := fmt.Fprintf(to, "POST /update HTTP/1.1\r\nHost: a\r\nContent-Length: %d\r\n\r\n%s", large, body)
+			return err
+		}, 415, `{"error":"NotJSON"`},
 		{"no token", whole("POST /place"), 401, `{"error":"NoToken"`},
 		{"another method", whole("PUT /update"), 405, `{"error":"NoSuchMethod"`},
 		{"a look", whole("GET /metrics"), 404, "404"},
@@ -88,7 +94,7 @@ func TestWhoSendsALargeBodyReadsWhyItIsRefused(t *testing.T) {
 // Who asks whether to send a body is told before, and sends nothing. In chunks nobody knows how much it will be.
 func TestWhoAsksBeforeTheBodyIsToldBefore(t *testing.T) {
 	address := startPrimary(t, nil, &writer{})
-	head := "POST /update HTTP/1.1\r\nHost: a\r\nExpect: 100-continue\r\n"
+	head := "POST /update HTTP/1.1\r\nHost: a\r\n" + isJSON + "Expect: 100-continue\r\n"
 	began := time.Now()
 	status, text := sent(t, address, func(to net.Conn) error {
 		_, err := fmt.Fprintf(to, "%sContent-Length: %d\r\n\r\n", head, large)
@@ -116,7 +122,7 @@ func TestWhoAsksBeforeTheBodyIsToldBefore(t *testing.T) {
 		t.Fatal(err)
 	}
 	for _, more := range [][]string{nil, {"-H", "Expect:"}, {"-H", "Expect: 100-continue"}, {"-H", "Transfer-Encoding: chunked"}} {
-		words := append([]string{"-sS", "--data-binary", "@" + file, "-w", "%{http_code}", address + "/update"}, more...)
+		words := append([]string{"-sS", "-H", "Content-Type: application/json", "--data-binary", "@" + file, "-w", "%{http_code}", address + "/update"}, more...)
 		said, err := exec.Command(curl, words...).CombinedOutput()
 		if text := string(said); err != nil || !strings.HasPrefix(text, `{"error":"TooLarge"`) || !strings.HasSuffix(text, "413") {
 			t.Error(more, text, err)
@@ -132,7 +138,7 @@ func TestABodyWithoutAnEnd(t *testing.T) {
 		pause := pause
 		began := time.Now()
 		status, text := sent(t, address, func(to net.Conn) error {
-			_, err := fmt.Fprintf(to, "POST /update HTTP/1.1\r\nHost: a\r\nContent-Length: %d\r\n\r\n", int64(1)<<40)
+			_, err := fmt.Fprintf(to, "POST /update HTTP/1.1\r\nHost: a\r\n"+isJSON+"Content-Length: %d\r\n\r\n", int64(1)<<40)
 			go func() {
 				for failure := err; failure == nil; time.Sleep(pause) {
 					_, failure = to.Write(make([]byte, 1000))
@@ -146,7 +152,7 @@ func TestABodyWithoutAnEnd(t *testing.T) {
 		}
 	}
 	slow := func(to net.Conn) error {
-		_, err := fmt.Fprintf(to, "POST /update HTTP/1.1\r\nHost: a\r\nContent-Length: 90\r\n\r\n%s", good[:40])
+		_, err := fmt.Fprintf(to, "POST /update HTTP/1.1\r\nHost: a\r\n"+isJSON+"Content-Length: 90\r\n\r\n%s", good[:40])
 		return err
 	}
 	status, text := sent(t, address, slow)

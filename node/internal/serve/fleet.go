@@ -17,7 +17,7 @@ type Fleet struct {
 // NewFleet gives the handler of a fleet.
 func NewFleet(config Config, teller site.Teller) *Fleet {
 	served := &Fleet{newServer(config), teller}
-	served.answers(wire.PlacePath, route{http.MethodPost, Sites, wire.MostBody, &room{most: mostPlaces}, served.place})
+	served.answers(wire.PlacePath, route{http.MethodPost, Sites, wire.MostBody, &room{most: mostPlaces}, waits, served.place})
 	return served
 }
 
@@ -25,6 +25,9 @@ func (served *Fleet) place(ctx context.Context, asked *request) (interface{}, er
 	place, err := placeOf(asked)
 	if err != nil {
 		return nil, err
+	}
+	if asked.site != "" && asked.site != place.Member {
+		return nil, otherSite(asked.site)
 	}
 	return wire.Done{}, served.teller.Tell(ctx, place)
 }

@@ -3,6 +3,7 @@ package serve
 import (
 	"context"
 	"errors"
+	"fmt"
 	"net/http"
 	"strings"
 	"time"
@@ -29,15 +30,18 @@ type Primary struct {
 	waited func(time.Duration)
 }
 
+// waits are the words of a path that says how long it is waited for, and sees those of one that says what was seen too.
+var waits, sees = []string{"wait"}, []string{"wait", "seen"}
+
 // NewPrimary gives the handler of a primary. Waited is told how long each update waited that has its answer.
 func NewPrimary(config Config, writer Writer, pass *Passer, waited func(time.Duration)) *Primary {
 	served := &Primary{newServer(config), writer, pass, waited}
 	// Updates wait for places, so they never take the room of these.
 	updates, places := &room{most: int64(config.Requests)}, &room{most: mostPlaces}
-	served.answers(wire.UpdatePath, route{http.MethodPost, Clients, wire.MostBody, updates, served.update})
-	served.answers(wire.PlacePath, route{http.MethodPost, Sites, wire.MostBody, places, served.place})
-	served.answers(wire.NextPath, route{http.MethodPost, Operators, wire.MostNextBody, &room{most: mostNexts}, served.next})
-	served.answers(wire.EpochPath, route{http.MethodGet, Operators, 0, &room{most: mostLooks}, served.epoch})
+	served.answers(wire.UpdatePath, route{http.MethodPost, Clients, wire.MostBody, updates, waits, served.update})
+	served.answers(wire.PlacePath, route{http.MethodPost, Sites, wire.MostBody, places, waits, served.place})
+	served.answers(wire.NextPath, route{http.MethodPost, Operators, wire.MostNextBody, &room{most: mostNexts}, waits, served.next})
+	served.answers(wire.EpochPath, route{http.MethodGet, Operators, 0, &room{most: mostLooks}, waits, served.epoch})
 	return served
 }
 
@@ -67,6 +71,12 @@ func (served *Primary) place(ctx context.Context, asked *request) (interface{}, 
 	if err != nil {
 		return nil, err
 	}
+	if asked.site != "" && asked.site != place.Site {
+		return nil, otherSite(asked.site)
+	}
+	if place.Member != place.Site {
+		return nil, fmt.Errorf("%w: a site of a fleet tells the process of the fleet", epoch.ErrNoSite)
+	}
 	if err = served.writer.Tell(ctx, place); err != nil {
 		return served.orPassed(ctx, asked, err, &wire.Done{})
 	}
@@ -90,11 +100,11 @@ func (served *Primary) next(ctx context.Context, asked *request) (interface{}, e
 	if err := asked.read(&next); err != nil {
 		return nil, err
 	}
-	if next.From < 1 || next.Every < 0 || next.Remembers < 0 || next.Ordup != "" && !script.IsWord(next.Ordup, 64) {
+	if next.From < 1 || next.Every < 0 || next.Remembers < 0 || next.RemembersSeconds < 0 || next.Ordup != "" && !script.IsWord(next.Ordup, 64) {
 		return nil, malformed(errors.New("from is the epoch that is to end, and the settings are no less than 0"))
 	}
 	wish := epoch.Wish{From: next.From, Declarations: epoch.Declarations(next.Declarations), Replaces: next.Replaces,
-		Settings: script.Settings{Every: next.Every, Remembers: next.Remembers, Ordup: next.Ordup}}
+		Settings: script.Settings{Every: next.Every, Remembers: next.Remembers, Seconds: next.RemembersSeconds, Ordup: next.Ordup}}
 	begun, err := served.writer.Next(ctx, wish)
 	if err != nil {
 		value, err := served.orPassed(ctx, asked, err, &wire.Begun{})

@@ -5,7 +5,10 @@ import (
 	"bytes"
 	"context"
 	"errors"
+	"fmt"
+	"math"
 	"net/http"
+	"net/url"
 	"strconv"
 	"sync/atomic"
 	"time"
@@ -16,7 +19,7 @@ import (
 
 const (
 	// mostNexts is how many requests for an epoch are under way at most, mostPlaces how many places, and mostLooks how many requests for
-	// numbers, pages and health.
+	// numbers and pages, or for readiness.
 	mostNexts, mostPlaces, mostLooks = 4, 1000, 32
 )
 
@@ -31,19 +34,31 @@ type Config struct {
 	Numbers, Page http.Handler
 }
 
-// A server answers the requests of one process.
+// A Handler answers the requests of one process.
+type Handler interface {
+	http.Handler
+	// End says that the process ends, so that it is not ready any more.
+	End()
+	// Look comes back once the process can say whether it is ready: not while its work hangs.
+	Look()
+}
+
+// A server is the Handler of each kind of process.
 type server struct {
 	Config
 	paths *http.ServeMux
+	ends  atomic.Bool
 }
 
 // A route is one path.
 type route struct {
 	method string
 	role   Role
-	// Body is how many bytes a body may have. Most is how many requests are under way at once, and body too where it is large.
+	// Body is how many bytes a body may have. Room is for how many requests are under way at once, and bodies too where these are large.
 	body int
 	room *room
+	// Words are those that may stand behind the `?`.
+	words []string
 	// Answer gives what is written as JSON.
 	answer func(ctx context.Context, asked *request) (interface{}, error)
 }
@@ -51,7 +66,10 @@ type route struct {
 // A request is one that was read.
 type request struct {
 	*http.Request
-	body []byte
+	body  []byte
+	words url.Values
+	// Site is the one for whose places alone the token is, or "".
+	site string
 	// Header is that of the answer.
 	header http.Header
 }
@@ -71,9 +89,10 @@ func (room *room) leave() { atomic.AddInt64(&room.count, -1) }
 
 func newServer(config Config) *server {
 	server := &server{Config: config, paths: http.NewServeMux()}
-	looks := &room{most: mostLooks}
-	server.plain("/healthz", Anybody, looks, http.HandlerFunc(func(to http.ResponseWriter, _ *http.Request) { to.Write([]byte("ok\n")) }))
-	server.plain("/readyz", Anybody, looks, http.HandlerFunc(server.ready))
+	// Nobody takes the room of health, so there is no limit, and that of readiness is its own.
+	health, looks := &room{most: math.MaxInt64}, &room{most: mostLooks}
+	server.plain("/healthz", Anybody, health, http.HandlerFunc(func(to http.ResponseWriter, _ *http.Request) { to.Write([]byte("ok\n")) }))
+	server.plain("/readyz", Anybody, &room{most: mostLooks}, http.HandlerFunc(server.ready))
 	server.plain("/metrics", Operators, looks, config.Numbers)
 	server.plain("/", Operators, looks, exactly("/", config.Page))
 	return server
@@ -81,22 +100,35 @@ func newServer(config Config) *server {
 
 // ServeHTTP answers a request.
 func (server *server) ServeHTTP(to http.ResponseWriter, asked *http.Request) {
+	to.Header().Set("X-Content-Type-Options", "nosniff")
 	server.paths.ServeHTTP(to, asked)
 }
 
+// End has whoever balances requests send no more of them here, while those that are under way are answered.
+func (server *server) End() { server.ends.Store(true) }
+
+// Look asks whether the process is ready.
+func (server *server) Look() { server.Ready() }
+
 func (server *server) ready(to http.ResponseWriter, _ *http.Request) {
-	if err := server.Ready(); err != nil {
+	err := errEnds
+	if !server.ends.Load() {
+		err = server.Ready()
+	}
+	if err != nil {
 		http.Error(to, err.Error(), http.StatusServiceUnavailable)
 		return
 	}
 	to.Write([]byte("ok\n"))
 }
 
+var errEnds = errors.New("the process ends")
+
 // exactly answers at this path alone.
 func exactly(path string, handler http.Handler) http.Handler {
 	return http.HandlerFunc(func(to http.ResponseWriter, asked *http.Request) {
 		if asked.URL.Path != path || handler == nil {
-			fail(to, &wire.Error{Status: http.StatusNotFound, Name: "NoSuchPath", Message: "there is no such path"})
+			fail(to, asked, &wire.Error{Status: http.StatusNotFound, Name: "NoSuchPath", Message: "there is no such path"})
 			return
 		}
 		handler.ServeHTTP(to, asked)
@@ -108,14 +140,14 @@ func (server *server) plain(path string, role Role, room *room, handler http.Han
 	server.paths.HandleFunc(path, func(to http.ResponseWriter, asked *http.Request) {
 		listen.Hurry(asked)
 		defer listen.Begin(asked)()
-		switch {
-		case asked.Method != http.MethodGet && asked.Method != http.MethodHead:
-			failMethod(to, http.MethodGet)
-		case !server.Guard.allows(role, asked):
-			fail(to, errNoToken)
-		case !room.enter():
-			fail(to, errBusy)
-		default:
+		if !isLook(asked) {
+			to.Header().Set("Allow", http.MethodGet)
+			fail(to, asked, errMethod)
+		} else if _, err := server.Guard.admit(role, asked); err != nil {
+			fail(to, asked, err)
+		} else if !room.enter() {
+			fail(to, asked, errBusy)
+		} else {
 			defer room.leave()
 			handler.ServeHTTP(to, asked)
 		}
@@ -129,7 +161,7 @@ func (server *server) answers(path string, route route) {
 	server.paths.HandleFunc(path, func(to http.ResponseWriter, asked *http.Request) {
 		value, err := server.answer(to, asked, &route)
 		if err != nil {
-			fail(to, err)
+			fail(to, asked, err)
 			return
 		}
 		wire.Write(to, http.StatusOK, value)
@@ -140,22 +172,19 @@ func (server *server) answer(to http.ResponseWriter, asked *http.Request, route 
 	end := func() {}
 	defer func() { end() }()
 	listen.Hurry(asked)
-	isLarge := route.body > wire.MostBody
-	switch {
-	case asked.Method != route.method:
+	read, wait, err := server.headOf(to, asked, route)
+	if err != nil {
 		end = listen.Begin(asked)
-		to.Header().Set("Allow", route.method)
-		return nil, errMethod
-	case !server.Guard.allows(route.role, asked):
-		end = listen.Begin(asked)
-		return nil, errNoToken
-	case isLarge && !route.room.enter():
-		return nil, errBusy
+		return nil, err
 	}
+	isLarge := route.body > wire.MostBody
 	if isLarge {
+		if !route.room.enter() {
+			return nil, errBusy
+		}
 		defer route.room.leave()
 	}
-	body, err := bodyOf(asked, route.body)
+	read.body, err = bodyOf(asked, route.body)
 	end = listen.Begin(asked)
 	if err != nil {
 		to.Header().Set("Connection", "close")
@@ -167,13 +196,25 @@ func (server *server) answer(to http.ResponseWriter, asked *http.Request, route 
 		}
 		defer route.room.leave()
 	}
-	wait, err := waitOf(asked)
-	if err != nil {
-		return nil, err
-	}
 	ctx, cancel := context.WithTimeout(asked.Context(), wait)
 	defer cancel()
-	return route.answer(ctx, &request{asked, body, to.Header()})
+	return route.answer(ctx, read)
+}
+
+// headOf reads what a request has before its body, and for how long its answer is waited for.
+func (server *server) headOf(to http.ResponseWriter, asked *http.Request, route *route) (read *request, wait time.Duration, err error) {
+	if asked.Method != route.method {
+		to.Header().Set("Allow", route.method)
+		return nil, 0, errMethod
+	}
+	read = &request{Request: asked, header: to.Header()}
+	if read.site, err = server.Guard.admit(route.role, asked); err == nil {
+		read.words, err = wordsOf(asked, route.words)
+	}
+	if err == nil {
+		wait, err = waitOf(read.words)
+	}
+	return read, wait, err
 }
 
 func bodyOf(asked *http.Request, most int) ([]byte, error) {
@@ -201,9 +242,27 @@ func (request *request) read(to interface{}) error {
 	return nil
 }
 
+// wordsOf reads what stands behind the `?`: words that the path knows, each once.
+func wordsOf(asked *http.Request, known []string) (url.Values, error) {
+	words, err := url.ParseQuery(asked.URL.RawQuery)
+	if err != nil {
+		return nil, malformed(err)
+	}
+	for word, values := range words {
+		isKnown := false
+		for _, each := range known {
+			isKnown = isKnown || each == word
+		}
+		if !isKnown || len(values) != 1 {
+			return nil, malformed(fmt.Errorf("%.40q is no word of this path, or stands there twice", word))
+		}
+	}
+	return words, nil
+}
+
 // waitOf is how long the answer is waited for.
-func waitOf(asked *http.Request) (time.Duration, error) {
-	text := asked.URL.Query().Get("wait")
+func waitOf(words url.Values) (time.Duration, error) {
+	text := words.Get("wait")
 	if text == "" {
 		return wire.UsualWait, nil
 	}
@@ -219,17 +278,15 @@ func waitOf(asked *http.Request) (time.Duration, error) {
 
 var errMethod = &wire.Error{Status: http.StatusMethodNotAllowed, Name: "NoSuchMethod", Message: "the path takes another method"}
 
-func failMethod(to http.ResponseWriter, method string) {
-	to.Header().Set("Allow", method)
-	fail(to, errMethod)
-}
-
 // fail writes an error.
-func fail(to http.ResponseWriter, err error) {
+func fail(to http.ResponseWriter, asked *http.Request, err error) {
 	told := wire.ErrorOf(err, "Failed", http.StatusInternalServerError)
 	switch told.Status {
 	case http.StatusUnauthorized:
-		to.Header().Set("WWW-Authenticate", `Basic realm="ordup"`)
+		to.Header().Set("WWW-Authenticate", "Bearer")
+		if isLook(asked) {
+			to.Header().Set("WWW-Authenticate", `Basic realm="ordup"`)
+		}
 	case http.StatusServiceUnavailable, http.StatusGatewayTimeout:
 		to.Header().Set("Retry-After", "1")
 	}

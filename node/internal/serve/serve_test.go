@@ -14,6 +14,7 @@ import (
 	"time"
 
 	"ordup-node/internal/client"
+	"ordup-node/internal/engine"
 	"ordup-node/internal/epoch"
 	"ordup-node/internal/fleet"
 	"ordup-node/internal/listen"
@@ -106,6 +107,7 @@ func ask(t *testing.T, method, url, body string, headers ...string) (int, string
 	if err != nil {
 		t.Fatal(err)
 	}
+	request.Header.Set("Content-Type", "application/json")
 	for at := 0; at < len(headers); at += 2 {
 		request.Header.Set(headers[at], headers[at+1])
 	}
@@ -176,6 +178,14 @@ func TestWhatIsNoRequestIsRefused(t *testing.T) {
 		{"POST", "/update", `{"client":"` + strings.Repeat("a", wire.MostBody) + `"}`, 413, "TooLarge"},
 		{"POST", "/update?wait=x", good, 400, "wait"},
 		{"POST", "/update?wait=-1", good, 400, "wait"},
+		{"POST", "/update?wait=-0.1", good, 400, "wait"},
+		{"POST", "/update?wait=NaN", good, 400, "wait"},
+		{"POST", "/update?wait=-Inf", good, 400, "wait"},
+		{"POST", "/update?wait=1;seen=2", good, 400, "semicolon"},
+		{"POST", "/update?wait=1&wait=2", good, 400, "twice"},
+		{"POST", "/update?wait=%zz", good, 400, "Malformed"},
+		{"POST", "/update?seen=1.1", good, 400, "no word of this path"},
+		{"POST", "/place?weight=1", good, 400, "no word of this path"},
 		{"GET", "/update", ``, 405, "NoSuchMethod"},
 		{"POST", "/place", `{"site":"north","member":"north","epoch":0,"applied":1,"entry":1}`, 400, "Malformed"},
 		{"POST", "/place", `{"site":"\u0000","member":"north","epoch":1,"applied":1,"entry":1}`, 400, "Malformed"},
@@ -194,11 +204,11 @@ func TestWhatIsNoRequestIsRefused(t *testing.T) {
 	if len(writer.asked)+len(writer.places)+len(writer.wishes) > 0 {
 		t.Error(writer.asked, writer.places, writer.wishes)
 	}
-	for _, body := range []string{`{"from":3,"every":5,"remembers":2,"ordup":"2","declarations":"# a\nobject tea 1\n","replaces":true}`} {
+	for _, body := range []string{`{"from":3,"every":5,"remembers":2,"remembers_seconds":30,"ordup":"2","declarations":"# a\nobject tea 1\n","replaces":true}`} {
 		status, text := ask(t, "POST", address+"/next", body)
 		is(t, body, status, text, 200, `{"epoch":4}`)
 	}
-	if wish := writer.wishes[0]; fmt.Sprint(wish) != "{3 {5 2  2 {0 0 }} [object tea 1] true}" {
+	if wish := writer.wishes[0]; fmt.Sprint(wish) != "{3 {5 2 30  2 {0 0 0 }} [object tea 1] true}" {
 		t.Error(wish)
 	}
 }
@@ -245,6 +255,11 @@ func TestAnotherPrimaryPassesOn(t *testing.T) {
 	is(t, "another scheme", status, text, 503, `"error":"NotWriter"`)
 }
 
+// An engine without keys.
+type noKeys struct{}
+
+func (noKeys) Holds(context.Context, string) ([]engine.Hold, error) { return nil, nil }
+
 func TestAPlaceThatCannotBeComesBack(t *testing.T) {
 	place := epoch.Place{Site: "far", Member: "east", Epoch: 1, Applied: 7, Entry: 3}
 	writer := &writer{err: &epoch.CannotBeError{Place: place, Updates: 5}}
@@ -252,15 +267,21 @@ func TestAPlaceThatCannotBeComesBack(t *testing.T) {
 	if err != nil {
 		t.Fatal(err)
 	}
-	address := listenAt(t, func(string) http.Handler {
-		return serve.NewFleet(config(nil), fleet.New("far", []string{"east"}, upper))
-	})
+	far := fleet.New("far", []string{"east"}, upper)
+	if err = far.Look(context.Background(), noKeys{}); err != nil {
+		t.Fatal(err)
+	}
+	address := listenAt(t, func(string) http.Handler { return serve.NewFleet(config(nil), far) })
 	asker, err := client.New(client.Config{Addresses: []string{address}})
 	if err != nil {
 		t.Fatal(err)
 	}
 	var cannotBe *epoch.CannotBeError
 	if err := asker.Tell(context.Background(), place); !errors.As(err, &cannotBe) || cannotBe.Updates != 5 {
+		t.Error(err)
+	}
+	writer.set("", epoch.ErrOtherScript)
+	if err := asker.Tell(context.Background(), place); !errors.Is(err, epoch.ErrOtherScript) {
 		t.Error(err)
 	}
 	writer.set("", epoch.ErrNoSite)
@@ -270,6 +291,9 @@ func TestAPlaceThatCannotBeComesBack(t *testing.T) {
 	place.Member = "west"
 	if err := asker.Tell(context.Background(), place); !errors.Is(err, epoch.ErrNoSite) {
 		t.Error(err)
+	}
+	if err := upper.Tell(context.Background(), place); !errors.Is(err, epoch.ErrNoSite) || !strings.Contains(err.Error(), "the process of the fleet") {
+		t.Error("a site of a fleet told a primary", err)
 	}
 	writer.set("", epoch.ErrBehind)
 	place.Member = "east"
@@ -310,6 +334,9 @@ func TestAReaderIsShownNoLess(t *testing.T) {
 		{"/value/milk", 404, "NoSuchObject"},
 		{"/value/", 404, "NoSuchObject"},
 		{"/value/%00%ff/..", 404, "NoSuchObject"},
+		{"/values?wait=1;seen=2", 400, "semicolon"},
+		{"/values?seen=1.5&seen=9.9", 400, "twice"},
+		{"/values?sen=9.9", 400, "no word of this path"},
 		{"/values?seen=1", 400, "EPOCH.PLACE"},
 		{"/values?seen=-1.0", 400, "EPOCH.PLACE"},
 		{"/values?seen=1.99999999999999999999", 400, "EPOCH.PLACE"},
@@ -356,7 +383,7 @@ func TestTheTableHasEachError(t *testing.T) {
 	if err != nil {
 		t.Fatal(err)
 	}
-	for _, err := range []error{primary.ErrBusy, primary.ErrFull, primary.ErrDiffers, primary.ErrMalformed, epoch.ErrNoSite, fleet.ErrNoMember, epoch.ErrBehind,
+	for _, err := range []error{primary.ErrBusy, primary.ErrFull, primary.ErrDiffers, primary.ErrMalformed, epoch.ErrNoSite, epoch.ErrOtherScript, epoch.ErrBehind,
 		epoch.ErrOtherWish, epoch.ErrNotYet, site.ErrNotServing, context.DeadlineExceeded, &primary.PassedError{}, &primary.NotWriterError{},
 		&site.BehindError{}, &epoch.CannotBeError{}} {
 		told := wire.ErrorOf(err, "Failed", 500)

@@ -28,8 +28,8 @@ type Site struct {
 func NewSite(config Config, name string, reader Reader) *Site {
 	served := &Site{newServer(config), name, reader, room{most: int64(config.Requests) / 2}}
 	room := &room{most: int64(config.Requests)}
-	served.answers(wire.ValuePath, route{http.MethodGet, Clients, 0, room, served.value})
-	served.answers(wire.ValuesPath, route{http.MethodGet, Clients, 0, room, served.values})
+	served.answers(wire.ValuePath, route{http.MethodGet, Clients, 0, room, sees, served.value})
+	served.answers(wire.ValuesPath, route{http.MethodGet, Clients, 0, room, sees, served.values})
 	return served
 }
 
@@ -60,7 +60,7 @@ func (served *Site) values(ctx context.Context, asked *request) (interface{}, er
 
 func (served *Site) read(ctx context.Context, asked *request) (reading site.Reading, showing wire.Showing, err error) {
 	seen := site.Seen{}
-	if text := asked.URL.Query().Get("seen"); text != "" {
+	if text := asked.words.Get("seen"); text != "" {
 		if seen.Epoch, seen.Place, err = wire.ParseSeen(text); err != nil {
 			return reading, showing, malformed(err)
 		}

@@ -39,6 +39,21 @@ func TestReadersThatWaitKeepNobodyOut(t *testing.T) {
 	waiting.Wait()
 }
 
+// Who has waited makes room for the next one: else half of the room is gone for good.
+func TestAReaderThatWaitedLeavesItsPlace(t *testing.T) {
+	config := config(nil)
+	config.Requests = 4
+	address := listenAt(t, func(string) http.Handler { return serve.NewSite(config, "north", &reader{place: 5}) })
+	for count := 0; count < 3; count++ {
+		began := time.Now()
+		status, text := ask(t, "GET", address+"/values?seen=9.9&wait=0.2", "")
+		is(t, "it waits", status, text, 412, "Behind")
+		if took := time.Since(began); took < 150*time.Millisecond {
+			t.Errorf("reader %d waited for %v", count, took)
+		}
+	}
+}
+
 // A crowd of readers waits until all are there.
 type crowd struct {
 	reader

@@ -8,7 +8,6 @@ import (
 	"errors"
 	"flag"
 	"fmt"
-	"io"
 	"os"
 	"sort"
 	"strconv"
@@ -28,8 +27,6 @@ type Set struct {
 // New gives a set without a setting, but for the name of the file.
 func New(command string) *Set {
 	set := &Set{flags: flag.NewFlagSet(command, flag.ContinueOnError)}
-	set.flags.SetOutput(io.Discard)
-	set.flags.Usage = func() {}
 	set.flags.StringVar(&set.file, fileKey, "", "the `FILE` with settings")
 	return set
 }
@@ -90,15 +87,21 @@ func (set *Set) Has(key string) bool { return set.flags.Lookup(key) != nil }
 func (set *Set) Read(words []string, isKnown func(key string) bool) ([]string, error) {
 	rest := []string{}
 	for len(words) > 0 {
-		if err := set.flags.Parse(words); err != nil {
-			return nil, flagError(err)
-		}
-		left := set.flags.Args()
-		if isEnd := len(left) < len(words) && words[len(words)-len(left)-1] == "--"; isEnd || len(left) == 0 {
-			rest = append(rest, left...)
+		word := words[0]
+		words = words[1:]
+		if word == "--" {
+			rest = append(rest, words...)
 			break
 		}
-		rest, words = append(rest, left[0]), left[1:]
+		if len(word) < 2 || word[0] != '-' {
+			rest = append(rest, word)
+			continue
+		}
+		used, err := set.flag(strings.TrimPrefix(word[1:], "-"), words)
+		if err != nil {
+			return nil, err
+		}
+		words = words[used:]
 	}
 	if set.file == "" {
 		return rest, nil
@@ -110,13 +113,33 @@ func (set *Set) Read(words []string, isKnown func(key string) bool) ([]string, e
 	return rest, set.readFile(string(text), isKnown)
 }
 
-// flagError is an error of package flag in the words of this one.
-func flagError(err error) error {
-	if errors.Is(err, flag.ErrHelp) {
-		return err
+// flag sets one, as `every=8`, or with its value among the words that follow. It returns how many of these are used.
+func (set *Set) flag(text string, words []string) (used int, err error) {
+	key, value, hasValue := strings.Cut(text, "=")
+	found := set.flags.Lookup(key)
+	switch {
+	case found == nil && (key == "help" || key == "h"):
+		return 0, flag.ErrHelp
+	case found == nil:
+		return 0, fmt.Errorf("there is no flag --%s", key)
+	case hasValue:
+	case isSwitch(found):
+		value = "true"
+	case len(words) == 0:
+		return 0, fmt.Errorf("a value is missing after --%s", key)
+	default:
+		value, used = words[0], 1
 	}
-	return errors.New(strings.NewReplacer("flag provided but not defined: -", "there is no flag --", "for flag -", "for --",
-		"flag needs an argument: -", "a value is missing after --").Replace(err.Error()))
+	if err = set.flags.Set(key, value); err != nil {
+		err = fmt.Errorf("%.60q for --%s: %w", value, key, err)
+	}
+	return used, err
+}
+
+// isSwitch is whether a flag may stand without a value.
+func isSwitch(found *flag.Flag) bool {
+	switched, isOne := found.Value.(interface{ IsBoolFlag() bool })
+	return isOne && switched.IsBoolFlag()
 }
 
 func (set *Set) readFile(text string, isKnown func(string) bool) error {

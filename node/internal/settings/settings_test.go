@@ -59,12 +59,14 @@ func TestFlagsWin(t *testing.T) {
 func TestWhatIsWrongIsNamed(t *testing.T) {
 	for _, row := range []struct{ file, flag, says string }{
 		{"", "--evry=1", "there is no flag --evry"},
-		{"", "--every=101", `invalid value "101" for --every: it is a number from 1 to 100`},
+		{"", "--every=101", `"101" for --every: it is a number from 1 to 100`},
 		{"", "--every=x", "for --every"},
 		{"", "--wait=NaN", "for --wait"},
 		{"", "--wait=61", "for --wait"},
 		{"", "--engine=a,,b", "for --engine"},
 		{"", "--every", "a value is missing after --every"},
+		{"", "--replace=maybe", `"maybe" for --replace: `},
+		{"", "--=1", "there is no flag --"},
 		{"evry = 1", "", `line 1: there is no key "evry"`},
 		{"\nevery = 0", "", `line 2: "0" for every: it is a number from 1 to 100`},
 		{"every 1", "", "is not `key = value`"},

@@ -8,9 +8,11 @@ import (
 	"time"
 
 	"ordup-node/internal/clock"
+	"ordup-node/internal/engine"
 )
 
-// ErrNotServing says that this process serves no reader: it has no lease, or has not reached the end that the script had when it got it.
+// ErrNotServing says that this process serves no reader: it has no lease, has not reached the end that the script had when it got it, or
+// nobody has taken a place of it since.
 var ErrNotServing = errors.New("this process serves no reader now")
 
 // Seen is what a reader has seen: a place of an epoch.
@@ -30,36 +32,77 @@ type Reading struct {
 	Lease time.Duration
 }
 
-// served is what readers are served, or nil, and a channel that is closed when that may have changed. The lease is looked at after the
-// values, so it lived when they were the last ones.
-func (site *Site) served() (*Shown, <-chan struct{}) {
+// A moment is what the site had to show under its lease when it was looked at, or nothing.
+type moment struct {
+	shown *Shown
+	// Term is that of the lease, and isTaken whether a place of the site was taken in it.
+	term    engine.Term
+	isTaken bool
+	// Changed is closed when the moment may have passed.
+	changed <-chan struct{}
+}
+
+// now is what may be told. The lease is looked at after the values, so it lived when they were the last ones.
+func (site *Site) now() moment {
 	site.lock.Lock()
-	shown, changed, first, term := site.shown, site.changed, site.first, site.term
+	shown, changed, first, term, taken := site.shown, site.changed, site.first, site.term, site.taken
 	site.lock.Unlock()
 	if shown == nil || shown.Entry < first || !site.lease.Lives(term) {
-		return nil, changed
+		shown = nil
 	}
-	return shown, changed
+	return moment{shown, term, taken == term, changed}
+}
+
+// served is what readers are served, or nil: what may be told, once a place was taken in this term.
+func (site *Site) served() *Shown {
+	now := site.now()
+	if !now.isTaken {
+		return nil
+	}
+	return now.shown
 }
 
 // Read gives the values that the site shows, which are no less than what the reader has seen. For that it waits, until the context ends:
-// then it is a BehindError. While the process serves nobody it fails at once with ErrNotServing.
+// then it is a BehindError. While the process serves nobody it fails at once with ErrNotServing. What is more than one epoch ahead fails at
+// once too: the site has told all of an epoch before the one after the next begins.
 func (site *Site) Read(ctx context.Context, seen Seen) (Reading, error) {
 	for {
-		shown, changed := site.served()
-		if shown == nil {
+		shown := site.served()
+		switch {
+		case shown == nil:
 			return Reading{}, ErrNotServing
-		}
-		if shown.Epoch > seen.Epoch || shown.Epoch == seen.Epoch && shown.Place >= seen.Place {
+		case shown.covers(seen):
 			atomic.AddInt64(&site.readers, 1)
 			return Reading{shown, site.lease.Until() - clock.Now()}, nil
-		}
-		select {
-		case <-changed:
-		case <-ctx.Done():
+		case seen.Epoch > shown.Epoch+1 || ctx.Err() != nil:
 			return Reading{}, &BehindError{Seen{shown.Epoch, shown.Place}}
 		}
+		site.await(ctx, seen)
 	}
+}
+
+// await waits until the process shows what a reader has seen, or nothing any more, or the context ends.
+func (site *Site) await(ctx context.Context, seen Seen) {
+	came := make(chan struct{})
+	site.lock.Lock()
+	if site.shown == nil || site.shown.covers(seen) {
+		close(came)
+	} else {
+		site.waiting[came] = seen
+	}
+	site.lock.Unlock()
+	select {
+	case <-came:
+	case <-ctx.Done():
+		site.lock.Lock()
+		defer site.lock.Unlock()
+		delete(site.waiting, came)
+	}
+}
+
+// covers is whether a reader who has seen this sees no less.
+func (shown *Shown) covers(seen Seen) bool {
+	return shown.Epoch > seen.Epoch || shown.Epoch == seen.Epoch && shown.Place >= seen.Place
 }
 
 // ValueOf is the value of an object, and whether there is one of this name.
@@ -103,8 +146,7 @@ type Status struct {
 
 // Status tells what there is.
 func (site *Site) Status() Status {
-	served, _ := site.served()
-	status := Status{Serves: served != nil, Readers: atomic.LoadInt64(&site.readers), EngineFailures: site.config.Engine.Failures()}
+	status := Status{Serves: site.served() != nil, Readers: atomic.LoadInt64(&site.readers), EngineFailures: site.config.Engine.Failures()}
 	site.lock.Lock()
 	if shown := site.shown; shown != nil {
 		status.Since, status.HasSeen = clock.Now()-site.shownAt, true

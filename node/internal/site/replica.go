@@ -35,6 +35,8 @@ type Shown struct {
 	Values []Value
 	// Limits are those of the site, as `count 3`.
 	Limits []string
+	// Digest is that of the entry, as the engine has it.
+	Digest string
 }
 
 // A LeftError says that the site is not among those of the script.
@@ -57,6 +59,7 @@ type Replica struct {
 	// The name in the script, which is that of the fleet where the site is of one.
 	name  string
 	store store.Store
+	judge epoch.Judge
 	entry int64
 	epoch int64
 	sites map[string]bool
@@ -96,6 +99,9 @@ func (replica *Replica) Replay(number int64, entry *script.Entry) error {
 	}
 	if entry.Epoch != replica.epoch && entry.Epoch != replica.epoch+1 && replica.epoch > 0 {
 		return &epoch.BrokenError{Number: number, Why: fmt.Sprintf("it is of epoch %d after %d", entry.Epoch, replica.epoch)}
+	}
+	if err := replica.judge.Take(number, entry); err != nil {
+		return err
 	}
 	if entry.Begins() {
 		if err := replica.begin(number, entry); err != nil {
@@ -261,7 +267,7 @@ func (replica *Replica) Show() (*Shown, error) {
 	if err != nil || replica.store == nil {
 		return nil, err
 	}
-	return &Shown{replica.entry, replica.epoch, replica.place, replica.told, values, replica.limits}, nil
+	return &Shown{Entry: replica.entry, Epoch: replica.epoch, Place: replica.place, Told: replica.told, Values: values, Limits: replica.limits}, nil
 }
 
 // values reads what the store shows: `ok show SITE sent A applied B reported C rounds D X=V ..`.

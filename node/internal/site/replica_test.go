@@ -16,7 +16,7 @@ import (
 // openStore gives the stores of the tests. With the tag library it is that of the program.
 var openStore store.Open = modelstore.Open
 
-var shop = []string{"object tea 100", "object till 0", "site north 1", "site south 1", "limit north count 1000", "start"}
+var declared = []string{"object tea 100", "object till 0", "site north 1", "site south 1", "limit north count 1000", "start"}
 
 func is(t *testing.T, wants, has interface{}) {
 	t.Helper()
@@ -32,9 +32,11 @@ type written struct {
 	entries []*script.Entry
 }
 
-func newWritten(t *testing.T) *written {
+func newWritten(t *testing.T) *written { return newScript(t, declared) }
+
+func newScript(t *testing.T, declared []string) *written {
 	config := epoch.Config{Open: openStore, Writer: "p1", Versions: []string{"1"}}
-	turn, err := epoch.FirstTurn(config, script.Settings{Every: 100_000, Remembers: 1, Origin: "0", Ordup: "1"}, shop)
+	turn, err := epoch.FirstTurn(config, script.Settings{Every: 100_000, Remembers: 1, Origin: "0", Ordup: "1"}, declared)
 	is(t, nil, err)
 	core := epoch.New(config, 1)
 	is(t, nil, core.Replay(1, turn.Entry()))
@@ -92,7 +94,7 @@ func TestASiteShowsWhatTheScriptComesTo(t *testing.T) {
 	script.write()
 	shown, err := script.replay(at("south"))
 	is(t, nil, err)
-	is(t, "{3 1 2 1 [{tea 95} {till 7}] []}", *shown)
+	is(t, "{3 1 2 1 [{tea 95} {till 7}] [] }", *shown)
 	shown, err = script.replay(at("north"))
 	is(t, nil, err)
 	is(t, int64(0), shown.Told)
@@ -125,12 +127,16 @@ func TestASiteAcrossEpochs(t *testing.T) {
 	is(t, nil, err)
 	is(t, []int64{2, 0, 0}, []int64{shown.Epoch, shown.Place, shown.Told})
 	is(t, "[{tea 95} {till 0}]", shown.Values)
-	// A site that lacks one of the updates notices it as the next epoch begins.
-	lacks := *script.entries[1]
-	lacks.Steps = nil
-	script.entries[1] = &lacks
+	// A site with another update notices it as the next epoch begins, and one that lacks it as more is told than it has.
+	wrong := *script.entries[1]
+	script.entries[1] = &wrong
+	wrong.Steps = append(wrong.Steps[:0:0], wrong.Steps...)
+	wrong.Steps[0].Text = "add:tea:-4"
 	_, err = script.replay(at("south"))
-	is(t, true, strings.Contains(err.Error(), "tea begins with 95, and had 100 here"))
+	is(t, true, strings.Contains(fmt.Sprint(err), "tea begins with 95, and had 96 here"))
+	wrong.Steps = nil
+	_, err = script.replay(at("south"))
+	is(t, true, strings.Contains(fmt.Sprint(err), "tells 1 updates after 0, and there are 0"))
 }
 
 func TestASiteThatIsTakenOut(t *testing.T) {

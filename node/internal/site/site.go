@@ -54,13 +54,17 @@ type Site struct {
 	config Config
 	inName string
 	lease  *engine.Lease
-	// What is shown, and from which entry on it is served in which term of the lease. Changed is closed with each change.
+	// What is shown, and from which entry on it may be told in which term of the lease. Changed is closed with each change. Taken is the last
+	// term in which a place was taken: from then on it is served.
 	lock    sync.Mutex
 	shown   *Shown
 	shownAt time.Duration
 	changed chan struct{}
+	// The readers that wait, with what they have seen.
+	waiting map[chan struct{}]Seen
 	first   int64
 	term    engine.Term
+	taken   engine.Term
 	readers int64
 	toldAt  int64
 	replica *Replica
@@ -71,7 +75,7 @@ type Site struct {
 
 // New gives a site, which Run runs.
 func New(config Config) (*Site, error) {
-	site := &Site{config: config, inName: config.Fleet, changed: make(chan struct{})}
+	site := &Site{config: config, inName: config.Fleet, changed: make(chan struct{}), waiting: map[chan struct{}]Seen{}}
 	if site.inName == "" {
 		site.inName = config.Name
 	}
@@ -79,11 +83,14 @@ func New(config Config) (*Site, error) {
 	if !script.IsName(site.inName) || !script.IsName(config.Name) || !script.IsWord(own, script.MostWriterBytes) {
 		return nil, exit.With(exit.Words, fmt.Errorf("%q of %q at %q is no site", config.Name, site.inName, config.Host))
 	}
-	site.lease = config.Engine.NewLease(engine.SiteKey(site.inName, config.Name), own, config.Log, site.mayServe)
+	if config.Fleet == config.Name {
+		return nil, exit.With(exit.Words, fmt.Errorf("the site %s has the name of its fleet", config.Name))
+	}
+	site.lease = config.Engine.NewSiteLease(site.inName, config.Name, own, config.Log, site.mayServe)
 	return site, nil
 }
 
-// mayServe says from which entry on readers are served. The process before has told no place after this one.
+// mayServe says from which entry on places are told and readers served. The process before has told no place after this one.
 func (site *Site) mayServe(ctx context.Context, term engine.Term) error {
 	site.lock.Lock()
 	next := int64(1)
@@ -181,6 +188,9 @@ func (site *Site) follow(ctx context.Context, reached func()) error {
 		if err != nil {
 			return err
 		}
+		if shown != nil {
+			shown.Digest = site.mark.Digest().String()
+		}
 		site.show(shown)
 		if shown != nil && shown.Entry >= site.end {
 			reached()
@@ -222,47 +232,71 @@ func (site *Site) start(ctx context.Context) error {
 	return err
 }
 
-// show shows values to readers, if they are served.
+// show shows values to readers, if they are served. It wakes those that waited for them.
 func (site *Site) show(shown *Shown) {
 	site.lock.Lock()
 	defer site.lock.Unlock()
 	site.shown, site.shownAt = shown, clock.Now()
 	close(site.changed)
 	site.changed = make(chan struct{})
+	for came, seen := range site.waiting {
+		if shown == nil || shown.covers(seen) {
+			close(came)
+			delete(site.waiting, came)
+		}
+	}
 }
 
-// tellAll tells places that were shown under the lease, until the context ends. A place that cannot be ends the process.
+// tellAll tells places that were shown under the lease, until the context ends. One that is refused for good ends the process.
 func (site *Site) tellAll(ctx context.Context) error {
 	var told epoch.Place
 	for ctx.Err() == nil {
 		relies := site.lease.Changed()
-		shown, changed := site.served()
-		if isDue, again := site.isDue(shown, &told); !isDue {
+		now := site.now()
+		isDue, again := site.isDue(now.shown, &told)
+		if !isDue && (now.shown == nil || now.isTaken) {
 			timer := time.NewTimer(again)
 			select {
 			case <-ctx.Done():
-			case <-changed:
+			case <-now.changed:
 			case <-relies:
 			case <-timer.C:
 			}
 			timer.Stop()
-		} else {
-			place := epoch.Place{Site: site.inName, Member: site.config.Name, Epoch: shown.Epoch, Applied: shown.Place, Entry: shown.Entry}
-			err := site.tell(ctx, place)
-			var cannotBe *epoch.CannotBeError
-			if errors.As(err, &cannotBe) {
-				return err
-			}
-			if err == nil {
-				told = place
-				atomic.StoreInt64(&site.toldAt, int64(clock.Now()))
-			} else if ctx.Err() == nil {
-				site.config.Log.Warn("place-not-told", "why", err)
-				clock.Pause(ctx, afterFailure)
-			}
+			continue
+		}
+		place := site.placeOf(now.shown)
+		switch err := site.tell(ctx, place); {
+		case err == nil:
+			told = place
+			site.wasTaken(now.term)
+		case isRefused(err):
+			return err
+		case ctx.Err() == nil:
+			site.config.Log.Warn("place-not-told", "why", err)
+			clock.Pause(ctx, afterFailure)
 		}
 	}
 	return nil
+}
+
+func (site *Site) placeOf(shown *Shown) epoch.Place {
+	return epoch.Place{Site: site.inName, Member: site.config.Name, Epoch: shown.Epoch, Applied: shown.Place, Entry: shown.Entry,
+		Digest: shown.Digest}
+}
+
+// isRefused is whether an error says of a place that nobody ever takes it.
+func isRefused(err error) bool {
+	var cannotBe *epoch.CannotBeError
+	return errors.As(err, &cannotBe) || errors.Is(err, epoch.ErrOtherScript) || errors.Is(err, epoch.ErrNoSite)
+}
+
+// wasTaken notes that a place was taken which was told in a term.
+func (site *Site) wasTaken(term engine.Term) {
+	atomic.StoreInt64(&site.toldAt, int64(clock.Now()))
+	site.lock.Lock()
+	defer site.lock.Unlock()
+	site.taken = term
 }
 
 // isDue is whether what is shown is to be told now, after what was told last, and else after how long it may be.

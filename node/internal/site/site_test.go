@@ -2,7 +2,9 @@ package site
 
 import (
 	"context"
+	"crypto/sha256"
 	"errors"
+	"fmt"
 	"sync"
 	"testing"
 	"time"
@@ -17,15 +19,7 @@ type nowhere struct{}
 
 func (nowhere) Tell(context.Context, epoch.Place) error { return nil }
 
-// until waits until something is so.
-func until(t *testing.T, what string, isSo func() bool) {
-	t.Helper()
-	for end := time.Now().Add(10 * time.Second); !isSo(); time.Sleep(5 * time.Millisecond) {
-		if time.Now().After(end) {
-			t.Fatal(what)
-		}
-	}
-}
+var until = etcdtest.Until
 
 // A process serves what it has once that is as far as the script was when it got the lease, in that term of the lease alone.
 func TestFromWhereOnASiteServes(t *testing.T) {
@@ -44,6 +38,7 @@ func TestFromWhereOnASiteServes(t *testing.T) {
 	is(t, nil, err)
 	serves := func(entry int64) bool {
 		site.show(&Shown{Entry: entry, Epoch: 1})
+		site.wasTaken(site.now().term)
 		_, err := site.Read(ctx, Seen{})
 		is(t, true, err == nil || err == ErrNotServing)
 		return err == nil
@@ -52,7 +47,7 @@ func TestFromWhereOnASiteServes(t *testing.T) {
 	leased, giveUp := context.WithCancel(ctx)
 	done := make(chan struct{})
 	go func() { site.lease.Run(leased); close(done) }()
-	until(t, "it gets no lease", site.lease.Held)
+	until(t, "it gets no lease", site.lease.Relies)
 	is(t, []bool{false, true}, []bool{serves(4), serves(5)})
 	write(6)
 	is(t, true, serves(5)) // The lease is older than that entry.
@@ -110,7 +105,8 @@ func TestASiteTellsNothingWithoutTheLease(t *testing.T) {
 	giveUp()
 	<-done
 	until(t, "it tells nothing with the lease", func() bool { return len(listener.told()) > 0 })
-	is(t, epoch.Place{Site: "north", Member: "north", Epoch: 1, Applied: 1, Entry: 2}, listener.told()[0])
+	digest := fmt.Sprintf("%x", sha256.Sum256(script.entries[1].Text()))[:16]
+	is(t, epoch.Place{Site: "north", Member: "north", Epoch: 1, Applied: 1, Entry: 2, Digest: digest}, listener.told()[0])
 	cancel()
 	is(t, nil, <-ended)
 }
@@ -189,8 +185,9 @@ func TestAReaderSeesNoLessThanBefore(t *testing.T) {
 	ctx, cancel := context.WithTimeout(context.Background(), 30*time.Second)
 	defer cancel()
 	go site.lease.Run(ctx)
-	until(t, "it gets no lease", site.lease.Held)
+	until(t, "it gets no lease", site.lease.Relies)
 	site.show(&Shown{Entry: 7, Epoch: 2, Place: 5})
+	site.wasTaken(1)
 	for _, seen := range []Seen{{}, {1, 99}, {2, 5}} {
 		reading, err := site.Read(ctx, seen)
 		is(t, []interface{}{5, nil}, []interface{}{reading.Place, err})
@@ -200,15 +197,33 @@ func TestAReaderSeesNoLessThanBefore(t *testing.T) {
 	_, err = site.Read(short, Seen{2, 6})
 	var behind *BehindError
 	is(t, true, errors.As(err, &behind) && behind.Has == Seen{2, 5})
-	read := make(chan Reading, 1)
-	go func() {
-		reading, _ := site.Read(ctx, Seen{3, 1})
-		read <- reading
-	}()
+	_, err = site.Read(ctx, Seen{4, 0}) // It can be of no honest reader, and waits for nothing.
+	is(t, true, errors.As(err, &behind) && behind.Has == Seen{2, 5})
+	_, err = site.Read(short, Seen{3, 0})
+	is(t, true, errors.As(err, &behind) && behind.Has == Seen{2, 5})
+	read := make(chan interface{}, 2)
+	ask := func(seen Seen) {
+		waits := func() int { site.lock.Lock(); defer site.lock.Unlock(); return len(site.waiting) }
+		before := waits()
+		go func() {
+			if reading, err := site.Read(ctx, seen); err != nil {
+				read <- err
+			} else {
+				read <- reading.Entry
+			}
+		}()
+		until(t, "a reader does not wait", func() bool { return waits() > before })
+	}
+	ask(Seen{3, 1})
+	ask(Seen{3, 9})
 	site.show(&Shown{Entry: 8, Epoch: 3, Place: 0})
+	is(t, 2, len(site.waiting))
 	site.show(&Shown{Entry: 9, Epoch: 3, Place: 1})
-	is(t, int64(9), (<-read).Entry)
-	is(t, int64(4), site.Status().Readers)
+	is(t, int64(9), <-read)
+	is(t, 1, len(site.waiting))
+	site.show(nil)
+	is(t, ErrNotServing, <-read)
+	is(t, []int{0, 4}, []int{len(site.waiting), int(site.Status().Readers)})
 }
 
 func TestWhatIsNoSite(t *testing.T) {

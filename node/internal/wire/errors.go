@@ -7,7 +7,6 @@ import (
 	"net/http"
 
 	"ordup-node/internal/epoch"
-	"ordup-node/internal/fleet"
 	"ordup-node/internal/primary"
 	"ordup-node/internal/site"
 )
@@ -23,7 +22,7 @@ var plain = []struct {
 	{primary.ErrDiffers, http.StatusConflict, "Differs"},
 	{primary.ErrMalformed, http.StatusBadRequest, "Malformed"},
 	{epoch.ErrNoSite, http.StatusNotFound, "NoSite"},
-	{fleet.ErrNoMember, http.StatusNotFound, "NoSite"},
+	{epoch.ErrOtherScript, http.StatusUnprocessableEntity, "OtherScript"},
 	{epoch.ErrBehind, http.StatusServiceUnavailable, "NotYet"},
 	{epoch.ErrOtherWish, http.StatusConflict, "OtherWish"},
 	{epoch.ErrNotYet, http.StatusConflict, "NoSuchEpoch"},

@@ -15,15 +15,20 @@
 // names the primary that writes, for whoever asks again. A request that was passed on has the header Ordup-Passed, and goes no further.
 //
 // `?wait=SECONDS` says how long an answer is waited for, at most MostWait. `?seen=EPOCH.PLACE` of a reader says what it has seen. It is
-// shown no less: where the site does not get there in that time, or too many wait already, it says how far it is.
+// shown no less: where the site does not get there in that time, or too many wait already, it says how far it is. It says so at once where
+// that is more than one epoch ahead. Each of both stands there once, and nothing else does.
 //
-// Where tokens are asked for, a request has the header `Authorization: Bearer TOKEN`. A token may also be the password of `Basic`.
+// Where tokens are asked for, a request has the header `Authorization: Bearer TOKEN`. With GET a token may also be the password of `Basic`.
+// With POST the header `Content-Type: application/json` is there, and none of `Origin`. So no page in a browser sends what changes something.
 //
 // Each error is an Error in JSON with a name. What its status and name say:
 //
 //	200                  it is done, or shown
 //	400 Malformed        the request has not the form: JSON, a client, a number, changes, words behind `?`
 //	401 NoToken          the token is missing, or not one of those who may ask this
+//	403 Closed           the process has tokens of others, and none of those who may ask this
+//	403 OtherSite        the token is of another site than that which the place is of
+//	403 OtherOrigin      a page in a browser asks for what changes something
 //	404 NoSuchPath       the process has no such path
 //	404 NoSuchObject     the site has no such object
 //	404 NoSite           the script, or the fleet, has no such site
@@ -35,8 +40,10 @@
 //	409 NoSuchEpoch      the epoch that is to end has not begun
 //	412 Behind           the site is at `epoch` and `place`, which is before what the reader has seen
 //	413 TooLarge         the body is too large
+//	415 NotJSON          the request does not say that its body is JSON
 //	422 Refused          the store refuses the update: `refused` has the number and `refusal` the name. This is its answer for good
 //	422 CannotBe         no site can have told this place
+//	422 OtherScript      the place is of a site that ran another script: the entry that it names is another one here
 //	422 NoWish           no next epoch can be as it is wished
 //	500 Failed           something else went wrong, and the message says what. Ask again
 //	503 NotWriter        this primary does not write. `writer` says which one does, if it is known. Ask again
@@ -44,7 +51,7 @@
 //	503 NotYet           this process has not run the script as far yet. Tell the place again
 //	503 Busy             too many requests wait. Ask again
 //	504 NoAnswer         there is no answer yet. Ask again
-//	507 Full             the engine is full, and takes no write
+//	507 Full             the engine is full, and takes no write. Ask again
 //
 // A request to update may be asked again under its number after each of them, and after none at all: it is done once. It has its answer
 // for good with 200, 400, 409 and 422.
@@ -104,13 +111,14 @@ type Acked struct {
 	Seen   string `json:"seen"`
 }
 
-// A Place is what a site tells: epoch.Place.
+// A Place is what a site tells: epoch.Place. Digest is that of Entry.
 type Place struct {
 	Site    string `json:"site"`
 	Member  string `json:"member"`
 	Epoch   int64  `json:"epoch"`
 	Applied int64  `json:"applied"`
 	Entry   int64  `json:"entry"`
+	Digest  string `json:"digest"`
 }
 
 // A Done says that something is done.
@@ -118,10 +126,12 @@ type Done struct{}
 
 // A Next asks for the epoch after From. What is zero or empty in it stays as it is.
 type Next struct {
-	From      int64  `json:"from"`
-	Every     int64  `json:"every,omitempty"`
-	Remembers int64  `json:"remembers,omitempty"`
-	Ordup     string `json:"ordup,omitempty"`
+	From      int64 `json:"from"`
+	Every     int64 `json:"every,omitempty"`
+	Remembers int64 `json:"remembers,omitempty"`
+	// RemembersSeconds is for how long a client is remembered at least.
+	RemembersSeconds int64  `json:"remembers_seconds,omitempty"`
+	Ordup            string `json:"ordup,omitempty"`
 	// Declarations is the text of a file with declarations.
 	Declarations string `json:"declarations,omitempty"`
 	// Replaces says that it takes the place of what was asked for before.

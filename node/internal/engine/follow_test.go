@@ -1,0 +1,75 @@
+package engine_test
+
+import (
+	"context"
+	"errors"
+	"strings"
+	"sync/atomic"
+	"testing"
+	"time"
+
+	"ordup-node/internal/engine"
+	"ordup-node/internal/etcdtest"
+)
+
+// silence has a watch tell nothing any more, on a link that carries all else. If it began, it has told that it did.
+func silence(t *testing.T, began bool) {
+	members, ctx := etcdtest.Start(t, 1), within(t, 60*time.Second)
+	writer, calls := members.Engine(), members.Calls()
+	own := calls.Engine(t)
+	is(t, nil, writer.Write(ctx, &engine.Write{Number: 1, Text: []byte("1"), Epoch: 1, First: 1}))
+	last, told, isSilent := int64(0), int64(0), int64(0)
+	calls.Judge(func(call etcdtest.Call) etcdtest.Fate {
+		isAnswer := strings.HasSuffix(call.Method, "/Watch") && call.Asked == nil
+		if isAnswer && (!began || atomic.LoadInt64(&isSilent) > 0) {
+			return etcdtest.Silent
+		}
+		if isAnswer {
+			atomic.AddInt64(&told, 1)
+		}
+		return etcdtest.Passes
+	})
+	following, stop := context.WithCancel(ctx)
+	done := make(chan error, 1)
+	go func() {
+		done <- own.Follow(following, 1, func(entries []engine.Raw) error {
+			atomic.StoreInt64(&last, entries[len(entries)-1].Number)
+			return nil
+		})
+	}()
+	until(t, "the first entry does not come", func() bool { return atomic.LoadInt64(&last) == 1 })
+	if began {
+		until(t, "there is no watch", func() bool { return atomic.LoadInt64(&told) > 0 })
+	}
+	atomic.StoreInt64(&isSilent, 1)
+	time.Sleep(200 * time.Millisecond)
+	is(t, nil, write(t, writer, 2, "x"))
+	until(t, "an entry does not come", func() bool { return atomic.LoadInt64(&last) == 2 })
+	is(t, int64(0), own.Failures())
+	stop()
+	is(t, context.Canceled, <-done)
+}
+
+// What a watch does not tell is read.
+func TestEntriesComeThoughAWatchFallsSilent(t *testing.T) { silence(t, true) }
+
+func TestEntriesComeThoughNoWatchIsAnswered(t *testing.T) { silence(t, false) }
+
+// A process goes on behind the entry that it ran last, and not behind another one of that number.
+func TestAMarkIsOfTheEntryThatWasRun(t *testing.T) {
+	members, ctx := etcdtest.Start(t, 1), within(t, 20*time.Second)
+	own := members.Engine()
+	is(t, nil, own.Write(ctx, &engine.Write{Number: 1, Text: []byte("a"), Epoch: 1, First: 1}))
+	is(t, nil, write(t, own, 2, "b"))
+	var mark engine.Mark
+	mark.Set(2, []byte("b"))
+	first, err := own.Resume(ctx, &mark)
+	is(t, []interface{}{1, nil}, []interface{}{first, err})
+	members.Put("script/000000000002", "c") // As where the script was restored from a past, and written on.
+	_, err = own.Resume(ctx, &mark)
+	var changed *engine.ChangedError
+	is(t, true, errors.As(err, &changed))
+	members.Delete("script/000000000002")
+	_, err = own.Resume(ctx, &mark)
+	is(t, true, errors.As(err, &changed))
+}

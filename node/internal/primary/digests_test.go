@@ -1,0 +1,35 @@
+package primary
+
+import (
+	"testing"
+
+	"ordup-node/internal/engine"
+	"ordup-node/internal/epoch"
+)
+
+// A place is of this script where it names an entry of the epoch as it is here.
+func TestAPlaceNamesAnEntryOfThisScript(t *testing.T) {
+	digests, mark := digests{}, engine.Mark{}
+	add := func(number int64, text string, begins bool) string {
+		mark.Set(number, []byte(text))
+		digests.add(&mark, begins)
+		return mark.Digest().String()
+	}
+	is := func(wants error, entry int64, digest string) {
+		t.Helper()
+		if has := digests.check(&epoch.Place{Epoch: 1, Entry: entry, Digest: digest}); has != wants {
+			t.Errorf("%v instead of %v", has, wants)
+		}
+	}
+	is(epoch.ErrBehind, 1, "")
+	before := add(7, "carried over", false)
+	is(nil, 7, before)
+	begun := add(8, "begins", true)
+	is(nil, 8, begun)
+	is(epoch.ErrOtherScript, 7, before)
+	is(epoch.ErrOtherScript, 8, before)
+	is(epoch.ErrOtherScript, 8, "")
+	is(epoch.ErrBehind, 9, begun)
+	is(nil, 9, add(9, "next", false))
+	is(nil, 8, begun)
+}

@@ -112,25 +112,31 @@ tell_progress() {
     say "all that was said of it is in $log"
 }
 
-# Stops both proofs.
+# Stops both proofs, and has none begin by itself from now on: the file `stopped` says so until one is asked for.
 stop() {
-    local any
+    local any begins='--proved, --library or --package begins it again'
+    mkdir -p -- "$out" && : >"$out/stopped" || begins='the next start begins it again'
     for aim in library program; do
         aim_at $aim
         is_running || continue
         any=yes
-        ! is_held_by_stranger || give_up "$told/lock is held by $stranger, which is no proof of this checkout: it goes on"
+        ! is_held_by_stranger || {
+            rm -f -- "$out/stopped"
+            give_up "$told/lock is held by $stranger, which is no proof of this checkout: it goes on"
+        }
         kill -- "-$(<"$told/pid")" || exit 70
         while is_running; do sleep 0.1; done
-        say "the proof$of is stopped: it goes on from there when it is begun again"
+        say "the proof$of is stopped: it goes on from there once $begins"
     done
-    [[ $any ]] || say "no proof is running"
+    [[ $any ]] || say "no proof is running, and $begins"
 }
 
 # Removes what the proofs left, unless one is running: of this checkout, or of one that stood in its place before and is gone.
 clean() {
+    local it lock
     name_folder
-    [[ -e $out || -e $folder ]] || { say "there is nothing to remove" && return; }
+    [[ -e $out || -L $out || -e $folder ]] || { say "there is nothing to remove" && return; }
+    [[ -d $out || ! -e $out && ! -L $out ]] || give_up "nothing is removed, since $out is no folder"
     for aim in library program; do
         aim_at $aim
         ! is_held_by_stranger || give_up "nothing is removed while $told/lock is held by $stranger"
@@ -138,6 +144,11 @@ clean() {
     mkdir -p -- "$out/library" && exec 9>>"$out/lock" 10>>"$out/library/lock" || exit 70
     flock --timeout 1 9 && flock --timeout 1 10 && { [[ ! -e $folder/lock ]] || flock --nonblock "$folder/lock" true; } ||
         give_up "nothing is removed while a proof is running: wait for its end, or stop it (./ordup --stop)"
-    say "removing $(du -shc -- "$out" "$folder" 2>/dev/null | tail -n 1 | cut -f 1): $out and $folder"
-    rm -rf -- "$folder" "$out" || exit 70
+    for it in "$folder"/unproved/*.lock; do
+        exec {lock}>>"$it" && flock --nonblock "$lock" ||
+            give_up "nothing is removed while the program before its proof is being built: wait for its end"
+    done
+    it=$(readlink -f -- "$out") # what a link leads to goes too
+    say "removing $(du -shc -- "$it" "$folder" 2>/dev/null | tail -n 1 | cut -f 1): $out and $folder"
+    rm -rf -- "$folder" "$it" "$out" || exit 70
 }

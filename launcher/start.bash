@@ -13,11 +13,14 @@ answer_unproved() {
     make_folder
     python3 -IS "$top/launcher/unproved.py" "$top" "$folder/unproved" $name </dev/null >&2 ||
         give_up "there is no answer before the proof: wait for it, by ./ordup --proved"
-    if is_held_by_stranger; then
+    if [[ -e $out/stopped ]]; then
+        its="its proof, which is stopped (./ordup --proved goes on with it)"
+    elif is_held_by_stranger; then
         its="its proof, which cannot begin while $out/lock is held by $stranger"
     elif begin; then
         its="its proof, which goes on in the background (./ordup --progress tells how far it is, ./ordup --stop stops it)"
     fi
+    [[ -x $folder/unproved/$name ]] || answer_unproved "$@" # it was removed meanwhile
     say "this answer is of the program before $its"
     exec "$folder/unproved/$name" "$@"
 }
@@ -26,6 +29,7 @@ answer_unproved() {
 # edit is followed by a second one.
 wait_for_proof() {
     local tenths proofs=0
+    rm -f -- "$out/stopped"
     is_held_by_stranger || say "waiting for the proof$of, which goes on in the background if you end this (./ordup --stop stops it)"
     until is_proved || ((proofs++ == 2)); do
         begin || give_up "cannot write into $out"
@@ -116,6 +120,9 @@ tell_all_progress() {
     if is_proved; then say "the library is proved and built"; elif [[ -e $log ]]; then tell_progress; fi
 }
 
+# Whether the program has a job of this name, or an option, or takes no word as it takes this one: else nothing is built for it.
+is_known() { [[ $1 == @(|run|record|check|lag|next|threads|help|--help|-h|--version|-V) ]]; }
+
 # Does what the words of the command line ask for.
 start() {
     aim_at program
@@ -135,6 +142,7 @@ start() {
         exec "$program" "${@:2}"
         ;;
     *)
+        is_known "$1" || { say "there is no job and no option $1: ./ordup --help says which there are"; exit 2; }
         need_kit
         answer_unproved "$@"
         ;;

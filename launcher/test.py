@@ -1,4 +1,4 @@
-"""Tries all that needs no proof, as the gate does: python3 test.py TOP FOLDER
+"""Tests the program before its proof, as the gate does the proved one: python3 test.py TOP FOLDER
 
 It has the program before its proof in FOLDER, and gives it to those checks that the gate makes with the proved one: what a reader sees,
 the rows of tests/, stores one after the other, and streams and words from outside. Beside it the tests by calls of each crate are

@@ -56,13 +56,3 @@ def ar(members, epoch):
         made += f"{name:<16}{epoch:<12}{0:<6}{0:<6}{'100644':<8}{len(data):<10}`\n".encode("ascii")
         made += data + b"\n" * (len(data) % 2)
     return made
-
-
-def ar_members(data):
-    """The members of such an archive, by their names."""
-    found, at = {}, 8
-    while at + 60 <= len(data):
-        name, size = data[at : at + 16].decode("ascii").strip().rstrip("/"), int(data[at + 48 : at + 58])
-        found[name] = data[at + 60 : at + 60 + size]
-        at += 60 + size + size % 2
-    return found

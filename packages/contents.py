@@ -6,6 +6,7 @@ from pathlib import Path
 
 import manual
 from archives import Entry
+from spelling import NUMBER
 
 TOP = Path(__file__).resolve().parent.parent
 # The prefix, and in it the folder of libraries, where they lie as in an archive that is unpacked anywhere.
@@ -32,7 +33,7 @@ def said_by(*words):
 def version_of(program, name="ordup"):
     """The version that a program says: the one that its packages have."""
     said = said_by(program, "--version")
-    found = re.fullmatch(rf"{name} (\d+(?:\.\d+)*)\n", said)
+    found = re.fullmatch(rf"{name} ({NUMBER})\n", said)
     if not found:
         raise ValueError(f"{program} --version says {said!r}, and no version")
     return found[1]

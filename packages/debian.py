@@ -6,6 +6,7 @@ import time
 
 from archives import Entry, ar, gzip, tar
 from contents import TOP, first_paragraph, glibc_of
+from spelling import of_debian
 
 # Whom a package names that nobody has taken over yet: whoever gives packages out puts a name of theirs here.
 MAINTAINER = "The owner of ordup <owner@ordup.invalid>"
@@ -58,25 +59,27 @@ def put_together(name, version, epoch, files, about):
 
 def package(contents):
     """The package of the program and the library."""
+    version = of_debian(contents.version)
     below = contents.below(LIBRARIES, ("/usr", "${prefix}/" + LIBRARIES), gzip)
     if b"\0.symtab\0" in contents.program:
         below.append(Entry("share/lintian/overrides/ordup", 0o644, OVERRIDE.encode("utf-8")))
-    files = [it._replace(path=f"usr/{it.path}") for it in below] + [changelog("ordup", contents.version, contents.epoch)]
+    files = [it._replace(path=f"usr/{it.path}") for it in below] + [changelog("ordup", version, contents.epoch)]
     needs = f"Depends: {libc(contents.program, contents.shared)}"
-    return put_together("ordup", contents.version, contents.epoch, files, {
-        "control": lambda size: control("ordup", contents.version, size, needs, "utils", contents.summary, first_paragraph("README.md")),
-        "shlibs": f"libordup {contents.soname.rsplit('.', 1)[1]} ordup (>= {contents.version})\n",
+    return put_together("ordup", version, contents.epoch, files, {
+        "control": lambda size: control("ordup", version, size, needs, "utils", contents.summary, first_paragraph("README.md")),
+        "shlibs": f"libordup {contents.soname.rsplit('.', 1)[1]} ordup (>= {version})\n",
         "triggers": "activate-noawait ldconfig\n",
     })
 
 
 def package_of_node(node):
     """The package of ordup-node."""
-    files = [*node.files(gzip), changelog("ordup-node", node.version, node.epoch)]
+    version = of_debian(node.version)
+    files = [*node.files(gzip), changelog("ordup-node", version, node.epoch)]
     needs = f"Depends: adduser, {libc(node.program)}\nSuggests: etcd-server, ordup"
     text = f"{first_paragraph('docs/MACHINES.md').replace('`', '')}\n\n{ENDS_OF_NODE}"
-    return put_together("ordup-node", node.version, node.epoch, files, {
-        "control": lambda size: control("ordup-node", node.version, size, needs, "database", node.summary, text),
+    return put_together("ordup-node", version, node.epoch, files, {
+        "control": lambda size: control("ordup-node", version, size, needs, "database", node.summary, text),
         "conffiles": "".join(f"/{it.path}\n" for it in files if it.path.startswith("etc/")),
         **{it: (TOP / "packages/ordup-node" / it).read_text(encoding="utf-8") for it in ("postinst", "prerm", "postrm")},
     })

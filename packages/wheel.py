@@ -1,5 +1,6 @@
 """Makes the wheel: the package for Python with the library in it, for pip."""
 
+import ast
 import base64
 import hashlib
 import io
@@ -8,20 +9,22 @@ import time
 import zipfile
 
 from contents import TOP, glibc_of
+from spelling import of_python
 
 CLIENT = TOP / "clients/python"
 FIRST_DATE = 315532800  # of a file in a zip archive: 1980-01-01
 
 
 def metadata(version):
-    """What pip shows of the package, as clients/python/pyproject.toml has it."""
+    """What pip shows of the package, as clients/python/pyproject.toml has it, and the module's own text, which has no links."""
     project = (CLIENT / "pyproject.toml").read_text(encoding="utf-8")
     field = lambda name: re.search(rf'^{name} = "(.*)"$', project, re.M)[1]
     kinds = re.findall(r'"([^"]*)"', re.search(r"^classifiers = \[(.*)\]$", project, re.M)[1])
     lines = ["Metadata-Version: 2.1", "Name: ordup", f"Version: {version}", f"Summary: {field('description')}",
              "License: none yet: it is the owner's to choose", *(f"Classifier: {it}" for it in kinds),
              f"Requires-Python: {field('requires-python')}", "Description-Content-Type: text/markdown", ""]
-    return "\n".join(lines) + "\n" + (CLIENT / "README.md").read_text(encoding="utf-8")
+    module = ast.parse((CLIENT / "ordup/__init__.py").read_text(encoding="utf-8"))
+    return "\n".join(lines) + f"\n# ordup\n\n{ast.get_docstring(module)}\n"
 
 
 def tags(shared):
@@ -40,11 +43,12 @@ def record_of(files):
 
 def package(contents):
     """The name of the wheel, and its bytes."""
-    about, tagged = f"ordup-{contents.version}.dist-info", tags(contents.shared)
+    version, tagged = of_python(contents.version), tags(contents.shared)
+    about = f"ordup-{version}.dist-info"
     sources = sorted([*CLIENT.glob("ordup/*.py"), CLIENT / "ordup/py.typed"])
     files = {f"ordup/{it.name}": it.read_bytes() for it in sources}
     files["ordup/libordup.so"], files["ordup/proof"] = contents.shared, contents.proof
-    files[f"{about}/METADATA"] = metadata(contents.version).encode("utf-8")
+    files[f"{about}/METADATA"] = metadata(version).encode("utf-8")
     wheel = ["Wheel-Version: 1.0", "Generator: ordup", "Root-Is-Purelib: false", *(f"Tag: {it}" for it in tagged), ""]
     files[f"{about}/WHEEL"] = "\n".join(wheel).encode("utf-8")
     files[f"{about}/copyright"] = (TOP / "packages/copyright").read_bytes()
@@ -55,5 +59,5 @@ def package(contents):
                 info = zipfile.ZipInfo(name, time.gmtime(max(contents.epoch, FIRST_DATE))[:6])
                 info.external_attr, info.create_system, info.compress_type = 0o100644 << 16, 3, zipfile.ZIP_DEFLATED
                 to.writestr(info, data, compresslevel=9)
-        name = "-".join(["ordup", contents.version, "py3-none", ".".join(it.split("-")[2] for it in tagged)])
+        name = "-".join(["ordup", version, "py3-none", ".".join(it.split("-")[2] for it in tagged)])
         return f"{name}.whl", made.getvalue()

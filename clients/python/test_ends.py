@@ -10,6 +10,7 @@ import time
 
 from cases import TestCase
 from ordup import ProgramEnded, Proposed, Started, Store, TimedOut, find, line
+from ordup._way import Way
 
 # What a store answers for ever, and how long a test waits for what should come at once.
 MANY = [line("propose", ("add", "y", 0))] * 20_000
@@ -50,6 +51,24 @@ class EndCase(TestCase):
                 return ended
 
 
+class ClosedAmid(Way):
+    """A way to a store that is closed amid each exchange, as by a signal handler."""
+
+    ends = 0
+
+    def _exchange(self, text, count, seconds):
+        self.close()
+        return b"", None
+
+    def _stop(self):
+        pass
+
+    def _end(self):
+        if not self._calling:
+            self.ends += 1
+        return 0
+
+
 class Ends(EndCase):
     def test_a_close_by_a_signal_handler_ends_the_call(self):
         for tenth in range(10):
@@ -69,6 +88,11 @@ class Ends(EndCase):
                 store.close()
                 thread.join(SOON)
             self.assertEqual(len(ended[0].answered) + len(ended[0].unanswered), len(MANY))
+
+    def test_the_call_amid_which_a_store_was_closed_ends_it(self):
+        way = ClosedAmid()
+        way.ask(b"settle\n", 1, None)
+        self.assertEqual(way.ends, 1)
 
     def test_many_threads_close_at_once(self):
         store, statuses = self.shop(), []

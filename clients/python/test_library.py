@@ -9,7 +9,7 @@ import time
 from unittest import mock
 
 from cases import VALID, TestCase
-from ordup import Error, NoMemory, Proposed, Store, Yes, check, check_series, find, line
+from ordup import Error, NoMemory, Proposed, Store, Yes, _library, check, check_series, find, line
 
 
 class InProcess(TestCase):
@@ -70,6 +70,18 @@ class InProcess(TestCase):
         self.assertEqual((caught.exception.status, len(caught.exception.answered), len(caught.exception.unanswered)), (4, 201, 199))
         self.assertEqual(caught.exception.answered[-1], store.show("a"))
         self.assertEqual(store.run(b"settle"), b"refused 17 NothingToSettle\n")
+
+    def test_a_text_of_many_rooms_comes_by_the_second_call(self):
+        rooms = []
+
+        def call(_at, room, written):
+            rooms.append(room)
+            self.assertLess(len(rooms), 3)
+            written.value = 9 * _library._ROOM
+            return _library._MORE if room < written.value else 0
+
+        self.assertEqual(_library._whole(call), (0, bytes(9 * _library._ROOM)))
+        self.assertEqual(len(rooms), 2)
 
     def test_two_stores_are_two(self):
         one, two = self.shop(), self.shop()

@@ -313,6 +313,12 @@ class ManyLines(TestCase):
     def test_lines_are_not_a_string(self):
         self.assertRaises(TypeError, self.shop().commands, "settle")
 
+    def test_what_is_no_mapping_is_not_proposed(self):
+        store = self.shop()
+        for changes in (None, 5, "tea", b"x", [("x", ("add", 1))], {"x"}):
+            self.assertRaises(TypeError, store.propose, changes)
+        self.assertEqual(store.propose({"x": ("add", 1)}), Proposed(1))
+
     def test_threads_share_a_store(self):
         store = self.shop()
         places = []

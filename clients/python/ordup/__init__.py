@@ -47,7 +47,7 @@ The store is in memory: where its process ends, it is gone. Threads may share a 
 there it is closed, and the parent's goes on. A store that is forgotten is ended by the collector.
 
 Before anything is sent, a `BadLine` is raised for a name that is none, for a number of more than 19 digits, and for a text that would be
-more than a line or have no answer. An argument that is no text or no time limit is a `TypeError` or a `ValueError` then.
+more than a line or have no answer. An argument that is no text, no mapping or no time limit is a `TypeError` or a `ValueError` then.
 """
 
 from __future__ import annotations
@@ -62,7 +62,7 @@ from ._answers import *
 from ._way import Answered, Text, bytes_of, seconds_of
 from ._answers import answered_lines, check_lines, count_answers, outcomes_of, scope_words, series_verdict_of, verdict_of
 
-__version__ = "0.2.0"
+__version__ = "0.3.0.dev0"
 __all__ = ["Store", "check", "check_series"]
 __all__ += _answers.__all__
 
@@ -280,6 +280,8 @@ class Store:
 
         Refused `NotStarted`, `UnknownObject`, `OutOfRange`, `TooMany`, `Empty` or `LogFull`.
         """
+        if not isinstance(changes, Mapping):
+            raise TypeError("`propose` takes a mapping of objects to changes")
         return self._ask(Proposed, "propose", *((kind, name, operand) for name, (kind, operand) in changes.items()))
 
     def send(self, site: str) -> Sent:

@@ -118,6 +118,11 @@ fn each_name_of_a_limit_is_looked_at() {
         assert_eq!(store.limit(site, scope, 1), Err(Error::BadLine(site.into())));
         assert_eq!(store.relimit(site, scope, 1), Err(Error::BadLine(site.into())));
     }
+    let name = "tea 5\nsettle";
+    for scope in [Scope::Object(name), Scope::Group(name)] {
+        assert_eq!(store.limit("south", scope, 1), Err(Error::BadLine(name.into())));
+        assert_eq!(store.relimit("south", scope, 1), Err(Error::BadLine(name.into())));
+    }
 }
 
 #[test]

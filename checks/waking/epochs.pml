@@ -59,38 +59,42 @@ inline take(lock) {
     atomic { lock.shared == 0 && !lock.alone -> lock.alone = true; lock.wanted = false }
 }
 
-#define IS_FULL (open && noted >= due)
+#define IS_FULL (open && noted >= due)               /* Epochs::is_full: epoch.numbered due.load */
 
-/* A visit begins, to an epoch that is not full; or after `stop`, or while none is open. */
+/* A visit begins, to an epoch that is not full; or after `stop`, or while none is open. It prepares only where its first look finds the
+   epoch full, and then looks again. */
 inline enter() {
     do
     ::
-#ifndef ENTER_LOOKS_BEFORE_IT_PREPARES
-        prepare_wait(started, CALLER);
-#endif
         atomic {
             SHARED_FREE(visits) && begun >= it -> visits.shared++; stage.shared++;
+                                                     /* Epochs::enter: visits.read stage.read */
             if :: begun == it -> begun++ :: else fi
         };
-        if
+        if                                           /* Epochs::enter: self.is_stopped */ /* Epochs::is_stopped: stopped.load */
         :: over -> break
         :: else
         fi;
-        if
+        if                                           /* Epochs::enter: self.is_full */
         :: !IS_FULL -> break
-        :: atomic { IS_FULL -> stage.shared--; visits.shared-- }
+        :: atomic { IS_FULL -> stage.shared--; visits.shared-- }   /* Epochs::enter: drop(stage) drop(visits) */
         fi;
 #ifdef ENTER_LOOKS_BEFORE_IT_PREPARES
         prepare_wait(started, CALLER);
-#endif
         wait_by_key(started, CALLER)
+#else
+        if
+        :: keyed -> wait_by_key(started, CALLER); keyed = false    /* Epochs::enter: sleep.take key.wait */
+        :: !keyed -> prepare_wait(started, CALLER); keyed = true   /* Epochs::enter: started.prepare_wait */
+        fi
+#endif
     od;
-    drop_key(started, CALLER)
+    atomic { if :: keyed -> drop_key(started, CALLER) :: else fi; keyed = false }
 }
 
 proctype caller(byte it) {
     byte site, made, number, known, was_acked;
-    bool refused, sent_more;
+    bool keyed, refused, sent_more;
 
     do
     :: made < VISITS ->
@@ -125,12 +129,12 @@ proctype applier(byte site) {
     do
     ::
 #ifndef APPLIER_LOOKS_AT_THE_STAGE_BEFORE_IT_PREPARES
-        prepare_wait(started, SLEEPING_APPLIER);
+        prepare_wait(started, SLEEPING_APPLIER);     /* Epochs::applier: started.prepare_wait */
 #endif
-        ending = over;
-        share(stage);
+        ending = over;                               /* Epochs::applier: self.is_stopped */
+        share(stage);                                /* Epochs::applier: self.apply */ /* Epochs::apply: stage.read */
         if
-        :: open -> apply_all(APPLIER)
+        :: open -> apply_all(APPLIER)                /* Epochs::apply: epoch.applier */
         :: !open
         fi;
         stage.shared--;
@@ -138,16 +142,16 @@ proctype applier(byte site) {
 #ifdef APPLIER_LOOKS_AT_THE_STAGE_BEFORE_IT_PREPARES
         prepare_wait(started, SLEEPING_APPLIER);
 #endif
-        wait_by_key(started, SLEEPING_APPLIER)
+        wait_by_key(started, SLEEPING_APPLIER)       /* Epochs::applier: key.wait */
     od;
     drop_key(started, SLEEPING_APPLIER);
     appliers_done++
 }
 
 /* The epoch that is open settles, and is stopped. A successor is refused where the last turn left something to settle. */
-inline end_epoch(me) {
-    due = (noted + UPDATES < MOST -> noted + UPDATES : MOST);
-    do
+inline end_epoch(me) {                               /* Epochs::end: stage.read epoch.numbered */
+    due = (noted + UPDATES < MOST -> noted + UPDATES : MOST);   /* Epochs::end: self.set_due */ /* Epochs::set_due: due.store */
+    do                                               /* Epochs::end: settle_all */
     :: !book && acked == numbered -> break
     :: !book && acked < numbered ->
 #ifdef SETTLER_PAUSES_BEFORE_ITS_FIRST_TURN
@@ -171,7 +175,7 @@ inline end_epoch(me) {
     atomic { forget(told, me); known = 0 };
     if
     :: refused
-    :: else -> stop_store()
+    :: else -> stop_store()                          /* Epochs::end: stop_after */ /* stop_after: epoch.stop */
     fi
 }
 
@@ -190,13 +194,13 @@ inline open_successor() {
     fi
 }
 
-inline start_successor(me) {
-    take(visits);
-    if
-    :: over -> visits.alone = false
+/* A successor is started by a thread that has the visits alone. */
+inline start_and_wake(me) {
+    if                                               /* Epochs::start_and_wake: self.end_and_open */
+    :: over                                          /* Epochs::end_and_open: self.is_stopped */
     :: atomic { !over -> stage.shared++ };
         if
-        :: open -> end_epoch(me)
+        :: open -> end_epoch(me)                     /* Epochs::end_and_open: self.end */
         :: !open
         fi;
         stage.shared--;
@@ -206,23 +210,38 @@ inline start_successor(me) {
 #ifdef START_NOTIFIES_BEFORE_IT_OPENS
             notify_all(started);
 #endif
-            due = UPDATES;
-            take(stage);
-            open_successor();
+            due = UPDATES;                           /* Epochs::end_and_open: self.set_due(0) */
+            take(stage);                             /* Epochs::end_and_open: stage.write */
+            open_successor();                        /* Epochs::end_and_open: .start_successor */
             stage.alone = false
-        fi;
-        visits.alone = false;
-        if
+        fi
+    fi;
+    if
 #ifdef REFUSED_START_NOTIFIES_NOBODY
-        :: refused
+    :: refused
 #endif
 #if defined(START_NOTIFIES_NOBODY) || defined(START_NOTIFIES_BEFORE_IT_OPENS)
-        :: !refused
+    :: !refused
 #endif
-        :: else -> notify_all(started)
-        fi;
-        refused = false
-    fi
+    :: else -> notify_all(started)                   /* Epochs::start_and_wake: started.notify_all */
+    fi;
+    refused = false
+}
+
+inline start_successor(me) {
+    take(visits);                                    /* Epochs::start_successor: visits.write */
+    start_and_wake(me);                              /* Epochs::start_successor: self.start_and_wake */
+    visits.alone = false
+}
+
+/* The same, unless another thread started one meanwhile. */
+inline start_if_wanted(me) {
+    take(visits);                                    /* Epochs::start_if_wanted: visits.write */
+    if                                               /* Epochs::start_if_wanted: self.is_wanted stage.read */
+    :: !open || noted >= due -> start_and_wake(me)   /* Epochs::start_if_wanted: self.start_and_wake */
+    :: else
+    fi;
+    visits.alone = false
 }
 
 proctype keep() {
@@ -232,24 +251,27 @@ proctype keep() {
     do
     ::
 #ifndef KEEP_LOOKS_AT_STOP_BEFORE_IT_PREPARES
-        prepare_wait(started, SLEEPING_KEEP);
+        prepare_wait(started, SLEEPING_KEEP);        /* Epochs::keep: started.prepare_wait */
 #endif
-        if :: over -> break :: else fi;
+        if :: over -> break :: else fi;              /* Epochs::keep: self.is_stopped */
 #ifdef KEEP_LOOKS_AT_STOP_BEFORE_IT_PREPARES
         prepare_wait(started, SLEEPING_KEEP);
 #endif
-        share(stage);
+        share(stage);                                /* Epochs::keep: self.wants_successor */ /* Epochs::wants_successor: stage.read */
         if
-        :: open -> keep_store(KEEP)
+        :: open -> keep_store(KEEP)                  /* Epochs::wants_successor: epoch.keeper_until due.load */
         :: !open
         fi;
 #ifdef KEEP_PREPARES_AFTER_IT_KEPT
         prepare_wait(started, SLEEPING_KEEP);
 #endif
         atomic { wants_successor = (!open || noted >= due); stage.shared-- };
+                                                     /* Epochs::wants_successor: self.is_wanted */ /* Epochs::is_wanted: self.is_full */
         if
-        :: wants_successor -> wants_successor = false; start_successor(KEEP)
-        :: else -> wait_by_key(started, SLEEPING_KEEP)
+        :: !wants_successor -> wait_by_key(started, SLEEPING_KEEP)   /* Epochs::keep: key.wait */
+        :: wants_successor ->                        /* Epochs::keep: self.has_started_successor */
+            wants_successor = false;
+            start_if_wanted(KEEP)                    /* Epochs::has_started_successor: self.start_if_wanted */
         fi
     od;
     drop_key(started, SLEEPING_KEEP);
@@ -285,14 +307,14 @@ init {
     :: true
     fi;
 #endif
-    share(visits);
-    atomic { over = true; stage.shared++ };
+    share(visits);                                   /* Epochs::stop: visits.read */
+    atomic { over = true; stage.shared++ };          /* Epochs::stop: stopped.store stage.read */
     if
-    :: open -> stop_store()
+    :: open -> stop_store()                          /* Epochs::stop: epoch.stop */
     :: !open
     fi;
 #ifndef STOP_NOTIFIES_NOBODY
-    notify_all(started);
+    notify_all(started);                             /* Epochs::stop: started.notify_all */
 #endif
     atomic { stage.shared--; visits.shared-- };
     callers_done == CALLERS && starters_done == STARTERS && appliers_done == SITES && keepers_done == 1

@@ -9,7 +9,9 @@
 
    SITES sites, 1 or 2, with feeds of CAPACITY. For each update that is decided any of the sites are picked that have not reported
    it, and it waits for them: so all limits are tried. So many turns as REFUSALS are refused memory. With BACKOFF an applier makes
-   turns without a key too, as before its backoff is completed. */
+   turns without a key too, as before its backoff is completed.
+
+   A comment with the name of a function says for which of its steps a line stands: checks/waking/steps. */
 
 #ifndef SITES
 #define SITES 1
@@ -50,7 +52,7 @@ byte refusals;
 
 /* ---- crossbeam_utils::sync::EventCount, and the Bell ---- */
 
-inline listen(count, me) { count.moved = count.moved & ~me }
+inline listen(count, me) { count.moved = count.moved & ~me }   /* Bell::listen: rung.load */ /* Cluster::listen: told.listen */
 
 inline forget(count, me) { count.moved = count.moved | me }
 
@@ -105,18 +107,18 @@ inline ring(bell) {
     :: else -> bell.moved = 255
     fi
 #else
-    bell.moved = 255;
-    if :: bell.waiters != 0 -> bell.asleep = 0 :: else fi
+    bell.moved = 255;                                         /* Bell::ring: rung.fetch_add */
+    if :: bell.waiters != 0 -> bell.asleep = 0 :: else fi     /* Bell::ring: sleepers.load rung.wake_all */
 #endif
 }
 
 /* `wait`, and `pause` too: the looks that `pause` begins with change nothing. */
 inline wait(bell, me) {
 #ifndef SLEEPERS_ARE_NOT_COUNTED
-    bell.waiters++;
+    bell.waiters++;       /* Bell::pause: self.listen sleepers.fetch_add */ /* Bell::wait: sleepers.fetch_add */
 #endif
-    park(bell, me);
-    drop_key(bell, me)
+    park(bell, me);       /* Bell::pause: self.listen rung.park_timeout */ /* Bell::wait: self.listen rung.park */
+    drop_key(bell, me)    /* Bell::pause: sleepers.fetch_sub */ /* Bell::wait: sleepers.fetch_sub */
 }
 
 #else
@@ -185,10 +187,10 @@ inline to_next_unsent() {
 /* A turn is a hold of the lock of the book: a look at each site, settlements, and what may be sent. Where it is refused memory it
    sends no more. `begin_turn` belongs to the step that takes the lock, and `end_turn` gives it back. */
 inline begin_turn() {
-    book = true; was_acked = acked; sent_more = false;
-    reported[0] = tells[0];
+    book = true; was_acked = acked; sent_more = false; refused = false;
+    reported[0] = tells[0];                 /* turn: report_all */ /* report: end.look primary.report */
 #if SITES == 1
-    settle_all();
+    settle_all();                           /* turn: settle_all */
     to_next_unsent()
 #endif
 }
@@ -197,7 +199,7 @@ inline end_turn() {
 #if SITES == 2
     atomic { reported[1] = tells[1]; settle_all(); to_next_unsent() };
 #endif
-    do
+    do                                      /* turn: send_all */ /* send: end.is_full end.push */
     :: atomic { site < SITES && pushed[site] - taken[site] < CAPACITY -> pushed[site]++; sent_more = true; to_next_unsent() }
     :: atomic { site < SITES && pushed[site] - taken[site] == CAPACITY -> site++; to_next_unsent() }
     :: atomic { site < SITES && refusals < REFUSALS -> refusals++; refused = true; site = SITES }
@@ -220,18 +222,19 @@ inline apply_all(me) {
         stopping = stopped;
         if :: keyed -> prepare_wait(sent, me) :: else fi;
 #else
-        if :: keyed -> prepare_wait(sent, me) :: else fi;
-        stopping = stopped;
+        if :: keyed -> prepare_wait(sent, me) :: else fi;             /* Cluster::applier: sent.prepare_wait */
+        stopping = stopped;                                           /* Cluster::applier: stopped.load */
 #endif
-        if
-        :: atomic { taken[site] < pushed[site] -> taken[site]++ };
+        if                                                            /* Cluster::applier: self.apply_next */
+        :: atomic { taken[site] < pushed[site] -> taken[site]++ };    /* Cluster::apply_next: cells.lock cells.lock take */
+                                                                      /* take: end.pop */
 #ifdef APPLIER_RINGS_BEFORE_IT_TELLS
             ring(told);
             tells[site] = taken[site];
 #else
-            tells[site] = taken[site];
+            tells[site] = taken[site];                                /* take: site.apply end.tell */
 #ifndef APPLIER_RINGS_NOBODY
-            ring(told);
+            ring(told);                                               /* Cluster::applier: told.ring */
 #endif
 #endif
             atomic { if :: keyed -> drop_key(sent, me) :: else fi; stopping = false }
@@ -241,7 +244,7 @@ inline apply_all(me) {
 #ifdef APPLIER_LOOKS_BEFORE_IT_PREPARES
             atomic { drop_key(sent, me) }; prepare_wait(sent, me);
 #endif
-            wait_by_key(sent, me)
+            wait_by_key(sent, me)                                     /* Cluster::applier: key.wait */
         fi
     od;
     atomic { stopping = false; keyed = false }
@@ -251,7 +254,7 @@ inline apply_all(me) {
 inline tell() {
     if
 #ifndef TURN_RINGS_NO_APPLIER
-    :: sent_more -> sent_more = false; notify_all(sent)
+    :: sent_more -> sent_more = false; notify_all(sent)       /* Cluster::tell: sent.notify_all */
 #else
     :: sent_more -> sent_more = false
 #endif
@@ -262,9 +265,9 @@ inline tell() {
 #ifdef TURN_RINGS_HEADS_FIRST
         ring_heads();
 #endif
-        atomic { if :: acked_told < known -> acked_told = known :: else fi };
+        atomic { if :: acked_told < known -> acked_told = known :: else fi };   /* Cluster::tell: acked.fetch_max */
 #if !defined(TURN_RINGS_HEADS_FIRST) && !defined(TURN_RINGS_NO_HEAD)
-        ring_heads()
+        ring_heads()                                          /* Cluster::tell: heads.ring(before.acked,after.acked.saturating_add(1)) */
 #endif
     :: else
     fi;
@@ -273,36 +276,47 @@ inline tell() {
 
 inline ring_heads() {
     do
-    :: was_acked <= known -> was_acked++; ring(heads[was_acked])
+    :: was_acked <= known -> was_acked++; ring(heads[was_acked])   /* Bells::ring: self.of(number.saturating_add(1)) .ring */
     :: else -> break
     od
 }
 
+/* A turn that was refused memory wakes the keeper. */
+inline counted() {
+    if
+#ifndef REFUSED_TURN_RINGS_NOBODY
+    :: refused -> ring(told)                     /* Cluster::counted: told.ring */
+#endif
+    :: else
+    fi
+}
+
 /* A turn by itself. */
 inline turn() {
-    atomic { !book -> begin_turn() };
-    end_turn();
-    tell()
+    atomic { !book -> begin_turn() };            /* Cluster::turn: book.lock turn */
+    end_turn();                                  /* Cluster::turn: drop(book) */
+    tell();                                      /* Cluster::turn: self.tell */
+    counted()                                    /* Cluster::turn: self.counted */
 }
 
 /* The hold of a proposal, with its first turn. */
 inline number_one(me) {
 #ifndef CALLER_LISTENS_AFTER_ITS_TURN
-    listen(told, me);
-#endif
+    listen(told, me);                            /* Cluster::propose: self.listen */
+#endif                                           /* Cluster::propose: self.number */
     atomic { !book && MAY_NUMBER -> numbered++; number = numbered; begin_turn() };
-    end_turn();
-    tell();
+                                                 /* Cluster::number: stopped.load book.lock number_unless_stopped */
+    end_turn();                                  /* Cluster::number: drop(book) */
+    tell();                                      /* Cluster::number: self.tell */
 #ifdef NUMBERING_NOTES_AFTER_IT_LOOKED
     if :: number >= kept -> ring(told) :: else fi;
 #endif
     atomic { if :: noted < number -> noted = number :: else fi };
+                                                 /* Cluster::number: self.note */ /* Cluster::note: numbered.fetch_max */
 #if !defined(NUMBERING_NOTES_AFTER_IT_LOOKED) && !defined(DUE_NUMBERING_RINGS_NOBODY)
-    if :: number >= kept -> ring(told) :: else fi;
+    if :: number >= kept -> ring(told) :: else fi;   /* Cluster::note: due.load told.ring */
 #endif
-#ifndef REFUSED_NUMBERING_RINGS_NOBODY
-    if :: refused -> ring(told) :: else fi;
-#endif
+    counted();                                   /* Cluster::number: self.counted */
 #ifdef CALLER_LISTENS_AFTER_ITS_TURN
     listen(told, me)
 #endif
@@ -310,9 +324,9 @@ inline number_one(me) {
 
 /* A further turn of a caller, after a pause. */
 inline pause_and_turn(me) {
-    pause_for(me, number);
-    listen(told, me);
-    turn()
+    pause_for(me, number);                       /* Cluster::propose: self.wait */ /* BookTurns::turn: store.pause_for */
+    listen(told, me);                            /* BookTurns::turn: store.listen */
+    turn()                                       /* BookTurns::turn: store.turn */
 }
 
 /* A caller sleeps until a site told something, where its update is the head, and else until it is. */
@@ -323,10 +337,10 @@ inline pause_for(me, number) {
     :: else -> wait(told, me)
     fi
 #else
-    listen(heads[number], me);
-    if
-    :: acked_told + 1 < number -> wait(heads[number], me)
-    :: else -> forget(heads[number], me); wait(told, me)
+    listen(heads[number], me);                   /* Cluster::pause_for: heads.of(number.saturating_sub(self.before)) head.listen */
+    if                                           /* Cluster::pause_for: acked.load */
+    :: acked_told + 1 < number -> wait(heads[number], me)           /* Cluster::pause_for: head.pause */
+    :: else -> forget(heads[number], me); wait(told, me)            /* Cluster::pause_for: told.pause */
     fi
 #endif
 }
@@ -336,23 +350,23 @@ inline read_when_level(me, at, seen) {
     do
     ::
 #ifndef READER_LISTENS_AFTER_IT_READS
-        listen(told, me);
-#endif
-#ifndef READER_MAKES_NO_TURN
-        turn();
-#endif
+        listen(told, me);                        /* Cluster::read_when_level: self.listen */
+#endif                                           /* Cluster::read_when_level: self.read */
         atomic { taken[at] == tells[at] -> if :: tells[at] >= seen -> break :: else fi };
 #ifdef READER_LISTENS_AFTER_IT_READS
         listen(told, me);
 #endif
-        wait(told, me)
+#ifndef READER_MAKES_NO_TURN
+        turn();                                  /* Cluster::read_when_level: self.turn */
+#endif
+        wait(told, me)                           /* Cluster::read_when_level: self.pause self.read */ /* Cluster::pause: told.pause */
     od
 }
 
 /* A keeper, until the store is stopped, or until it is due. */
 inline keep_store(me) {
     until = due;
-    kept = until;
+    kept = until;                                /* Cluster::keeper_until: due.store */
     do
     ::
 #ifdef KEEPER_LOOKS_BEFORE_IT_LISTENS
@@ -360,12 +374,12 @@ inline keep_store(me) {
         listen(told, me);
 #else
 #ifndef KEEPER_LISTENS_AFTER_ITS_TURN
-        listen(told, me);
+        listen(told, me);                        /* Cluster::keeper_until: self.listen */
 #endif
-        ending = (stopped || noted >= until);
-#endif
-        if
-        :: atomic { !book && SOME_TO_DO -> begin_turn() }; end_turn(); tell()
+        ending = (stopped || noted >= until);    /* Cluster::keeper_until: stopped.load self.numbered */
+#endif                                           /* Cluster::numbered: numbered.load */
+        if                                       /* Cluster::keeper_until: self.keep */
+        :: !book && SOME_TO_DO -> turn()         /* Cluster::keep: has_work book.lock self.turn */
         :: !book && !SOME_TO_DO
         fi;
 #ifdef KEEPER_LISTENS_AFTER_ITS_TURN
@@ -373,13 +387,9 @@ inline keep_store(me) {
 #endif
         if
         :: ending -> break
-#ifndef REFUSED_KEEPER_SLEEPS
         /* It tries again after a pause, which has a limit in time. */
         :: atomic { !ending && refused -> refused = false }
-        :: !ending && !refused -> wait(told, me)
-#else
-        :: !ending -> wait(told, me); refused = false
-#endif
+        :: !ending && !refused -> wait(told, me) /* Cluster::keeper_until: told.wait nap */
         fi
     od;
     atomic { ending = false; until = 0; refused = false; known = 0; forget(told, me) }
@@ -391,12 +401,12 @@ inline stop_store() {
     ring(told);
     stopped = true;
 #else
-    stopped = true;
+    stopped = true;                              /* Cluster::stop: stopped.store */
 #ifndef STOP_RINGS_NO_APPLIER
-    notify_all(sent);
+    notify_all(sent);                            /* Cluster::stop: sent.notify_all */
 #endif
 #ifndef STOP_RINGS_NO_KEEPER
-    ring(told);
+    ring(told);                                  /* Cluster::stop: told.ring */
 #endif
 #endif
 }

@@ -58,8 +58,8 @@ class Deployment:
 
     def start(self, name: str, *more: str) -> None:
         """Starts a member, a primary, the fleet or a site, on its host."""
-        self.down.discard(name)
         self.processes[name] = self.begin({FLEET: USERS}.get(name, name), self.words_of(name, *more))
+        self.down.discard(name)
 
     def start_reader(self, site: str, host: str | None = None) -> Process:
         path = self.folder / f"{site}.readings{len(self.readings)}"

@@ -29,7 +29,7 @@ class Failing:
         self.told: list[str] = []
         # Whether the trial ends as soon as something is wrong.
         self.ends_early = False
-        # The processes that were started while their site was taken out.
+        # The processes that were started while their site was taken out, or left out of its fleet.
         self.may_leave: set[Process] = set()
 
     def revive(self, after: str) -> None:
@@ -38,7 +38,8 @@ class Failing:
             sys.exit(self.wrong[0])
         for name, process in [*self.deployment.processes.items()]:
             if process.poll() is not None and name not in self.deployment.down:
-                # A site that is taken out ends, and so does a process of it that was started before it is a site again.
+                # A site that is taken out ends, and so does a process of it that was started before it is a site again, or that its fleet
+                # left out.
                 if process.returncode != 4 or name not in self.trial.out and process not in self.may_leave:
                     self.wrong.append(f"{name} ended by itself with {process.returncode} after {after}")
                 self.deployment.start(name)

@@ -77,6 +77,9 @@ class SiteFaults(Failing):
             words = self.deployment.words_of(FLEET)
             words[words.index("east,west")] = "east"
             fleet = self.deployment.begin(USERS, words)
+            # It may end, and is started again with the fleet.
+            self.may_leave.add(west)
+            self.deployment.down.add("west")
             asks = threading.Thread(target=self.trial.asking.propose_alone, args=("add:tea:200",), daemon=True)
             asks.start()
             # The lease of the site lives.
@@ -86,8 +89,10 @@ class SiteFaults(Failing):
             fleet.kill()
             fleet.wait()
             self.deployment.start(FLEET)
-            if west.poll() is not None:
-                self.check(west.returncode == 4, f"west ended with {west.returncode}")
+            self.check(west.poll() in (None, 4), f"west ended with {west.returncode}")
+            if west.returncode is None:
+                self.deployment.down.discard("west")
+            else:
                 self.deployment.start("west")
             asks.join()
 

@@ -2,8 +2,11 @@ package serve
 
 import (
 	"context"
+	"errors"
+	"fmt"
 	"net/http"
 
+	"ordup-node/internal/epoch"
 	"ordup-node/internal/site"
 	"ordup-node/internal/wire"
 )
@@ -29,5 +32,15 @@ func (served *Fleet) place(ctx context.Context, asked *request) (interface{}, er
 	if asked.site != "" && asked.site != place.Member {
 		return nil, otherSite(asked.site)
 	}
-	return wire.Done{}, served.teller.Tell(ctx, place)
+	return wire.Done{}, inFleet(served.teller.Tell(ctx, place))
+}
+
+// inFleet is what a site is told of an error of the fleet. It hears of no primary that writes, since it would tell that one its own place as
+// the fleet's.
+func inFleet(err error) error {
+	var told *wire.Error
+	if errors.As(err, &told) && told.Name == "NotWriter" {
+		return fmt.Errorf("%w: %s", epoch.ErrBehind, told.Message)
+	}
+	return err
 }

@@ -303,6 +303,46 @@ func TestAPlaceThatCannotBeComesBack(t *testing.T) {
 	}
 }
 
+func TestASiteOfAFleetStaysAtTheFleet(t *testing.T) {
+	first, second := &writer{}, &writer{}
+	one, other := startPrimary(t, nil, first), startPrimary(t, nil, second)
+	// While one takes over, each names the other one.
+	first.set("", &primary.NotWriterError{Address: other})
+	second.set("", &primary.NotWriterError{Address: one})
+	upper, err := client.New(client.Config{Addresses: []string{one}})
+	if err != nil {
+		t.Fatal(err)
+	}
+	far := fleet.New("far", []string{"east"}, upper)
+	if err = far.Look(context.Background(), noKeys{}); err != nil {
+		t.Fatal(err)
+	}
+	address := listenAt(t, func(string) http.Handler { return serve.NewFleet(config(nil), far) })
+	asker, err := client.New(client.Config{Addresses: []string{address}})
+	if err != nil {
+		t.Fatal(err)
+	}
+	place := epoch.Place{Site: "far", Member: "east", Epoch: 1, Applied: 7, Entry: 3}
+	var told *wire.Error
+	if err := asker.Tell(context.Background(), place); !errors.As(err, &told) || told.Name != "NotYet" || told.Writer != "" {
+		t.Error("the site is told", err)
+	}
+	first.set("", nil)
+	second.set("", nil)
+	if err := asker.Tell(context.Background(), place); err != nil {
+		t.Error(err)
+	}
+	all := append(first.places, second.places...)
+	for _, place := range all {
+		if place.Member != "far" {
+			t.Error("a primary was told by", place.Member)
+		}
+	}
+	if len(all) == 0 {
+		t.Error("nobody told a primary")
+	}
+}
+
 // A reader stands in for a site.
 type reader struct{ place int64 }
 

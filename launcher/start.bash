@@ -53,6 +53,7 @@ need() {
 need_kit() {
     need rt "install the Rattle kit, and put its folder bin on PATH"
     need python3 "install Python"
+    need flock "install util-linux"
 }
 
 # Builds the library, unless it is there.

@@ -17,13 +17,12 @@ enum Full {
     TakesNothing,
 }
 
-/// Takes this count of bytes, a few a call, and then is full. Its flush may fail.
+/// Takes this count of bytes, a few a call, and then is full.
 #[derive(Drop)]
 struct FullWriter {
     taken: Vec<u8>,
     spare: usize,
     full: Full,
-    flush: Option<ErrorKind>,
 }
 
 impl Write for FullWriter {
@@ -41,10 +40,7 @@ impl Write for FullWriter {
     }
 
     fn flush(&mut self) -> io::Result<()> {
-        match self.flush {
-            Some(kind) => Err(io::Error::from(kind)),
-            None => Ok(()),
-        }
+        Ok(())
     }
 }
 
@@ -101,37 +97,12 @@ fn a_full_writer_has_got_a_front_of_the_answers(rt: HostRuntime) -> Result<(), F
                     taken: Vec::new(rt.alloc()),
                     spare,
                     full,
-                    flush: None,
                 };
                 let (taken, fault) = run_into(script, at_once, output, rt.alloc());
                 let is_front = taken.as_slice() == &answers[..spare];
                 expect!(&rt; is_front && fault == Some(ScriptFault::Write), (full, spare));
             }
         }
-    }
-    Ok(())
-}
-
-/// Runs a script whose output cannot be flushed.
-// shows: run_script Runs.Write; streams
-#[test]
-fn a_flush_that_fails_is_a_fault_after_all_answers(rt: HostRuntime) -> Result<(), Fail> {
-    let (script, answers) = parts(rt.alloc(), FIRST_RUN)?;
-    expect!(&rt; script.len() == 64);
-    expect!(&rt; answers.len() == 123);
-    for (flush, wanted) in [
-        (None, None),
-        (Some(ErrorKind::Other), Some(ScriptFault::Write)),
-        (Some(ErrorKind::Interrupted), Some(ScriptFault::Write)),
-    ] {
-        let output = FullWriter {
-            taken: Vec::new(rt.alloc()),
-            spare: 123,
-            full: Full::TakesNothing,
-            flush,
-        };
-        let (taken, fault) = run_into(&script, 64, output, rt.alloc());
-        expect!(&rt; taken.as_slice() == answers.as_slice() && fault == wanted, flush);
     }
     Ok(())
 }

@@ -5,6 +5,7 @@ mod ReadSteps
 mod LimitLemmas
 mod Cuts
 mod TextAnswers
+mod SameRows
 mod LongRowLemmas
 mod PlainRowLemmas
 mod CutRows

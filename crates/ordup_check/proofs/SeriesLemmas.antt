@@ -1,12 +1,13 @@
 -- The records of a series as they are read, one after another.
-use Rattle.ordup_audit.proofs.Common.{◌++◌, ◌+◌, ◌-◌, ◌∙◌, ◌∷◌, ◌≡◌, ◌≤◌, ◌<◌, [], ap, append-nil, append_assoc, arith, cases_lt, false, false≢true, inl, inr}
-use Rattle.ordup_audit.proofs.Common.{length, List, None, Ok, Option, option_and_then, RecordState, refl, Some, subst, sym, take, take-append-le}
+use Rattle.ordup_audit.proofs.Common.{◌++◌, ◌+◌, ◌-◌, ◌∙◌, ◌∷◌, ◌≡◌, ◌≤◌, [], ap, append-nil, append_assoc, arith, cases_lt, false, false≢true, inl, inr}
+use Rattle.ordup_audit.proofs.Common.{length, length-append, length_push, List, None, Ok, Option, option_and_then, RecordState, refl, Some, subst, sym, take}
+use Rattle.ordup_audit.proofs.Common.{take-append-le}
 use Rattle.ordup_audit.proofs.Common.{take_all, true, ℕ}
-use Rattle.std.specs.Prelude.{codes, slice_index_or}
+use Rattle.std.specs.Prelude.{◌≢◌, codes, slice_index_or}
 use Rattle.csv.specs.Reading.{Reached, default_config, reader_state, strip_bom}
 use Rattle.csv.specs.declared.parser.State.TheVariants as st
 use Rattle.csv.specs.declared.reader.Reader.{Reader}
-use Rattle.ordup_rows.specs.Rows.{Row}
+use Rattle.ordup_rows.specs.Rows.{Row, rows_in}
 use Rattle.ordup_rows.specs.Stages.{Stage, closed, run, step, unread}
 use Rattle.ordup_rows.specs.Telling.{BeginARecord, Tells}
 use Rattle.ordup_rows.specs.Texts.{BeginsWithRows, HasRows}
@@ -19,11 +20,13 @@ use Rattle.std.specs.Str.{bytes_eq}
 use Rattle.csv.specs.Records.{field_at, fields_of}
 use Rattle.ordup_check.specs.Limits.{cut_at}
 use Rattle.ordup_check.specs.Reading.{AllCame, EndsAt, HasRead, IsFresh, IsPlain, begins_record}
-use Rattle.ordup_check.specs.SeriesReading.{AreRowsOf, HasARow, IsBadRowOfPart, IsMalformedAfter, NextRecord, TextBeginsSeries, StandsBefore, TextTellsSeries, Within, limited_bytes, passed, short_bytes}
+use Rattle.ordup_check.specs.SeriesReading.{AreRowsOf, BeginsNext, IsBadRowOfPart, IsMalformedAfter, NextBegins, NextRecord}
+use Rattle.ordup_check.specs.SeriesReading.{TextBeginsSeries, StandsBefore, TextTellsSeries, Within, limited_bytes, passed, short_bytes}
 use Rattle.ordup_check.specs.declared.limited.Limited.{Limited}
 use Rattle.ordup_check.specs.declared.short_rows.ShortRows.{ShortRows}
 use Rattle.ordup_check.specs.declared.reading.RowsEnd.TheVariants as end
 use Rattle.ordup_check.specs.declared.series_reader.SeriesReader.{SeriesReader}
+use Rattle.ordup_check.specs.declared.series_reader.Position.{Position}
 use Rattle.ordup_check.specs.declared.series_reader.Position.TheVariants as at
 use Rattle.ordup_check.specs.ShortRows.{from_row}
 use Rattle.ordup_check.proofs.CutRows.{cut_rows}
@@ -31,7 +34,7 @@ use Rattle.ordup_check.proofs.Cuts.{long_is, short_is}
 use Rattle.ordup_check.proofs.LimitLemmas.{cut_is_not_all}
 use Rattle.ordup_check.proofs.LongRowLemmas.{mark_passes, short_all}
 use Rattle.ordup_check.proofs.ReadSteps.{begins, not-taken}
-use Rattle.ordup_check.specs.declared.reading.RowsEnd.{RowsEnd}
+use Rattle.ordup_check.proofs.SameRows.{first_of_all, one_place, one_row}
 
 -- ---- rows of records
 
@@ -94,47 +97,85 @@ not-told rows stage ran none r tells =
     absurd cc
 
 -- the row after those of a record, by its number
-at-end : (rows : List Row) (row : Row) → slice_index_or (rows ++ row ∷ []) (length rows) [] ≡ row
-at-end [] row = refl
-at-end (first ∷ rows) row = at-end rows row
+pub at-end : (rows : List Row) (row : Row) (more : List Row) → slice_index_or (rows ++ row ∷ more) (length rows) [] ≡ row
+at-end [] row more = refl
+at-end (first ∷ rows) row more = at-end rows row more
 
 back : (rows : List Row) → length rows + 1 - 1 ≡ length rows
 back rows = omega (arith)
 
 at-row : (rows : List Row) (row : Row) → slice_index_or (rows ++ row ∷ []) (length rows + 1 - 1) [] ≡ row
-at-row rows row = ap (λ k. slice_index_or (rows ++ row ∷ []) k []) (back rows) ∙ at-end rows row
+at-row rows row = ap (λ k. slice_index_or (rows ++ row ∷ []) k []) (back rows) ∙ at-end rows row []
 
 front-row : (rows : List Row) (row : Row) → take (length rows + 1 - 1) (rows ++ row ∷ []) ≡ rows
 front-row rows row =
     ap (λ k. take k (rows ++ row ∷ [])) (back rows)
     ∙ (take-append-le (length rows) rows (row ∷ []) (omega (arith)) ∙ take_all (length rows) rows (omega (arith)))
 
-no_row : (rows before : List Row) (n : ℕ) → length rows + 1 ≡ n → (n ≡ 1 → before ≡ []) → rows ≡ [] → before ≡ []
-no_row rows before n counted alone none = alone (omega (arith, counted, ap length none))
+-- ---- the next row of a text
+
+pub no_records : (records : List RecordState) → AreRowsOf [] records → records ≡ []
+no_records [] are = refl
+no_records (r ∷ more) (part, rest, is, tells, others) = let some : [] ≡ rows_in tells.version r ++ rest = rw tells.same at is in absurd cc
+
+is_nil : (rows : List Row) → (rows ≢ [] → ⊥) → rows ≡ []
+is_nil [] some = refl
+is_nil (row ∷ rows) some = absurd (some (λ none. absurd cc))
+
+module _ (text : List ℕ) (before : List Row) (next : NextBegins text before) where
+  -- these are not all rows of the text
+  goes_on : HasRows text (before ++ []) → before ≢ [] → ⊥
+  goes_on (u, y, all, none) some =
+      let (row, (t, x, first), begins) = next some in
+      let (more, is) = first_of_all (before ++ row ∷ []) (before ++ []) st.StartRecord t u text x y first all none in
+      omega (arith, ap length is, length-append (before ++ row ∷ []) more, length-append before [], length_push before row)
+
+  alone : (rows : List Row) → HasRows text (before ++ rows) → rows ≡ [] → before ≡ []
+  alone rows has none = is_nil before (goes_on (subst (λ l. HasRows text (before ++ l)) none has))
+
+  module _ (records : List RecordState) (are : AreRowsOf before records) where
+    some_before : records ≢ [] → before ≢ []
+    some_before some none = some (no_records records (subst (λ l. AreRowsOf l records) none are))
+
+    -- so the next rows begin with the first of a record
+    first_begins : (first : Row) (more : List Row) → BeginsWithRows text (before ++ first ∷ more) → BeginsNext records (first ∷ more)
+    first_begins first more (u, y, all) some =
+        let (row, (t, x, one), begins) = next (some_before some) in
+        let (v, left, here, rest) = one_place before (row ∷ []) (first ∷ more) st.StartRecord t u text x y one all in
+        subst (λ z. begins_record z ≡ true) (one_row row first more v t u left x y here rest) begins
+
+    part_begins : (rows : List Row) (row : Row) → BeginsWithRows text (before ++ (rows ++ row ∷ [])) → BeginsNext records (rows ++ row ∷ [])
+    part_begins [] row all = first_begins row [] all
+    part_begins (first ∷ rows) row all = first_begins first (rows ++ row ∷ []) all
+
+    all_begin : (rows : List Row) → HasRows text (before ++ rows) → BeginsNext records rows
+    all_begin [] has some = absurd (goes_on has (some_before some))
+    all_begin (first ∷ rows) (u, y, all, none) some = first_begins first rows (u, y, all) some
 
 module _ {R : Type 0} (rem : R → Option (List ℕ)) (limit : ℕ) (text : List ℕ) (before : List Row) (records : List RecordState)
     (rdr : Reader (ShortRows (Limited R))) (stage : Stage) (row : Row) (n : ℕ) where
   -- the text ends behind a record
   pub last_record : (s : SeriesReader R) (r : RecordState) → AreRowsOf before records
-      → EndsAt (short_bytes (limited_bytes rem)) rdr before stage row (passed limit text) (end.Text n) → (n ≡ 1 → before ≡ [])
-      → closed stage ≡ Some r → s.position ≡ at.End
+      → EndsAt (short_bytes (limited_bytes rem)) rdr before stage row (passed limit text) (end.Text n)
+      → NextBegins (passed limit text) before → closed stage ≡ Some r → s.position ≡ at.End
       → NextRecord rem limit s text records (Ok (Some r))
-  last_record s r are (rows, has, came, ran, counted) alone end stands =
+  last_record s r are (rows, has, came, ran, counted) next end stands =
       let (short, told) = all_within limit text before rows (taken_rows_begin_a_record rows stage ran)
-      (no_row rows before n counted alone) has came in
+      (alone (passed limit text) before next rows has) has came in
       let tells : TextTellsSeries (strip_bom text) (records ++ r ∷ []) =
       (before ++ rows, told, rows_of-push before rows records r are (tells-closed rows stage r ran end)) in
       (inr (stands, not-empty records r, short, tells), inl (short, inl tells))
 
   -- the text ends in a record
   pub last_misses : AreRowsOf before records
-      → EndsAt (short_bytes (limited_bytes rem)) rdr before stage row (passed limit text) (end.Text n) → (n ≡ 1 → before ≡ [])
-      → closed stage ≡ None
+      → EndsAt (short_bytes (limited_bytes rem)) rdr before stage row (passed limit text) (end.Text n)
+      → NextBegins (passed limit text) before → closed stage ≡ None
       → Within limit (λ t. IsMalformedAfter t records n) text
-  last_misses are (rows, has, came, ran, counted) alone none =
+  last_misses are (rows, has, came, ran, counted) next none =
       let begins = taken_rows_begin_a_record rows stage ran in
-      let (short, told) = all_within limit text before rows begins (no_row rows before n counted alone) has came in
-      inl (short, (before, are, inr (rows, told, (sym counted, begins, not-told rows stage ran none))))
+      let (short, told) = all_within limit text before rows begins (alone (passed limit text) before next rows has) has came in
+      let first = all_begin (passed limit text) before next records are rows has in
+      inl (short, (before, rows, are, first, inr (told, (sym counted, begins, not-told rows stage ran none))))
 
   -- a record ends where the first row of the next one stands
   pub record_ends : (s : SeriesReader R) (r : RecordState) → AreRowsOf before records
@@ -155,9 +196,9 @@ module _ {R : Type 0} (rem : R → Option (List ℕ)) (limit : ℕ) (text : List
   -- or a row stands where it may not
   row_misses : AreRowsOf before records
       → EndsAt (short_bytes (limited_bytes rem)) rdr before stage row (passed limit text) (end.Row n)
-      → (begins_record row ≡ true → closed stage ≡ None)
+      → NextBegins (passed limit text) before → (begins_record row ≡ true → closed stage ≡ None)
       → Within limit (λ t. IsMalformedAfter t records n) text
-  row_misses are (rows, rest, at, source, reached, came, ran, none, kept, counted) alone =
+  row_misses are (rows, rest, at, source, reached, came, ran, none, kept, counted) next first_row =
       let first : BeginsWithRows (passed limit text) ((before ++ rows) ++ row ∷ []) = (reader_state rdr, rest, reached) in
       let is_bad : IsBadRowOfPart (rows ++ row ∷ []) n = record {
         bad = rw (← counted) (not-taken rows row at ran none);
@@ -165,36 +206,40 @@ module _ {R : Type 0} (rem : R → Option (List ℕ)) (limit : ℕ) (text : List
             let first : begins_record row ≡ true =
             subst (λ z. begins_record z ≡ true) (ap (λ k. slice_index_or (rows ++ row ∷ []) (k - 1) []) (sym counted) ∙ at-row rows row)
             begins in
-            not-told rows at ran (subst (λ z. closed z ≡ None) (kept first) (alone first)) r (subst (λ l. Tells l r) (ap (λ k. take (k - 1) (rows ++ row ∷ [])) (sym counted) ∙ front-row rows row) tells);
+            not-told rows at ran (subst (λ z. closed z ≡ None) (kept first) (first_row first)) r (subst (λ l. Tells l r) (ap (λ k. take (k - 1) (rows ++ row ∷ [])) (sym counted) ∙ front-row rows row) tells);
       } in
+      let begins = part_begins (passed limit text) before next records are rows row
+      (subst (BeginsWithRows (passed limit text)) (append_assoc before rows (row ∷ [])) first) in
       within-map limit text (λ t. BeginsWithRows (from_row t) ((before ++ rows) ++ row ∷ []))
       (λ t. IsMalformedAfter t records n)
-      (λ t is. (before, are, inl (rows ++ row ∷ [], subst (λ l. BeginsWithRows (from_row t) l) (append_assoc before rows (row ∷ [])) is, is_bad)))
+      (λ t is.
+      let there = subst (λ l. BeginsWithRows (from_row t) l) (append_assoc before rows (row ∷ [])) is in
+      (before, rows ++ row ∷ [], are, begins, inl (there, is_bad)))
       (push_within limit text (before ++ rows) row first came)
 
   -- it is the first row of a record
   pub next_misses : AreRowsOf before records
       → EndsAt (short_bytes (limited_bytes rem)) rdr before stage row (passed limit text) (end.Row n)
-      → closed stage ≡ None
+      → NextBegins (passed limit text) before → closed stage ≡ None
       → Within limit (λ t. IsMalformedAfter t records n) text
-  next_misses are ends none = row_misses are ends (λ begins. none)
+  next_misses are ends next none = row_misses are ends next (λ begins. none)
 
   -- or it is none
   pub row_is_bad : AreRowsOf before records
       → EndsAt (short_bytes (limited_bytes rem)) rdr before stage row (passed limit text) (end.Row n)
-      → begins_record row ≡ false
+      → NextBegins (passed limit text) before → begins_record row ≡ false
       → Within limit (λ t. IsMalformedAfter t records n) text
-  row_is_bad are ends begins = row_misses are ends (λ is. absurd (false≢true (sym begins ∙ is)))
+  row_is_bad are ends next begins = row_misses are ends next (λ is. absurd (false≢true (sym begins ∙ is)))
 
 -- ---- the start of a record
 
-pub has_row-none : (before : List Row) (e : RowsEnd) → before ≡ [] → HasARow before e
-has_row-none before (end.Text n) none = λ one. none
-has_row-none before (end.Row n) none = tt
-
-pub has_row-some : (before : List Row) (e : RowsEnd) → ((n : ℕ) → e ≡ end.Text n → 1 < n) → HasARow before e
-has_row-some before (end.Text n) some = λ one. absurd (let more : 1 < n = some n refl in omega (arith, one, more))
-has_row-some before (end.Row n) some = tt
+-- where rows come before it, the first row is at hand
+pub stands_at_a_first_row : {R : Type 0} (rem : R → Option (List ℕ)) (position : Position) (rdr : Reader R) (row : Row) (text : List ℕ)
+    (before : List Row) → StandsBefore rem position rdr row text before → NextBegins text before
+stands_at_a_first_row rem at.Start rdr row text before (none, source, state) some = absurd (some none)
+stands_at_a_first_row rem at.FirstRow rdr row text before (rest, source, reached, came, begins) some =
+    (row, (reader_state rdr, rest, reached), begins)
+stands_at_a_first_row rem at.End rdr row text before none some = absurd none
 
 module _ {R : Type 0} (rem : R → Option (List ℕ)) (rdr : Reader R) (row : Row) (text : List ℕ) (before : List Row) where
   -- nothing was read

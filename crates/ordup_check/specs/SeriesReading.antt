@@ -11,8 +11,6 @@ use Rattle.ordup_rows.specs.Texts.{BeginsWithRows, HasRows}
 use Rattle.ordup_check.specs.Limits.{cut_at, never}
 use Rattle.ordup_check.specs.Reading.{AllCame, begins_record}
 use Rattle.ordup_check.specs.ShortRows.{ends_at_long_row, from_row, most_row_bytes}
-use Rattle.ordup_check.specs.declared.reading.RowsEnd.{RowsEnd}
-use Rattle.ordup_check.specs.declared.reading.RowsEnd.TheVariants as end
 use Rattle.ordup_check.specs.declared.reading.RecordReadFault.{RecordReadFault}
 use Rattle.ordup_check.specs.declared.reading.RecordReadFault.TheVariants as fault
 use Rattle.ordup_check.specs.declared.series_reader.SeriesReader.{SeriesReader}
@@ -48,12 +46,16 @@ TextBeginsSeries text records =
     TextTellsSeries text records
     ⊎ ((rows : List Row) × (r : Row) × BeginsWithRows (from_row text) (rows ++ r ∷ []) × (begins_record r ≡ true) × AreRowsOf rows records)
 
--- after these records the next one of the text is malformed at row n
+-- where records come before it, a part begins with the first row of the next one
+abbrev pub BeginsNext : List RecordState → List Row → Type 0
+BeginsNext records part = records ≢ [] → begins_record (slice_index_or part 0 []) ≡ true
+
+-- After these records the next one of the text is malformed at row n. It begins where the last of them ends.
 abbrev pub IsMalformedAfter : List ℕ → List RecordState → ℕ → Type 0
 IsMalformedAfter text records n =
-    (before : List Row) × AreRowsOf before records
-    × (((part : List Row) × BeginsWithRows (from_row text) (before ++ part) × IsBadRowOfPart part n)
-    ⊎ ((part : List Row) × HasRows text (before ++ part) × IsMissingRow part n))
+    (before : List Row) × (part : List Row) × AreRowsOf before records × BeginsNext records part
+    × ((BeginsWithRows (from_row text) (before ++ part) × IsBadRowOfPart part n)
+    ⊎ (HasRows text (before ++ part) × IsMissingRow part n))
 
 -- This is so of a text within the limit, without a byte order mark at its start; of a longer one it is so however the text goes on
 -- after the limit.
@@ -85,10 +87,9 @@ StandsBefore rem at.FirstRow rdr row text before =
     × AllCame (before ++ row ∷ []) × (begins_record row ≡ true)
 StandsBefore rem at.End rdr row text before = ⊥
 
--- where the text ended, and no row came before that, none came before those either
-abbrev pub HasARow : List Row → RowsEnd → Type 0
-HasARow before (end.Text n) = n ≡ 1 → before ≡ []
-HasARow before (end.Row n) = ⊤
+-- where rows come before it, the next row of the text is the first of a record
+abbrev pub NextBegins : List ℕ → List Row → Type 0
+NextBegins text before = before ≢ [] → (row : Row) × BeginsWithRows text (before ++ row ∷ []) × (begins_record row ≡ true)
 
 -- a reader of the records of a text within a limit has read just these: it stands before the next one, or the text has ended
 abbrev pub HasReadRecords : {R : Type 0} → (R → Option (List ℕ)) → ℕ → SeriesReader R → List ℕ → List RecordState → Type 0

@@ -7,7 +7,7 @@ ghost use Rattle.csv.specs.Records.{fields_of};
 ghost use Rattle.ordup_audit.specs.Records.{IsRecord, RecordState};
 ghost use Rattle.ordup_rows.specs.Rows.{Row};
 ghost use Rattle.ordup_rows.specs.Stages.{unread};
-ghost use Rattle.ordup_check.specs.SeriesReading.{AreRowsOf, HasARow, HasReadRecords, NextRecord, StandsBefore, limited_bytes, passed, short_bytes};
+ghost use Rattle.ordup_check.specs.SeriesReading.{AreRowsOf, HasReadRecords, NextBegins, NextRecord, StandsBefore, limited_bytes, passed, short_bytes};
 ghost use Rattle.ordup_check.specs.Reading.{EndsAt, IsPlain, ReachesEnd, begins_record};
 ghost use Rattle.ordup_check.specs.StageViews.{stage_of};
 
@@ -104,8 +104,7 @@ impl<R: Read> SeriesReader<R> {
         ensures stage { IfOk result (λ o. IfSome o (λ end. ReachesEnd (stage_of stage.new) (fields_of self.new.row) end)) }
         ensures ended { IfOk result (λ o. IfSome o (λ end. (text : List ℕ) (before : List Row)
             → StandsBefore (short_bytes (limited_bytes R.remaining)) self.old.position self.old.rdr (fields_of self.old.row) text before
-            → EndsAt (short_bytes (limited_bytes R.remaining)) self.new.rdr before (stage_of stage.new) (fields_of self.new.row) text end
-            × HasARow before end)) }
+            → EndsAt (short_bytes (limited_bytes R.remaining)) self.new.rdr before (stage_of stage.new) (fields_of self.new.row) text end)) }
         ensures fault { IfErr result (λ e. (n : ℕ) → e ≢ RecordReadFault.Malformed n) }
     {
         match self.position {
@@ -134,7 +133,7 @@ impl<R: Read> SeriesReader<R> {
         ensures next { (limit : ℕ) (text : List ℕ) (before : List Row) (records : List RecordState) → AreRowsOf before records
             → EndsAt (short_bytes (limited_bytes R.remaining)) self.old.rdr before (stage_of stage) (fields_of self.old.row)
             (passed limit text) end
-            → HasARow before end → NextRecord R.remaining limit self.new text records result }
+            → NextBegins (passed limit text) before → NextRecord R.remaining limit self.new text records result }
         ensures sound { IfOk result (λ o. IfSome o IsRecord) }
     {
         let row = match end {

@@ -11,3 +11,5 @@ mod PlainRowLemmas
 mod CutRows
 mod SeriesLemmas
 mod JudgingLemmas
+pub mod SeriesTexts
+mod Examples

@@ -14,13 +14,14 @@ use Rattle.csv.specs.declared.parser.State.TheVariants as st
 use Rattle.ordup_rows.specs.Rows.{Row, row_line}
 use Rattle.ordup_rows.specs.Stages.{Stage}
 use Rattle.ordup_rows.specs.Telling.{BeginARecord, IsBadRow}
-use Rattle.ordup_rows.specs.Texts.{HasRows, IsMalformedAt}
+use Rattle.ordup_rows.specs.Texts.{BeginsWithRows, HasRows, IsMalformedAt}
 use Rattle.ordup_rows.proofs.Beginnings.{taken_rows_begin_a_record}
 use Rattle.ordup_rows.proofs.PlainLemmas.{IsLine, all_lines}
 use Rattle.ordup_rows.proofs.RecordsSoFar.{all_at}
 use Rattle.ordup_check.specs.Reading.{IsTaken}
 use Rattle.ordup_check.specs.ShortRows.{at_edge, ends_at_long_row, from_row, in_column, left_after, is_row, most_row_bytes, state_after}
 use Rattle.ordup_check.proofs.LimitLemmas.{not_a, not_ab}
+use Rattle.ordup_check.proofs.SameRows.{first_of_all}
 use Rattle.ordup_check.specs.declared.short_rows.RowState.{RowState}
 use Rattle.ordup_check.specs.declared.short_rows.RowState.TheVariants as at
 
@@ -558,6 +559,17 @@ short_taken text stage n (rows, (t, rest, h, none), came, ran, counted) = elim (
   | inl (rest2, follow, end) ↦ (rows, (t, rest2, follow, end none), came, ran, counted)
   | inr (init, last, other, is, long, far, t2, rest2, follow) ↦
       absurd (too_long rows init last is long (taken_rows_begin_a_record rows stage ran))
+]
+
+-- the first rows are those of the text, where all rows of it are short
+pub short_begins : (text : List ℕ) (rows all : List Row) → BeginsWithRows (from_row text) rows → HasRows text all → All IsLine all
+    → BeginsWithRows text rows
+short_begins text rows all (t, rest, h) (u, y, has, none) lines = elim (rows_walk rows st.StartRecord t text rest (refl, refl) h) [
+  | inl (rest2, follow, end) ↦ (t, rest2, follow)
+  | inr (init, last, other, is, long, far, t2, rest2, follow) ↦
+      (let (more, e) = first_of_all (init ++ other ∷ []) all st.StartRecord t2 u text rest2 y follow has none in
+      let line : IsLine other = all_at IsLine init other more (subst (All IsLine) (e ∙ append_assoc init (other ∷ []) more) lines) in
+      absurd (omega (arith, line.short, line_size other far)))
 ]
 
 -- rows are none, or there is a last one

@@ -9,3 +9,4 @@ pub mod Answers
 pub mod ShortRows
 pub mod SeriesReading
 pub mod SeriesVerdicts
+pub mod SeriesLaws

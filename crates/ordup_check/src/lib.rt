@@ -10,6 +10,7 @@
 //! other bytes one by one.
 #![tactic(auto)]
 
+mod laws;
 mod limited;
 mod partial_record;
 mod partial_updates;
@@ -21,6 +22,7 @@ mod short_rows;
 pub mod sizes;
 mod stage;
 
+pub use laws::{texts_of_a_series_are_not_malformed, texts_tell_one_series};
 pub use ordup_audit::{Reason, Record, Verdict, check};
 pub use ordup_record::record_of;
 pub use ordup_rows::{RecordWriteFault, write_record};

@@ -1,2 +1,3 @@
 pub mod Outcomes
 mod SeriesLagLemmas
+mod Examples

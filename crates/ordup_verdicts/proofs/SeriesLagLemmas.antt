@@ -1,22 +1,17 @@
 -- The lag of a series as it is printed, record by record.
-use Rattle.std.proofs.Common.{◌≡◌, ◌⊎◌, ◌∙◌, ℕ, ◌+◌, ◌≤◌, List, [], ◌∷◌, ◌++◌, length, Option, Some, None, IfSome, Result, Ok, Err, ap, arith, inl, inr, refl, subst, sym}
+use Rattle.std.proofs.Common.{◌≡◌, ◌⊎◌, ◌∙◌, ℕ, ◌+◌, List, [], ◌∷◌, ◌++◌, length, Option, Some, None, IfSome, Ok, Err, ap, arith, inl, inr, refl, subst, sym}
 use Rattle.std.proofs.lemmas.List.{append-nil, append_assoc}
 use Rattle.std.specs.Io.KnownBytes.{Appends, Keeps}
-use Rattle.std.proofs.KnownBytes.{Appends-kept, Appends-nil, Appends-trans}
-use Rattle.csv.specs.Reading.{strip_bom}
+use Rattle.std.proofs.KnownBytes.{Appends-kept, Appends-trans}
 use Rattle.ordup_text.specs.Fronts.{AppendsFront}
 use Rattle.ordup_audit.specs.Records.{RecordState}
 use Rattle.ordup_audit.specs.Validity.{IsValid}
-use Rattle.ordup_series.specs.Reasons.{is_yes}
-use Rattle.ordup_series.specs.Audits.{AreValidSeries, IsSeriesVerdict, IsWholeVerdict, OfAll, places_of, rounds_of}
-use Rattle.ordup_series.specs.Series.{OfEach, rounds_in}
+use Rattle.ordup_series.specs.Audits.{AreValidSeries, OfAll, places_of, rounds_of}
+use Rattle.ordup_series.specs.Series.{OfEach}
 use Rattle.ordup_series.specs.declared.audit.SeriesAudit.{SeriesAudit}
-use Rattle.ordup_series.specs.declared.verdict.SeriesVerdict.{SeriesVerdict}
-use Rattle.ordup_series.specs.declared.verdict.SeriesVerdict.TheVariants.{Fewest, No}
-use Rattle.ordup_check.specs.SeriesReading.{HasReadRecords, IsMalformedAfter, NextRecord, TextTellsSeries, Within}
+use Rattle.ordup_check.specs.SeriesReading.{IsMalformedAfter, Within}
 use Rattle.ordup_check.specs.declared.reading.RecordReadFault.{RecordReadFault}
 use Rattle.ordup_check.specs.declared.reading.RecordReadFault.TheVariants as reading
-use Rattle.ordup_check.specs.declared.series_reader.SeriesReader.{SeriesReader}
 use Rattle.ordup_check.specs.declared.sizes.TheConstants.{MOST_SERIES_BYTES}
 use Rattle.ordup_lag.specs.Texts.{lag_after, lag_of_series, offsets_after}
 use Rattle.ordup_lag.specs.declared.offsets.Offsets.{Offsets}
@@ -26,8 +21,8 @@ use Rattle.ordup_faults.specs.declared.fault.Fault.TheVariants as fault
 use Rattle.ordup_lag.specs.declared.writing.LagFault.{LagFault}
 use Rattle.ordup_lag.specs.declared.writing.LagFault.TheVariants as lag
 use Rattle.ordup_verdicts.specs.Faults.{fault_of_lag, fault_of_next}
-use Rattle.ordup_verdicts.specs.Series.{PrintsSeriesVerdict, series_verdict_status, series_verdict_text}
-use Rattle.ordup_verdicts.specs.SeriesLags.{BeginsWith, IsReason, LagsOfSeries, PrintsNext, lag_of, none_before, offsets_of}
+use Rattle.ordup_verdicts.specs.Series.{series_verdict_text}
+use Rattle.ordup_verdicts.specs.SeriesLags.{BeginsWith, LagsOfSeries, PrintsNext, TellsWhole, lag_of, none_before, offsets_of}
 
 -- ---- one record more
 
@@ -177,16 +172,14 @@ printed-more old mid done grew new r more =
 
 module _ (had old mid new : Option (List ℕ)) (done : List RecordState) (valid : AreValidSeries done) (grew : Appends old mid (lag_of done))
     (kept : Keeps mid new) where
-  pub all-printed : IfSome had (λ text. (length text ≤ MOST_SERIES_BYTES) × TextTellsSeries (strip_bom text) done)
-      → LagsOfSeries had old new (Ok 0)
+  pub all-printed : IfSome had (λ text. TellsWhole text done) → LagsOfSeries had old new (Ok 0)
   all-printed told = inl (refl, done, valid, told, Appends-kept old mid new (lag_of done) grew kept)
 
   pub flush-fails : IfSome had (λ text. BeginsWith text done) → LagsOfSeries had old new (Err fault.Write)
   flush-fails begins = inl (done, valid, begins, front-of old new (lag_of done) (Appends-kept old mid new (lag_of done) grew kept))
 
   pub lag-ended : (outcome : Outcome) → (outcome ≡ Ok 0) ⊎ (outcome ≡ Err fault.Write)
-      → IfSome had (λ text. (length text ≤ MOST_SERIES_BYTES) × TextTellsSeries (strip_bom text) done)
-      → IfSome had (λ text. BeginsWith text done)
+      → IfSome had (λ text. TellsWhole text done) → IfSome had (λ text. BeginsWith text done)
       → LagsOfSeries had old new outcome
   lag-ended outcome (inl is) told begins = subst (LagsOfSeries had old new) (sym is) (all-printed told)
   lag-ended outcome (inr is) told begins = subst (LagsOfSeries had old new) (sym is) (flush-fails begins)

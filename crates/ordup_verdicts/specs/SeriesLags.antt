@@ -1,5 +1,5 @@
 -- What the job that prints the lag of a series reads and prints.
-use Rattle.std.specs.Prelude.{◌≡◌, ◌⊎◌, ℕ, ◌+◌, ◌≤◌, List, [], ◌∷◌, ◌++◌, length, Option, Some, None, IfSome, Result, Ok, Err}
+use Rattle.std.specs.Prelude.{◌≡◌, ◌≢◌, ◌⊎◌, ℕ, ◌+◌, ◌≤◌, List, [], ◌∷◌, ◌++◌, length, Option, Some, None, IfSome, Result, Ok, Err}
 use Rattle.std.specs.Io.KnownBytes.{Appends}
 use Rattle.ordup_text.specs.Fronts.{AppendsFront}
 use Rattle.csv.specs.Reading.{strip_bom}
@@ -56,13 +56,16 @@ lag_of = lag_of_series none_before
 abbrev pub BeginsWith : List ℕ → List RecordState → Type 0
 BeginsWith text records = (records ≡ []) ⊎ Within MOST_SERIES_BYTES (λ t. TextBeginsSeries t records) text
 
+-- the text tells these records and nothing else, of which there is one
+abbrev pub TellsWhole : List ℕ → List RecordState → Type 0
+TellsWhole text records = (records ≢ []) × (length text ≤ MOST_SERIES_BYTES) × TextTellsSeries (strip_bom text) records
+
 -- The text tells a valid series, whose lag was printed. Or it begins with one and with a record against which there is a reason: the lag
 -- of the series was printed, and the verdict. Of both a prefix was where the writer failed. Where a record could not be read, or memory
 -- was refused, the lag of a valid series was printed with which the text begins.
 abbrev pub LagsOfSeries : Option (List ℕ) → Option (List ℕ) → Option (List ℕ) → Outcome → Type 0
 LagsOfSeries had old new (Ok status) =
-    ((status ≡ 0) × (done : List RecordState) × AreValidSeries done
-    × IfSome had (λ text. (length text ≤ MOST_SERIES_BYTES) × TextTellsSeries (strip_bom text) done) × Appends old new (lag_of done))
+    ((status ≡ 0) × (done : List RecordState) × AreValidSeries done × IfSome had (λ text. TellsWhole text done) × Appends old new (lag_of done))
     ⊎ ((status ≡ 1) × (done : List RecordState) × (r : RecordState) × (verdict : SeriesVerdict) × AreValidSeries done
     × IfSome had (λ text. BeginsWith text (done ++ r ∷ [])) × IsReason done r verdict
     × Appends old new (lag_of done ++ series_verdict_text verdict))

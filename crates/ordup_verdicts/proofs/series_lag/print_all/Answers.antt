@@ -9,11 +9,7 @@ pub returns-in-Ok-None : goal.returns-in-Ok-None
 returns-in-Ok-None g c had h =
     let (plain, done, has, counted, read, grew) = c.loop-count.invariant in
     lag-ended had _ _ _ done has.valid grew c.end_lag.ensures.kept c.end_lag.result c.end_lag.ensures.ended
-    (known had
-    (λ text first.
-    let (some, short, told) = rw c.in-Ok-None.field-0-is at c.in-Ok-None.ensures.next MOST_SERIES_BYTES text done (read text first).0 in
-    (short, told))
-    h)
+    (known had (λ text first. rw c.in-Ok-None.field-0-is at c.in-Ok-None.ensures.next MOST_SERIES_BYTES text done (read text first).0) h)
     (known had (λ text first. (read text first).1) h)
 
 pub returns-in-Err : goal.returns-in-Err

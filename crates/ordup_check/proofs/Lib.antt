@@ -12,4 +12,5 @@ mod CutRows
 mod SeriesLemmas
 mod JudgingLemmas
 pub mod SeriesTexts
+mod SeriesAnswers
 mod Examples

@@ -22,7 +22,7 @@ use Rattle.ordup_rows.proofs.ReadingBack.{reading_is_complete, rows_tell_one_rec
 use Rattle.ordup_rows.proofs.TextLemmas.{texts_have_one_list_of_rows}
 use Rattle.ordup_check.specs.Reading.{begins_record}
 use Rattle.ordup_check.specs.SeriesLaws.{TextsOfASeriesAreNotMalformed, TextsTellOneSeries}
-use Rattle.ordup_check.specs.SeriesReading.{AreRowsOf, IsBadRowOfPart}
+use Rattle.ordup_check.specs.SeriesReading.{AreRowsOf, IsBadRowOfPart, TextBeginsSeries, TextTellsSeries}
 use Rattle.ordup_check.proofs.LongRowLemmas.{short_begins}
 use Rattle.ordup_check.proofs.SameRows.{first_of_all}
 use Rattle.ordup_check.proofs.SeriesLemmas.{at-end, no_records}
@@ -237,6 +237,18 @@ texts_tell_one_series text records others (rows, has, are) (all, also, all_are) 
     let same : rows ≡ all ++ [] = texts_have_one_list_of_rows text rows all has also ∙ sym (append-nil all) in
     let (rest, is, none) = first_records others all [] rows records all_are are same (λ some. tt) in
     is ∙ (ap (λ l. others ++ l) (no_records rest none) ∙ append-nil others)
+
+-- a text begins with the first of the records that it tells
+pub begins_with_first : (text : List ℕ) (records first : List RecordState) → TextTellsSeries text records → TextBeginsSeries text first
+    → (rest : List RecordState) × (records ≡ first ++ rest)
+begins_with_first text records first told (inl also) = ([], texts_tell_one_series text records first told also ∙ sym (append-nil first))
+begins_with_first text records first (all, has, are) (inr (rows, row, begins, is_first, are_first)) =
+    let (t, x, front) = short_begins text (rows ++ row ∷ []) all begins has (lines_of_all all records are) in
+    let (u, y, whole, none) = has in
+    let (more, is) = first_of_all (rows ++ row ∷ []) all st.StartRecord t u text x y front whole none in
+    let (rest, after, rest_are) = first_records first rows (row ∷ more) all records are_first are (is ∙ append_assoc rows (row ∷ []) more)
+    (λ some. is_first) in
+    (rest, after)
 
 pub texts_of_a_series_are_not_malformed : TextsOfASeriesAreNotMalformed
 texts_of_a_series_are_not_malformed text records done n some (all, has, are) (before, part, are_before, begins, inl (first, bad)) =

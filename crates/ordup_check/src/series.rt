@@ -1,8 +1,11 @@
 //! The audit of a text of records, one after another.
-ghost use Rattle.std.specs.Prelude.{◌≡◌, ℕ, List, [], IfErr, IfOk, IfSome};
-ghost use Rattle.ordup_series.specs.Audits.{HasAudited};
+ghost use Rattle.std.specs.Prelude.{◌≡◌, ◌≢◌, ◌≤◌, ℕ, List, [], Some, IfErr, IfOk, IfSome, length};
+ghost use Rattle.csv.specs.Reading.{strip_bom};
+ghost use Rattle.ordup_audit.specs.Records.{RecordState};
+ghost use Rattle.ordup_series.specs.Audits.{AreValidSeries, HasAudited};
+ghost use Rattle.ordup_check.specs.Answers.{AnswersSeries};
 ghost use Rattle.ordup_check.specs.Reading.{IsPlain};
-ghost use Rattle.ordup_check.specs.SeriesReading.{HasReadRecords};
+ghost use Rattle.ordup_check.specs.SeriesReading.{HasReadRecords, TextTellsSeries};
 ghost use Rattle.ordup_check.specs.SeriesVerdicts.{IsMalformedSeries, JudgesText, series_fault};
 ghost use Rattle.ordup_check.specs.declared.sizes.TheConstants.{MOST_SERIES_BYTES};
 
@@ -26,7 +29,7 @@ pub enum SeriesReadFault {
     NoMemory,
 }
 
-// promise verdict: a valid series is answered its rounds, the fewest; else the first reason
+// promise verdict told: a valid series is answered its rounds, the fewest; else the first reason
 // promise malformed: the first bad row is told after a valid series
 /// Audits the records of one site, one after another, each from its first row on: of a store, of the one that goes on from it, and so
 /// on. It holds one record at a time, and reads up to the first against which there is a reason. It promises, clause by clause, of a
@@ -36,10 +39,13 @@ pub enum SeriesReadFault {
 ///   number of the rounds of all, and no schedule of the whole that keeps the limits has fewer. Else the first reason against the first
 ///   record that has one.
 /// - `malformed`: the row of the record is the first that breaks a rule, after records that are a valid series.
+/// - `told`: a text that tells a valid series is answered by the number of its rounds, unless a read fails or memory is refused.
 pub fn audit_series<R: Read>(alloc: Global, input: &mut R) -> Result<SeriesVerdict, SeriesReadFault>
     ensures verdict { IfOk result (λ v. IfSome (R.remaining input.old) (λ text. JudgesText text v)) }
     ensures malformed { IfErr result (λ e. (place row : ℕ) → e ≡ SeriesReadFault.Malformed place row
         → IfSome (R.remaining input.old) (λ text. IsMalformedSeries text place row)) }
+    ensures told { (text : List ℕ) (records : List RecordState) → R.remaining input.old ≡ Some text → length text ≤ MOST_SERIES_BYTES
+        → TextTellsSeries (strip_bom text) records → records ≢ [] → AreValidSeries records → AnswersSeries result records }
 {
     let mut records = SeriesReader::new(alloc, input, MOST_SERIES_BYTES);
     let mut audit = SeriesAudit::new();

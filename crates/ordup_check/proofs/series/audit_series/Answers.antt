@@ -1,5 +1,6 @@
 use Rattle.ordup_check.specs.SeriesVerdicts.{IsMalformedSeries, JudgesText}
 use Rattle.ordup_check.proofs.JudgingLemmas.{judged-known, malformed-known}
+use Rattle.ordup_check.proofs.SeriesAnswers.{series_answered}
 use Rattle.ordup_check.proofs.series.audit_series.Goals as goal
 
 pub returns-clause-verdict : goal.returns-clause-verdict
@@ -11,3 +12,8 @@ pub returns-clause-malformed : goal.returns-clause-malformed
 returns-clause-malformed g c =
     malformed-known (g.R.Read.remaining c.args.input.now) c.audit_all-verdict.result _ IsMalformedSeries c.new-records.ensures.first
     c.audit_all-verdict.ensures.malformed
+
+pub returns-clause-told : goal.returns-clause-told
+returns-clause-told g c text records is few told some valid =
+    series_answered text records few told (g.R.Read.remaining c.args.input.now) c.audit_all-verdict.result is some valid
+    (returns-clause-verdict g c) (returns-clause-malformed g c)

@@ -2,7 +2,8 @@
 use Rattle.std.specs.Prelude.{◌≡◌, ℕ, ◌<◌, ◌⊎◌, Bool, true, false, length}
 use Rattle.ordup_objects.specs.declared.refusal.Refusal.{Refusal}
 use Rattle.ordup_objects.specs.declared.refusal.Refusal.TheVariants.{Mixed}
-use Rattle.ordup_cluster.specs.Clusters.{ClusterState, ClosedState, IsSuccessor, IsClosed}
+use Rattle.ordup_objects.specs.Refusals.{IsRefusal}
+use Rattle.ordup_cluster.specs.Clusters.{ClusterState, ClosedState, IsSuccessor, IsClosed, closed_successor_refusal}
 use Rattle.ordup_epochs.specs.declared.stage.Stage.{Stage}
 use Rattle.ordup_epochs.specs.declared.stage.Stage.TheVariants.{Open, Closed, Over}
 
@@ -37,10 +38,12 @@ IsLost (Open epoch) refusal = (s : ℕ) × (refusal ≡ Mixed s) × (s < length 
 IsLost (Closed last why) refusal = ⊥
 IsLost (Over why) refusal = refusal ≡ why
 
--- after a refusal what is left of the epoch is kept, with the refusal, or nothing is left of it
+-- After a refusal what is left of the epoch is kept, with the refusal, which is that of its successor; or nothing is left of it.
 abbrev pub IsLeft : Stage → ℕ → Refusal → Stage → Type 0
 IsLeft old numbered refusal new =
-    ((ended : ClosedState) × IsEndOf old numbered ended × (new ≡ Closed ended refusal)) ⊎ (IsLost old refusal × (new ≡ Over refusal))
+    ((ended : ClosedState) × IsEndOf old numbered ended × IsRefusal (closed_successor_refusal ended) refusal
+    × (new ≡ Closed ended refusal))
+    ⊎ (IsLost old refusal × (new ≡ Over refusal))
 
 -- a visit is to an epoch that is open
 abbrev pub IsVisited : Stage → Type 0

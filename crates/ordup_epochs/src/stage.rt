@@ -1,4 +1,6 @@
 ghost use Rattle.std.specs.Prelude.{◌≡◌, ◌<◌, ℕ, length, IfOk, IfErr};
+ghost use Rattle.ordup_objects.specs.Refusals.{IsRefusal};
+ghost use Rattle.ordup_cluster.specs.Clusters.{closed_successor_refusal};
 ghost use Rattle.ordup_epochs.specs.Stages.{IsOpenAfter, IsEnd, IsEndOf, IsLeft, IsLost};
 
 use ordup_cluster::{Closed, Cluster};
@@ -30,7 +32,8 @@ impl Stage {
     ///
     /// - What is handed out is the store that was open, with all its updates.
     /// - The epoch that is open then is the successor of the one that is handed out.
-    /// - Where it is refused, what has ended is kept for a later try. All is lost only where a site did not agree with the log.
+    /// - Where `Closed::successor` of what has ended is refused, it is kept for a later try, with that refusal. All is lost only where
+    ///   a site did not agree with the log.
     pub fn start_successor(&mut self, alloc: Global, numbered: u64) -> Result<Closed, Refusal>
         ensures open { IfOk result (λ ended. IsOpenAfter ended self.new) }
         ensures ended { IfOk result (IsEndOf self.old numbered) }
@@ -72,6 +75,7 @@ impl Stage {
     fn open_successor(&mut self, alloc: Global, ended: Closed) -> Result<Closed, Refusal>
         ensures handed { IfOk result (λ it. it ≡ ended) }
         ensures open { IfOk result (λ it. IsOpenAfter it self.new) }
+        ensures refused { IfErr result (λ e. IsRefusal (closed_successor_refusal ended) e) }
         ensures kept { IfErr result (λ e. self.new ≡ Stage.Closed ended e) }
     {
         let successor = ended.successor(alloc);

@@ -1,7 +1,7 @@
 -- What lies under the lock of the epochs, and what the start of a successor makes of it.
 use Rattle.std.specs.Prelude.{◌≡◌, ℕ, ◌<◌, ◌⊎◌, Bool, true, false, length}
 use Rattle.ordup_objects.specs.declared.refusal.Refusal.{Refusal}
-use Rattle.ordup_objects.specs.declared.refusal.Refusal.TheVariants.{Mixed}
+use Rattle.ordup_objects.specs.declared.refusal.Refusal.TheVariants.{NotYet, Stopped, NoMemory, Mixed}
 use Rattle.ordup_objects.specs.Refusals.{IsRefusal}
 use Rattle.ordup_cluster.specs.Clusters.{ClusterState, ClosedState, IsSuccessor, IsClosed, closed_successor_refusal}
 use Rattle.ordup_epochs.specs.declared.stage.Stage.{Stage}
@@ -11,7 +11,7 @@ use Rattle.ordup_epochs.specs.declared.stage.Stage.TheVariants.{Open, Closed, Ov
 abbrev pub is_open : Stage → Bool
 is_open (Open epoch) = true
 is_open (Closed ended refusal) = false
-is_open (Over refusal) = false
+is_open (Over site) = false
 
 -- the epoch that is open is the successor of this one
 abbrev pub IsOpenAfter : ClosedState → Stage → Type 0
@@ -29,21 +29,36 @@ pub record IsEnd (epoch : ClusterState) (numbered : ℕ) (ended : ClosedState) :
 abbrev pub IsEndOf : Stage → ℕ → ClosedState → Type 0
 IsEndOf (Open epoch) numbered ended = IsEnd epoch numbered ended
 IsEndOf (Closed last refusal) numbered ended = ended ≡ last
-IsEndOf (Over refusal) numbered ended = ⊥
+IsEndOf (Over site) numbered ended = ⊥
 
--- Why nothing is left of the epoch of a stage: a site of it did not agree with the log, or there was none already. The first site
--- stands for an epoch that is not the one that was open.
-abbrev pub IsLost : Stage → Refusal → Type 0
-IsLost (Open epoch) refusal = (s : ℕ) × (refusal ≡ Mixed s) × (s < length epoch.start.sites)
-IsLost (Closed last why) refusal = ⊥
-IsLost (Over why) refusal = refusal ≡ why
+-- For which site nothing is left of the epoch of a stage: a site of it did not agree with the log, or nothing was left already. The
+-- first site stands for an epoch that is not the one that was open.
+abbrev pub IsLost : Stage → ℕ → Type 0
+IsLost (Open epoch) site = site < length epoch.start.sites
+IsLost (Closed last why) site = ⊥
+IsLost (Over lost) site = site ≡ lost
 
 -- After a refusal what is left of the epoch is kept, with the refusal, which is that of its successor; or nothing is left of it.
 abbrev pub IsLeft : Stage → ℕ → Refusal → Stage → Type 0
 IsLeft old numbered refusal new =
     ((ended : ClosedState) × IsEndOf old numbered ended × IsRefusal (closed_successor_refusal ended) refusal
     × (new ≡ Closed ended refusal))
-    ⊎ (IsLost old refusal × (new ≡ Over refusal))
+    ⊎ ((site : ℕ) × (refusal ≡ Mixed site) × IsLost old site × (new ≡ Over site))
+
+-- What is refused where the epoch that was open, or the one that has ended, is not followed by another: the refusal of its successor,
+-- or that a site did not agree with the log.
+abbrev pub IsNotFollowed : Refusal → Type 0
+IsNotFollowed refusal =
+    ((ended : ClosedState) × IsRefusal (closed_successor_refusal ended) refusal) ⊎ ((site : ℕ) × (refusal ≡ Mixed site))
+
+-- what is refused where the update with this number is not settled
+abbrev pub IsNotSettled : ℕ → Refusal → Type 0
+IsNotSettled last refusal = (refusal ≡ NoMemory) ⊎ (refusal ≡ NotYet last)
+
+-- Of the start of a successor: the epochs were stopped, the last update was not settled, or the epoch is not followed by another. Which
+-- store it was, and how many updates it had, no clause can say, since it lies under a lock.
+abbrev pub IsStartRefusal : Refusal → Type 0
+IsStartRefusal refusal = (refusal ≡ Stopped) ⊎ ((last : ℕ) × IsNotSettled last refusal) ⊎ IsNotFollowed refusal
 
 -- a visit is to an epoch that is open
 abbrev pub IsVisited : Stage → Type 0
@@ -53,4 +68,4 @@ IsVisited stage = (epoch : ClusterState) × (stage ≡ Open epoch)
 abbrev pub IsWhyClosed : Stage → Refusal → Type 0
 IsWhyClosed (Open epoch) refusal = ⊥
 IsWhyClosed (Closed ended why) refusal = refusal ≡ why
-IsWhyClosed (Over why) refusal = refusal ≡ why
+IsWhyClosed (Over site) refusal = refusal ≡ Mixed site

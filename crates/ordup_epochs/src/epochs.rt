@@ -1,8 +1,9 @@
-ghost use Rattle.std.specs.Prelude.{◌≡◌, ◌↔◌, ℕ, ◌+◌, ◌≤◌, None, IsTrue, true, false, min, IfOk, IfErr};
+ghost use Rattle.std.specs.Prelude.{◌≡◌, ◌↔◌, ℕ, ◌+◌, ◌≤◌, None, IsTrue, true, false, max, min, IfOk, OnOk, IfErr};
 ghost use Rattle.ordup_objects.specs.Refusals.{IsRefusal};
 ghost use Rattle.ordup_objects.specs.Sizes.{most_updates};
 ghost use Rattle.ordup_primary.specs.Declarations.{start_refusal};
-ghost use Rattle.ordup_epochs.specs.Stages.{IsVisited, is_open};
+ghost use Rattle.ordup_cluster.specs.Clusters.{IsClosed, closed_successor_refusal};
+ghost use Rattle.ordup_epochs.specs.Stages.{IsVisited, is_open, IsNotSettled, IsStartRefusal};
 
 use crate::stage::Stage;
 use crate::visit::Visit;
@@ -162,7 +163,8 @@ impl Epochs {
 
     // waits: of the visits, exclusive; then as `settle` and `finish`; then of the open epoch, exclusive | until all visits have ended, as
     // `settle` of the last update and as `finish`, and until the feeds are empty
-    // promise: an epoch is stopped only once a session has seen the number taken for its last
+    // promise closed followed: what the start of a successor hands out is closed, with all its updates acknowledged
+    // promise refused: the start of a successor is refused `Stopped`, `NotYet`, `NoMemory`, `LogFull` or `Mixed` alone
     /// Ends the epoch that is open, starts its successor, and hands out the epoch that has ended. No visit begins until that is
     /// done.
     ///
@@ -182,6 +184,9 @@ impl Epochs {
         turns: u64,
     ) -> Result<Closed, Refusal>
         requires { 1 ≤ turns }
+        ensures closed { IfOk result IsClosed }
+        ensures followed { IfOk result (λ ended. closed_successor_refusal ended ≡ None) }
+        ensures refused { IfErr result IsStartRefusal }
     {
         let _no_visits = self.visits.write(rt);
         self.start_and_wake(rt, alloc, turns)
@@ -190,6 +195,9 @@ impl Epochs {
     /// Starts the successor while no visit is made, and wakes whoever waits for it.
     fn start_and_wake<R: Wait>(&self, rt: &R, alloc: Global, turns: u64) -> Result<Closed, Refusal>
         requires { 1 ≤ turns }
+        ensures closed { IfOk result IsClosed }
+        ensures followed { IfOk result (λ ended. closed_successor_refusal ended ≡ None) }
+        ensures refused { IfErr result IsStartRefusal }
     {
         let answer = self.end_and_open(rt, alloc, turns);
         self.started.notify_all();
@@ -199,6 +207,9 @@ impl Epochs {
     /// Ends the epoch that is open, and opens its successor.
     fn end_and_open<R: Wait>(&self, rt: &R, alloc: Global, turns: u64) -> Result<Closed, Refusal>
         requires { 1 ≤ turns }
+        ensures closed { IfOk result IsClosed }
+        ensures followed { IfOk result (λ ended. closed_successor_refusal ended ≡ None) }
+        ensures refused { IfErr result IsStartRefusal }
     {
         if self.is_stopped() {
             return Err(Refusal::Stopped);
@@ -218,6 +229,7 @@ impl Epochs {
     /// refused, it ends later.
     fn end<R: Wait>(&self, rt: &R, turns: u64) -> Result<u64, Refusal>
         requires { 1 ≤ turns }
+        ensures refused { IfErr result (λ e. (last : ℕ) × IsNotSettled last e) }
     {
         match &*self.stage.read(rt) {
             Stage::Open(epoch) => {
@@ -233,7 +245,7 @@ impl Epochs {
     }
 
     // waits: as `keeper`, and as `start_successor` for each successor | until `stop`. After a refused one it sleeps for a millisecond
-    // promise: an epoch is due after its updates, later after a refused successor, at its most at the latest; only `Mixed` ends `keep`
+    // promise refused: of all refusals only `Mixed` ends `keep`
     /// Starts a successor whenever the epoch that is open has its updates, until `stop`, and is the keeper of each epoch, as
     /// `Cluster::keeper`. It answers how many it started, and drops what has ended: who wants the records calls `start_successor`.
     /// It runs in a thread of its own.
@@ -241,6 +253,7 @@ impl Epochs {
     /// Where a successor is refused it tries again later. It is refused `Mixed` alone, once there are no more epochs.
     pub fn keep<R: Wait + Clock>(&self, rt: &R, alloc: Global, turns: u64) -> Result<u64, Refusal>
         requires { 1 ≤ turns }
+        ensures refused { IfErr result (λ e. (site : ℕ) × (e ≡ Refusal.Mixed site)) }
     {
         let mut successors = 0u64;
         for _ in rt.forever() {
@@ -269,7 +282,7 @@ impl Epochs {
         self.is_wanted(&stage)
     }
 
-    // promise: as Epochs::keep
+    // promise: an epoch is due after its updates, later after a refused successor, at its most at the latest
     /// A successor is wanted: the epoch that is open has its updates, or none is open.
     fn is_wanted(&self, stage: &Stage) -> bool
         ensures { is_open stage.now ≡ false → result ≡ true }
@@ -285,6 +298,7 @@ impl Epochs {
         turns: u64,
     ) -> Result<bool, Refusal>
         requires { 1 ≤ turns }
+        ensures refused { IfErr result (λ e. (site : ℕ) × (e ≡ Refusal.Mixed site)) }
     {
         match self.start_if_wanted(rt, alloc, turns) {
             // Visits may begin again before its memory is given back.
@@ -328,10 +342,14 @@ impl Epochs {
     }
 
     // waits: as Cluster::new
+    // promise closed refused: the last epoch is closed; it is refused `Mixed` alone
     /// Takes the last epoch out, once all threads are joined, as `Stage::into_ended`. It takes no memory, and waits for nobody.
     ///
     /// It is refused `Mixed` alone, where a site does not agree with the log.
-    pub fn close(self) -> Result<Closed, Refusal> {
+    pub fn close(self) -> Result<Closed, Refusal>
+        ensures closed { IfOk result IsClosed }
+        ensures refused { IfErr result (λ e. (site : ℕ) × (e ≡ Refusal.Mixed site)) }
+    {
         let Epochs {
             visits: _,
             stage,
@@ -355,22 +373,42 @@ fn numbered_in(stage: &Stage) -> u64 {
     }
 }
 
-// promise: as Epochs::start_successor
+// promise seen: an epoch is stopped only once a session has seen the number taken for its last
 /// Waits until the updates up to this number are acknowledged, and then until they are sent. The session that has seen the last one
 /// is the sign of that.
 fn settle_all<R: Wait>(rt: &R, epoch: &Cluster, last: u64, turns: u64) -> Result<Session, Refusal>
     requires { 1 ≤ turns }
-    ensures { IfOk result (λ session. session.seen ≡ last) }
+    ensures seen { IfOk result (λ session. session.seen ≡ last) }
+    ensures refused { IfErr result (IsNotSettled last) }
 {
     let mut session = Session::new();
     if last > 0 {
-        epoch.settle(rt, &mut session, last, turns)?;
+        settle(rt, epoch, &mut session, last, turns)?;
         epoch.finish(rt, turns);
     }
     Ok(session)
 }
 
-// promise: as Epochs::start_successor
+/// Waits until the update with this number is acknowledged. In a log that lacks it, it is not acknowledged either.
+fn settle<R: Wait>(
+    rt: &R,
+    epoch: &Cluster,
+    session: &mut Session,
+    last: u64,
+    turns: u64,
+) -> Result<(), Refusal>
+    requires { 1 ≤ turns }
+    ensures seen { OnOk result (session.new.seen ≡ max session.old.seen last) }
+    ensures refused { IfErr result (IsNotSettled last) }
+{
+    match epoch.settle(rt, session, last, turns) {
+        Ok(()) => Ok(()),
+        Err(Refusal::NoMemory) => Err(Refusal::NoMemory),
+        Err(_) => Err(Refusal::NotYet { number: last }),
+    }
+}
+
+// promise: as settle_all seen
 /// Stops an epoch, once a session has seen that its last update is acknowledged.
 fn stop_after(epoch: &Cluster, last: u64, session: Session)
     requires { session.seen ≡ last }
@@ -379,7 +417,7 @@ fn stop_after(epoch: &Cluster, last: u64, session: Session)
     epoch.stop();
 }
 
-// promise: as Epochs::keep
+// promise: as Epochs::is_wanted
 /// After how many updates an epoch ends that has this many, where it is to have so many more and at most so many in all.
 fn due_after(numbered: u64, updates: u64, most: u64) -> u64
     ensures { result ≡ min (numbered + updates) most }
@@ -387,7 +425,7 @@ fn due_after(numbered: u64, updates: u64, most: u64) -> u64
     numbered.saturating_add(updates).min(most)
 }
 
-// promise: as Epochs::keep
+// promise: as Epochs::keep refused
 /// No successor starts after this refusal, however often it is tried.
 fn is_the_end(refusal: &Refusal) -> bool
     ensures { IsTrue result ↔ ((s : ℕ) × (refusal.now ≡ Refusal.Mixed s)) }

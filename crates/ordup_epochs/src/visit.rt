@@ -42,7 +42,7 @@ impl<'a> Visit<'a> {
         match &*stage {
             Stage::Open(_) => Ok(Visit { stage, visits }),
             Stage::Closed(_, refusal) => Err(*refusal),
-            Stage::Over(refusal) => Err(*refusal),
+            Stage::Over(site) => Err(Refusal::Mixed { site: *site }),
         }
     }
 }

@@ -1,10 +1,10 @@
 //! Calls of epochs, and of what is left of them, whose clauses no proof above them cites, as in `promises.rt`.
-ghost use Rattle.std.specs.Prelude.{◌≡◌, ◌≤◌, None, IfOk, IfErr};
+ghost use Rattle.std.specs.Prelude.{◌≡◌, ◌≤◌, ℕ, None, IfOk, IfErr};
 ghost use Rattle.ordup_objects.specs.Refusals.{IsRefusal};
 ghost use Rattle.ordup_objects.specs.Sizes.{most_updates};
 ghost use Rattle.ordup_primary.specs.Declarations.{start_refusal};
-ghost use Rattle.ordup_cluster.specs.Clusters.{closed_successor_refusal, IsSuccessor};
-ghost use Rattle.ordup_epochs.specs.Stages.{IsOpenAfter, IsEndOf, IsLeft, IsLost};
+ghost use Rattle.ordup_cluster.specs.Clusters.{closed_successor_refusal, IsClosed, IsSuccessor};
+ghost use Rattle.ordup_epochs.specs.Stages.{IsOpenAfter, IsEndOf, IsLeft, IsLost, IsNotFollowed, IsStartRefusal};
 
 use ordup_cluster::{Closed, Cluster, Gate};
 use ordup_epochs::{Epochs, Stage};
@@ -12,6 +12,7 @@ use ordup_objects::{Refusal, SiteId};
 use ordup_primary::Setup;
 use std::alloc::Global;
 use std::sync::Wait;
+use std::time::Clock;
 
 /// `Epochs::new`.
 pub fn new(alloc: Global, setup: Setup, updates: u64) -> Result<Epochs, Refusal>
@@ -53,11 +54,45 @@ pub fn successor(alloc: Global, closed: &Closed) -> Result<Cluster, Refusal>
     closed.successor(alloc)
 }
 
+/// `Epochs::start_successor`.
+pub fn start<R: Wait>(rt: &R, epochs: &Epochs, alloc: Global, turns: u64) -> Result<Closed, Refusal>
+    requires { 1 ≤ turns }
+    ensures closed { IfOk result IsClosed }
+    ensures followed { IfOk result (λ ended. closed_successor_refusal ended ≡ None) }
+    ensures refused { IfErr result IsStartRefusal }
+{
+    epochs.start_successor(rt, alloc, turns)
+}
+
+/// `Epochs::keep`.
+pub fn keep<R: Wait + Clock>(
+    rt: &R,
+    epochs: &Epochs,
+    alloc: Global,
+    turns: u64,
+) -> Result<u64, Refusal>
+    requires { 1 ≤ turns }
+    ensures refused { IfErr result (λ e. (site : ℕ) × (e ≡ Refusal.Mixed site)) }
+{
+    epochs.keep(rt, alloc, turns)
+}
+
+/// `Epochs::close`.
+pub fn close(epochs: Epochs) -> Result<Closed, Refusal>
+    ensures closed { IfOk result IsClosed }
+    ensures refused { IfErr result (λ e. (site : ℕ) × (e ≡ Refusal.Mixed site)) }
+{
+    epochs.close()
+}
+
 /// `Stage::start_successor`.
 pub fn start_successor(stage: &mut Stage, alloc: Global, numbered: u64) -> Result<Closed, Refusal>
     ensures open { IfOk result (λ ended. IsOpenAfter ended stage.new) }
     ensures ended { IfOk result (IsEndOf stage.old numbered) }
+    ensures closed { IfOk result IsClosed }
+    ensures followed { IfOk result (λ ended. closed_successor_refusal ended ≡ None) }
     ensures left { IfErr result (λ e. IsLeft stage.old numbered e stage.new) }
+    ensures refused { IfErr result IsNotFollowed }
 {
     stage.start_successor(alloc, numbered)
 }
@@ -65,7 +100,8 @@ pub fn start_successor(stage: &mut Stage, alloc: Global, numbered: u64) -> Resul
 /// `Stage::into_ended`.
 pub fn into_ended(stage: Stage, numbered: u64) -> Result<Closed, Refusal>
     ensures ended { IfOk result (IsEndOf stage numbered) }
-    ensures lost { IfErr result (IsLost stage) }
+    ensures closed { IfOk result IsClosed }
+    ensures lost { IfErr result (λ e. (site : ℕ) × (e ≡ Refusal.Mixed site) × IsLost stage site) }
 {
     stage.into_ended(numbered)
 }

@@ -27,15 +27,16 @@ abbrev pub fault_of : Refusal → Fault
 fault_of NoMemory = fault.NoMemory
 fault_of e = fault.Mixed
 
--- what a run of this many sets printed: its outcome; or nothing, where it has none
-abbrev pub PrintsOutcome : Result (List ℕ) Refusal → ℕ → Bytes → Bytes → Outcome → Type 0
-PrintsOutcome (Ok text) sets old new outcome = IsOutcome sets text × Prints 0 text old new outcome
-PrintsOutcome (Err e) sets old new outcome = (outcome ≡ Err (fault_of e)) × (new ≡ old)
+-- what a run of this plan printed: the outcome of a store of its declarations; or nothing, where it has none
+abbrev pub PrintsOutcome : Result (List ℕ) Refusal → Plan Global → Bytes → Bytes → Outcome → Type 0
+PrintsOutcome (Ok text) plan old new outcome =
+    IsOutcome (record { before = 0; start = plan.setup }) (length plan.sets.items) text × Prints 0 text old new outcome
+PrintsOutcome (Err e) plan old new outcome = (outcome ≡ Err (fault_of e)) × (new ≡ old)
 
 -- after a plan was read it was run, and what came of its sets was printed; or nothing, where no plan was read
 abbrev pub PrintsAfterPlan : Result (Plan Global) PlanFault → Bytes → Bytes → Outcome → Type 0
 PrintsAfterPlan (Ok plan) old new outcome =
-    (run : Result (List ℕ) Refusal) × PrintsOutcome run (length plan.sets.items) old new outcome
+    (run : Result (List ℕ) Refusal) × PrintsOutcome run plan old new outcome
 PrintsAfterPlan (Err fault) old new outcome = (outcome ≡ Err (fault_of_plan fault)) × (new ≡ old)
 
 -- a plan was read from this reader, and its outcome printed

@@ -14,8 +14,8 @@ use std::thread::Threads;
 
 /// Runs a plan by this many callers, and prints what came of it.
 ///
-/// A plan was read from this reader (`ReadsPlan`), and the text that was printed is an outcome of as many sets as it has. Where
-/// no plan was read, or its run has no outcome, nothing was written, and the fault says why.
+/// A plan was read from this reader (`ReadsPlan`), and the text that was printed is an outcome of a store of its declarations, and of
+/// as many sets as it has. Where no plan was read, or its run has no outcome, nothing was written, and the fault says why.
 pub(crate) fn run_plan<T: Threads + Wait + Sync, R: Read, W: Write>(
     rt: &T,
     alloc: Global,

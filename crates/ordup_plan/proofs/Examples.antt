@@ -1,7 +1,8 @@
 -- Hands, counts and outcomes, worked out by hand: no definition can change its meaning unseen.
 use Rattle.std.proofs.Common.{◌≡◌, ℕ, List, [], ◌∷◌, refl, arith}
-use Rattle.std.specs.Prelude.{Ok, Err, Some, None, Vec, slice_get}
+use Rattle.std.specs.Prelude.{Ok, Err, Some, None, Vec, length, slice_get}
 use Rattle.ordup_objects.specs.declared.refusal.Refusal.TheVariants.{NotYet, NoMemory, Stopped, OutOfRange, LogFull, UnknownObject}
+use Rattle.ordup_cluster.specs.Clusters.{ClusterState}
 use Rattle.ordup_plan.specs.declared.tally.Tally.{Tally}
 use Rattle.ordup_plan.specs.Counting.{counted_by, total}
 use Rattle.ordup_plan.specs.Dealing.{AreDealt}
@@ -40,6 +41,7 @@ totals = (refl, refl)
 
 -- ---- outcomes
 
--- an outcome of no sets has none refused and none pending
-nothing-pending : (text : List ℕ) (outcome : IsOutcome 0 text) → (outcome.refused ≡ 0) × (outcome.pending ≡ 0)
-nothing-pending text outcome = (let few = outcome.few in omega arith, let few = outcome.few in omega arith)
+-- an outcome of no sets has no update, none refused and none pending
+module _ (opened : ClusterState) (text : List ℕ) (outcome : IsOutcome opened 0 text) where
+  nothing : (length outcome.closed.primary.log.sets ≡ 0) × (outcome.refused ≡ 0) × (outcome.pending ≡ 0)
+  nothing = let few = outcome.few in let updates = outcome.updates in (omega arith, omega arith, omega arith)

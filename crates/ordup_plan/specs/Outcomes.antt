@@ -5,7 +5,7 @@ use Rattle.std.specs.Fmt.{decimal}
 use Rattle.ordup_primary.specs.Primaries.{PrimaryState, progress_at}
 use Rattle.ordup_site.specs.Sites.{SiteState}
 use Rattle.ordup_text.specs.Lines.{done_text, numbered_text, values_text}
-use Rattle.ordup_cluster.specs.Clusters.{ClosedState, IsClosed}
+use Rattle.ordup_cluster.specs.Clusters.{ClusterState, ClosedState, IsClosed}
 
 -- the name of site s of these
 abbrev pub name_of : List (List ℕ × ℕ) → ℕ → List ℕ
@@ -40,11 +40,15 @@ outcome_text c refused pending =
     ++ texts_below (λ s. text_of_site c.primary s (slice_get c.sites s)) (length c.primary.setup.sites)
     ++ texts_below (certified_text c.primary) (length c.primary.setup.sites)
 
--- the text is the outcome of a closed cluster to which this number of sets was proposed
-pub record IsOutcome (sets : ℕ) (text : List ℕ) : Type 0 where
+-- The text is the outcome of a closed cluster to which this number of sets was proposed. It is the one that was opened: as many updates
+-- came before it, and it has the same declarations. Its log has as many updates as sets that were not refused.
+pub record IsOutcome (opened : ClusterState) (sets : ℕ) (text : List ℕ) : Type 0 where
   pub closed : ClosedState
   pub refused : ℕ
   pub pending : ℕ
   pub sound : IsClosed closed
+  pub before : closed.before ≡ opened.before
+  pub start : closed.primary.setup ≡ opened.start
+  pub updates : length closed.primary.log.sets + refused ≡ sets
   pub few : refused + pending ≤ sets
   pub shows : text ≡ outcome_text closed refused pending

@@ -12,8 +12,8 @@
 //! looks for that before it proposes. What a caller counts comes back through its handle, with the promise that it counts no more
 //! proposals than it has sets.
 //!
-//! The one contract above this layer: the text is the outcome of a closed cluster, and no more proposals are counted than there
-//! are sets.
+//! The one contract above this layer: the text is the outcome of the cluster that was opened with the plan's declarations. Its log has
+//! an update for each set that was not refused, and no more proposals are counted than there are sets.
 #![tactic(auto)]
 
 mod caller;

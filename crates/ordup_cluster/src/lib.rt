@@ -14,6 +14,7 @@
 //!    join the appliers and the keeper. A caller that still waits may wait in vain.
 //! 6. Close the store: `Cluster::close` compares each site with the log, and leaves the primary and the sites in a `Closed`; or it
 //!    is refused `Mixed` for a site that does not agree. That takes no lock. `Closed::successor` opens the store that goes on from it.
+//!    `Cluster::discard` and `Closed::discard` drop a store as it is.
 //!
 //! The book is the primary with the sending ends of the feeds. Each site lies in a cell with the taking end of its feed. No call
 //! takes a lock while it holds another. A book and a cell keep their facts by their types. A function that takes a lock itself can

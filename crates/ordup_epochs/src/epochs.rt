@@ -88,7 +88,7 @@ impl Epochs {
 
     // waits: of the visits and of the open epoch, both shared | if the epoch is full, until a successor is open, the epoch may have more
     // updates, or `stop` is called. **If no thread runs `keep` or `start_successor`, it waits for ever**
-    // promise IsVisited: a visit is to an open epoch; else it is refused for the kept reason
+    // promise IsVisited: a visit is to an open epoch
     /// Begins a visit to the epoch that is open. Where that has its updates, it sleeps until its successor is open.
     ///
     /// It is refused where no epoch is open: the last one was closed, and its successor could not be opened yet, for the reason

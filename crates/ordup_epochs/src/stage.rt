@@ -33,7 +33,7 @@ impl Stage {
     /// - What is handed out is the store that was open, with all its updates, and all of them are acknowledged.
     /// - The epoch that is open then is the successor of the one that is handed out.
     /// - Where `Closed::successor` of what has ended is refused, it is kept for a later try, with that refusal. All is lost only where
-    ///   a site did not agree with the log.
+    ///   a site did not agree with the log, or the log has not this many updates.
     pub fn start_successor(&mut self, alloc: Global, numbered: u64) -> Result<Closed, Refusal>
         ensures open { IfOk result (λ ended. IsOpenAfter ended self.new) }
         ensures ended { IfOk result (IsEndOf self.old numbered) }

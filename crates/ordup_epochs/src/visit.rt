@@ -30,7 +30,7 @@ impl<'a> Model for Visit<'a> {
 }
 
 impl<'a> Visit<'a> {
-    // promise: as Epochs::enter
+    // promise refused: where no epoch is open, a visit is refused for the kept reason
     /// A visit to the epoch that is open. It is refused where none is, for the reason that is kept there.
     pub(crate) fn new(
         visits: RwLockReadGuard<'a, ()>,

@@ -66,6 +66,9 @@ impl Closed {
     /// - It has the same groups, the same sites with their capacities, and each site's last limits, in force from its start.
     /// - It is refused `LogFull` where more than 10^18 updates would come before it, `NotYet` with the number that the last update has
     ///   in this store while one is not acknowledged, and `NoMemory`, in this order.
+    ///
+    /// The rounds of a site in this store and in those that go on from it are the fewest of them all together:
+    /// `successive_stores_have_the_fewest_rounds` of `ordup_interleavings`.
     pub fn successor(&self, alloc: Global) -> Result<Cluster, Refusal>
         ensures successor { IfOk result (λ successor. IsSuccessor self.now successor) }
         ensures allowed { IfOk result (λ _. closed_successor_refusal self.now ≡ None) }

@@ -31,7 +31,8 @@ impl Stage {
     /// the epoch that has ended.
     ///
     /// - What is handed out is the store that was open, with all its updates, and all of them are acknowledged.
-    /// - The epoch that is open then is the successor of the one that is handed out.
+    /// - The epoch that is open then is the successor of the one that is handed out, as of `Closed::successor`. So the rounds of a site
+    ///   over all epochs are the fewest of them all together.
     /// - Where `Closed::successor` of what has ended is refused, it is kept for a later try, with that refusal. All is lost only where
     ///   a site did not agree with the log, or the log has not this many updates.
     pub fn start_successor(&mut self, alloc: Global, numbered: u64) -> Result<Closed, Refusal>

@@ -13,4 +13,5 @@ mod SeriesLemmas
 mod JudgingLemmas
 pub mod SeriesTexts
 mod SeriesAnswers
+mod WrittenSeries
 mod Examples

@@ -218,7 +218,7 @@ not_missing part r rest n (rows, row ∷ tail, is, tells, others) (count, begins
 
 -- ---- texts
 
-lines_of_all : (rows : List Row) (records : List RecordState) → AreRowsOf rows records → All IsLine rows
+pub lines_of_all : (rows : List Row) (records : List RecordState) → AreRowsOf rows records → All IsLine rows
 lines_of_all rows [] none = subst (All IsLine) (sym none) (All-nil IsLine)
 lines_of_all rows (r ∷ records) (part, rest, is, tells, others) =
     subst (All IsLine) (sym is)

@@ -22,7 +22,9 @@ mod short_rows;
 pub mod sizes;
 mod stage;
 
-pub use laws::{texts_of_a_series_are_not_malformed, texts_tell_one_series};
+pub use laws::{
+    texts_of_a_series_are_not_malformed, texts_tell_one_series, written_series_are_told,
+};
 pub use ordup_audit::{Reason, Record, Verdict, check};
 pub use ordup_record::record_of;
 pub use ordup_rows::{RecordWriteFault, write_record};

@@ -1,10 +1,11 @@
 //! The audit of a text of records, one after another.
-ghost use Rattle.std.specs.Prelude.{◌≡◌, ◌≢◌, ◌≤◌, ℕ, List, [], Some, IfErr, IfOk, IfSome, length};
+ghost use Rattle.std.specs.Prelude.{All, ◌≡◌, ◌≢◌, ◌≤◌, ℕ, List, [], Some, IfErr, IfOk, IfSome, length};
 ghost use Rattle.csv.specs.Reading.{strip_bom};
-ghost use Rattle.ordup_audit.specs.Records.{RecordState};
+ghost use Rattle.ordup_audit.specs.Records.{IsRecord, RecordState};
 ghost use Rattle.ordup_series.specs.Audits.{AreValidSeries, HasAudited};
 ghost use Rattle.ordup_check.specs.Answers.{AnswersSeries};
 ghost use Rattle.ordup_check.specs.Reading.{IsPlain};
+ghost use Rattle.ordup_check.specs.SeriesLaws.{texts_of};
 ghost use Rattle.ordup_check.specs.SeriesReading.{HasReadRecords, TextTellsSeries};
 ghost use Rattle.ordup_check.specs.SeriesVerdicts.{IsMalformedSeries, JudgesText, series_fault};
 ghost use Rattle.ordup_check.specs.declared.sizes.TheConstants.{MOST_SERIES_BYTES};
@@ -29,7 +30,7 @@ pub enum SeriesReadFault {
     NoMemory,
 }
 
-// promise verdict told: a valid series is answered its rounds, the fewest; else the first reason
+// promise verdict told written: a valid series is answered its rounds, the fewest; else the first reason
 // promise malformed: the first bad row is told after a valid series
 /// Audits the records of one site, one after another, each from its first row on: of a store, of the one that goes on from it, and so
 /// on. It holds one record at a time, and reads up to the first against which there is a reason. It promises, clause by clause, of a
@@ -40,12 +41,17 @@ pub enum SeriesReadFault {
 ///   record that has one.
 /// - `malformed`: the row of the record is the first that breaks a rule, after records that are a valid series.
 /// - `told`: a text that tells a valid series is answered by the number of its rounds, unless a read fails or memory is refused.
+/// - `written`: so are the texts of the records of a valid series, one behind the other, each as [`write_record`](crate::write_record)
+///   writes it.
 pub fn audit_series<R: Read>(alloc: Global, input: &mut R) -> Result<SeriesVerdict, SeriesReadFault>
     ensures verdict { IfOk result (λ v. IfSome (R.remaining input.old) (λ text. JudgesText text v)) }
     ensures malformed { IfErr result (λ e. (place row : ℕ) → e ≡ SeriesReadFault.Malformed place row
         → IfSome (R.remaining input.old) (λ text. IsMalformedSeries text place row)) }
     ensures told { (text : List ℕ) (records : List RecordState) → R.remaining input.old ≡ Some text → length text ≤ MOST_SERIES_BYTES
         → TextTellsSeries (strip_bom text) records → records ≢ [] → AreValidSeries records → AnswersSeries result records }
+    ensures written { (records : List RecordState) → R.remaining input.old ≡ Some (texts_of records)
+        → length (texts_of records) ≤ MOST_SERIES_BYTES → All IsRecord records → records ≢ [] → AreValidSeries records
+        → AnswersSeries result records }
 {
     let mut records = SeriesReader::new(alloc, input, MOST_SERIES_BYTES);
     let mut audit = SeriesAudit::new();

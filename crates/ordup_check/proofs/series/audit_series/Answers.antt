@@ -1,6 +1,8 @@
+use Rattle.ordup_check.specs.SeriesLaws.{texts_of}
 use Rattle.ordup_check.specs.SeriesVerdicts.{IsMalformedSeries, JudgesText}
 use Rattle.ordup_check.proofs.JudgingLemmas.{judged-known, malformed-known}
 use Rattle.ordup_check.proofs.SeriesAnswers.{series_answered}
+use Rattle.ordup_check.proofs.WrittenSeries.{written_series_are_told}
 use Rattle.ordup_check.proofs.series.audit_series.Goals as goal
 
 pub returns-clause-verdict : goal.returns-clause-verdict
@@ -17,3 +19,7 @@ pub returns-clause-told : goal.returns-clause-told
 returns-clause-told g c text records is few told some valid =
     series_answered text records few told (g.R.Read.remaining c.args.input.now) c.audit_all-verdict.result is some valid
     (returns-clause-verdict g c) (returns-clause-malformed g c)
+
+pub returns-clause-written : goal.returns-clause-written
+returns-clause-written g c records text few are some valid =
+    returns-clause-told g c (texts_of records) records text few (written_series_are_told records are) some valid

@@ -17,6 +17,9 @@ import (
 // NODE_LOAD=1,10,100,1000 measures so many clients: the answers a second and the wait of each, beside the engine's own transactions.
 var load = os.Getenv("NODE_LOAD")
 
+// NODE_NAMES=100000,300000 measures for how long updates wait at the end of an epoch while so many clients are carried over.
+var names = os.Getenv("NODE_NAMES")
+
 const loadTime = 4 * time.Second
 
 func TestLoad(t *testing.T) {
@@ -48,6 +51,61 @@ func TestLoad(t *testing.T) {
 			float64(entries)/seconds, bytes/entries, 1000/ms(alone), ms(alone))
 	}
 	is(t, nil, process.end())
+}
+
+func TestNames(t *testing.T) {
+	if names == "" {
+		t.Skip("NODE_NAMES says how many clients are carried over")
+	}
+	for _, word := range strings.Split(names, ",") {
+		var clients int
+		fmt.Sscan(word, &clients)
+		deployment := deploy(t, 3)
+		config := deployment.config("p1")
+		config.Every, config.Copies = 1_000_000, 1
+		config.Declarations = []string{"object tea 1000000", "site north 1", "limit north count 100000", "start"}
+		own, process := deployment.primary(config)
+		deployment.site("north", "")
+		until(t, 10*time.Second, "p1 does not write", func() bool { return own.Status().Writes })
+		ask := func(name string, number int) time.Duration {
+			asked := time.Now()
+			_, err := own.Submit(context.Background(), epoch.Request{Client: name, Number: int64(number), Changes: "add:tea:-1"})
+			is(t, nil, err)
+			return time.Since(asked)
+		}
+		var done sync.WaitGroup
+		for first := 0; first < 1000; first++ {
+			done.Add(1)
+			go func(first int) {
+				defer done.Done()
+				for client := first; client < clients; client += 1000 {
+					ask(fmt.Sprintf("name%d", client), 1)
+				}
+			}(first)
+		}
+		done.Wait()
+		before, begun := own.Status().Counts, make(chan error, 1)
+		go func() {
+			_, err := own.Next(context.Background(), epoch.Wish{From: 1})
+			begun <- err
+		}()
+		longest, number := time.Duration(0), 0
+		for isOver := false; !isOver; number++ {
+			if wait := ask("ann", number+1); wait > longest {
+				longest = wait
+			}
+			select {
+			case err := <-begun:
+				is(t, nil, err)
+				isOver = true
+			default:
+			}
+		}
+		after := own.Status().Counts
+		fmt.Printf("%7d clients: updates waited for %5.2f s, for %d entries of %d bytes\n", clients, longest.Seconds(),
+			after.Entries-before.Entries, after.Bytes-before.Bytes)
+		is(t, nil, process.end())
+	}
 }
 
 func ms(duration time.Duration) float64 { return duration.Seconds() * 1000 }

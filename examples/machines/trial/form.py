@@ -155,9 +155,14 @@ class Form:
         if self.safety and self.ask_once(host, "", method, path, body[:1000])[0] == 200:
             return [f"{host} answered without a token to {method} {path}"]
         status, told = self.ask_once(host, role, method, path, body)
-        if 300 <= status < 600 or status == 0 and len(body) > 10_000:
+        if 300 <= status < 600 or status == 0 and len(body) > 10_000 or status == 200 and self.is_past(body):
             return []
         return [f"{host} answered {status} {told} to {method} {path} {body[:40]!r}"]
+
+    def is_past(self, body: bytes) -> bool:
+        """Whether it is a place of an epoch that has ended meanwhile, which nobody counts."""
+        epochs = [int(text) for text in re.findall(rb'"epoch": (\d+)', body)]
+        return epochs != [] and etcd.until(lambda: self.engine.epoch()[0] > epochs[0], 5, 0.1)
 
     def ask_once(self, host: str, role: str, method: str, path: str, body: bytes) -> tuple[int, Json]:
         asked = self.http(host, role)

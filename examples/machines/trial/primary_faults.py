@@ -88,11 +88,11 @@ class PrimaryFaults(Failing):
                 self.deployment.hosts("mend", member)
 
     def fill_log_and_lose_sites(self) -> None:
-        """Two sites are lost, and the epoch goes on until its log is long. Then they are taken out, both at once, as the others tell all."""
+        """Four sites are lost, and the epoch goes on until its log is long. Then they are taken out at once, as the others tell all."""
         self.trial.bring_back()
         with self.trial.alone():
-            self.trial.lost = ["lost", "gone"]
-            self.begins_next("with two sites more")
+            self.trial.lost = ["lost1", "lost2", "lost3", "lost4"]
+            self.begins_next("with four sites more")
             self.deployment.kill(*PRIMARIES)
             number, last = max(self.trial.upkeep.ask(self.engine.entries))
             for first in range(1, LONG_LOG, 20_000):

@@ -8,6 +8,7 @@ import (
 	"os/exec"
 	"path/filepath"
 	"strings"
+	"sync/atomic"
 	"syscall"
 	"testing"
 	"time"
@@ -69,7 +70,7 @@ func StartSecure(t *testing.T, count int, config engine.Config, options ...strin
 func FreePort(t *testing.T) string {
 	t.Helper()
 	for tries := 0; tries < 100; tries++ {
-		address := fmt.Sprintf("127.0.0.1:%d", 10_000+rand.Intn(20_000))
+		address := fmt.Sprintf("127.0.0.1:%d", firstPort+atomic.AddInt64(&ports, 1)%mostPorts)
 		if listener, err := net.Listen("tcp", address); err == nil {
 			listener.Close()
 			return address
@@ -89,7 +90,15 @@ func Until(t *testing.T, what string, isSo func() bool) {
 	}
 }
 
-func init() { rand.Seed(time.Now().UnixNano()) }
+// Ports are given one after another, from one by chance on. So none is given twice, also before whoever got it listens there.
+const firstPort, mostPorts = 10_000, 20_000
+
+var ports int64
+
+func init() {
+	rand.Seed(time.Now().UnixNano())
+	ports = rand.Int63n(mostPorts)
+}
 
 // Begin starts a member, with what it has on its disk.
 func (members *Members) Begin(at int) {

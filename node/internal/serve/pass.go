@@ -7,6 +7,7 @@ import (
 	"fmt"
 	"net/http"
 	"strings"
+	"time"
 
 	"ordup-node/internal/client"
 	"ordup-node/internal/wire"
@@ -29,8 +30,8 @@ func (pass *Passer) on(ctx context.Context, asked *request, address string, to i
 		return fmt.Errorf("nothing is passed on to %s", address)
 	}
 	url := address + asked.URL.Path
-	if asked.URL.RawQuery != "" {
-		url += "?" + asked.URL.RawQuery
+	if query := queryOf(ctx, asked); query != "" {
+		url += "?" + query
 	}
 	passed, err := http.NewRequestWithContext(ctx, asked.Method, url, bytes.NewReader(asked.body))
 	if err != nil {
@@ -43,6 +44,20 @@ func (pass *Passer) on(ctx context.Context, asked *request, address string, to i
 		}
 	}
 	return client.Answer(pass.http, passed, to)
+}
+
+// queryOf is the query with a wait that ends before the one here does. So who knows why there is no answer is in time to say so.
+func queryOf(ctx context.Context, asked *request) string {
+	end, hasEnd := ctx.Deadline()
+	if !hasEnd || asked.URL.Path == wire.EpochPath {
+		return asked.URL.RawQuery
+	}
+	wait := time.Until(end) * 7 / 8
+	if wait < 0 {
+		wait = 0
+	}
+	asked.words.Set("wait", fmt.Sprint(wait.Seconds()))
+	return asked.words.Encode()
 }
 
 // schemeOf is `http://` or `https://`. So a token that came by TLS goes on by TLS.

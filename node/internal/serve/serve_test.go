@@ -43,7 +43,7 @@ func (writer *writer) Submit(ctx context.Context, request epoch.Request) (primar
 		writer.lock.Unlock()
 		<-ctx.Done()
 		writer.lock.Lock()
-		return primary.Answer{}, ctx.Err()
+		return primary.Answer{}, fmt.Errorf("the update waits for north: %w", ctx.Err())
 	}
 	return primary.Answer{Text: writer.text}, writer.err
 }
@@ -240,6 +240,10 @@ func TestAnotherPrimaryPassesOn(t *testing.T) {
 	if asker.Tell(context.Background(), place); len(second.places) != 1 || len(first.places) != 2 {
 		t.Error(first.places, second.places)
 	}
+	// So do the sites for which there is no answer in time.
+	first.set("", nil)
+	status, text = ask(t, "POST", other+"/update?wait=0.4", good)
+	is(t, "no answer in time", status, text, 504, "the update waits for north")
 	// A refusal comes through, and what was passed on goes no further.
 	first.set("", primary.ErrDiffers)
 	status, text = ask(t, "POST", other+"/update", good)

@@ -264,10 +264,10 @@ type noKeys struct{}
 
 func (noKeys) Holds(context.Context, string) ([]engine.Hold, error) { return nil, nil }
 
-func TestAPlaceThatCannotBeComesBack(t *testing.T) {
-	place := epoch.Place{Site: "far", Member: "east", Epoch: 1, Applied: 7, Entry: 3}
-	writer := &writer{err: &epoch.CannotBeError{Place: place, Updates: 5}}
-	upper, err := client.New(client.Config{Addresses: []string{startPrimary(t, nil, writer)}})
+// startFleet starts a fleet of one site. It gives who asks as that site does, and who asks the primary as the fleet does.
+func startFleet(t *testing.T, primary string) (asker, upper *client.Client) {
+	t.Helper()
+	upper, err := client.New(client.Config{Addresses: []string{primary}})
 	if err != nil {
 		t.Fatal(err)
 	}
@@ -276,10 +276,17 @@ func TestAPlaceThatCannotBeComesBack(t *testing.T) {
 		t.Fatal(err)
 	}
 	address := listenAt(t, func(string) http.Handler { return serve.NewFleet(config(nil), far) })
-	asker, err := client.New(client.Config{Addresses: []string{address}})
+	asker, err = client.New(client.Config{Addresses: []string{address}})
 	if err != nil {
 		t.Fatal(err)
 	}
+	return asker, upper
+}
+
+func TestAPlaceThatCannotBeComesBack(t *testing.T) {
+	place := epoch.Place{Site: "far", Member: "east", Epoch: 1, Applied: 7, Entry: 3}
+	writer := &writer{err: &epoch.CannotBeError{Place: place, Updates: 5}}
+	asker, upper := startFleet(t, startPrimary(t, nil, writer))
 	var cannotBe *epoch.CannotBeError
 	if err := asker.Tell(context.Background(), place); !errors.As(err, &cannotBe) || cannotBe.Updates != 5 {
 		t.Error(err)
@@ -313,19 +320,7 @@ func TestASiteOfAFleetStaysAtTheFleet(t *testing.T) {
 	// While one takes over, each names the other one.
 	first.set("", &primary.NotWriterError{Address: other})
 	second.set("", &primary.NotWriterError{Address: one})
-	upper, err := client.New(client.Config{Addresses: []string{one}})
-	if err != nil {
-		t.Fatal(err)
-	}
-	far := fleet.New("far", []string{"east"}, upper)
-	if err = far.Look(context.Background(), noKeys{}); err != nil {
-		t.Fatal(err)
-	}
-	address := listenAt(t, func(string) http.Handler { return serve.NewFleet(config(nil), far) })
-	asker, err := client.New(client.Config{Addresses: []string{address}})
-	if err != nil {
-		t.Fatal(err)
-	}
+	asker, _ := startFleet(t, one)
 	place := epoch.Place{Site: "far", Member: "east", Epoch: 1, Applied: 7, Entry: 3}
 	var told *wire.Error
 	if err := asker.Tell(context.Background(), place); !errors.As(err, &told) || told.Name != "NotYet" || told.Writer != "" {

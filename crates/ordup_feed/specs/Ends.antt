@@ -1,13 +1,15 @@
 -- What contracts see of the two ends of a feed.
 use Rattle.std.specs.Prelude.{◌≡◌, ℕ, List, []}
+use denote.RawPtr.{Ptr}
 use Rattle.atomic_table.specs.Seated.{TableId}
 use Rattle.ordup_objects.specs.States.{State}
 use Rattle.ordup_feed.specs.Parcels.{PlainParcel}
 
--- Which feed it is: its queue and its counter, each by what it shares with no other, and its capacity.
+-- Which feed it is: by what it shares with no other, which are tables, or places in memory and their names; and its capacity.
 pub record FeedId : Type 0 where
-  pub queue : TableId
-  pub counter : TableId
+  pub tables : List TableId
+  pub places : List Ptr
+  pub names : List ℕ
   pub capacity : ℕ
 
 -- the sender's end: the feed, the initial state, what was pushed, and the number that it knows

@@ -1,5 +1,5 @@
 -- What each end keeps: its passes are those of its queue and its counter, and it counts its parcels.
-use Rattle.std.specs.Prelude.{◌≡◌, ◌≤◌, length}
+use Rattle.std.specs.Prelude.{◌≡◌, ◌≤◌, [], ◌∷◌, length}
 use Rattle.std.specs.Arc.{arc_value}
 use Rattle.crossbeam_queue.specs.Passes.{view, IsPassOf, ruled_capacity}
 use Rattle.crossbeam_utils.specs.Seq.{cell_view}
@@ -12,7 +12,12 @@ use Rattle.ordup_feed.specs.declared.take_end.TakeEnd.TheInside.{Inside as Insid
 
 abbrev pub sending_of : InsideSendEnd → Sending
 sending_of s = record {
-  feed = record { queue = s.pass.table_id; counter = s.counter_pass.table_id; capacity = ruled_capacity (arc_value s.queue) };
+  feed = record {
+    tables = s.pass.table_id ∷ s.counter_pass.table_id ∷ [];
+    places = [];
+    names = [];
+    capacity = ruled_capacity (arc_value s.queue);
+  };
   start = start_of (view s.pass);
   pushed = parcels_of (view s.pass);
   known = number_of (cell_view s.counter_pass);
@@ -20,7 +25,12 @@ sending_of s = record {
 
 abbrev pub taking_of : InsideTakeEnd → Taking
 taking_of s = record {
-  feed = record { queue = s.pass.table_id; counter = s.counter_pass.table_id; capacity = ruled_capacity (arc_value s.queue) };
+  feed = record {
+    tables = s.pass.table_id ∷ s.counter_pass.table_id ∷ [];
+    places = [];
+    names = [];
+    capacity = ruled_capacity (arc_value s.queue);
+  };
   start = start_of (view s.pass);
   taken = parcels_of (view s.pass);
   told = number_of (cell_view s.counter_pass);

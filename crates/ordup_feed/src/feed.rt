@@ -7,6 +7,7 @@ ghost use Rattle.ordup_feed.specs.Parcels.{feed_refusal};
 ghost use Rattle.ordup_feed.specs.Ends.{AreNewEnds};
 
 use crate::counter::{Counter, Halves};
+use crate::kinds::Feeds;
 use crate::queue::{Ends, Queue, Start};
 use crate::send_end::SendEnd;
 use crate::take_end::TakeEnd;
@@ -38,6 +39,19 @@ impl Feed {
         }
         objects.keeps();
         Ok(open::<Brand>(alloc, objects, capacity as usize)?)
+    }
+}
+
+impl Feeds for Feed {
+    type Sender = SendEnd;
+    type Taker = TakeEnd;
+
+    fn ends(
+        alloc: Global,
+        objects: &ObjectTable,
+        capacity: u64,
+    ) -> Result<(SendEnd, TakeEnd), Refusal> {
+        Feed::new(alloc, objects, capacity)
     }
 }
 

@@ -12,12 +12,14 @@
 
 mod counter;
 mod feed;
+mod kinds;
 mod laws;
 mod queue;
 mod send_end;
 mod take_end;
 
 pub use feed::Feed;
+pub use kinds::{Feeds, Sender, Sends, Taker, Takes};
 pub use laws::{known_is_at_most_told, taken_is_a_prefix_of_pushed};
 pub use send_end::{Returned, SendEnd};
 pub use take_end::TakeEnd;

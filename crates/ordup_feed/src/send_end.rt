@@ -3,6 +3,7 @@ ghost use Rattle.ordup_feed.specs.Parcels.{AreInOrder, IsNext};
 ghost use Rattle.ordup_feed.specs.Ends.{Sending};
 
 use crate::counter::{Counter, CounterPass, Look};
+use crate::kinds::{Sender, Sends};
 use crate::queue::{Push, Queue, QueuePass};
 use ordup_objects::Refusal;
 use ordup_primary::Parcel;
@@ -90,5 +91,23 @@ impl SendEnd {
     {
         let found = self.counter.load_as::<Look, R>(rt, &mut self.counter_pass);
         found[0].min(self.count)
+    }
+}
+
+impl Sends for SendEnd {
+    ghost sending = { λ end. end };
+}
+
+impl<R: Wait> Sender<R> for SendEnd {
+    fn push(&mut self, rt: &R, parcel: Parcel) -> Result<(), Returned> {
+        SendEnd::push(self, rt, parcel)
+    }
+
+    fn is_full(&mut self, _rt: &R) -> bool {
+        SendEnd::is_full(self)
+    }
+
+    fn look(&mut self, rt: &R) -> u64 {
+        SendEnd::look(self, rt)
     }
 }

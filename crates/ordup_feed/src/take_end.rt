@@ -3,6 +3,7 @@ ghost use Rattle.ordup_feed.specs.Parcels.{AreInOrder, IsNext};
 ghost use Rattle.ordup_feed.specs.Ends.{Taking};
 
 use crate::counter::{Counter, CounterPass, Tell};
+use crate::kinds::{Taker, Takes};
 use crate::queue::{Pop, Queue, QueuePass};
 use ordup_primary::Parcel;
 use std::alloc::Global;
@@ -60,5 +61,19 @@ impl TakeEnd {
     {
         self.counter
             .swap_as::<Tell, R>(rt, &mut self.counter_pass, [self.count]);
+    }
+}
+
+impl Takes for TakeEnd {
+    ghost taking = { λ end. end };
+}
+
+impl<R: Wait> Taker<R> for TakeEnd {
+    fn pop(&mut self, rt: &R) -> Option<Parcel> {
+        TakeEnd::pop(self, rt)
+    }
+
+    fn tell(&mut self, rt: &R) {
+        TakeEnd::tell(self, rt);
     }
 }

@@ -27,3 +27,8 @@ pub record KeepsBook (p : PrimaryState) (ends : List Sending) : Type 0 where
 -- the initial values of the objects, once for each site
 abbrev pub AreSpareValues : PrimaryState → List State → Type 0
 AreSpareValues p spare_values = (length spare_values ≡ length p.sites) × All (λ v. v ≡ p.log.start) spare_values
+
+-- what the parts of a book keep: the ends belong to the primary, and there are spare values for each site
+pub record KeepsParts (p : PrimaryState) (ends : List Sending) (spare : List State) : Type 0 where
+  pub kept : KeepsBook p ends
+  pub spare_values : AreSpareValues p spare

@@ -1,8 +1,6 @@
 pub mod Opening
 pub mod Books
-pub mod BookInside
 pub mod Cells
-pub mod CellInside
 pub mod Turning
 pub mod Numbering
 pub mod Relimiting

@@ -2,7 +2,8 @@ ghost use Rattle.std.specs.Prelude.{◌≡◌, ◌≤◌, ◌<◌, ℕ, true, Al
 ghost use Rattle.ordup_primary.specs.Primaries.{IsPrimary, HasFewestRounds, is_lag_within, progress_at};
 ghost use Rattle.ordup_holds.specs.Books.{KeepsBook, AreSpareValues};
 
-use ordup_feed::SendEnd;
+use crate::sides::SendSide;
+use ordup_feed::{SendEnd, Sends};
 use ordup_limits::later_spans_keep_limits;
 use ordup_objects::Values;
 use ordup_primary::Primary;
@@ -11,28 +12,32 @@ use std::marker::Model;
 // promise: just what counts as sent was pushed; no site reported more than its end knows
 /// What lies under the lock of the primary: the primary, and the sender's end of each site's feed in order of declaration.
 #[derive(Drop)]
-pub struct Book {
+pub struct Book<E: Sends = SendEnd> {
     pub(crate) primary: Primary,
-    pub(crate) ends: Vec<SendEnd>,
+    pub(crate) ends: Vec<SendSide<E>>,
     /// The initial values of the objects once for each site, to which the log is applied again at the end.
     spare_values: Vec<Values>,
 }
 
-impl Model for Book {
+impl<E: Sends> Model for Book<E> {
     ghost use Rattle.ordup_holds.specs.Books.{BookState};
 
     ghost Value = { BookState };
 
     ghost view = { λ s. record { primary = s.primary; ends = s.ends.items } };
 
-    ghost use Rattle.ordup_holds.specs.BookInside.{KeepsParts};
+    ghost use Rattle.ordup_holds.specs.Books.{KeepsParts};
 
-    ghost invariant = { KeepsParts };
+    ghost invariant = { λ s. KeepsParts s.primary s.ends.items s.spare_values.items };
 }
 
-impl Book {
+impl<E: Sends> Book<E> {
     /// A book of a primary, with the end of each site's feed and the initial values once for each site.
-    pub fn new(primary: Primary, ends: Vec<SendEnd>, spare_values: Vec<Values>) -> Book
+    pub(crate) fn new(
+        primary: Primary,
+        ends: Vec<SendSide<E>>,
+        spare_values: Vec<Values>,
+    ) -> Book<E>
         requires ends { KeepsBook primary ends.items }
         requires spare { AreSpareValues primary spare_values.items }
         ensures { result ≡ record { primary = primary; ends = ends.items } }

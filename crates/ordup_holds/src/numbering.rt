@@ -9,16 +9,16 @@ ghost use Rattle.ordup_holds.specs.Numbering.{IsTurn, with_numbered};
 
 use crate::book::Book;
 use crate::turning::turn;
+use ordup_feed::{Sender, Sends};
 use ordup_objects::{MessageSet, Refusal};
 use ordup_query::Query;
 use ordup_query::sizes::GREATEST_IMPORT_LIMIT;
-use std::sync::Wait;
 
 // promise: just the given set is numbered, or refused in order
 /// Numbers a message set as the next update of a book's log, and answers its number.
 ///
 /// It is refused `LogFull` after 1,000,000 updates, `OutOfRange` where a result is out of range, and `NoMemory`.
-pub fn number(book: &mut Book, set: MessageSet) -> Result<u64, Refusal>
+pub fn number<E: Sends>(book: &mut Book<E>, set: MessageSet) -> Result<u64, Refusal>
     requires { AreKnown (length book.old.primary.log.start) set }
     ensures number { IfOk result (λ k. k ≡ length book.old.primary.log.sets + 1) }
     ensures added { IfOk result (λ _. book.new ≡ record book.old { primary = record book.old.primary { log = with_update book.old.primary.log set } }) }
@@ -44,9 +44,9 @@ pub struct Numbered {
 /// Numbers a message set as the next update of a book's log, and makes one turn after it.
 ///
 /// It is refused as `number` is, and then nothing was numbered. Where the turn is refused a growth, the update stands.
-pub fn number_and_turn<R: Wait>(
-    rt: &R,
-    book: &mut Book,
+pub fn number_and_turn<H, E: Sender<H>>(
+    rt: &H,
+    book: &mut Book<E>,
     set: MessageSet,
 ) -> Result<Numbered, Refusal>
     requires { AreKnown (length book.old.primary.log.start) set }
@@ -66,7 +66,7 @@ pub fn number_and_turn<R: Wait>(
 /// Begins a query with this import limit, 0 to 10^18, whose reference is what is acknowledged now.
 ///
 /// It is refused `OutOfRange` for the limit, and `NoMemory`.
-pub fn begin(book: &Book, limit: u64) -> Result<Query, Refusal>
+pub fn begin<E: Sends>(book: &Book<E>, limit: u64) -> Result<Query, Refusal>
     ensures query { IfOk result (λ query. query ≡ record { place = book.now.primary.acked; marks = query.marks; limit = limit; sum = pos 0; total = 0; reads = 0 }) }
     ensures count { IfOk result (λ query. length query.marks ≡ length book.now.primary.log.start) }
     ensures marks { IfOk result (λ query. AreMarks book.now.primary.log book.now.primary.acked query.marks) }

@@ -5,8 +5,9 @@ ghost use Rattle.ordup_primary.specs.Declarations.{start_refusal};
 ghost use Rattle.ordup_holds.specs.Opening.{AreOpened, AreFirstFeeds};
 
 use crate::book::Book;
+use crate::sides::{SendSide, TakeSide};
 use crate::site_cell::SiteCell;
-use ordup_feed::{Feed, SendEnd};
+use ordup_feed::{Feed, Feeds};
 use ordup_objects::{Refusal, SiteId, Values, or_give_up};
 use ordup_primary::{Primary, Setup};
 use ordup_site::Site;
@@ -21,33 +22,49 @@ pub fn open(alloc: Global, setup: Setup) -> Result<(Book, Vec<SiteCell>), Refusa
     ensures allowed { IfOk result (λ _. start_refusal setup ≡ None) }
     ensures refused { IfErr result (λ e. IsRefusal (start_refusal setup) e) }
 {
+    open_as::<Feed>(alloc, setup)
+}
+
+// promise opened allowed refused: as open
+/// The same with feeds of some kind.
+pub fn open_as<F: Feeds>(
+    alloc: Global,
+    setup: Setup,
+) -> Result<(Book<F::Sender>, Vec<SiteCell<F::Taker>>), Refusal>
+    ensures opened { IfOk result (λ opened. AreOpened setup opened.0 opened.1.items) }
+    ensures allowed { IfOk result (λ _. start_refusal setup ≡ None) }
+    ensures refused { IfErr result (λ e. IsRefusal (start_refusal setup) e) }
+{
     if !setup.is_ready() {
         setup.discard();
         return Err(Refusal::Empty);
     }
     let primary = Primary::new(alloc, setup)?;
     let spare_values = or_give_up!(first_spare_values(alloc, primary.setup()), primary);
-    let (ends, cells) = or_give_up!(first_feeds(alloc, primary.setup()), spare_values, primary);
+    let (ends, cells) = or_give_up!(first_feeds::<F>(alloc, primary.setup()), spare_values, primary);
     Ok((Book::new(primary, ends, spare_values), cells))
 }
 
 /// For each site a feed, whose ends are those of the book and of the site's cell.
-fn first_feeds(alloc: Global, setup: &Setup) -> Result<(Vec<SendEnd>, Vec<SiteCell>), Refusal>
+fn first_feeds<F: Feeds>(
+    alloc: Global,
+    setup: &Setup,
+) -> Result<(Vec<SendSide<F::Sender>>, Vec<SiteCell<F::Taker>>), Refusal>
     ensures feeds { IfOk result (λ feeds. AreFirstFeeds setup.now (length setup.now.sites) feeds.0.items feeds.1.items) }
     ensures refused { IfErr result (λ e. e ≡ Refusal.NoMemory) }
 {
     let mut ends = Vec::new(alloc);
     let mut cells = Vec::new(alloc);
-    or_give_up!(add_feeds(alloc, setup, &mut ends, &mut cells), ends, cells);
+    or_give_up!(add_feeds::<F>(alloc, setup, &mut ends, &mut cells), ends, cells);
     Ok((ends, cells))
 }
 
 /// Adds the feed of each site.
-fn add_feeds(
+fn add_feeds<F: Feeds>(
     alloc: Global,
     setup: &Setup,
-    ends: &mut Vec<SendEnd>,
-    cells: &mut Vec<SiteCell>,
+    ends: &mut Vec<SendSide<F::Sender>>,
+    cells: &mut Vec<SiteCell<F::Taker>>,
 ) -> Result<(), Refusal>
     requires none { AreFirstFeeds setup.now 0 ends.old.items cells.old.items }
     ensures feeds { OnOk result (AreFirstFeeds setup.now (length setup.now.sites) ends.new.items cells.new.items) }
@@ -55,18 +72,18 @@ fn add_feeds(
 {
     for index in 0..setup.sites() {
         let site = SiteId::new(index as u8);
-        add_feed(alloc, setup, site, ends, cells)?;
+        add_feed::<F>(alloc, setup, site, ends, cells)?;
     }
     Ok(())
 }
 
 /// Adds the feed of one more site.
-fn add_feed(
+fn add_feed<F: Feeds>(
     alloc: Global,
     setup: &Setup,
     site: SiteId,
-    ends: &mut Vec<SendEnd>,
-    cells: &mut Vec<SiteCell>,
+    ends: &mut Vec<SendSide<F::Sender>>,
+    cells: &mut Vec<SiteCell<F::Taker>>,
 ) -> Result<(), Refusal>
     requires site { site < length setup.now.sites }
     requires feeds { AreFirstFeeds setup.now site ends.old.items cells.old.items }
@@ -76,12 +93,15 @@ fn add_feed(
     ends.reserve(1)?;
     cells.reserve(1)?;
     let replica = Site::new(alloc, setup.objects())?;
-    let Ok((end, taker)) = Feed::new(alloc, setup.objects(), setup.capacity(site)) else {
+    let Ok((end, taker)) = F::ends(alloc, setup.objects(), setup.capacity(site)) else {
         drop(replica);
         return Err(Refusal::NoMemory);
     };
+    let end = SendSide::new(end);
+    let taker = TakeSide::new(taker);
+    let cell = SiteCell::new(replica, taker);
     ends.push_reserved(end);
-    cells.push_reserved(SiteCell::new(replica, taker));
+    cells.push_reserved(cell);
     Ok(())
 }
 

@@ -5,6 +5,7 @@ ghost use Rattle.ordup_primary.specs.Primaries.{IsPrimary, site_view};
 ghost use Rattle.ordup_holds.specs.Relimiting.{with_changed_limit};
 
 use crate::book::Book;
+use ordup_feed::Sends;
 use ordup_limits::check_scope;
 use ordup_log::Scope;
 use ordup_objects::{Refusal, SiteId};
@@ -17,7 +18,12 @@ use ordup_objects::{Refusal, SiteId};
 /// `TooMany` for a 65th scope or a 1,089th entry of the site, `HeadPending` where the head is decided and not acknowledged,
 /// `LagOver` where the acknowledged updates that the site has not reported weigh more than the amount, and `NoMemory`. What the
 /// site reported is what the book knows: there is no look before.
-pub fn relimit(book: &mut Book, site: SiteId, scope: Scope, amount: u64) -> Result<u64, Refusal>
+pub fn relimit<E: Sends>(
+    book: &mut Book<E>,
+    site: SiteId,
+    scope: Scope,
+    amount: u64,
+) -> Result<u64, Refusal>
     ensures place { IfOk result (λ k. k ≡ book.old.primary.acked + 1) }
     ensures changed { IfOk result (λ _. book.new ≡ with_changed_limit book.old site scope amount) }
     ensures allowed { IfOk result (λ _. limit_change_refusal (site_view book.old.primary site) scope amount ≡ None) }

@@ -5,30 +5,30 @@ ghost use Rattle.ordup_objects.specs.States.{value_at};
 ghost use Rattle.ordup_feed.specs.Parcels.{history_of};
 ghost use Rattle.ordup_holds.specs.Cells.{HoldsTaken, TakesNext};
 
-use ordup_feed::TakeEnd;
+use crate::sides::{TakeSide, pop, tell};
+use ordup_feed::{TakeEnd, Taker, Takes};
 use ordup_objects::{ObjectId, Refusal};
 use ordup_site::Site;
 use std::marker::Model;
-use std::sync::Wait;
 
 // promise: the site of a free cell holds the serial result of what was taken
 /// What lies under the lock of a site: the site, and the taker's end of its feed.
 #[derive(Drop)]
-pub struct SiteCell {
+pub struct SiteCell<T: Takes = TakeEnd> {
     site: Site,
-    end: TakeEnd,
+    end: TakeSide<T>,
 }
 
-impl Model for SiteCell {
+impl<T: Takes> Model for SiteCell<T> {
     ghost use Rattle.ordup_holds.specs.Cells.{CellState};
 
     ghost Value = { CellState };
 
     ghost view = { λ s. record { site = s.site; end = s.end } };
 
-    ghost use Rattle.ordup_holds.specs.CellInside.{KeepsTaken};
+    ghost use Rattle.ordup_holds.specs.Cells.{HoldsTaken};
 
-    ghost invariant = { KeepsTaken };
+    ghost invariant = { λ s. HoldsTaken (record { site = s.site; end = s.end }) };
 }
 
 /// A value that was read at a site.
@@ -40,9 +40,9 @@ pub struct SeenValue {
     pub applied: u64,
 }
 
-impl SiteCell {
+impl<T: Takes> SiteCell<T> {
     /// The cell of a site that applied what was taken at the end of its feed.
-    pub fn new(site: Site, end: TakeEnd) -> SiteCell
+    pub(crate) fn new(site: Site, end: TakeSide<T>) -> SiteCell<T>
         requires { HoldsTaken (record { site = site; end = end }) }
         ensures { result ≡ record { site = site; end = end } }
     {
@@ -82,14 +82,14 @@ impl SiteCell {
 // promise held: as SiteCell
 /// Takes the next parcel of a cell's feed, if there is one: the site applies it, and tells how many it applied. It answers the
 /// number of the update.
-pub fn take<R: Wait>(rt: &R, cell: &mut SiteCell) -> Option<u64>
+pub fn take<H, T: Taker<H>>(rt: &H, cell: &mut SiteCell<T>) -> Option<u64>
     ensures taken { IfSome result (TakesNext cell.old cell.new) }
     ensures none { IfNone result (cell.new ≡ cell.old) }
     ensures held { HoldsTaken cell.new }
 {
-    let parcel = cell.end.pop(rt)?;
+    let parcel = pop(&mut cell.end, rt)?;
     cell.site.apply(&parcel.set);
-    cell.end.tell(rt);
+    tell(&mut cell.end, rt);
     Some(parcel.number)
 }
 
@@ -97,7 +97,7 @@ pub fn take<R: Wait>(rt: &R, cell: &mut SiteCell) -> Option<u64>
 /// The value of an object in a cell, and how many updates its site applied.
 ///
 /// It is refused `UnknownObject` where there is no such object.
-pub fn view(cell: &SiteCell, object: ObjectId) -> Result<SeenValue, Refusal>
+pub fn view<T: Takes>(cell: &SiteCell<T>, object: ObjectId) -> Result<SeenValue, Refusal>
     ensures value { IfOk result (λ seen. seen.value ≡ value_at (serial (history_of cell.now.end.start cell.now.end.taken) (length cell.now.end.taken)) object) }
     ensures applied { IfOk result (λ seen. seen.applied ≡ length cell.now.end.taken) }
     ensures bounded { IfOk result (λ seen. seen.applied ≤ most_updates) }

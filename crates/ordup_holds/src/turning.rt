@@ -4,10 +4,10 @@ ghost use Rattle.ordup_holds.specs.Books.{KeepsBook, IsTied};
 ghost use Rattle.ordup_holds.specs.Turning.{Reported, Sent, SentOut, AtEachSite, SameFeeds, Acknowledges, SettlesOut, Turned, TurnedInPart, IsAtRest, kept_at, with_progress, send_bound};
 
 use crate::book::Book;
-use ordup_feed::SendEnd;
+use crate::sides::{SendSide, is_full, look, push};
+use ordup_feed::Sender;
 use ordup_objects::{Refusal, SiteId};
 use ordup_primary::{Primary, Settled, next_updates_may_follow};
-use std::sync::Wait;
 
 // promise acked turned log refused part: a turn is looks, reports, settlements and pushes alone, these up to the capacity; refused memory
 // leaves what was made
@@ -16,7 +16,7 @@ use std::sync::Wait;
 /// acknowledged.
 ///
 /// It is refused `NoMemory` as soon as a growth is refused. What was made before it stands.
-pub fn turn<R: Wait>(rt: &R, book: &mut Book) -> Result<u64, Refusal>
+pub fn turn<H, E: Sender<H>>(rt: &H, book: &mut Book<E>) -> Result<u64, Refusal>
     ensures acked { IfOk result (λ acked. acked ≡ book.new.primary.acked) }
     ensures turned { OnOk result (Turned book.old book.new) }
     ensures refused { IfErr result (λ e. e ≡ Refusal.NoMemory) }
@@ -49,7 +49,7 @@ pub fn has_work(primary: &Primary) -> bool
 }
 
 /// For each site one look, and a report of its number.
-fn report_all<R: Wait>(rt: &R, primary: &mut Primary, ends: &mut Vec<SendEnd>)
+fn report_all<H, E: Sender<H>>(rt: &H, primary: &mut Primary, ends: &mut Vec<SendSide<E>>)
     requires kept { KeepsBook primary.old ends.old.items }
     ensures kept { KeepsBook primary.new ends.new.items }
     ensures reported { AtEachSite Reported (record { primary = primary.old; ends = ends.old.items }) (record { primary = primary.new; ends = ends.new.items }) }
@@ -62,7 +62,12 @@ fn report_all<R: Wait>(rt: &R, primary: &mut Primary, ends: &mut Vec<SendEnd>)
 }
 
 /// One look at the feed of a site, and a report of its number.
-fn report<R: Wait>(rt: &R, primary: &mut Primary, end: &mut SendEnd, site: SiteId)
+fn report<H, E: Sender<H>>(
+    rt: &H,
+    primary: &mut Primary,
+    end: &mut SendSide<E>,
+    site: SiteId,
+)
     requires site { site < length primary.old.sites }
     requires tied { IsTied primary.old site end.old }
     ensures tied { IsTied primary.new site end.new }
@@ -70,7 +75,7 @@ fn report<R: Wait>(rt: &R, primary: &mut Primary, end: &mut SendEnd, site: SiteI
     ensures reported { Reported site (kept_at primary.old site end.old) (kept_at primary.new site end.new) }
 {
     primary.keeps();
-    let place = end.look(rt);
+    let place = look(end, rt);
     primary.report(site, place);
 }
 
@@ -91,7 +96,11 @@ fn settle_all(primary: &mut Primary) -> Result<(), Refusal>
 }
 
 /// For each site the updates that it may be sent, while its feed is not full.
-fn send_all<R: Wait>(rt: &R, primary: &mut Primary, ends: &mut Vec<SendEnd>) -> Result<(), Refusal>
+fn send_all<H, E: Sender<H>>(
+    rt: &H,
+    primary: &mut Primary,
+    ends: &mut Vec<SendSide<E>>,
+) -> Result<(), Refusal>
     requires kept { KeepsBook primary.old ends.old.items }
     ensures kept { KeepsBook primary.new ends.new.items }
     ensures sent { AtEachSite (Sent (send_bound primary.old)) (record { primary = primary.old; ends = ends.old.items }) (record { primary = primary.new; ends = ends.new.items }) }
@@ -107,10 +116,10 @@ fn send_all<R: Wait>(rt: &R, primary: &mut Primary, ends: &mut Vec<SendEnd>) -> 
 }
 
 /// The updates that a site may be sent, while its feed is not full.
-fn send<R: Wait>(
-    rt: &R,
+fn send<H, E: Sender<H>>(
+    rt: &H,
     primary: &mut Primary,
-    end: &mut SendEnd,
+    end: &mut SendSide<E>,
     site: SiteId,
 ) -> Result<(), Refusal>
     requires site { site < length primary.old.sites }
@@ -126,11 +135,11 @@ fn send<R: Wait>(
     while primary.sent(site) < last {
         primary.keeps();
         // A copy for a full feed would be made in vain.
-        if end.is_full() {
+        if is_full(end, rt) {
             return Ok(());
         }
         let parcel = primary.next_for(site)?;
-        match end.push(rt, parcel) {
+        match push(end, rt, parcel) {
             Ok(()) => primary.mark_sent(site),
             Err(_) => return Ok(()),
         }

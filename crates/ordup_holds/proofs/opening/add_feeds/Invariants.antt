@@ -3,4 +3,4 @@ use Rattle.ordup_holds.proofs.opening.add_feeds.Given as goal
 
 -- the feeds of the sites so far
 abbrev pub invariant-loop-index : goal.invariant-loop-index
-invariant-loop-index l = AreFirstFeeds l.setup l.index l.ends.items l.cells.items
+invariant-loop-index g l = AreFirstFeeds l.setup l.index l.ends.items l.cells.items

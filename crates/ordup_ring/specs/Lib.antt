@@ -1,0 +1,2 @@
+pub mod RingRule
+pub mod EndsInside

@@ -1,5 +1,5 @@
 -- Which refusals the calls of a cluster answer.
-use Rattle.std.specs.Prelude.{◌≡◌, ℕ, ◌+◌, ◌<◌, ◌≤◌, ◌⊎◌, Bool, List, Option, Some, None, length, if◌then◌else◌, not, nat_lt}
+use Rattle.std.specs.Prelude.{◌≡◌, ℕ, ◌+◌, ◌<◌, ◌≤◌, ◌⊎◌, ◌&&◌, Bool, List, Option, Some, None, length, if◌then◌else◌, not, nat_lt}
 use Rattle.std.specs.Option.{option_or}
 use Rattle.ordup_objects.specs.declared.change.Change.{Change}
 use Rattle.ordup_objects.specs.Sizes.{most_updates}
@@ -7,13 +7,19 @@ use Rattle.ordup_objects.specs.declared.refusal.Refusal.{Refusal}
 use Rattle.ordup_objects.specs.declared.refusal.Refusal.TheVariants.{UnknownObject, UnknownSite, OutOfRange, LogFull, Behind}
 use Rattle.ordup_objects.specs.declared.refusal.Refusal.TheVariants.{NotYet, Stopped, NoMemory}
 use Rattle.ordup_objects.specs.Refusals.{IsRefusal}
-use Rattle.ordup_objects.specs.Serial.{History}
+use Rattle.ordup_objects.specs.Serial.{History, serial, with_update}
+use Rattle.ordup_objects.specs.States.{after}
 use Rattle.ordup_objects.specs.Sets.{are_known}
 use Rattle.ordup_log.specs.Appending.{append_refusal}
 use Rattle.ordup_log.specs.declared.scope.Scope.{Scope}
 use Rattle.ordup_limits.specs.Limits.{scope_refusal}
 use Rattle.ordup_primary.specs.LimitChanges.{limit_change_refusal}
 use Rattle.ordup_primary.specs.Primaries.{PrimaryState, IsPrimary, site_view}
+use Rattle.ordup_conditions.specs.declared.condition.Condition.{Condition}
+use Rattle.ordup_conditions.specs.Conditions.{AreMet, are_conditions_known, first_unmet}
+use Rattle.ordup_holds.specs.declared.proposal_error.ProposalError.{ProposalError}
+use Rattle.ordup_holds.specs.declared.proposal_error.ProposalError.TheVariants.{Refused, Unmet}
+use Rattle.ordup_holds.specs.Numbering.{IsNotNumbered, last_state}
 use Rattle.ordup_cluster.specs.Clusters.{ClusterState}
 use Rattle.ordup_query.specs.Queries.{QueryState, begin_refusal, read_refusal}
 
@@ -21,18 +27,45 @@ use Rattle.ordup_query.specs.Queries.{QueryState, begin_refusal, read_refusal}
 abbrev pub IsNumber : ℕ → ℕ → Type 0
 IsNumber before number = (before < number) × (number ≤ before + most_updates)
 
--- why a set is not numbered as the next update of a log, if it is not, where the store was stopped or was not
-abbrev pub proposal_refusal : Bool → History → List Change → Option Refusal
-proposal_refusal stopped h set =
-    if stopped then Some Stopped else if not (are_known (length h.start) set) then Some UnknownObject else append_refusal h set
+-- why a set with conditions is refused before the log is looked at, if it is, where the store was stopped or was not: it names an object
+-- that is not there, or a condition does
+abbrev pub request_refusal : Bool → ℕ → List Change → List Condition → Option Refusal
+request_refusal stopped objects set conditions =
+    if stopped then Some Stopped else
+    if not (are_known objects set && are_conditions_known objects conditions) then Some UnknownObject else None
+
+-- why a set with conditions is not numbered as the next update of a log
+abbrev pub IsNotProposed : Bool → History → List Change → List Condition → ProposalError → Type 0
+IsNotProposed stopped h set conditions e =
+    ((r : Refusal) × (e ≡ Refused r) × (request_refusal stopped (length h.start) set conditions ≡ Some r))
+    ⊎ ((request_refusal stopped (length h.start) set conditions ≡ None) × IsNotNumbered h set conditions e)
 
 -- of the hold in which an update is numbered
 abbrev pub IsNumberingRefusal : Refusal → Type 0
 IsNumberingRefusal e = (e ≡ Stopped) ⊎ (e ≡ UnknownObject) ⊎ (e ≡ LogFull) ⊎ (e ≡ OutOfRange) ⊎ (e ≡ NoMemory)
 
+-- of the hold in which a set with conditions is numbered: what is refused, or a condition that the state after the set would not meet, in
+-- a sound primary. It is the one under the lock, which no contract sees.
+abbrev pub IsNumberingError : List Change → List Condition → ProposalError → Type 0
+IsNumberingError set conditions (Refused e) = IsNumberingRefusal e
+IsNumberingError set conditions (Unmet index) =
+    (p : PrimaryState) × IsPrimary p × (first_unmet (after set (last_state p.log)) conditions ≡ Some index)
+
+-- the update with this number, in a store before which this many came: the state after it meets the conditions, in the log of a sound
+-- primary, as the one under the lock is
+abbrev pub MeetsAll : ℕ → List Change → List Condition → ℕ → Type 0
+MeetsAll before set conditions number =
+    (p : PrimaryState) × IsPrimary p × (number ≡ before + length p.log.sets + 1)
+    × AreMet (serial (with_update p.log set) (length p.log.sets + 1)) conditions
+
 -- of a proposal: of the hold in which it is numbered, and after that only that it is not acknowledged yet
 abbrev pub IsProposalRefusal : ℕ → Refusal → Type 0
 IsProposalRefusal before e = IsNumberingRefusal e ⊎ ((number : ℕ) × (e ≡ NotYet number) × IsNumber before number)
+
+-- of a proposal with conditions
+abbrev pub IsProposalError : ℕ → List Change → List Condition → ProposalError → Type 0
+IsProposalError before set conditions (Refused e) = IsProposalRefusal before e
+IsProposalError before set conditions (Unmet index) = IsNumberingError set conditions (Unmet index)
 
 -- Of a settlement in a store before which this many updates came: where the number is that of no update, only that it is out of
 -- range. An update that came before is acknowledged, and so never refused.

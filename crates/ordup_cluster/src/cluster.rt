@@ -1,12 +1,16 @@
-ghost use Rattle.std.specs.Prelude.{◌≡◌, ◌<◌, ◌≤◌, ◌+◌, None, length, max, vec_len, IfOk, OnOk, IfErr, OnErr};
+ghost use Rattle.std.specs.Prelude.{◌≡◌, ◌<◌, ◌≤◌, ◌+◌, None, IsNone, length, max, vec_len, IfOk, OnOk, IfErr, OnErr};
 ghost use Rattle.std.specs.Vec.{vec_capacity};
 ghost use Rattle.ordup_objects.specs.Refusals.{IsRefusal};
 ghost use Rattle.ordup_objects.specs.Sizes.{most_updates};
 ghost use Rattle.ordup_primary.specs.Declarations.{start_refusal};
+ghost use Rattle.ordup_log.specs.Appending.{append_refusal};
+ghost use Rattle.ordup_objects.specs.Sets.{AreKnown};
+ghost use Rattle.ordup_conditions.specs.Conditions.{AreConditionsKnown};
+ghost use Rattle.ordup_primary.specs.Primaries.{IsPrimary};
 ghost use Rattle.ordup_holds.specs.Numbering.{IsTurn, with_numbered};
 ghost use Rattle.ordup_holds.specs.Opening.{AreOpened};
 ghost use Rattle.ordup_cluster.specs.Clusters.{most_before, opening_refusal};
-ghost use Rattle.ordup_cluster.specs.Refusals.{IsNumber, IsNumberingRefusal, IsProposalRefusal, IsSettlementRefusal, IsLimitPlace, IsBookRefusal, IsLimitChangeRefusal, undeclared_refusal, proposal_refusal};
+ghost use Rattle.ordup_cluster.specs.Refusals.{IsNumber, IsNumberingError, IsProposalRefusal, IsProposalError, IsNotProposed, MeetsAll, IsSettlementRefusal, IsLimitPlace, IsBookRefusal, IsLimitChangeRefusal, undeclared_refusal, request_refusal};
 
 use crate::bell::{Bell, Bells};
 use crate::book_turns::BookTurns;
@@ -14,8 +18,10 @@ use crate::progress::Progress;
 use crate::reserved::{Reserved, locked};
 use crate::session::Session;
 use crossbeam_utils::sync::EventCount;
+use ordup_conditions::{Condition, check_conditions};
 use ordup_holds::{
-    Book, Numbered, SiteCell, number_and_turn, open, relimit, until, until_acknowledged,
+    Book, Numbered, ProposalError, SiteCell, number_if_and_turn, open, relimit, until,
+    until_acknowledged,
 };
 use ordup_limits::check_scope;
 use ordup_log::Scope;
@@ -198,20 +204,60 @@ impl Cluster {
         ensures refused { IfErr result (IsProposalRefusal self.now.before) }
         ensures err { OnErr result (session.new ≡ session.old) }
     {
+        match self.propose_if(rt, session, set, &[], turns) {
+            Ok(number) => Ok(number),
+            Err(ProposalError::Refused(refusal)) => Err(refusal),
+            Err(ProposalError::Unmet(_)) => unreachable!(),
+        }
+    }
+
+    // waits: as Cluster::propose
+    // promise seen some err: as Cluster::propose
+    // promise met refused: an update with conditions is numbered only if the state after it meets them; else the first unmet one is told
+    /// The same of a message set with conditions: it is numbered only where the state after it meets them all, which is tested in the
+    /// hold that numbers it. So two callers who each saw 3 bags cannot sell 5.
+    ///
+    /// - The state after the update meets each condition.
+    /// - It is refused as `propose` is, with `UnknownObject` for an object of a condition too. Where the first condition that would not be
+    ///   met is told, by its index, nothing was numbered. That comes after `UnknownObject` and before the other refusals.
+    pub fn propose_if<R: Wait>(
+        &self,
+        rt: &R,
+        session: &mut Session,
+        set: MessageSet,
+        conditions: &[Condition],
+        turns: u64,
+    ) -> Result<u64, ProposalError>
+        requires { 1 ≤ turns }
+        ensures seen { IfOk result (λ number. session.new.seen ≡ max session.old.seen number) }
+        ensures some { IfOk result (IsNumber self.now.before) }
+        ensures met { IfOk result (MeetsAll self.now.before set conditions.now) }
+        ensures refused { IfErr result (IsProposalError self.now.before set conditions.now) }
+        ensures err { OnErr result (session.new ≡ session.old) }
+    {
         let heard = self.listen();
-        let numbered = self.number(rt, set)?;
-        self.wait(rt, session, heard, numbered, turns)
+        let numbered = self.number(rt, set, conditions)?;
+        match self.wait(rt, session, heard, numbered, turns) {
+            Ok(number) => Ok(number),
+            Err(refusal) => Err(ProposalError::Refused(refusal)),
+        }
     }
 
     /// The hold of a proposal: its set is numbered, and the first turn is made. Where it is refused, nothing was numbered.
-    fn number<R: Wait>(&self, rt: &R, set: MessageSet) -> Result<Numbered, Refusal>
+    fn number<R: Wait>(
+        &self,
+        rt: &R,
+        set: MessageSet,
+        conditions: &[Condition],
+    ) -> Result<Numbered, ProposalError>
         ensures some { IfOk result (λ it. IsNumber self.now.before it.number) }
-        ensures refused { IfErr result IsNumberingRefusal }
+        ensures met { IfOk result (λ it. MeetsAll self.now.before set conditions.now it.number) }
+        ensures refused { IfErr result (IsNumberingError set conditions.now) }
     {
         let stopped = self.stopped.load(Ordering::SeqCst);
         let mut book = self.book.lock(rt);
         let before = Progress::of(book.primary());
-        let numbered = number_unless_stopped(rt, &mut book, set, stopped)?;
+        let numbered = number_unless_stopped(rt, &mut book, set, conditions, stopped)?;
         let after = Progress::of(book.primary());
         drop(book);
         self.tell(before, after);
@@ -358,27 +404,48 @@ impl Cluster {
 // promise: a refusal by the stop, the objects or the log leaves the book; then only `NotYet` comes
 /// The hold in which a set is numbered, with the book that it lends: the set is numbered, and the first turn is made.
 ///
-/// It is refused `Stopped` where the store was stopped, and else `UnknownObject`, `LogFull`, `OutOfRange` and `NoMemory`, in this
-/// order; then nothing was numbered.
+/// It is refused `Stopped` where the store was stopped, and else `UnknownObject`; then the first condition that would not be met is told;
+/// and else it is refused `LogFull`, `OutOfRange` and `NoMemory`, in this order. Then nothing was numbered.
 fn number_unless_stopped<R: Wait>(
     rt: &R,
     book: &mut Book,
     set: MessageSet,
+    conditions: &[Condition],
     stopped: bool,
-) -> Result<Numbered, Refusal>
+) -> Result<Numbered, ProposalError>
     ensures some { IfOk result (λ it. IsNumber 0 it.number) }
+    ensures met { IfOk result (λ it. MeetsAll 0 set conditions.now it.number) }
     ensures turn { IfOk result (λ it. IsTurn (with_numbered book.old set) book.new it.turn) }
-    ensures allowed { IfOk result (λ _. proposal_refusal stopped book.old.primary.log set ≡ None) }
-    ensures refused { IfErr result (λ e. IsRefusal (proposal_refusal stopped book.old.primary.log set) e) }
+    ensures request { IfOk result (λ _. request_refusal stopped (length book.old.primary.log.start) set conditions.now ≡ None) }
+    ensures allowed { IfOk result (λ _. append_refusal book.old.primary.log set ≡ None) }
+    ensures refused { IfErr result (IsNotProposed stopped book.old.primary.log set conditions.now) }
+    ensures sound { IsPrimary book.old.primary }
     ensures err { OnErr result (book.new ≡ book.old) }
 {
+    let objects = book.primary().log().objects();
+    if let Some(refusal) = request_refusal(stopped, objects, &set, conditions) {
+        drop(set);
+        return Err(ProposalError::Refused(refusal));
+    }
+    number_if_and_turn(rt, book, set, conditions)
+}
+
+/// Why a set with conditions is refused before the log is looked at, if it is.
+fn request_refusal(
+    stopped: bool,
+    objects: usize,
+    set: &MessageSet,
+    conditions: &[Condition],
+) -> Option<Refusal>
+    ensures refusal { result ≡ request_refusal stopped objects set.now conditions.now }
+    ensures set { IsNone result → AreKnown objects set.now }
+    ensures conditions { IsNone result → AreConditionsKnown objects conditions.now }
+{
     if stopped {
-        drop(set);
-        return Err(Refusal::Stopped);
+        return Some(Refusal::Stopped);
     }
-    if !set.are_known(book.primary().log().objects()) {
-        drop(set);
-        return Err(Refusal::UnknownObject);
+    if !set.are_known(objects) || check_conditions(objects, conditions).is_err() {
+        return Some(Refusal::UnknownObject);
     }
-    number_and_turn(rt, book, set)
+    None
 }

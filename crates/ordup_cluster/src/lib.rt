@@ -44,6 +44,7 @@ pub use closed::Closed;
 pub use cluster::{Cluster, MOST_BEFORE};
 pub use gate::{Gate, OpenGate};
 pub use ordup_holds as holds;
-pub use ordup_holds::SeenValue;
+pub use ordup_conditions::{Bound, Condition};
+pub use ordup_holds::{ProposalError, SeenValue};
 pub use session::Session;
 pub use site_query::SiteQuery;

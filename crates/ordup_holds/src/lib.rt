@@ -17,6 +17,7 @@ mod agreement;
 mod book;
 mod numbering;
 mod opening;
+mod proposal_error;
 mod relimiting;
 mod sides;
 mod site_cell;
@@ -25,8 +26,9 @@ mod waiting;
 
 pub use agreement::agree;
 pub use book::Book;
-pub use numbering::{Numbered, begin, number, number_and_turn};
+pub use numbering::{Numbered, begin, number, number_and_turn, number_if_and_turn};
 pub use opening::{open, open_as};
+pub use proposal_error::ProposalError;
 pub use relimiting::relimit;
 pub use site_cell::{SeenValue, SiteCell, take, view};
 pub use turning::{has_work, turn};

@@ -1,15 +1,20 @@
-ghost use Rattle.std.specs.Prelude.{◌≡◌, ◌+◌, pos, None, length, IfOk, IfErr, OnErr};
+ghost use Rattle.std.specs.Prelude.{◌≡◌, ◌+◌, ◌↔◌, pos, None, IsNone, length, IfOk, IfErr, OnErr};
 ghost use Rattle.ordup_objects.specs.Refusals.{IsRefusal};
 ghost use Rattle.ordup_objects.specs.Marks.{AreMarks};
-ghost use Rattle.ordup_objects.specs.Serial.{with_update};
+ghost use Rattle.ordup_objects.specs.Serial.{serial, with_update};
 ghost use Rattle.ordup_objects.specs.Sets.{AreKnown};
+ghost use Rattle.ordup_objects.specs.States.{after};
 ghost use Rattle.ordup_log.specs.Appending.{append_refusal};
 ghost use Rattle.ordup_query.specs.Queries.{begin_refusal};
-ghost use Rattle.ordup_holds.specs.Numbering.{IsTurn, with_numbered};
+ghost use Rattle.ordup_conditions.specs.Conditions.{AreMet, AreConditionsKnown, first_unmet};
+ghost use Rattle.ordup_holds.specs.Numbering.{IsTurn, IsNotNumbered, last_state, with_numbered};
 
 use crate::book::Book;
+use crate::proposal_error::ProposalError;
 use crate::turning::turn;
+use ordup_conditions::{Condition, first_unmet};
 use ordup_feed::{Sender, Sends};
+use ordup_log::Log;
 use ordup_objects::{MessageSet, Refusal};
 use ordup_query::Query;
 use ordup_query::sizes::GREATEST_IMPORT_LIMIT;
@@ -60,6 +65,48 @@ pub fn number_and_turn<H, E: Sender<H>>(
     let number = number(book, set)?;
     let turn = turn(rt, book);
     Ok(Numbered { number, turn })
+}
+
+// promise number turn log allowed met refused err: a set with conditions is numbered only if the state after it meets them all
+/// The same of a message set with conditions: it is numbered only where the state after it meets them all.
+///
+/// Where it is not numbered, the book stays as it was. The first condition that would not be met comes before each refusal of the set.
+pub fn number_if_and_turn<H, E: Sender<H>>(
+    rt: &H,
+    book: &mut Book<E>,
+    set: MessageSet,
+    conditions: &[Condition],
+) -> Result<Numbered, ProposalError>
+    requires set { AreKnown (length book.old.primary.log.start) set }
+    requires conditions { AreConditionsKnown (length book.old.primary.log.start) conditions.now }
+    ensures number { IfOk result (λ it. it.number ≡ length book.old.primary.log.sets + 1) }
+    ensures turn { IfOk result (λ it. IsTurn (with_numbered book.old set) book.new it.turn) }
+    ensures log { IfOk result (λ _. book.new.primary.log ≡ with_update book.old.primary.log set) }
+    ensures allowed { IfOk result (λ _. append_refusal book.old.primary.log set ≡ None) }
+    ensures met { IfOk result (λ it. AreMet (serial book.new.primary.log it.number) conditions.now) }
+    ensures refused { IfErr result (IsNotNumbered book.old.primary.log set conditions.now) }
+    ensures err { OnErr result (book.new ≡ book.old) }
+{
+    match unmet(book.primary().log(), &set, conditions) {
+        Some(index) => {
+            drop(set);
+            Err(ProposalError::Unmet(index))
+        }
+        None => match number_and_turn(rt, book, set) {
+            Ok(numbered) => Ok(numbered),
+            Err(refusal) => Err(ProposalError::Refused(refusal)),
+        },
+    }
+}
+
+/// The index of the first condition that the state after a set would not meet, as the next one of a log, if there is one.
+fn unmet(log: &Log, set: &MessageSet, conditions: &[Condition]) -> Option<usize>
+    requires set { AreKnown (length log.now.start) set.now }
+    requires conditions { AreConditionsKnown (length log.now.start) conditions.now }
+    ensures first { result ≡ first_unmet (after set.now (last_state log.now)) conditions.now }
+    ensures met { IsNone result ↔ AreMet (after set.now (last_state log.now)) conditions.now }
+{
+    first_unmet(log.end(), set, conditions)
 }
 
 // promise: a query begins at what is acknowledged, or its limit or memory is refused

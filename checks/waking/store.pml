@@ -302,8 +302,8 @@ inline turn() {
 /* The hold of a proposal, with its first turn. */
 inline number_one(me) {
 #ifndef CALLER_LISTENS_AFTER_ITS_TURN
-    listen(told, me);                            /* Cluster::propose: self.listen */
-#endif                                           /* Cluster::propose: self.number */
+    listen(told, me);                            /* Cluster::propose_if: self.listen */
+#endif                                           /* Cluster::propose_if: self.number */
     atomic { !book && MAY_NUMBER -> numbered++; number = numbered; begin_turn() };
                                                  /* Cluster::number: stopped.load book.lock number_unless_stopped */
     end_turn();                                  /* Cluster::number: drop(book) */
@@ -324,7 +324,7 @@ inline number_one(me) {
 
 /* A further turn of a caller, after a pause. */
 inline pause_and_turn(me) {
-    pause_for(me, number);                       /* Cluster::propose: self.wait */ /* BookTurns::turn: store.pause_for */
+    pause_for(me, number);                       /* Cluster::propose_if: self.wait */ /* BookTurns::turn: store.pause_for */
     listen(told, me);                            /* BookTurns::turn: store.listen */
     turn()                                       /* BookTurns::turn: store.turn */
 }

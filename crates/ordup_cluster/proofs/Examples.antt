@@ -1,5 +1,5 @@
 -- Refusals of the cluster's calls, and a successor, worked out by hand: no definition can change its meaning unseen.
-use Rattle.std.proofs.Common.{◌≡◌, ◌+◌, ◌≤◌, Bool, List, [], ◌∷◌, pos, inl, inr, refl, arith}
+use Rattle.std.proofs.Common.{◌≡◌, ℕ, ◌+◌, ◌≤◌, Bool, List, [], ◌∷◌, pos, inl, inr, refl, arith}
 use Rattle.std.specs.Prelude.{Some, None, codes, true, false, if◌then◌else◌}
 use Rattle.std.specs.Option.{option_or}
 use Rattle.ordup_objects.specs.declared.change.Change.{Change}
@@ -10,9 +10,12 @@ use Rattle.ordup_objects.specs.Refusals.{IsRefusal}
 use Rattle.ordup_objects.specs.Serial.{History}
 use Rattle.ordup_log.specs.declared.scope.Scope.TheVariants.{Object, Group, Count}
 use Rattle.ordup_limits.specs.Entries.{entry_of}
+use Rattle.ordup_conditions.specs.declared.condition.Condition.{Condition}
+use Rattle.ordup_conditions.specs.declared.condition.Bound.TheVariants.{AtMost}
+use Rattle.ordup_holds.specs.declared.proposal_error.ProposalError.TheVariants.{Refused, Unmet}
 use Rattle.ordup_holds.proofs.Examples.{lagging}
 use Rattle.ordup_cluster.specs.Clusters.{ClusterState, ClosedState, IsSuccessor, count_at_end, closed_successor_refusal, opening_refusal}
-use Rattle.ordup_cluster.specs.Refusals.{IsNumber, ReadRequest, IsReadRefusal, IsLimitPlace, IsLimitChangeRefusal, proposal_refusal, undeclared_refusal}
+use Rattle.ordup_cluster.specs.Refusals.{IsNumber, ReadRequest, IsReadRefusal, IsLimitPlace, IsLimitChangeRefusal, IsNotProposed, request_refusal, undeclared_refusal}
 
 -- ---- a read of the one object at the one site, by a session that has seen 1 update
 
@@ -83,11 +86,29 @@ past_the_range = record { object = 0; op = Add (pos 1) } ∷ []
 abbrev of_no_object : List Change
 of_no_object = record { object = 1; op = Add (pos 1) } ∷ []
 
--- the order of refusals: the store was stopped, an object is unknown, what the log refuses
-proposals : (proposal_refusal true full of_no_object ≡ Some Stopped) × (proposal_refusal true full past_the_range ≡ Some Stopped)
-    × (proposal_refusal false full of_no_object ≡ Some UnknownObject) × (proposal_refusal false full past_the_range ≡ Some OutOfRange)
-    × (proposal_refusal true full [] ≡ Some Stopped) × (proposal_refusal false full [] ≡ None)
-proposals = (refl, refl, refl, refl, refl, refl)
+abbrev at_most : ℕ → List Condition
+at_most object = record { object = object; bound = AtMost (pos 1000000000) } ∷ []
+
+-- the order of refusals: the store was stopped, an object is unknown, to the set or to a condition
+requests : (request_refusal true 1 of_no_object [] ≡ Some Stopped) × (request_refusal true 1 past_the_range (at_most 1) ≡ Some Stopped)
+    × (request_refusal false 1 of_no_object [] ≡ Some UnknownObject)
+    × (request_refusal false 1 past_the_range (at_most 1) ≡ Some UnknownObject)
+    × (request_refusal false 1 past_the_range (at_most 0) ≡ None)
+requests = (refl, refl, refl, refl, refl)
+
+-- then the condition that is not met is told, before what the log refuses
+unmet-first : IsNotProposed false full past_the_range (at_most 0) (Refused OutOfRange) → ⊥
+unmet-first e = elim e [
+  | inl r ↦ absurd (let is = r.2.1 in cc)
+  | inr h ↦ absurd (let is = h.1.0 in cc)
+]
+
+unmet-is : IsNotProposed false full past_the_range (at_most 0) (Unmet 0)
+unmet-is = inr (refl, refl)
+
+-- and without a condition what the log refuses
+past-is : IsNotProposed false full past_the_range [] (Refused OutOfRange)
+past-is = inr (refl, (refl, refl))
 
 -- ---- a change of the limit on the count of updates to 0, in the cluster of one object, one group and one site
 

@@ -1,5 +1,5 @@
 -- Ends of waiting and sends that the definitions refuse; changes of a limit, worked out by hand.
-use Rattle.std.proofs.Common.{◌≡◌, ◌≤◌, ℤ, List, [], ◌∷◌, Some, None, pos, refl, arith, inl, inr}
+use Rattle.std.proofs.Common.{◌≡◌, ◌≤◌, [], ◌∷◌, Some, None, pos, refl, arith, inl, inr}
 use Rattle.std.specs.Prelude.{codes, false}
 use Rattle.ordup_objects.specs.declared.change.Op.TheVariants.{Add}
 use Rattle.ordup_objects.specs.declared.refusal.Refusal.TheVariants.{UnknownObject, UnknownGroup, UnknownSite, OutOfRange, LagOver, NotYet}

@@ -41,7 +41,11 @@ pub fn open_as<F: Feeds>(
     }
     let primary = Primary::new(alloc, setup)?;
     let spare_values = or_give_up!(first_spare_values(alloc, primary.setup()), primary);
-    let (ends, cells) = or_give_up!(first_feeds::<F>(alloc, primary.setup()), spare_values, primary);
+    let (ends, cells) = or_give_up!(
+        first_feeds::<F>(alloc, primary.setup()),
+        spare_values,
+        primary
+    );
     Ok((Book::new(primary, ends, spare_values), cells))
 }
 
@@ -55,7 +59,11 @@ fn first_feeds<F: Feeds>(
 {
     let mut ends = Vec::new(alloc);
     let mut cells = Vec::new(alloc);
-    or_give_up!(add_feeds::<F>(alloc, setup, &mut ends, &mut cells), ends, cells);
+    or_give_up!(
+        add_feeds::<F>(alloc, setup, &mut ends, &mut cells),
+        ends,
+        cells
+    );
     Ok((ends, cells))
 }
 

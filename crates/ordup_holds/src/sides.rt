@@ -28,37 +28,39 @@ impl<E: Sends> SendSide<E> {
     {
         SendSide { end }
     }
-}
 
-/// Pushes a parcel, which comes next, behind all that were pushed.
-pub(crate) fn push<H, E: Sender<H>>(
-    side: &mut SendSide<E>,
-    rt: &H,
-    parcel: Parcel,
-) -> Result<(), Returned>
-    requires { IsNext side.old.start side.old.pushed parcel }
-    ensures pushed { IfOk result (λ _. side.new ≡ record side.old { pushed = side.old.pushed ++ parcel ∷ [] }) }
-    ensures full { IfErr result (λ back. side.old.feed.capacity ≤ length side.old.pushed) }
-    ensures refused { IfErr result (λ back. (back.refusal ≡ Refusal.FeedFull) × (back.parcel ≡ parcel) × (side.new ≡ side.old)) }
-{
-    side.end.push(rt, parcel)
-}
+    /// Pushes a parcel, which comes next, behind all that were pushed.
+    pub(crate) fn push<H>(&mut self, rt: &H, parcel: Parcel) -> Result<(), Returned>
+    where
+        E: Sender<H>,
+        requires { IsNext self.old.start self.old.pushed parcel }
+        ensures pushed { IfOk result (λ _. self.new ≡ record self.old { pushed = self.old.pushed ++ parcel ∷ [] }) }
+        ensures full { IfErr result (λ back. self.old.feed.capacity ≤ length self.old.pushed) }
+        ensures refused { IfErr result (λ back. (back.refusal ≡ Refusal.FeedFull) × (back.parcel ≡ parcel) × (self.new ≡ self.old)) }
+    {
+        self.end.push(rt, parcel)
+    }
 
-/// Whether the feed is full at one moment of the call.
-pub(crate) fn is_full<H, E: Sender<H>>(side: &mut SendSide<E>, rt: &H) -> bool
-    ensures full { IsTrue result → side.old.feed.capacity ≤ length side.old.pushed }
-    ensures same { side.new ≡ side.old }
-{
-    side.end.is_full(rt)
-}
+    /// Whether the feed is full at one moment of the call.
+    pub(crate) fn is_full<H>(&mut self, rt: &H) -> bool
+    where
+        E: Sender<H>,
+        ensures full { IsTrue result → self.old.feed.capacity ≤ length self.old.pushed }
+        ensures same { self.new ≡ self.old }
+    {
+        self.end.is_full(rt)
+    }
 
-/// How many parcels the site took, as its end told.
-pub(crate) fn look<H, E: Sender<H>>(side: &mut SendSide<E>, rt: &H) -> u64
-    ensures answer { result ≡ min side.new.known (length side.new.pushed) }
-    ensures risen { side.old.known ≤ side.new.known }
-    ensures looked { side.new ≡ record side.old { known = side.new.known } }
-{
-    side.end.look(rt)
+    /// How many parcels the site took, as its end told.
+    pub(crate) fn look<H>(&mut self, rt: &H) -> u64
+    where
+        E: Sender<H>,
+        ensures answer { result ≡ min self.new.known (length self.new.pushed) }
+        ensures risen { self.old.known ≤ self.new.known }
+        ensures looked { self.new ≡ record self.old { known = self.new.known } }
+    {
+        self.end.look(rt)
+    }
 }
 
 /// A site's end of a feed.
@@ -82,20 +84,24 @@ impl<T: Takes> TakeSide<T> {
     {
         TakeSide { end }
     }
-}
 
-/// Takes the next parcel, if there is one.
-pub(crate) fn pop<H, T: Taker<H>>(side: &mut TakeSide<T>, rt: &H) -> Option<Parcel>
-    ensures taken { IfSome result (λ parcel. side.new ≡ record side.old { taken = side.old.taken ++ parcel ∷ []; told = side.new.told }) }
-    ensures next { IfSome result (λ parcel. IsNext side.old.start side.old.taken parcel) }
-    ensures none { IfNone result (side.new ≡ side.old) }
-{
-    side.end.pop(rt)
-}
+    /// Takes the next parcel, if there is one.
+    pub(crate) fn pop<H>(&mut self, rt: &H) -> Option<Parcel>
+    where
+        T: Taker<H>,
+        ensures taken { IfSome result (λ parcel. self.new ≡ record self.old { taken = self.old.taken ++ parcel ∷ []; told = self.new.told }) }
+        ensures next { IfSome result (λ parcel. IsNext self.old.start self.old.taken parcel) }
+        ensures none { IfNone result (self.new ≡ self.old) }
+    {
+        self.end.pop(rt)
+    }
 
-/// Tells how many parcels were taken.
-pub(crate) fn tell<H, T: Taker<H>>(side: &mut TakeSide<T>, rt: &H)
-    ensures told { side.new ≡ record side.old { told = length side.old.taken } }
-{
-    side.end.tell(rt);
+    /// Tells how many parcels were taken.
+    pub(crate) fn tell<H>(&mut self, rt: &H)
+    where
+        T: Taker<H>,
+        ensures told { self.new ≡ record self.old { told = length self.old.taken } }
+    {
+        self.end.tell(rt);
+    }
 }

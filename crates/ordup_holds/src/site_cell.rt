@@ -5,7 +5,7 @@ ghost use Rattle.ordup_objects.specs.States.{value_at};
 ghost use Rattle.ordup_feed.specs.Parcels.{history_of};
 ghost use Rattle.ordup_holds.specs.Cells.{HoldsTaken, TakesNext};
 
-use crate::sides::{TakeSide, pop, tell};
+use crate::sides::TakeSide;
 use ordup_feed::{TakeEnd, Taker, Takes};
 use ordup_objects::{ObjectId, Refusal};
 use ordup_site::Site;
@@ -87,9 +87,9 @@ pub fn take<H, T: Taker<H>>(rt: &H, cell: &mut SiteCell<T>) -> Option<u64>
     ensures none { IfNone result (cell.new ≡ cell.old) }
     ensures held { HoldsTaken cell.new }
 {
-    let parcel = pop(&mut cell.end, rt)?;
+    let parcel = cell.end.pop(rt)?;
     cell.site.apply(&parcel.set);
-    tell(&mut cell.end, rt);
+    cell.end.tell(rt);
     Some(parcel.number)
 }
 

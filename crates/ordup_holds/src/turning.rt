@@ -4,7 +4,7 @@ ghost use Rattle.ordup_holds.specs.Books.{KeepsBook, IsTied};
 ghost use Rattle.ordup_holds.specs.Turning.{Reported, Sent, SentOut, AtEachSite, SameFeeds, Acknowledges, SettlesOut, Turned, TurnedInPart, IsAtRest, kept_at, with_progress, send_bound};
 
 use crate::book::Book;
-use crate::sides::{SendSide, is_full, look, push};
+use crate::sides::SendSide;
 use ordup_feed::Sender;
 use ordup_objects::{Refusal, SiteId};
 use ordup_primary::{Primary, Settled, next_updates_may_follow};
@@ -62,12 +62,7 @@ fn report_all<H, E: Sender<H>>(rt: &H, primary: &mut Primary, ends: &mut Vec<Sen
 }
 
 /// One look at the feed of a site, and a report of its number.
-fn report<H, E: Sender<H>>(
-    rt: &H,
-    primary: &mut Primary,
-    end: &mut SendSide<E>,
-    site: SiteId,
-)
+fn report<H, E: Sender<H>>(rt: &H, primary: &mut Primary, end: &mut SendSide<E>, site: SiteId)
     requires site { site < length primary.old.sites }
     requires tied { IsTied primary.old site end.old }
     ensures tied { IsTied primary.new site end.new }
@@ -75,7 +70,7 @@ fn report<H, E: Sender<H>>(
     ensures reported { Reported site (kept_at primary.old site end.old) (kept_at primary.new site end.new) }
 {
     primary.keeps();
-    let place = look(end, rt);
+    let place = end.look(rt);
     primary.report(site, place);
 }
 
@@ -135,11 +130,11 @@ fn send<H, E: Sender<H>>(
     while primary.sent(site) < last {
         primary.keeps();
         // A copy for a full feed would be made in vain.
-        if is_full(end, rt) {
+        if end.is_full(rt) {
             return Ok(());
         }
         let parcel = primary.next_for(site)?;
-        match push(end, rt, parcel) {
+        match end.push(rt, parcel) {
             Ok(()) => primary.mark_sent(site),
             Err(_) => return Ok(()),
         }

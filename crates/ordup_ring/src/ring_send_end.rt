@@ -31,7 +31,8 @@ impl Model for RingSendEnd {
 }
 
 impl RingSendEnd {
-    // promise pushed refused full: as SendEnd::push
+    // promise pushed refused: as SendEnd::push pushed
+    // promise full: as SendEnd::push full
     /// Pushes a parcel behind all that were pushed. It takes no memory.
     ///
     /// The caller makes sure that the parcel is the next one, as for `SendEnd::push` of `ordup_feed`.
@@ -53,7 +54,7 @@ impl RingSendEnd {
         Ok(())
     }
 
-    // promise full same: as RingSendEnd::push
+    // promise full same: as SendEnd::push full
     /// Whether the ring is full at one moment of the call: then a push would be refused. It takes no memory.
     pub fn is_full(&mut self) -> bool
         ensures full { IsTrue result → self.old.feed.capacity ≤ length self.old.pushed }
@@ -62,7 +63,8 @@ impl RingSendEnd {
         self.producer.is_full()
     }
 
-    // promise order answer risen looked: as SendEnd::look
+    // promise order: as SendEnd::look order
+    // promise answer risen looked: as SendEnd::look answer
     /// How many parcels the site took, as the ring says now. It takes no memory.
     pub fn look(&mut self) -> u64
         ensures answer { result ≡ min self.new.known (length self.new.pushed) }

@@ -26,8 +26,9 @@ impl Model for RingTakeEnd {
 }
 
 impl RingTakeEnd {
-    // promise taken next none order: as TakeEnd::pop
-    // promise told: what was taken is told
+    // promise taken next none: as TakeEnd::pop taken
+    // promise order: as SendEnd::look order
+    // promise told: as TakeEnd::tell
     /// Takes the next parcel, if there is one. It takes no memory.
     ///
     /// Its number follows those taken before it, and its set is legal after theirs.
@@ -48,7 +49,7 @@ impl RingTakeEnd {
         Some(parcel)
     }
 
-    // promise: as RingTakeEnd::pop told
+    // promise: as TakeEnd::tell
     /// What was taken is told: nothing is to be done.
     pub fn tell(&mut self)
         ensures { self.new ≡ record self.old { told = length self.old.taken } }

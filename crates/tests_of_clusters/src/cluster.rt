@@ -1,5 +1,6 @@
 //! The calls of a cluster, on one thread.
 mod changed_limits;
+mod conditions;
 mod fixtures;
 mod gates;
 mod level_reads;

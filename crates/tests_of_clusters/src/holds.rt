@@ -3,4 +3,5 @@ mod agreement;
 mod fixtures;
 mod full_feed;
 mod one_update;
+mod ring;
 mod waiting;

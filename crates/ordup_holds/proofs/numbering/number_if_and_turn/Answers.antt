@@ -1,7 +1,6 @@
 -- The state after the update is that of the set after the last one.
-use Rattle.std.proofs.Common.{◌∙◌, sym, refl, ap}
+use Rattle.std.proofs.Common.{sym, refl}
 use Rattle.ordup_objects.proofs.SerialLemmas.{serial-last}
-use Rattle.ordup_primary.specs.Primaries.{PrimaryState}
 use Rattle.ordup_holds.proofs.numbering.number_if_and_turn.Goals as goal
 
 pub returns-in-Some-clause-refused : goal.returns-in-Some-clause-refused

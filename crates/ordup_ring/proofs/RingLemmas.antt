@@ -1,8 +1,7 @@
 -- What went through a ring, and one parcel more.
-use Rattle.std.proofs.Common.{◌≡◌, ◌∙◌, ℕ, ◌+◌, ◌<◌, ◌≤◌, List, [], ◌∷◌, ◌++◌, length, take, refl, sym, ap, arith}
-use Rattle.std.proofs.lemmas.List.{length-append, length_push}
+use Rattle.std.proofs.Common.{◌≡◌, ◌+◌, ◌<◌, List, [], ◌∷◌, ◌++◌, length, take, refl, sym, ap, arith}
+use Rattle.std.proofs.lemmas.List.{length_push}
 use Rattle.std.proofs.Math.Seq.{take-append_seam}
-use Rattle.ordup_objects.specs.States.{State}
 use Rattle.ordup_ring.specs.declared.ring.Item.{Item}
 use Rattle.ordup_ring.specs.declared.ring.Item.TheVariants.{Start, Next}
 use Rattle.ordup_feed.specs.Parcels.{PlainParcel}

@@ -1,5 +1,5 @@
 -- The rule of a feed's ring: the initial state comes first, and then parcels, each the next one after those before it.
-use Rattle.std.specs.Prelude.{◌≡◌, ℕ, ◌+◌, ◌<◌, List, [], ◌∷◌, length}
+use Rattle.std.specs.Prelude.{◌≡◌, ◌+◌, ◌<◌, List, [], ◌∷◌, length}
 use Rattle.ordup_objects.specs.States.{State, IsState}
 use Rattle.ordup_ring.specs.declared.ring.Item.{Item}
 use Rattle.ordup_ring.specs.declared.ring.Item.TheVariants.{Start, Next}

@@ -42,6 +42,7 @@ impl RingFeed {
 
 impl Feeds for RingFeed {
     type Sender = RingSendEnd;
+
     type Taker = RingTakeEnd;
 
     fn ends(
@@ -63,7 +64,9 @@ fn open(
     requires state { IsState values }
     ensures { IfOk result (λ ends. AreNewEnds values capacity ends.0 ends.1) }
 {
-    let (mut producer, mut consumer) = match RingBuffer::<Item>::with_protocol::<Global, InOrder>(alloc, capacity) {
+    let (mut producer, mut consumer) = match RingBuffer::<Item>::with_protocol::<Global, InOrder>(
+        alloc, capacity,
+    ) {
         Ok(ends) => ends,
         Err(refused) => {
             drop(values);

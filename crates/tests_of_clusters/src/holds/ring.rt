@@ -68,7 +68,7 @@ fn follow(rt: &impl Abort, book: &mut Book<RingSendEnd>, cell: &mut SiteCell<Rin
 }
 
 /// Follows one update from the book to the cell through a ring, and one that is not numbered.
-// shows: open opened; number_if_and_turn number met refused err; number_and_turn number turn; turn acked; take taken none; view
+// shows: open; number_if_and_turn number met refused err; number_and_turn number turn; turn acked; take taken none; view
 #[test]
 fn a_ring_brings_an_update_whose_condition_is_met(rt: HostRuntime) -> Result<(), Fail> {
     let alloc = rt.alloc();

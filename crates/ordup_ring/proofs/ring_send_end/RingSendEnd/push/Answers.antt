@@ -1,5 +1,5 @@
 -- A parcel that comes next keeps the order of those in the ring. One slot fewer is free, and one parcel more was pushed.
-use Rattle.std.proofs.Common.{◌≡◌, ◌∙◌, ◌++◌, ◌∷◌, [], List, ap, refl, sym, subst, length, arith}
+use Rattle.std.proofs.Common.{◌∙◌, ◌++◌, ◌∷◌, [], List, ap, refl, sym, subst, length, arith}
 use Rattle.rtrb.specs.Ring.{sent}
 use Rattle.ordup_ring.specs.declared.ring.Item.{Item}
 use Rattle.ordup_ring.specs.declared.ring.Item.TheVariants.{Next}
@@ -43,5 +43,5 @@ returns-clause-pushed c =
       is,
       start-append items (Next c.args.parcel ∷ []) (run-some _ c.self.invariant.run),
       parcels-append items (Next c.args.parcel ∷ []),
-      ← c.self.view_is
+      ← c.self.view_is,
     ) refl

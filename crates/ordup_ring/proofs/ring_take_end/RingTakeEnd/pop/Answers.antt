@@ -31,7 +31,7 @@ returns-clause-taken c =
       ok.0,
       start-append items (Next c.in-Next.parcel ∷ []) (run-some _ c.self.invariant.run),
       parcels-append items (Next c.in-Next.parcel ∷ []),
-      ← c.self.view_is
+      ← c.self.view_is,
     ) refl
 
 pub returns-clause-order : goal.returns-clause-order

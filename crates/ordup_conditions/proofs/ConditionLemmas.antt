@@ -1,7 +1,7 @@
 -- What a set makes of the object of a condition, and which conditions a state meets.
-use Rattle.std.proofs.Common.{◌≡◌, ◌∙◌, ℕ, ℤ, ◌+◌, zero, suc, ◌<◌, ◌≤◌, Bool, true, false, cond, not, Option, Some, None}
+use Rattle.std.proofs.Common.{◌≡◌, ◌∙◌, ℕ, ℤ, ◌+◌, zero, suc, ◌<◌, ◌≤◌, Bool, true, false, not, Option, Some, None}
 use Rattle.std.proofs.Common.{List, [], ◌∷◌, length, get_or, take, arith, refl, sym, ap, subst, inl, inr}
-use Rattle.std.specs.Prelude.{◌==◌, ◌≤ℤ◌, T, int_le, All, nat_lt, slice_get, IfSome}
+use Rattle.std.specs.Prelude.{◌==◌, ◌≤ℤ◌, T, int_le, All, nat_lt, IfSome}
 use Rattle.std.specs.Bool.{Decides}
 use Rattle.std.specs.List.{find, list_all, position_or_len}
 use Rattle.std.proofs.lemmas.Bool.{and_parts, cases_Bool, le-ltb, lt-ltb}
@@ -91,6 +91,7 @@ first_unmet-at v cs i c lt is before unmet =
     let here : nat_lt (position_or_len (λ c. not (is_met v c)) cs) (length cs) ≡ true = rw at (lt-ltb i (length cs) lt) in
     rw (here, at) refl
 
+-- the same as a fact
 pub IsFirstUnmet-at : (v : State) (cs : List Condition) (i : ℕ) (c : Condition) → i < length cs → c ≡ get_or cs i c
     → AreMet v (take i cs) → is_met v c ≡ false → IsFirstUnmet v cs i
 IsFirstUnmet-at v cs i c lt is before unmet = record {

@@ -1,5 +1,5 @@
 -- Conditions of an update, and which of them a state does not meet.
-use Rattle.std.specs.Prelude.{◌≡◌, ◌<◌, ◌≤ℤ◌, ℕ, ℤ, not, if◌then◌else◌, Option, Some, None, IfSome, Bool, List}
+use Rattle.std.specs.Prelude.{◌<◌, ◌≤ℤ◌, ℕ, ℤ, not, if◌then◌else◌, Option, Some, None, IfSome, Bool, List}
 use Rattle.std.specs.Prelude.{length, take, nat_lt, int_le, slice_get, All}
 use Rattle.std.specs.List.{list_all, position}
 use Rattle.ordup_objects.specs.declared.refusal.Refusal.{Refusal}

@@ -1,12 +1,16 @@
-//! Values and sites that apply updates, queries that read there, and records that are compared.
+//! Values and sites that apply updates, conditions of these, queries that read there, and records that are compared.
+ghost use Rattle.std.specs.Prelude.{length};
+ghost use Rattle.ordup_objects.specs.Sets.{AreKnown};
+
 use crate::expect::made;
-use ordup_objects::{Refusal, Values};
+use ordup_conditions::{Bound, Condition, check_conditions, first_unmet};
+use ordup_objects::{MessageSet, ObjectId, Refusal, Values};
 use ordup_primary::Primary;
 use ordup_query::{Query, QueryAnswer, ReadAnswer};
 use ordup_record::record_of;
 use ordup_site::Site;
 use std::process::Abort;
-use test_fixtures::{a, b, expect, expect_eq, x, y};
+use test_fixtures::{a, b, expect, expect_eq, x, y, z};
 use test_memory_fixtures::{Heap, Scarce, grouped};
 
 /// What the values come to that apply the first update, which adds 3 to x and to y.
@@ -21,6 +25,45 @@ fn expect_values<'a>(rt: &impl Abort, heap: Heap<'a>, primary: &Primary<Heap<'a>
     expect!(rt; values.as_slice() == [3, 13].as_slice());
     expect!(rt; values.len() == 2);
     expect_eq!(rt; values.get(y()), 13);
+    expect!(rt; !heap.has_refused());
+    drop(values);
+}
+
+fn at_least(object: ObjectId, n: i64) -> Condition {
+    let bound = Bound::AtLeast(n);
+    Condition { object, bound }
+}
+
+fn at_most(object: ObjectId, n: i64) -> Condition {
+    let bound = Bound::AtMost(n);
+    Condition { object, bound }
+}
+
+/// The first of these conditions that the values do not meet after a set.
+fn tested<'a>(
+    values: &Values<Heap<'a>>,
+    set: &MessageSet<Heap<'a>>,
+    conditions: &[Condition],
+) -> Result<Option<usize>, Refusal>
+    requires { AreKnown (length values.now) set.now }
+{
+    check_conditions(values.len(), conditions)?;
+    Ok(first_unmet(values, set, conditions))
+}
+
+/// Tests conditions of the first update, after which x is 3 and y is 13. There is no z.
+fn expect_conditions<'a>(rt: &impl Abort, heap: Heap<'a>, primary: &Primary<Heap<'a>>) {
+    heap.allow_all();
+    let values = made(rt, Values::initial(heap, primary.setup().objects()));
+    heap.allow(0);
+    expect!(rt; primary.log().len() == 3);
+    let set = primary.log().set(1);
+    expect!(rt; set.are_known(values.len()));
+    let met = [at_least(x(), 3), at_most(y(), 13)];
+    expect!(rt; tested(&values, set, &met) == Ok(None));
+    let unmet = [at_least(x(), 3), at_least(y(), 14), at_most(x(), 2)];
+    expect!(rt; tested(&values, set, &unmet) == Ok(Some(1)));
+    expect!(rt; tested(&values, set, &[at_most(z(), 0)]) == Err(Refusal::UnknownObject));
     expect!(rt; !heap.has_refused());
     drop(values);
 }
@@ -100,13 +143,14 @@ fn expect_compared<'a>(rt: &impl Abort, heap: Heap<'a>, primary: &Primary<Heap<'
     of_b.discard();
 }
 
-/// Applies an update, reads at a site, and compares records.
+/// Applies an update, tests its conditions, reads at a site, and compares records.
 // shows: no memory
 #[test]
-fn values_sites_queries_and_records_take_no_memory(rt: HostRuntime) {
+fn values_conditions_sites_queries_and_records_take_no_memory(rt: HostRuntime) {
     let scarce = Scarce::new(rt.alloc(), u64::MAX);
     let world = made(&rt, grouped(&scarce));
     expect_values(&rt, &scarce, world.primary());
+    expect_conditions(&rt, &scarce, world.primary());
     expect_query(&rt, &scarce, world.primary());
     expect_compared(&rt, &scarce, world.primary());
     world.discard();

@@ -1,7 +1,6 @@
 -- The change that is found is one of the set, so its number is in range. What it makes of the object, the set makes of it.
-use Rattle.std.proofs.Common.{◌≡◌, ◌∙◌, rules, w64, to_z, of_z, Some, None}
+use Rattle.std.proofs.Common.{◌∙◌, rules, w64, Some, None}
 use Rattle.std.specs.Prelude.{◌==◌, IfSome, length}
-use Rattle.std.specs.List.{find}
 use Rattle.std.proofs.lemmas.Int.{to_z-of_z}
 use Rattle.ordup_objects.specs.Ops.{number_of}
 use Rattle.ordup_objects.specs.States.{IsInRange}

@@ -6,8 +6,9 @@
 //! 3. Run `Cluster::keeper` in a thread of its own, or `keeper_until` for a number of updates. It makes the turns that callers leave.
 //! 4. Let callers work, each with a `Session` of its own. They make their message sets of `Cluster::objects`, which takes no lock, as
 //!    `sites` and `numbered`, which tell how many sites and updates there are.
-//!    - `propose` numbers a set and waits until it is acknowledged; `settle` waits on after a `NotYet`; `relimit` changes a limit
-//!      of a site; `begin` begins a query at one. Each of them takes the lock of the book.
+//!    - `propose` numbers a set and waits until it is acknowledged, `propose_if` one with conditions, which the state after it has to
+//!      meet; `settle` waits on after a `NotYet`; `relimit` changes a limit of a site; `begin` begins a query at one. Each of them takes
+//!      the lock of the book.
 //!    - `read` reads an object at a site, and `SiteQuery::read` does so for a query, which `end` ends. Each read takes the lock of the
 //!      site. `read_when_level` waits until the site has what the session has seen, and makes turns meanwhile.
 //! 5. Once all callers are done, `settle` the last update and call `finish`, so that each site is sent all. Then call `Cluster::stop`, and

@@ -99,7 +99,7 @@ requests = (refl, refl, refl, refl, refl)
 -- then the condition that is not met is told, before what the log refuses
 unmet-first : IsNotProposed false full past_the_range (at_most 0) (Refused OutOfRange) → ⊥
 unmet-first e = elim e [
-  | inl r ↦ absurd (let is = r.2.1 in cc)
+  | inl r ↦ absurd (let is = r.2 in cc)
   | inr h ↦ absurd (let is = h.1.0 in cc)
 ]
 

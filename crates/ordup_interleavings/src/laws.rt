@@ -39,8 +39,10 @@ pub fn sessions_read_their_writes()
     ensures { SessionsReadTheirWrites }
 {}
 
-// promise: in any list of holds no number is answered to two proposals
-/// A law: after each hold of any list of holds, no number was answered to two sessions; those of one session rise.
+// promise: in any list of holds no number is answered to two proposals, and a proposal that begins after another was answered has the
+// greater number
+/// A law: after each hold of any list of holds, no number was answered to two sessions; and a set that is numbered after any session was
+/// told a number, of its own set, of an acknowledged update or of a state, has a greater one.
 ///
 /// So proposals have one order, that of their numbers: one that began after another one was answered has the greater number.
 pub fn proposals_have_one_order()

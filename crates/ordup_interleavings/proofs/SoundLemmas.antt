@@ -97,12 +97,12 @@ grew-numbered b set is limits may = record {
 
 -- ---- limits
 
-or_none : (o p : Option Refusal) → option_or o p ≡ None → (o ≡ None) × (p ≡ None)
+pub or_none : (o p : Option Refusal) → option_or o p ≡ None → (o ≡ None) × (p ≡ None)
 or_none None p e = (refl, e)
 or_none (Some r) p e = absurd cc
 
 -- what a test decides, where one of its ends is no refusal
-test-passed : (b : Bool) (r : Refusal) (o : Option Refusal) → (if b then o else Some r) ≡ None → (b ≡ true) × (o ≡ None)
+pub test-passed : (b : Bool) (r : Refusal) (o : Option Refusal) → (if b then o else Some r) ≡ None → (b ≡ true) × (o ≡ None)
 test-passed true r o e = (refl, e)
 test-passed false r o e = absurd cc
 

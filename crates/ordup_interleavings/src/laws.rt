@@ -1,7 +1,7 @@
 ghost use Rattle.ordup_interleavings.specs.Calls.{CallsMakeHolds};
 ghost use Rattle.ordup_interleavings.specs.Promises.{HoldsAreRuns, LogsGrow, ProposalsHaveOneOrder, QueriesKeepTheirLimits, SessionsReadTheirWrites};
 ghost use Rattle.ordup_interleavings.specs.Promises.{SitesHaveFewestRounds, SitesHoldPrefixes, SitesKeepLimits};
-ghost use Rattle.ordup_interleavings.specs.Stores.{SuccessiveStoresHaveTheFewestRounds};
+ghost use Rattle.ordup_interleavings.specs.Stores.{SuccessiveStoresHaveTheFewestRounds, SuccessorsGoOn};
 
 // promise: after each hold of any list of holds a site holds the serial result of a prefix, with `reported <= known <= told <= applied <=
 // sent <= len`
@@ -75,7 +75,13 @@ pub fn calls_make_holds()
 /// A law: over stores each of which goes on from the one before, the rounds of a site are the fewest of any schedule that keeps its limits
 /// in all of them, up to each decided place of the whole, as its windows show.
 ///
-/// It holds of any primaries, so of those of closed clusters, each opened as the successor of the one before.
+/// It holds of any primaries, so by `successors_go_on` of those of closed clusters, each opened as the successor of the one before.
 pub fn successive_stores_have_the_fewest_rounds()
     ensures { SuccessiveStoresHaveTheFewestRounds }
+{}
+
+// promise: what was opened as the successor of a closed cluster goes on from it once it is closed
+/// A law: what was opened as the successor of a closed cluster, and is closed in turn, goes on from that one.
+pub fn successors_go_on()
+    ensures { SuccessorsGoOn }
 {}

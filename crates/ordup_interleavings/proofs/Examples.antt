@@ -1,6 +1,6 @@
 -- Short stories worked out by hand, and wrong steps: each breaks what the definitions say of it.
-use Rattle.std.proofs.Common.{◌≡◌, ℕ, ◌<◌, ◌≤◌, List, [], ◌∷◌, length, pos, refl, ap, arith, sym, ◌∙◌}
-use Rattle.std.specs.Prelude.{Some, None, codes, slice_get, slice_index_or}
+use Rattle.std.proofs.Common.{◌≡◌, ℕ, ◌<◌, ◌≤◌, List, [], ◌∷◌, length, pos, refl, ap, arith, sym, ◌∙◌, inl, inr}
+use Rattle.std.specs.Prelude.{All, Some, None, codes, slice_get, slice_index_or}
 use Rattle.ordup_objects.specs.declared.change.Change.{Change}
 use Rattle.ordup_objects.specs.declared.change.Op.TheVariants.{Add}
 use Rattle.ordup_objects.specs.declared.refusal.Refusal.TheVariants.{HeadPending}
@@ -23,7 +23,7 @@ use Rattle.ordup_site.specs.Sites.{SiteState}
 use Rattle.ordup_interleavings.specs.Moments.{Heard, Numbered, Acknowledged, Viewed, Moment, but_at}
 use Rattle.ordup_interleavings.specs.Kept.{IsFeed, IsKept}
 use Rattle.ordup_interleavings.specs.Holds.{Number, Hear, Relimit, View, MayNumber, Makes, Begins, Steps, with_book, with_number, with_heard}
-use Rattle.ordup_interleavings.specs.Promises.{furthest, StayTrue, HoldsItsPrefix, GrowsFrom}
+use Rattle.ordup_interleavings.specs.Promises.{furthest, StayTrue, HoldsItsPrefix, GrowsFrom, HasNumber, ComesLater, number_told}
 
 -- ---- a store of one site, worked out by hand
 
@@ -90,6 +90,19 @@ numbers-another : StayTrue (primary 1 1 1) (Numbered 2 up ∷ []) → ⊥
 numbers-another are =
     let is : more ≡ up = are.0.2 in
     absurd (let no : pos 1 ∷ [] ≡ pos 3 ∷ [] = ap (λ set. after set (pos 0 ∷ [])) is in cc)
+
+-- a set that is numbered later comes before one of which a session was told
+comes-before : (m n : Moment) → (m.sessions 0).heard ≡ Numbered 2 up ∷ [] → (m.sessions 1).heard ≡ [] → (n.sessions 1).heard ≡ Numbered 1 up ∷ []
+    → ComesLater m n → ⊥
+comes-before m n told none one later =
+    let has : HasNumber 1 (n.sessions 1).heard = rw one (inl refl) in
+    elim (later 0 1 1 has) [
+      | inl had ↦ absurd (rw none at had)
+      | inr above ↦
+          (let below : All (λ answer. number_told answer < 1) (Numbered 2 up ∷ []) = rw told at above in
+          let lt : 2 < 1 = below 0 (Numbered 2 up) (omega arith) in
+          absurd (omega (arith, lt)))
+    ]
 
 -- a session hears of an acknowledgement before the settlement
 hears-too-early : (old new : Moment) → old.book.primary.acked ≡ 0 → Makes old (Hear 0 1) new → ⊥

@@ -8,5 +8,6 @@ pub mod RefinementLemmas
 pub mod RunOfHoldsLemmas
 pub mod CallLemmas
 mod Examples
+mod StepExamples
 mod StoreLemmas
 mod StoreExamples

@@ -1,11 +1,12 @@
 -- What sessions are answered, from hold to hold.
-use Rattle.std.proofs.Common.{◌≡◌, ℕ, ◌+◌, ◌-◌, ◌<◌, ◌≤◌, ◌==◌, ◌⊎◌, List, [], ◌∷◌, length, max}
+use Rattle.std.proofs.Common.{◌≡◌, ℕ, ◌+◌, ◌-◌, ◌<◌, ◌≤◌, ◌==◌, ◌⊎◌, List, [], ◌∷◌, length, max, All}
 use Rattle.std.proofs.Common.{refl, sym, ap, ◌∙◌, arith, inl, inr}
 use Rattle.std.proofs.Math.ListN.{get_or-append}
 use Rattle.std.proofs.Math.Seq.{get_or-append_seam}
 use Rattle.std.proofs.lemmas.Bool.{cases_Bool, cases_eq, eq-eqb, ne_eqb}
 use Rattle.std.proofs.lemmas.Option.{slice_get_within}
 use Rattle.std.proofs.lemmas.List.{length_push, length-append}
+use Rattle.std.proofs.lemmas.List.Elements.{All-cons, All-nil}
 use Rattle.ordup_objects.specs.declared.change.Change.{Change}
 use Rattle.ordup_objects.specs.States.{State, value_at}
 use Rattle.ordup_objects.specs.Serial.{History, serial, set_at, with_more, with_update}
@@ -18,9 +19,11 @@ use Rattle.ordup_holds.specs.Numbering.{with_numbered}
 use Rattle.ordup_holds.proofs.BookLemmas.{keeps-numbered}
 use Rattle.ordup_interleavings.specs.Moments.{Heard, Numbered, Acknowledged, Viewed, Caller, Moment, but_at}
 use Rattle.ordup_interleavings.specs.Holds.{Hold, Number, NumberAndTurn, Turn, Hear, Relimit, Begin, Take, View, Read, Makes, Steps}
-use Rattle.ordup_interleavings.specs.Promises.{furthest, last_number, StaysTrue, StayTrue, KeepsSession, SessionsReadTheirWrites, HasNumber, ProposalsHaveOneOrder}
+use Rattle.ordup_interleavings.specs.Holds.{Leads, Along, last_moment}
+use Rattle.ordup_interleavings.specs.Promises.{furthest, last_number, StaysTrue, StayTrue, KeepsSession, SessionsReadTheirWrites, HasNumber}
+use Rattle.ordup_interleavings.specs.Promises.{IsStart, Always, number_told, ComesLater, ProposalsHaveOneOrder}
 use Rattle.ordup_interleavings.proofs.TurnLemmas.{there, turns, parts}
-use Rattle.ordup_interleavings.proofs.SoundLemmas.{IsSound, Grew, along}
+use Rattle.ordup_interleavings.proofs.SoundLemmas.{IsSound, Grew, along, along-from, last-sound, sound-start}
 use Rattle.ordup_interleavings.proofs.SiteLemmas.{prefix-at}
 
 -- what holds of a number's and of all others' holds of each
@@ -91,7 +94,7 @@ pub record Answered (old new : Moment) : Type 0 where
   pub sessions : new.sessions ≡ but_at old.sessions session (record { seen = seen; heard = answer ∷ (old.sessions session).heard })
   pub counts : seen ≡ furthest (answer ∷ (old.sessions session).heard)
   pub true : StaysTrue new.book.primary (old.sessions session).heard answer
-  pub fresh : (b k : ℕ) → HasNumber k (old.sessions b).heard → HasNumber k (answer ∷ []) → ⊥
+  pub later : (k : ℕ) → HasNumber k (answer ∷ []) → length old.book.primary.log.sets < k
 
 -- a set was numbered
 numbered : (old new : Moment) (a : ℕ) (set : List Change) → ((j : ℕ) → KeepsSession old.book.primary (old.sessions j))
@@ -116,11 +119,10 @@ numbered old new a set keeps log sessions =
       sessions = sessions;
       counts = (keeps a).seen;
       true = rw log (first, few, at);
-      fresh = λ b k has now. (let le = numbers-few p (old.sessions b).heard k (keeps b).heard has in
-          elim now [
-            | inl same ↦ absurd (omega (arith, same, le))
-            | inr none ↦ absurd none
-          ]);
+      later = λ k now. elim now [
+        | inl same ↦ omega (arith, same)
+        | inr none ↦ absurd none
+      ];
     }
 
 sessions-of : (new same : Moment) → new ≡ same → new.sessions ≡ same.sessions
@@ -147,7 +149,7 @@ answered d old (Hear a n) new is keeps makes = inr (record {
   sessions = sessions-of new _ makes.1;
   counts = ap (λ k. max k n) (keeps a).seen;
   true = rw (ap (λ (m : Moment). m.book.primary.acked) makes.1) makes.0;
-  fresh = λ b k has now. now;
+  later = λ k now. absurd now;
 })
 answered d old (Relimit s scope amount) new is keeps makes = inl (sessions-of new _ makes.1)
 answered d old (Begin q s limit) new is keeps makes = inl (sessions-of new _ makes.2)
@@ -176,7 +178,7 @@ answered d old (View a s x) new is keeps makes =
         omega (arith, at.applied, at.sent, applied),
         ap (λ (v : State). value_at v x) same,
       );
-      fresh = λ b k has now. now;
+      later = λ k now. absurd now;
     })
 answered d old (Read q x) new is keeps makes = inl (sessions-of new _ makes.7)
 
@@ -218,17 +220,24 @@ number-before f i seen answer j k has = elim (cases_eq j i) [
   | inr other ↦ inr (rw (ne_eqb j i other) at has)
 ]
 
-one-order-next : (old new : Moment) → OneOrder old → Answered old new → OneOrder new
-one-order-next old new order one a b k first second =
+-- no session had a number that is new
+fresh : (old new : Moment) (one : Answered old new) → ((j : ℕ) → KeepsSession old.book.primary (old.sessions j)) → (b k : ℕ)
+    → HasNumber k (old.sessions b).heard → HasNumber k (one.answer ∷ []) → ⊥
+fresh old new one keeps b k has now =
+    absurd (omega (arith, one.later k now, numbers-few old.book.primary (old.sessions b).heard k (keeps b).heard has))
+
+one-order-next : (old new : Moment) → ((j : ℕ) → KeepsSession old.book.primary (old.sessions j)) → OneOrder old → Answered old new
+    → OneOrder new
+one-order-next old new keeps order one a b k first second =
     let x = number-before old.sessions one.session one.seen one.answer a k (rw one.sessions at first) in
     let y = number-before old.sessions one.session one.seen one.answer b k (rw one.sessions at second) in
     elim x [
       | inl here ↦ elim y [
         | inl there ↦ here.0 ∙ sym there.0
-        | inr earlier ↦ absurd (one.fresh b k earlier here.1)
+        | inr earlier ↦ absurd (fresh old new one keeps b k earlier here.1)
       ]
       | inr before ↦ elim y [
-        | inl there ↦ absurd (one.fresh a k before there.1)
+        | inl there ↦ absurd (fresh old new one keeps a k before there.1)
         | inr earlier ↦ order a b k before earlier
       ]
     ]
@@ -243,16 +252,82 @@ order-next d old h new is after grew step keeps = (
   keeps-next d old h new is after grew step keeps.0,
   elim (answered d old h new is keeps.0 step.makes) [
     | inl same ↦ (λ a b k first second. keeps.1 a b k (rw same at first) (rw same at second))
-    | inr one ↦ one-order-next old new keeps.1 one
+    | inr one ↦ one-order-next old new keeps.0 keeps.1 one
   ],
 )
 
 no-number : (c : Caller) (k : ℕ) → c ≡ record { seen = 0; heard = [] } → HasNumber k c.heard → ⊥
 no-number c k is has = rw is at has
 
-pub proposals-have-one-order : ProposalsHaveOneOrder
-proposals-have-one-order =
+one-order : Always (λ d m. OneOrder m)
+one-order =
     along KeepsOrder _ order-next (λ d m is keeps. keeps.1) (λ d m start is. (
       λ j. rw (start.sessions j) (record { seen = refl; heard = tt }),
       λ a b k first second. absurd (no-number (m.sessions a) k (start.sessions a) first),
     ))
+
+-- ---- numbers that come later
+
+-- no answer tells a number above those of the log
+told-few : (p : PrimaryState) (heard : List Heard) (k : ℕ) → p.acked ≤ length p.log.sets → length p.log.sets < k → StayTrue p heard
+    → All (λ answer. number_told answer < k) heard
+told-few p [] k acked lt are = All-nil (λ answer. number_told answer < k)
+told-few p (Numbered n set ∷ before) k acked lt are =
+    All-cons (λ answer. number_told answer < k) (Numbered n set) before (omega (arith, lt, are.0.1)) (told-few p before k acked lt are.1)
+told-few p (Acknowledged n ∷ before) k acked lt are =
+    All-cons (λ answer. number_told answer < k) (Acknowledged n) before (omega (arith, acked, lt, are.0)) (told-few p before k acked lt are.1)
+told-few p (Viewed s x value applied ∷ before) k acked lt are =
+    All-cons (λ answer. number_told answer < k) (Viewed s x value applied) before (omega (arith, lt, are.0.1))
+    (told-few p before k acked lt are.1)
+
+-- what is kept from a moment m on: the sessions, a log that has not become shorter, and of each number that a session has that it had
+-- it at m, or that it is above those of the log at m
+pub record KeepsLater (m n : Moment) : Type 0 where
+  pub sessions : (j : ℕ) → KeepsSession n.book.primary (n.sessions j)
+  pub longer : length m.book.primary.log.sets ≤ length n.book.primary.log.sets
+  pub numbers : (b k : ℕ) → HasNumber k (n.sessions b).heard → HasNumber k (m.sessions b).heard ⊎ (length m.book.primary.log.sets < k)
+
+later-one : (m old new : Moment) → KeepsLater m old → Answered old new → (b k : ℕ) → HasNumber k (new.sessions b).heard
+    → HasNumber k (m.sessions b).heard ⊎ (length m.book.primary.log.sets < k)
+later-one m old new keeps one b k has =
+    elim (number-before old.sessions one.session one.seen one.answer b k (rw one.sessions at has)) [
+      | inl now ↦ inr (omega (arith, keeps.longer, one.later k now.1))
+      | inr before ↦ keeps.numbers b k before
+    ]
+
+later-next : (m : Moment) (d : Declared) (old : Moment) (h : Hold) (new : Moment) → IsSound d old → IsSound d new
+    → Grew old.book new.book → Steps old h new → KeepsLater m old → KeepsLater m new
+later-next m d old h new is after grew step keeps = record {
+  sessions = keeps-next d old h new is after grew step keeps.sessions;
+  longer =
+      omega (arith, keeps.longer, length-grown old.book.primary new.book.primary grew.more grew.log grew.acked);
+  numbers = elim (answered d old h new is keeps.sessions step.makes) [
+    | inl same ↦ (λ b k has. keeps.numbers b k (rw same at has))
+    | inr one ↦ later-one m old new keeps one
+  ];
+}
+
+-- at m nothing came later, and what each session was told is of the log
+later-gives : (d : Declared) (m n : Moment) → IsSound d m → ((j : ℕ) → KeepsSession m.book.primary (m.sessions j)) → KeepsLater m n
+    → ComesLater m n
+later-gives d m n is told keeps a b k has = elim (keeps.numbers b k has) [
+  | inl before ↦ inl before
+  | inr above ↦
+      inr (told-few m.book.primary (m.sessions a).heard k (omega (arith, is.primary.acked, is.primary.decided)) above (told a).heard)
+]
+
+at-last : (Fact : Moment → Type 0) (m : Moment) (holds : List (Hold × Moment)) → Along Fact m holds → Fact (last_moment m holds)
+at-last Fact m [] fact = fact
+at-last Fact m (x ∷ later) fact = at-last Fact x.1 later fact.1
+
+come-later : (d : Declared) (m n : Moment) (before later : List (Hold × Moment)) → IsStart d m → Leads m before
+    → n ≡ last_moment m before → Leads n later → Along (ComesLater n) n later
+come-later d m n before later start first same leads =
+    let is : IsSound d n = rw same (last-sound d m before (sound-start d m start) first) in
+    let told : (j : ℕ) → KeepsSession n.book.primary (n.sessions j) =
+    rw same (at-last (λ o. (j : ℕ) → KeepsSession o.book.primary (o.sessions j)) m before (sessions-read-their-writes d m before start first)) in
+    along-from (λ e o. KeepsLater n o) (λ e o. ComesLater n o) (later-next n) (λ e o sound keeps. later-gives d n o is told keeps) d n later is
+    (record { sessions = told; longer = omega arith; numbers = λ b k has. inl has }) leads
+
+pub proposals-have-one-order : ProposalsHaveOneOrder
+proposals-have-one-order = record { one = one-order; later = come-later }

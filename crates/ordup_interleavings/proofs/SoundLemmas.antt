@@ -97,12 +97,12 @@ grew-numbered b set is limits may = record {
 
 -- ---- limits
 
-or_none : (o p : Option Refusal) → option_or o p ≡ None → (o ≡ None) × (p ≡ None)
+pub or_none : (o p : Option Refusal) → option_or o p ≡ None → (o ≡ None) × (p ≡ None)
 or_none None p e = (refl, e)
 or_none (Some r) p e = absurd cc
 
 -- what a test decides, where one of its ends is no refusal
-test-passed : (b : Bool) (r : Refusal) (o : Option Refusal) → (if b then o else Some r) ≡ None → (b ≡ true) × (o ≡ None)
+pub test-passed : (b : Bool) (r : Refusal) (o : Option Refusal) → (if b then o else Some r) ≡ None → (b ≡ true) × (o ≡ None)
 test-passed true r o e = (refl, e)
 test-passed false r o e = absurd cc
 
@@ -280,7 +280,7 @@ module _ (Kept : Declared → Moment → Type 0) (Fact : Declared → Moment →
     (next : (d : Declared) (old : Moment) (h : Hold) (new : Moment) → IsSound d old → IsSound d new → Grew old.book new.book
     → Steps old h new → Kept d old → Kept d new)
     (gives : (d : Declared) (m : Moment) → IsSound d m → Kept d m → Fact d m) where
-  along-from : (d : Declared) (m : Moment) (holds : List (Hold × Moment)) → IsSound d m → Kept d m → Leads m holds
+  pub along-from : (d : Declared) (m : Moment) (holds : List (Hold × Moment)) → IsSound d m → Kept d m → Leads m holds
       → Along (Fact d) m holds
   along-from d m [] is kept leads = gives d m is kept
   along-from d m (x ∷ later) is kept leads =
@@ -300,7 +300,7 @@ always Fact gives =
 
 -- ---- logs
 
-last-sound : (d : Declared) (m : Moment) (holds : List (Hold × Moment)) → IsSound d m → Leads m holds → IsSound d (last_moment m holds)
+pub last-sound : (d : Declared) (m : Moment) (holds : List (Hold × Moment)) → IsSound d m → Leads m holds → IsSound d (last_moment m holds)
 last-sound d m [] is leads = is
 last-sound d m (x ∷ later) is leads = last-sound d x.1 later (sound-step d m x.0 x.1 is leads.0).0 leads.1
 

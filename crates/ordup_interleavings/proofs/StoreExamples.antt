@@ -1,7 +1,7 @@
 -- Two stores, worked out by hand, and wrong joins. The first begins with x at 0 and adds 5, 1 and 3. The limit on x is 5, so its second
 -- update has a round, and nothing is reported before that. The next store begins there, with x at 9, and adds 4 and 1. The limit is 4,
 -- and nothing is reported in time, so its second update has one too, at place 5 of both.
-use Rattle.std.proofs.Common.{◌≡◌, ℕ, ◌<◌, ◌≤◌, ◌-◌, Bool, true, false, List, [], ◌∷◌, length, pos, inl, inr, refl, arith}
+use Rattle.std.proofs.Common.{◌≡◌, ℕ, ◌<◌, ◌≤◌, ◌-◌, Bool, true, List, [], ◌∷◌, length, pos, inl, inr, refl, arith}
 use Rattle.std.specs.Prelude.{All, codes, if◌then◌else◌, nat_le, ◌||◌}
 use Rattle.std.proofs.lemmas.Bool.{agree_below, agree_below_at, false≢true, true≢false, leb-true, or_cases}
 use Rattle.ordup_objects.specs.declared.change.Change.{Change}

@@ -1,18 +1,22 @@
 -- The rounds of a site over stores that go on one from another: one join after another.
-use Rattle.std.proofs.Common.{◌≡◌, ◌+◌, ◌<◌, ◌∙◌, ℕ, List, [], ◌∷◌, length, arith, refl, ap, subst}
-use Rattle.std.specs.Prelude.{All}
+use Rattle.std.proofs.Common.{◌≡◌, ◌+◌, ◌<◌, ◌∙◌, ◌==◌, ℕ, None, List, [], ◌∷◌, length, arith, refl, ap, subst}
+use Rattle.std.proofs.lemmas.Bool.{eqb-true}
 use Rattle.std.proofs.lemmas.List.Elements.{All-tail}
 use Rattle.ordup_objects.specs.Joins.{BeginsAtEnd}
 use Rattle.ordup_log.specs.Groups.{GroupList}
 use Rattle.ordup_limits.specs.Limits.{within}
 use Rattle.ordup_limits.proofs.JoinLemmas.{limits_by_place_are_tests, tests_join}
+use Rattle.ordup_objects.specs.declared.refusal.Refusal.TheVariants.{NotYet}
 use Rattle.ordup_primary.specs.Primaries.{IsPrimary, PrimaryState}
+use Rattle.ordup_primary.specs.Successors.{successor_refusal}
 use Rattle.ordup_primary.proofs.PrimaryLemmas.{HasFewestRounds-sound}
+use Rattle.ordup_cluster.specs.Clusters.{count_at_end, count_refusal}
 use Rattle.ordup_record.specs.Successive.{GoesOn}
 use Rattle.ordup_rounds.specs.Fewest.{AreFewest}
 use Rattle.ordup_rounds.proofs.JoinLemmas.{fewest_rounds_join}
 use Rattle.ordup_series.specs.Series.{Whole, is_within, joined_wholes, length_of}
-use Rattle.ordup_interleavings.specs.Stores.{SuccessiveStoresHaveTheFewestRounds, decided_in, whole_of_store, whole_of_stores}
+use Rattle.ordup_interleavings.specs.Stores.{SuccessiveStoresHaveTheFewestRounds, SuccessorsGoOn, decided_in, whole_of_store, whole_of_stores}
+use Rattle.ordup_interleavings.proofs.SoundLemmas.{or_none, test-passed}
 
 -- the whole begins as its first store does
 begins-as_first : (s : ℕ) (p : PrimaryState) (more : List PrimaryState) → (whole_of_stores s p more).history.start ≡ p.log.start
@@ -54,3 +58,17 @@ successive_stores_have_the_fewest_rounds s p (q ∷ more) are there (first, rest
     let begins : BeginsAtEnd p.log (whole_of_stores s q more).history = begins-as_first s q more ∙ next.start ∙ first.values in
     fewest-joined (whole_of_store s p) (whole_of_stores s q more) (decided_in q more) begins (groups-of_first s q more ∙ first.groups) one
     (successive_stores_have_the_fewest_rounds s q more (All-tail IsPrimary p (q ∷ more) are) (has-site p q s here next first there) rest)
+
+-- ---- clusters
+
+pub successors-go-on : SuccessorsGoOn
+successors-go-on p q c e is same =
+    let n = length p.primary.log.sets in
+    let passed = or_none (count_refusal (count_at_end p)) (successor_refusal p.primary) e in
+    record {
+      acked = eqb-true p.primary.acked n (test-passed (p.primary.acked == n) (NotYet n) None passed.1).0;
+      objects = rw same is.objects;
+      values = rw same is.values;
+      groups = rw same is.groups;
+      sites = rw same is.sites;
+    }

@@ -150,10 +150,22 @@ HasNumber k [] = ⊥
 HasNumber k (Numbered number set ∷ before) = (number ≡ k) ⊎ HasNumber k before
 HasNumber k (_ ∷ before) = HasNumber k before
 
--- no number was answered to two sessions
-abbrev pub ProposalsHaveOneOrder : Type 0
-ProposalsHaveOneOrder =
-    Always (λ d m. (a b k : ℕ) → HasNumber k (m.sessions a).heard → HasNumber k (m.sessions b).heard → a ≡ b)
+-- the number that an answer tells: of its set, of an acknowledged update, or of the last update in a state
+abbrev pub number_told : Heard → ℕ
+number_told (Numbered number set) = number
+number_told (Acknowledged number) = number
+number_told (Viewed s x value applied) = applied
+
+-- A number that a session has at a later moment n it had at m; or it is greater than all that any session had been told at m.
+abbrev pub ComesLater : Moment → Moment → Type 0
+ComesLater m n = (a b k : ℕ) → HasNumber k (n.sessions b).heard
+    → HasNumber k (m.sessions b).heard ⊎ All (λ answer. number_told answer < k) (m.sessions a).heard
+
+-- No number was answered to two sessions. A set that is numbered after any session was told a number has a greater one.
+pub record ProposalsHaveOneOrder : Type 0 where
+  pub one : Always (λ d m. (a b k : ℕ) → HasNumber k (m.sessions a).heard → HasNumber k (m.sessions b).heard → a ≡ b)
+  pub later : (d : Declared) (m n : Moment) (before later : List (Hold × Moment)) → IsStart d m → Leads m before
+      → n ≡ last_moment m before → Leads n later → Along (ComesLater n) n later
 
 -- updates are only added to the log, and what is acknowledged stays so
 pub record GrowsFrom (m n : Moment) : Type 0 where

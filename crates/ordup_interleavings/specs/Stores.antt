@@ -1,8 +1,9 @@
 -- What there was of a site over stores that go on one from another, and its rounds in all of them.
-use Rattle.std.specs.Prelude.{◌+◌, ◌<◌, ℕ, List, [], ◌∷◌, length, All}
+use Rattle.std.specs.Prelude.{◌≡◌, ◌+◌, ◌<◌, ℕ, None, List, [], ◌∷◌, length, All}
 use Rattle.ordup_limits.specs.Entries.{in_force}
 use Rattle.ordup_primary.specs.Primaries.{IsPrimary, PrimaryState, limits_at, progress_at, reported_at}
-use Rattle.ordup_record.specs.Successive.{AreSuccessive}
+use Rattle.ordup_cluster.specs.Clusters.{ClosedState, ClusterState, IsSuccessor, closed_successor_refusal}
+use Rattle.ordup_record.specs.Successive.{AreSuccessive, GoesOn}
 use Rattle.ordup_rounds.specs.Fewest.{AreFewest}
 use Rattle.ordup_series.specs.Series.{Whole, is_within, joined_wholes}
 
@@ -33,3 +34,9 @@ SuccessiveStoresHaveTheFewestRounds =
     (s : ℕ) (p : PrimaryState) (more : List PrimaryState) → All IsPrimary (p ∷ more) → s < length p.sites → AreSuccessive p more →
     AreFewest (is_within (whole_of_stores s p more)) (whole_of_stores s p more).reported_at (decided_in p more)
     (whole_of_stores s p more).rounds (whole_of_stores s p more).windows
+
+-- where a closed cluster is not refused a successor, what that was when it was closed goes on from it
+abbrev pub SuccessorsGoOn : Type 0
+SuccessorsGoOn =
+    (p q : ClosedState) (c : ClusterState) → closed_successor_refusal p ≡ None → IsSuccessor p c → q.primary.setup ≡ c.start
+    → GoesOn p.primary q.primary

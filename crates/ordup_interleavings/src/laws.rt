@@ -1,7 +1,7 @@
 ghost use Rattle.ordup_interleavings.specs.Calls.{CallsMakeHolds};
 ghost use Rattle.ordup_interleavings.specs.Promises.{HoldsAreRuns, LogsGrow, ProposalsHaveOneOrder, QueriesKeepTheirLimits, SessionsReadTheirWrites};
 ghost use Rattle.ordup_interleavings.specs.Promises.{SitesHaveFewestRounds, SitesHoldPrefixes, SitesKeepLimits};
-ghost use Rattle.ordup_interleavings.specs.Stores.{SuccessiveStoresHaveTheFewestRounds};
+ghost use Rattle.ordup_interleavings.specs.Stores.{SuccessiveStoresHaveTheFewestRounds, SuccessorsGoOn};
 
 // promise: after each hold of any list of holds a site holds the serial result of a prefix, with `reported <= known <= told <= applied <=
 // sent <= len`
@@ -39,8 +39,10 @@ pub fn sessions_read_their_writes()
     ensures { SessionsReadTheirWrites }
 {}
 
-// promise: in any list of holds no number is answered to two proposals
-/// A law: after each hold of any list of holds, no number was answered to two sessions; those of one session rise.
+// promise: in any list of holds no number is answered to two proposals, and a proposal that begins after another was answered has the
+// greater number
+/// A law: after each hold of any list of holds, no number was answered to two sessions; and a set that is numbered after any session was
+/// told a number, of its own set, of an acknowledged update or of a state, has a greater one.
 ///
 /// So proposals have one order, that of their numbers: one that began after another one was answered has the greater number.
 pub fn proposals_have_one_order()
@@ -73,7 +75,13 @@ pub fn calls_make_holds()
 /// A law: over stores each of which goes on from the one before, the rounds of a site are the fewest of any schedule that keeps its limits
 /// in all of them, up to each decided place of the whole, as its windows show.
 ///
-/// It holds of any primaries, so of those of closed clusters, each opened as the successor of the one before.
+/// It holds of any primaries, so by `successors_go_on` of those of closed clusters, each opened as the successor of the one before.
 pub fn successive_stores_have_the_fewest_rounds()
     ensures { SuccessiveStoresHaveTheFewestRounds }
+{}
+
+// promise: what was opened as the successor of a closed cluster goes on from it once it is closed
+/// A law: what was opened as the successor of a closed cluster, and is closed in turn, goes on from that one.
+pub fn successors_go_on()
+    ensures { SuccessorsGoOn }
 {}

@@ -10,7 +10,8 @@
 //! a turn, which counts as made at its settlements: its looks found what the site told by then, or less, and what it pushes is taken
 //! later.
 //!
-//! Stores of which each goes on from the one before are one whole, whatever led each to its end.
+//! Stores of which each goes on from the one before are one whole, whatever led each to its end. The successor of a closed cluster
+//! goes on from it.
 //!
 //! Not said here: that the calls of a cluster make these holds and no others.
 #![tactic(auto)]
@@ -21,4 +22,5 @@ pub use laws::{
     calls_make_holds, holds_are_runs, logs_grow, proposals_have_one_order,
     queries_keep_their_limits, sessions_read_their_writes, sites_have_the_fewest_rounds,
     sites_hold_prefixes, sites_keep_limits, successive_stores_have_the_fewest_rounds,
+    successors_go_on,
 };

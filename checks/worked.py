@@ -275,7 +275,7 @@ WORKED = [
     ("calls that take no memory", "crates/tests_of_calls_without_memory/src/readers.rt",
      "fn the_readers_of_a_primary_take_no_memory"),
     ("values, sites, queries and records that take no memory", "crates/tests_of_calls_without_memory/src/values.rt",
-     "fn values_sites_queries_and_records_take_no_memory"),
+     "fn values_conditions_sites_queries_and_records_take_no_memory"),
     ("steps that take no memory", "crates/tests_of_calls_without_memory/src/steps.rt", "fn a_world_is_stepped_without_memory",
      "fn a_primary_notes_what_is_sent_and_reported_without_memory"),
     ("ledgers that take no memory", "crates/tests_of_calls_without_memory/src/ledgers.rt", "fn ledgers_take_no_memory"),

@@ -100,6 +100,8 @@ WORKED = [
      "propose add:x:9 -> ok proposed 2", "settle -> ok round 2 a", "certify a -> ok certified a 1 1-2"),
     # ---- lines
     ("a line that is too long", OF_SCRIPTS + "scripts/script.rt", "4097", "refused 1 Syntax\\nrefused 1 Syntax\\n"),
+    ("a line that is too long, and the next one", OUTSIDE, 'lines("object x 0") + line + lines("", "object y 1")',
+     '"ok object x", "refused 1 Syntax", "ok object y"'),
     ("a command in a line of the most bytes, and in one of one more", OUTSIDE,
      'for count, answer in ((4_096, "ok object x"), (4_097, "refused 1 Syntax")):'),
     ("a line of blanks at its edge", OUTSIDE, '(b" ", "spaces")', "for count in (4_096, 4_097)", "count == 4_096 else"),

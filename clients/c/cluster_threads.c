@@ -176,7 +176,7 @@ static void *count_all(void *none) {
 static void open_first(void) {
     ordup_setup setup = ORDUP_SETUP;
     uint32_t id;
-    char name[8];
+    char name[16];
     MUST(ordup_setup_open(&setup) == ORDUP_DONE);
     for (int i = 0; i < OBJECTS; i++)
         MUST(ordup_setup_object(&setup, name, (size_t)sprintf(name, "x%d", i), 0, &id) == ORDUP_DONE && id == (uint32_t)i);

@@ -33,10 +33,10 @@
  * - Any thread may make any call at any time, but `open`, `start`, `join`, `close`, `successor` and `free`: those of one cluster are made
  *   by one thread, and nobody calls a cluster that is being freed. One thread at a time uses a session or a query.
  * - No pointer is null, unless for an array of no elements, and none overlap.
- * - No call is made while another takes a lock of its own in a signal handler, or in the forked child of a process: there a cluster is
- *   lost, and only `exec` or `_exit` is left. A signal ends no wait.
- * - No call is a point of cancellation: a thread that is cancelled ends after it. So deferred cancellation, as threads begin with, does no
- *   harm. The other kind is not allowed in any of them.
+ * - No call is made from a signal handler, or in the forked child of a process: the clusters of the parent are lost there, and have no
+ *   threads. A signal that comes while a call waits does not end the wait.
+ * - No call is a point of cancellation: a thread that is cancelled ends after the call. So deferred cancellation does no harm, which is how
+ *   threads begin. A thread with asynchronous cancellation makes no call.
  * - A call has 128 KB of stack.
  *
  * Who waits sleeps, and what it waits for wakes it. A cluster at rest takes no time of a processor. Times are in milliseconds, of a clock

@@ -7,21 +7,12 @@
    are. What is local to a thread, or under a lock that it has, belongs to the step before it. With FINE, a wait and a ring have the
    steps of the code too. Without it each is one step.
 
-   SITES sites, 1 or 2, with feeds of CAPACITY. For each update that is decided any of the sites are picked that have not reported
-   it, and it waits for them: so all limits are tried. So many turns as REFUSALS are refused memory. With BACKOFF an applier makes
-   turns without a key too, as before its backoff is completed.
+   book.pml has the book, and the sizes of sites. With BACKOFF an applier makes turns without a key too, as before its backoff is
+   completed.
 
    A comment with the name of a function says for which of its steps a line stands: checks/waking/steps. */
 
-#ifndef SITES
-#define SITES 1
-#endif
-#ifndef CAPACITY
-#define CAPACITY 1
-#endif
-#ifndef REFUSALS
-#define REFUSALS 0
-#endif
+#include "book.pml"
 
 /* A count that a sleeper compares with what it was. The comparison says only whether it moved, so there is a bit for each thread:
    whether the count moved since the thread read it. `waiters` tells how many are counted as sleepers, and `asleep` has a bit for
@@ -32,23 +23,20 @@ Count sent;    /* an `EventCount`: appliers sleep on it */
 Count told;    /* a `Bell`: the head's caller, readers and the keeper sleep on it */
 Count heads[NUMBERS]; /* a `Bell` for each number: a caller sleeps on that of its update until that is the head */
 
-/* The book, under its lock. */
-bool book;
-byte numbered, acked;
-bool decided;          /* the head is decided, and waits for the sites of these bits */
-byte waits_for;
-byte reported[SITES];
-byte pushed[SITES];    /* how many updates were put into each feed */
-
 /* Of each site: how many updates it took from its feed, and how many it told. The applier has the lock of the site between the two. */
 byte taken[SITES], tells[SITES];
+
+#if SITES == 1
+#define ALL_APPLIED (tells[0] == numbered)
+#else
+#define ALL_APPLIED (tells[0] == numbered && tells[1] == numbered)
+#endif
 
 bool stopped;
 byte noted;            /* how many updates the log has, for those that have no lock */
 byte due = 255;        /* so many updates are wanted, and so many the keeper waits for */
 byte kept = 255;
 byte acked_told;       /* how many updates are acknowledged, for those that have no lock */
-byte refusals;
 
 /* ---- crossbeam_utils::sync::EventCount, and the Bell ---- */
 
@@ -138,51 +126,6 @@ inline wait(bell, me) { bell.moved & me }
 #endif
 
 /* ---- the book ---- */
-
-#if SITES == 1
-#define SOME_UNSENT (pushed[0] < numbered)
-#define ALL_APPLIED (tells[0] == numbered)
-#else
-#define SOME_UNSENT (pushed[0] < numbered || pushed[1] < numbered)
-#define ALL_APPLIED (tells[0] == numbered && tells[1] == numbered)
-#endif
-
-#ifdef KEEPER_SETTLES_ALONE
-#define SOME_TO_DO (acked < numbered)
-#else
-#define SOME_TO_DO (acked < numbered || SOME_UNSENT)
-#endif
-
-/* The last update that a site may be sent: the head where it waits for the site, and else the last one. */
-#define LAST_TO_SEND ((waits_for & (1 << site)) -> acked + 1 : numbered)
-
-/* Settlements while they acknowledge the head. */
-inline settle_all() {
-    do
-    :: acked == numbered -> break
-    :: acked < numbered ->
-        site = 0;
-        do
-        :: site == SITES -> break
-        :: site < SITES && !decided && reported[site] <= acked -> waits_for = waits_for | (1 << site); site++
-        :: site < SITES && (!decided || reported[site] <= acked) -> site++
-        :: site < SITES && decided && reported[site] > acked -> waits_for = waits_for & ~(1 << site); site++
-        od;
-        decided = true;
-        if
-        :: waits_for == 0 -> acked++; decided = false
-        :: else -> break
-        fi
-    od;
-    site = 0
-}
-
-inline to_next_unsent() {
-    do
-    :: site < SITES && pushed[site] >= LAST_TO_SEND -> site++
-    :: else -> break
-    od
-}
 
 /* A turn is a hold of the lock of the book: a look at each site, settlements, and what may be sent. Where it is refused memory it
    sends no more. `begin_turn` belongs to the step that takes the lock, and `end_turn` gives it back. */

@@ -25,11 +25,12 @@ import subprocess
 import sys
 from pathlib import Path
 
-ROOTS = ("ordup_cli", "ordup_c")
+ROOTS = ("ordup_cli", "ordup_c", "ordup_shared")
 # What the kit makes of a library beside its functions: closures, methods that a trait declares, and the drop of nothing.
 NOT_COUNTED = re.compile(r"::fn::|\+decl$|Destruct\+\+none::drop$")
 # What is installed, with the names that it has in out/.
-FILES = {"bin/ordup": "ordup", "lib/libordup.so": "libordup.so", "lib/libordup.a": "libordup.a", "include/ordup.h": "ordup.h"}
+FILES = {"bin/ordup": "ordup", "lib/libordup.so": "libordup.so", "lib/libordup.a": "libordup.a",
+         **{f"include/{it}": it for it in ("ordup.h", "ordup_cluster.h", "ordup_holds.h")}}
 
 
 class Unknown(Exception):

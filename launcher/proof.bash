@@ -5,16 +5,17 @@
 
 . "${BASH_SOURCE[0]%/*}/sources.bash"
 
-# Aims at the proof of the program or of the library: its crate, what it makes, the files beside the crates that this is made of, the
+# Aims at the proof of the program or of the library: its crate, and one beside it, what it makes, the files beside the crates that this is made of, the
 # folder in which it tells how far it is, and how it is spoken of.
 aim_at() {
     aim=$1
     case $aim in
     program)
-        crate=ordup_cli makes=("$program") others=() told=$out of= gives=answer
+        crate=ordup_cli beside=() makes=("$program") others=() told=$out of= gives=answer
         ;;
     library)
-        crate=ordup_c makes=("$out"/{libordup.a,libordup.so,ordup.h}) others=(clients/c/{build,ordup.h})
+        crate=ordup_c beside=(ordup_shared) makes=("$out"/{libordup.a,libordup.so,ordup.h,ordup_cluster.h,ordup_holds.h})
+        others=(clients/c/{build,ordup.h,ordup_cluster.h,ordup_holds.h,ordup_cluster.c})
         told=$out/library of=' of the library' gives=library
         ;;
     esac

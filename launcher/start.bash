@@ -67,13 +67,17 @@ build_library() {
         done
         wait_for_proof
     fi
-    say "the library is in $out: libordup.a, libordup.so and ordup.h"
+    say "the library is in $out: libordup.a, libordup.so, ordup.h and ordup_cluster.h"
 }
 
 # Whether the folder of the proof still tells what was proved of what was made.
 tells_of_proof() {
-    [[ -s $told/kit ]] && grep -q '^logic=proved ' -- "$folder/$crate/said" &&
-        { [[ $aim == library ]] || cmp -s -- "$folder/$crate/crates/$crate/out/$crate" "$program"; }
+    local it
+    [[ -s $told/kit ]] || return
+    for it in "$crate" "${beside[@]}"; do
+        grep -q '^logic=proved ' -- "$folder/$it/said" || return
+    done
+    [[ $aim == library ]] || cmp -s -- "$folder/$crate/crates/$crate/out/$crate" "$program"
 } 2>/dev/null
 
 # Builds ordup-node over the library, if Go is there, and names the program: `node`.

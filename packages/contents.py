@@ -81,6 +81,10 @@ def pages():
     return {str(it.relative_to(TOP)): it.read_bytes() for it in found}
 
 
+# The headers of the library: of the store that takes lines, of the cluster that threads share, and of what that stands on.
+HEADERS = "ordup.h", "ordup_cluster.h", "ordup_holds.h"
+
+
 class Contents:
     """What the packages hold, of a program, of the folder of its library, and of the account of their proof."""
 
@@ -89,15 +93,15 @@ class Contents:
         self.program, self.proof = Path(program).read_bytes(), Path(proof).read_bytes()
         self.archive, self.shared = (Path(library, it).read_bytes() for it in ("libordup.a", "libordup.so"))
         self.soname = re.search(rb"\0(libordup\.so\.\d+)\0", self.shared)[1].decode("ascii")
-        self.header = Path(library, "ordup.h").read_text(encoding="utf-8")
-        self.summary = summary_of(self.header)
+        self.headers = {it: Path(library, it).read_text(encoding="utf-8") for it in HEADERS}
+        self.summary = summary_of(self.headers["ordup.h"])
         self.commands = manual.usage((TOP / "docs/FORMATS.md").read_text(encoding="utf-8"))
         jobs = dict.fromkeys(it.split()[1] for it, _ in self.commands if not it.split()[1].startswith("-"))
         helps = {name: said_by(program, *name.split(), "--help") for name in ["", *jobs]}
         told = (epoch, self.version, self.summary)
         self.pages_of_manual = {
             "man1/ordup.1": manual.page_of_program(helps, self.commands, *told).encode("utf-8"),
-            "man3/ordup.3": manual.page_of_library(self.header, *told).encode("utf-8"),
+            **{f"man3/{it}.3": manual.page_of_library(it, self.headers[f"{it}.h"], *told).encode("utf-8") for it in ("ordup", "ordup_cluster")},
         }
 
     def below(self, library="lib", where=WHERE_IT_LIES, pack=None):
@@ -108,7 +112,7 @@ class Contents:
             f"{library}/libordup.so": self.soname,
             f"{library}/libordup.a": self.archive,
             f"{library}/pkgconfig/ordup.pc": config.encode("utf-8"),
-            "include/ordup.h": self.header.encode("utf-8"),
+            **{f"include/{name}": text.encode("utf-8") for name, text in self.headers.items()},
             "share/bash-completion/completions/ordup": completion(self.commands).encode("utf-8"),
             "share/ordup/proof": self.proof,
             "share/doc/ordup/copyright": (TOP / "packages/copyright").read_bytes(),

@@ -111,18 +111,21 @@ def comment_of(text):
     return "\n".join(re.sub(r"^ \* ?", "", line) for line in text.split("\n"))
 
 
-def page_of_library(header, epoch, version, summary):
-    """ordup(3): each comment of the header, with the declaration that it stands above."""
+def page_of_library(name, header, epoch, version, summary):
+    """A page of section 3: each comment of a header, with the declaration that it stands above."""
     opening = re.match(r"/\*(.*?)\*/", header, re.S)[1]
     declared = header.partition('extern "C" {\n#endif\n')[2].partition("#ifdef __cplusplus\n}")[0]
     chunks = re.findall(r"^/\* ?(.*?) ?\*/\n(.*?)(?=^/\*|\Z)", declared, re.M | re.S)
     calls = [re.sub(r"\s+", " ", code).strip() for _, code in chunks if re.match(r"\w+ ordup_\w+\(", code)]
-    made = head("ordup", 3, epoch, version, summary) + ".SH SYNOPSIS\n.nf\n#include <ordup.h>\n"
+    made = head(name, 3, epoch, version, summary) + f".SH SYNOPSIS\n.nf\n#include <{name}.h>\n"
     made += "".join(f"\n{roff(it)}" for it in calls)
     made += "\n\ncc FILE.c $(pkg\\-config \\-\\-cflags \\-\\-libs ordup)\n.fi\n.SH DESCRIPTION\n"
     made += paragraphs(comment_of(opening).partition("\n")[2])
     for comment, code in chunks:
         lines = code.strip("\n").split("\n")
+        if not code.strip():
+            made += f".SS {roff(comment.strip('- '))}\n"
+            continue
         named = re.search(r"^(?:#define|typedef struct|\w+) (ORDUP_\w+|ordup_\w+)|^(enum)", lines[0])
         made += f".SS {named[1] or 'Statuses'}\n" + literal(lines) + paragraphs(comment_of(comment))
     return made + ".SH SEE ALSO\n.BR ordup (1)\n"

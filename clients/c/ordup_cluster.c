@@ -654,9 +654,8 @@ uint32_t ordup_cluster_query_read(ordup_query *query, uint32_t object, ordup_cha
     uint32_t status = ordup_query_read(&query->handle, &here->handle, object, &answer);
     pthread_mutex_unlock(&here->lock);
     if (status == ORDUP_DONE) {
-        out->value = answer.value;
-        out->import = answer.import;
-        out->total = answer.total;
+        answer.place += query->before;
+        *out = answer;
     }
     return status;
 }

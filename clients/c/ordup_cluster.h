@@ -208,7 +208,8 @@ uint32_t ordup_cluster_read_many_when_level(ordup_cluster *cluster, ordup_sessio
  * OPEN: `query` is one that has not ended. REFUSED_UNKNOWN_SITE, REFUSED_OUT_OF_RANGE for the limit, REFUSED_NO_MEMORY. */
 uint32_t ordup_cluster_begin(ordup_cluster *cluster, uint32_t site, uint64_t import_limit, ordup_query *query);
 
-/* Reads an object for a query: its value, what that imports, and what all reads of the query import. Of `out` these three are written.
+/* Reads an object for a query: its value, what that imports, what all reads of the query import, how many updates were acknowledged as it
+ * began, and how many reads it made.
  *
  * CLOSED: `query` is none. REFUSED_UNKNOWN_OBJECT, REFUSED_TOO_MANY after 256 reads, REFUSED_OVER_IMPORT. */
 uint32_t ordup_cluster_query_read(ordup_query *query, uint32_t object, ordup_charged *out);

@@ -1,5 +1,5 @@
 -- What a read of a query answers, whose place counts the updates before its store.
-use Rattle.std.proofs.Common.{◌≡◌, ◌<◌, ◌+◌, ℕ, length, Some, Ok, Err, inr, IfErr}
+use Rattle.std.proofs.Common.{◌≡◌, ◌<◌, ℕ, length, Some, Ok, Err, inr, IfErr}
 use Rattle.std.specs.Prelude.{Result}
 use Rattle.ordup_objects.specs.declared.refusal.Refusal.{Refusal}
 use Rattle.ordup_site.specs.Sites.{SiteState}

@@ -10,7 +10,6 @@ use Rattle.ordup_objects.specs.Refusals.{IsRefusal}
 use Rattle.ordup_objects.specs.Serial.{History, serial, with_update}
 use Rattle.ordup_objects.specs.States.{after}
 use Rattle.ordup_objects.specs.Sets.{are_known}
-use Rattle.ordup_log.specs.Appending.{append_refusal}
 use Rattle.ordup_log.specs.declared.scope.Scope.{Scope}
 use Rattle.ordup_limits.specs.Limits.{scope_refusal}
 use Rattle.ordup_primary.specs.LimitChanges.{limit_change_refusal}

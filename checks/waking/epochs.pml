@@ -244,6 +244,7 @@ inline start_if_wanted(me) {
     visits.alone = false
 }
 
+/* The archive has the epoch that ended for any time, and no lock: it is as if this thread were slow. */
 proctype keep() {
     byte site, known, until, was_acked;
     bool ending, refused, wants_successor, sent_more;
@@ -269,9 +270,10 @@ proctype keep() {
                                                      /* Epochs::wants_successor: self.is_wanted */ /* Epochs::is_wanted: self.is_full */
         if
         :: !wants_successor -> wait_by_key(started, SLEEPING_KEEP)   /* Epochs::keep: key.wait */
-        :: wants_successor ->                        /* Epochs::keep: self.has_started_successor */
+        :: wants_successor ->                        /* Epochs::keep: self.try_to_start */
             wants_successor = false;
-            start_if_wanted(KEEP)                    /* Epochs::has_started_successor: self.start_if_wanted */
+            start_if_wanted(KEEP)                    /* Epochs::try_to_start: self.start_if_wanted */
+                                                     /* Epochs::keep: archive.add */
         fi
     od;
     drop_key(started, SLEEPING_KEEP);

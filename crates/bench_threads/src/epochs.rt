@@ -3,7 +3,7 @@ use crate::job::{Done, Job};
 use crate::store::{TURNS, declare, next_set, now};
 use anyhow::Result;
 use ordup_cluster::{OpenGate, Session};
-use ordup_epochs::Epochs;
+use ordup_epochs::{Epochs, NoArchive};
 use ordup_objects::SiteId;
 use ordup_primary::Setup;
 use std::alloc::Global;
@@ -68,7 +68,9 @@ fn serve<R: Threads + Wait + Clock + Sync>(
         for site in 0..job.sites {
             let _ = scope.spawn(move || -> u64 { apply_at(rt, epochs, site) });
         }
-        let _ = scope.spawn(move || -> u64 { epochs.keep(rt, alloc, TURNS).unwrap_or(0) });
+        let _ = scope.spawn(move || -> u64 {
+            epochs.keep(rt, alloc, TURNS, &mut NoArchive).unwrap_or(0)
+        });
         let began = now(rt);
         let count = call_in_threads(rt, epochs, job);
         let nanos = now(rt).saturating_sub(began);

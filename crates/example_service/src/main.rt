@@ -4,7 +4,7 @@
 
 use anyhow::{Result, bail};
 use ordup_cluster::{Closed, OpenGate, Session};
-use ordup_epochs::Epochs;
+use ordup_epochs::{Epochs, NoArchive};
 use ordup_limits::Scope;
 use ordup_objects::{Change, MessageSet, ObjectId, ObjectTable, Op, Refusal, SiteId};
 use ordup_primary::Setup;
@@ -72,7 +72,7 @@ fn follow<R: Threads + Wait + Clock + Sync>(
 ) -> Result<u64, Refusal> {
     let (started, _) = thread::join(
         rt,
-        move || epochs.keep(rt, alloc, TURNS),
+        move || epochs.keep(rt, alloc, TURNS, &mut NoArchive),
         move || apply(rt, epochs),
     );
     started

@@ -1,1 +1,2 @@
+pub mod Archives
 pub mod Stages

@@ -1,10 +1,12 @@
-ghost use Rattle.std.specs.Prelude.{◌≡◌, ◌↔◌, ℕ, ◌+◌, ◌≤◌, None, IsTrue, true, false, max, min, IfOk, OnOk, IfErr};
+ghost use Rattle.std.specs.Prelude.{◌≡◌, ◌↔◌, ℕ, ◌+◌, ◌≤◌, None, IsTrue, true, false, max, min, List, length, IfOk, OnOk, IfErr, IfSome};
 ghost use Rattle.ordup_objects.specs.Refusals.{IsRefusal};
 ghost use Rattle.ordup_objects.specs.Sizes.{most_updates};
 ghost use Rattle.ordup_primary.specs.Declarations.{start_refusal};
-ghost use Rattle.ordup_cluster.specs.Clusters.{IsClosed, closed_successor_refusal};
+ghost use Rattle.ordup_cluster.specs.Clusters.{ClosedState, IsClosed, closed_successor_refusal};
+ghost use Rattle.ordup_epochs.specs.Archives.{ArchivesAll, IsFollowed};
 ghost use Rattle.ordup_epochs.specs.Stages.{IsVisited, is_open, IsNotSettled, IsStartRefusal};
 
+use crate::archive::Archive;
 use crate::stage::Stage;
 use crate::visit::Visit;
 use crossbeam_utils::sync::{EventCount, Key};
@@ -244,16 +246,25 @@ impl Epochs {
         }
     }
 
-    // waits: as `keeper`, and as `start_successor` for each successor | until `stop`. After a refused one it sleeps for a millisecond
+    // waits: as `keeper`, as `start_successor` for each successor, and then as the archive | until `stop`. After a refused one it
+    // sleeps for a millisecond
     // promise refused: of all refusals only `Mixed` ends `keep`
+    // promise archived: `keep` counts what it puts into the archive, each closed and acknowledged, and changes it by nothing else
     /// Starts a successor whenever the epoch that is open has its updates, until `stop`, and is the keeper of each epoch, as
-    /// `Cluster::keeper`. It answers how many it started, and drops what has ended: who wants the records calls `start_successor`.
-    /// It runs in a thread of its own.
+    /// `Cluster::keeper`. It puts each epoch that it ended into the archive, and answers how many these were. It runs in a thread of
+    /// its own.
     ///
     /// Where a successor is refused it tries again later. It is refused `Mixed` alone, once there are no more epochs.
-    pub fn keep<R: Wait + Clock>(&self, rt: &R, alloc: Global, turns: u64) -> Result<u64, Refusal>
+    pub fn keep<A: Archive, R: Wait + Clock>(
+        &self,
+        rt: &R,
+        alloc: Global,
+        turns: u64,
+        archive: &mut A,
+    ) -> Result<u64, Refusal>
         requires { 1 ≤ turns }
         ensures refused { IfErr result (λ e. (site : ℕ) × (e ≡ Refusal.Mixed site)) }
+        ensures archived { (all : List ClosedState) × ArchivesAll A.adds archive.old all archive.new × IfOk result (λ n. n ≡ min (length all) u64.MAX) }
     {
         let mut successors = 0u64;
         for _ in rt.forever() {
@@ -263,7 +274,9 @@ impl Epochs {
             }
             if !self.wants_successor(rt) {
                 key.wait(rt);
-            } else if self.has_started_successor(rt, alloc, turns)? {
+            } else if let Some(ended) = self.try_to_start(rt, alloc, turns)? {
+                // Visits may begin again before it is written, and before its memory is given back.
+                archive.add(rt, ended);
                 successors = successors.saturating_add(1);
             } else {
                 thread::sleep(rt, Duration::from_millis(PAUSE));
@@ -290,25 +303,22 @@ impl Epochs {
         self.is_full(stage) || !matches!(stage, Stage::Open(_))
     }
 
-    /// Starts the successor, and answers whether it did. It is refused where there are no more epochs.
-    fn has_started_successor<R: Wait>(
+    /// Starts the successor, and hands out the epoch that has ended; none where that is refused for now. It is refused where there are
+    /// no more epochs.
+    fn try_to_start<R: Wait>(
         &self,
         rt: &R,
         alloc: Global,
         turns: u64,
-    ) -> Result<bool, Refusal>
+    ) -> Result<Option<Closed>, Refusal>
         requires { 1 ≤ turns }
+        ensures followed { IfOk result (λ it. IfSome it IsFollowed) }
         ensures refused { IfErr result (λ e. (site : ℕ) × (e ≡ Refusal.Mixed site)) }
     {
         match self.start_if_wanted(rt, alloc, turns) {
-            // Visits may begin again before its memory is given back.
-            Ok(Some(ended)) => {
-                ended.discard();
-                Ok(true)
-            }
-            Ok(None) => Ok(false),
+            Ok(ended) => Ok(ended),
             Err(refusal) if is_the_end(&refusal) => Err(refusal),
-            Err(_) => Ok(false),
+            Err(_) => Ok(None),
         }
     }
 
@@ -320,6 +330,7 @@ impl Epochs {
         turns: u64,
     ) -> Result<Option<Closed>, Refusal>
         requires { 1 ≤ turns }
+        ensures followed { IfOk result (λ it. IfSome it IsFollowed) }
     {
         let _no_visits = self.visits.write(rt);
         if !self.is_wanted(&self.stage.read(rt)) {

@@ -5,6 +5,8 @@
 #[cfg(test)]
 mod by_hand;
 #[cfg(test)]
+mod counting;
+#[cfg(test)]
 mod expect;
 #[cfg(test)]
 mod fixtures;

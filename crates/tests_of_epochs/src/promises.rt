@@ -1,13 +1,14 @@
 //! Calls of epochs, and of what is left of them, whose clauses no proof above them cites, as in `promises.rt`.
-ghost use Rattle.std.specs.Prelude.{◌≡◌, ◌≤◌, ℕ, None, IfOk, IfErr};
+ghost use Rattle.std.specs.Prelude.{◌≡◌, ◌≤◌, ℕ, List, None, length, min, IfOk, IfErr};
 ghost use Rattle.ordup_objects.specs.Refusals.{IsRefusal};
 ghost use Rattle.ordup_objects.specs.Sizes.{most_updates};
 ghost use Rattle.ordup_primary.specs.Declarations.{start_refusal};
-ghost use Rattle.ordup_cluster.specs.Clusters.{closed_successor_refusal, IsClosed, IsSuccessor};
+ghost use Rattle.ordup_cluster.specs.Clusters.{ClosedState, closed_successor_refusal, IsClosed, IsSuccessor};
+ghost use Rattle.ordup_epochs.specs.Archives.{ArchivesAll};
 ghost use Rattle.ordup_epochs.specs.Stages.{IsOpenAfter, IsEndOf, IsLeft, IsLost, IsNotFollowed, IsStartRefusal};
 
 use ordup_cluster::{Closed, Cluster, Gate};
-use ordup_epochs::{Epochs, Stage};
+use ordup_epochs::{Archive, Epochs, Stage};
 use ordup_objects::{Refusal, SiteId};
 use ordup_primary::Setup;
 use std::alloc::Global;
@@ -65,16 +66,18 @@ pub fn start<R: Wait>(rt: &R, epochs: &Epochs, alloc: Global, turns: u64) -> Res
 }
 
 /// `Epochs::keep`.
-pub fn keep<R: Wait + Clock>(
+pub fn keep<A: Archive, R: Wait + Clock>(
     rt: &R,
     epochs: &Epochs,
     alloc: Global,
     turns: u64,
+    archive: &mut A,
 ) -> Result<u64, Refusal>
     requires { 1 ≤ turns }
     ensures refused { IfErr result (λ e. (site : ℕ) × (e ≡ Refusal.Mixed site)) }
+    ensures archived { (all : List ClosedState) × ArchivesAll A.adds archive.old all archive.new × IfOk result (λ n. n ≡ min (length all) u64.MAX) }
 {
-    epochs.keep(rt, alloc, turns)
+    epochs.keep(rt, alloc, turns, archive)
 }
 
 /// `Epochs::close`.

@@ -2,10 +2,12 @@
 //!
 //! Each wait is bounded, so a test that would hang fails.
 mod across_epochs;
+mod archives;
 mod first_most;
 mod keeping;
 mod refused_successor;
 mod sent_before_a_successor;
+mod slow_archive;
 mod stopped_service;
 mod successor_by_hand;
 mod two_starts;

@@ -1,7 +1,7 @@
 //! Epochs that are to have four updates each, of which they may have two: already the first one ends after two.
 use crate::fixtures::{apply_at, close, enter, opened_with_most, propose};
 use ordup_cluster::{OpenGate, Session};
-use ordup_epochs::Epochs;
+use ordup_epochs::{Epochs, NoArchive};
 use std::alloc::Global;
 use std::process::Abort;
 use std::sync::Wait;
@@ -32,7 +32,7 @@ impl<R: Wait + Clock + Abort> Parts<R> for All<'_> {
     fn part(&self, rt: &R, number: u8) {
         match number {
             0 => apply_at(rt, self.epochs, 0, &OpenGate),
-            1 => expect_eq!(rt; self.epochs.keep(rt, self.alloc, TURNS), Ok(1)),
+            1 => expect_eq!(rt; self.epochs.keep(rt, self.alloc, TURNS, &mut NoArchive), Ok(1)),
             2 => {
                 propose_after(rt, self.epochs, 0, 1);
                 propose_after(rt, self.epochs, 0, 2);

@@ -1,6 +1,7 @@
 //! `keep` starts a successor as soon as an epoch has its updates, not before and not later, and counts them. An applier counts what
 //! it applied in all epochs. Where successors are refused, an epoch has at most as many updates as it may have, and then visits
 //! wait.
+use crate::counting::keep_counted;
 use crate::fixtures::{close, enter, opened, opened_with_most, propose};
 use crate::promises::applier;
 use ordup_cluster::Session;
@@ -41,7 +42,7 @@ struct All<'a> {
     epochs: &'a Epochs,
     gate: &'a HoldingGate,
     calls: Calls,
-    /// How many successors `keep` starts.
+    /// How many successors `keep` starts, and how many epochs it puts into its archive.
     successors: u64,
     /// Raised as the caller comes to the wait for the successor.
     waits: &'a AtomicBool,
@@ -105,12 +106,22 @@ fn call_until_full<R: Wait + Abort>(rt: &R, epochs: &Epochs, waits: &AtomicBool)
     epochs.stop(rt);
 }
 
+fn keep<R: Wait + Clock + Abort>(rt: &R, all: &All<'_>) {
+    match keep_counted(rt, all.epochs, all.alloc, 1) {
+        Ok((kept, archived)) => {
+            expect_eq!(rt; kept, all.successors);
+            expect_eq!(rt; archived, all.successors);
+        }
+        Err(refusal) => panic!(rt; "`keep` is refused: {refusal}"),
+    }
+}
+
 /// The applier of a, `keep`, the caller, and who opens the gate for a caller that waits.
 impl<R: Wait + Clock + Abort> Parts<R> for All<'_> {
     fn part(&self, rt: &R, number: u8) {
         match number {
             0 => expect_eq!(rt; applier(rt, self.epochs, a(), self.gate), Ok(3)),
-            1 => expect_eq!(rt; self.epochs.keep(rt, self.alloc, 1), Ok(self.successors)),
+            1 => keep(rt, self),
             2 => match self.calls {
                 Calls::InTurn => call_in_turn(rt, self.epochs),
                 Calls::AfterRefusals => call_after_refusals(rt, self.epochs, self.gate),

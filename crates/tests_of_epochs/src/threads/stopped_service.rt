@@ -2,7 +2,7 @@
 //! the callers that wait for a successor.
 use crate::fixtures::{apply_at, close, enter, opened, propose};
 use ordup_cluster::{OpenGate, Session};
-use ordup_epochs::Epochs;
+use ordup_epochs::{Epochs, NoArchive};
 use ordup_objects::Refusal;
 use std::alloc::Global;
 use std::process::Abort;
@@ -69,7 +69,8 @@ impl<R: Wait + Clock + Abort> Parts<R> for Service<'_> {
     fn part(&self, rt: &R, number: u8) {
         match number {
             0 | 1 => apply_at(rt, self.epochs, number, &OpenGate),
-            2 if self.is_kept => expect_eq!(rt; self.epochs.keep(rt, self.alloc, 1), Ok(1)),
+            2 if self.is_kept =>
+                expect_eq!(rt; self.epochs.keep(rt, self.alloc, 1, &mut NoArchive), Ok(1)),
             3 if !self.is_kept => enter_in_vain(rt, self.epochs, self.came.0),
             4 if !self.is_kept => enter_in_vain(rt, self.epochs, self.came.1),
             5 => stop(rt, self),

@@ -2,7 +2,7 @@
 //! updates.
 use crate::fixtures::{apply_at, close, enter, opened, propose, start_successor};
 use ordup_cluster::{OpenGate, Session};
-use ordup_epochs::Epochs;
+use ordup_epochs::{Epochs, NoArchive};
 use std::alloc::Global;
 use std::process::Abort;
 use std::sync::Wait;
@@ -44,7 +44,7 @@ impl<R: Wait + Clock + Abort> Parts<R> for All<'_> {
     fn part(&self, rt: &R, number: u8) {
         match number {
             0 => apply_at(rt, self.epochs, 0, &OpenGate),
-            1 => expect_eq!(rt; self.epochs.keep(rt, self.alloc, TURNS), Ok(0)),
+            1 => expect_eq!(rt; self.epochs.keep(rt, self.alloc, TURNS, &mut NoArchive), Ok(0)),
             2 => call(rt, self),
             _ => {}
         }

@@ -2,7 +2,7 @@
 //! it where it was the one.
 use crate::fixtures::{apply_at, close, enter, opened, propose, start_successor};
 use ordup_cluster::{OpenGate, Session};
-use ordup_epochs::Epochs;
+use ordup_epochs::{Epochs, NoArchive};
 use std::alloc::Global;
 use std::process::Abort;
 use std::sync::Wait;
@@ -67,7 +67,7 @@ impl<R: Wait + Clock + Abort> Parts<R> for All<'_> {
         match number {
             0 => apply_at(rt, self.epochs, 0, &OpenGate),
             1 => {
-                let kept = self.epochs.keep(rt, self.alloc, TURNS);
+                let kept = self.epochs.keep(rt, self.alloc, TURNS, &mut NoArchive);
                 expect_eq!(rt; kept, Ok(self.before.load(Ordering::SeqCst)));
             }
             2 => visit(rt, self),

@@ -384,7 +384,7 @@ fn numbered_in(stage: &Stage) -> u64 {
     }
 }
 
-// promise seen: an epoch is stopped only once a session has seen the number taken for its last
+// promise seen: an epoch is stopped for its successor only once a session has seen the number taken for its last
 /// Waits until the updates up to this number are acknowledged, and then until they are sent. The session that has seen the last one
 /// is the sign of that.
 fn settle_all<R: Wait>(rt: &R, epoch: &Cluster, last: u64, turns: u64) -> Result<Session, Refusal>

@@ -157,6 +157,7 @@ static void misuse(void) {
     IS(ordup_cluster_query_end(&query, &ended), ORDUP_DONE);
     MUST(ended.place == 5 && ended.sum == 40 && ended.total == 0 && ended.reads == 1);
     IS(ordup_cluster_query_end(&query, &ended), ORDUP_CLOSED);
+    IS(ordup_cluster_query_read(&query, TEA, &charged), ORDUP_CLOSED);
     ordup_cluster_free(other);
 }
 
@@ -321,11 +322,35 @@ static void rest(void) {
     uint64_t number;
     IS(ordup_cluster_start(cluster), ORDUP_DONE);
     IS(ordup_cluster_propose(cluster, &session, &change, 1, ORDUP_FOREVER, &number), ORDUP_DONE);
-    IS(ordup_cluster_finish(cluster, ORDUP_FOREVER), ORDUP_DONE);
+    /* What nobody waits for is finished: more updates than the feed of the second site has room for. */
+    for (int i = 0; i < 20; i++) {
+        uint32_t status = ordup_cluster_propose(cluster, &session, &change, 1, 0, &number);
+        MUST((status == ORDUP_DONE || status == ORDUP_REFUSED_NOT_YET) && number == (uint64_t)i + 2);
+    }
+    ordup_site_numbers yard = {.applied = 0};
+    ordup_numbers numbers = {.acknowledged = 0};
+    for (int look = 0; look < 1000 && (yard.applied < 21 || numbers.acknowledged < 21); look++) {
+        sleep_ms(5);
+        ordup_cluster_count(cluster, &numbers);
+        IS(ordup_cluster_site_count(cluster, YARD, &yard), ORDUP_DONE);
+    }
+    MUST(numbers.length == 21 && numbers.acknowledged == 21 && yard.applied == 21);
+    IS(ordup_cluster_settle(cluster, &session, 21, 0), ORDUP_DONE);
     sleep_ms(30);
     double cpu = seconds(CLOCK_PROCESS_CPUTIME_ID);
     sleep_ms(500);
     MUST(seconds(CLOCK_PROCESS_CPUTIME_ID) - cpu < 0.005);
+    sigset_t one, was;
+    sigemptyset(&one);
+    sigaddset(&one, SIGUSR2);
+    signal(SIGUSR2, count_signal);
+    signals = 0;
+    pthread_sigmask(SIG_BLOCK, &one, &was);
+    kill(getpid(), SIGUSR2);
+    sleep_ms(20);
+    MUST(signals == 0);
+    pthread_sigmask(SIG_SETMASK, &was, NULL);
+    MUST(signals == 1);
     /* It is stopped and joined as it is freed. */
     ordup_cluster_free(cluster);
 }

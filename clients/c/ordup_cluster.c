@@ -192,13 +192,14 @@ static void ring_heads(ordup_cluster *it, uint64_t after, uint64_t acked) {
         ring(&it->heads[number % HEADS]);
 }
 
-/* What a hold of the book changed is told to those who sleep. After one that was refused memory a hold may change what no site told. */
+/* What a hold of the book changed is told to those who sleep. After one that was refused memory a hold may change what no site told, and
+ * rings as if one had. It does not where it was refused again and changed nothing, or the keeper would not rest. */
 static void tell(ordup_cluster *it, const ordup_told *was, const ordup_told *is) {
     if (is->sent != was->sent)
         ring(&it->sent);
     if (is->acked != was->acked)
         ring_heads(it, was->acked, is->acked);
-    if (was->is_starved)
+    if (was->is_starved && (!is->is_starved || is->acked != was->acked))
         ring(&it->told);
     hand_on(it);
 }

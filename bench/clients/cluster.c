@@ -223,8 +223,10 @@ static struct took time_rounds_ordup(int threads, uint64_t count, int64_t limit)
 
 /* A row, of what `by` of them took in all. */
 static void print_row(const char *kind, int threads, struct took ordup, struct took other, double by, const char *unit) {
-    printf("| %s | %d | %.1f %s | %.1f %s | %.2f | %.1f %s | %.1f %s | %.2f |\n", kind, threads, ordup.passed / by, unit, other.passed / by, unit,
-           ordup.passed / other.passed, ordup.processors / by, unit, other.processors / by, unit, ordup.processors / other.processors);
+    printf("| %s | %d | %.1f %s | %.1f %s | %.2f ", kind, threads, ordup.passed / by, unit, other.passed / by, unit,
+           ordup.passed / other.passed);
+    printf("| %.1f %s | %.1f %s | %.2f |\n", ordup.processors / by, unit, other.processors / by, unit,
+           ordup.processors / other.processors);
     fflush(stdout);
 }
 

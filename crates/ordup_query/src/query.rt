@@ -74,6 +74,22 @@ impl<A: Allocator + Copy> Query<A> {
         self.marks.len()
     }
 
+    // promise: as Query::end
+    /// The reference: the place of the log that the query's imports are measured against.
+    pub fn place(&self) -> u64
+        ensures { result ≡ self.now.place }
+    {
+        self.place
+    }
+
+    // promise: as Query::end
+    /// How many reads were accepted.
+    pub fn reads(&self) -> u64
+        ensures { result ≡ self.now.reads }
+    {
+        self.reads
+    }
+
     // promise value import total query reads: a read answers the value, the charge, from the mark to what was travelled, and the new
     // total
     // promise allowed refused err: a read is refused exactly after 256 reads, and else past the limit

@@ -71,7 +71,7 @@ fn is_object(operand: i64) -> bool
     !operand.is_negative() && operand.unsigned_abs() <= u16::MAX as u64
 }
 
-// promise: changes that cross from C are the message set that they stand for, or refused for the first reason
+// promise set known allowed refused: changes that cross from C are the message set that they stand for, or refused for the first reason
 /// The message set that these changes stand for.
 ///
 /// It is refused `Syntax` where a code is that of no operation, and else as `MessageSet::new` is; or `NoMemory`.

@@ -4,9 +4,11 @@
 #![tactic(auto)]
 
 mod change;
+mod condition;
 mod scope;
 mod told;
 
 pub use change::{RawChange, read_set};
+pub use condition::{RawCondition, read_conditions};
 pub use scope::{id_of, kind_of, read_scope};
 pub use told::{Charged, Ended, Lag, Progress, Seen, Told};

@@ -15,7 +15,7 @@ pub const OF_ALL: u32 = 2;
 /// The number of updates.
 pub const OF_COUNT: u32 = 3;
 
-// promise: a scope that crosses from C is that of its kind and number, or refused
+// promise scope known allowed refused: a scope that crosses from C is that of its kind and number, or refused
 /// The scope of this kind, on the object or group of this number.
 ///
 /// It is refused `Syntax` for a kind that is none, and else as `check_scope` is.

@@ -1,10 +1,10 @@
 -- What the calls on a book leave and answer.
 use Rattle.std.specs.Prelude.{◌≡◌, ◌↔◌, ◌⊎◌, ℕ, ◌+◌, ◌<◌, ◌≤◌, ◌==◌, List, ◌∷◌, [], ◌++◌, length, map, sum_by, nat_lt, slice_get}
 use Rattle.std.specs.Prelude.{Option, Some, None, Result, Ok, Err, MatchOption, MatchResult, if◌then◌else◌}
-use Rattle.std.specs.Option.{option_or}
 use Rattle.ordup_objects.specs.declared.refusal.Refusal.{Refusal}
-use Rattle.ordup_objects.specs.declared.refusal.Refusal.TheVariants.{Syntax, UnknownSite, OutOfRange}
-use Rattle.ordup_objects.specs.Serial.{serial}
+use Rattle.ordup_objects.specs.declared.change.Change.{Change}
+use Rattle.ordup_objects.specs.declared.refusal.Refusal.TheVariants.{NoMemory, OutOfRange, Syntax, UnknownSite}
+use Rattle.ordup_objects.specs.Serial.{History, serial}
 use Rattle.ordup_objects.specs.Tables.{initial_state, names_of}
 use Rattle.ordup_log.specs.Appending.{append_refusal}
 use Rattle.ordup_log.specs.Spans.{span}
@@ -16,23 +16,28 @@ use Rattle.ordup_primary.specs.Primaries.{PrimaryState, limits_at, progress_at, 
 use Rattle.ordup_primary.specs.Successors.{limits_from_start, successor_refusal}
 use Rattle.ordup_holds.specs.Agreement.{Agrees}
 use Rattle.ordup_holds.specs.Books.{BookState}
-use Rattle.ordup_holds.specs.Numbering.{IsTurn, with_numbered}
+use Rattle.ordup_conditions.specs.Conditions.{AreMet}
+use Rattle.ordup_holds.specs.declared.proposal_error.ProposalError.{ProposalError}
+use Rattle.ordup_holds.specs.declared.proposal_error.ProposalError.TheVariants.{Refused, Unmet}
+use Rattle.ordup_holds.specs.Numbering.{IsNotNumbered, IsTurn, with_numbered}
 use Rattle.ordup_holds.specs.Opening.{AreOpened}
 use Rattle.ordup_holds.specs.Relimiting.{with_changed_limit}
 use Rattle.ordup_holds.specs.Turning.{IsAtRest}
 use Rattle.ordup_shapes.specs.Changes.{change_of, changes_refusal}
+use Rattle.ordup_shapes.specs.Conditions.{condition_of, conditions_refusal}
 use Rattle.ordup_shapes.specs.Scopes.{id_of, kind_of, scope_of}
 use Rattle.ordup_shapes.specs.declared.scope.TheConstants.{OF_COUNT}
 use Rattle.ordup_shapes.specs.declared.change.RawChange.{RawChange}
+use Rattle.ordup_shapes.specs.declared.condition.RawCondition.{RawCondition}
 use Rattle.ordup_shapes.specs.declared.told.Lag.{Lag}
 use Rattle.ordup_shapes.specs.declared.told.Progress.{Progress}
 use Rattle.ordup_shapes.specs.declared.told.Told.{Told}
 use Rattle.ordup_shared.specs.declared.open_book.OpenBook.{OpenBook}
 use Rattle.ordup_shared.specs.declared.open_site.OpenSite.{OpenSite}
 use Rattle.ordup_shared.specs.declared.thing.Thing.{Thing}
-use Rattle.ordup_shared.specs.Statuses.{IsRefused, MayBeRefused, status_of}
+use Rattle.ordup_shared.specs.Statuses.{IsRefused, status_of}
 use Rattle.ordup_shared.specs.Things.{MatchBool, OnHandle, Opened, OpensHandle, of_kind, book_of, setup_of, site_of}
-use Rattle.ordup_shared.specs.declared.status.TheConstants.{DONE, FOREIGN, MIXED, NO_MEMORY, OPEN}
+use Rattle.ordup_shared.specs.declared.status.TheConstants.{DONE, FOREIGN, MIXED, NO_MEMORY, OPEN, UNMET}
 
 -- ---- a book is opened
 
@@ -78,22 +83,42 @@ abbrev pub Turns : OpenBook → OpenBook → Told → ℕ → Type 0
 Turns b c told status =
     (status ≡ DONE) × (turn : Result ℕ Refusal) × StepsBook b c (λ x y. IsTurn x y turn) × TellsOf c.book.primary 0 turn told
 
--- why a proposal is refused, if it is
-abbrev pub proposal_refusal : BookState → List RawChange → Option Refusal
-proposal_refusal b raws =
-    option_or (changes_refusal (length b.primary.log.start) raws) (append_refusal b.primary.log (map change_of raws))
+-- a proposal is refused for this reason, if there is one, or for want of memory
+abbrev pub IsRefusedFor : Option Refusal → ProposalError → Type 0
+IsRefusedFor refusal e = (r : Refusal) × (e ≡ Refused r) × ((refusal ≡ Some r) ⊎ (r ≡ NoMemory))
 
--- just this set was numbered, and a turn made after it
-pub record Numbers (b c : OpenBook) (raws : List RawChange) (out : Told) (turn : Result ℕ Refusal) : Type 0 where
-  pub allowed : proposal_refusal b.book raws ≡ None
-  pub turned : StepsBook b c (λ x y. IsTurn (with_numbered x (map change_of raws)) y turn)
-  pub told : TellsOf c.book.primary (length b.book.primary.log.sets + 1) turn out
+-- why a set is not numbered under these conditions: they are refused; or they are none that the set keeps, or it is refused
+abbrev pub IsNotNumberedUnder : History → List Change → List RawCondition → ProposalError → Type 0
+IsNotNumberedUnder log set conditions e =
+    IsRefusedFor (conditions_refusal (length log.start) conditions) e
+    ⊎ ((conditions_refusal (length log.start) conditions ≡ None) × IsNotNumbered log set (map condition_of conditions) e)
 
--- a set was numbered; or it is refused, and nothing changed
-abbrev pub Proposes : OpenBook → OpenBook → List RawChange → Told → Told → ℕ → Type 0
-Proposes b c raws old new status =
-    ((status ≡ DONE) × (turn : Result ℕ Refusal) × Numbers b c raws new turn)
-    ⊎ (MayBeRefused (proposal_refusal b.book raws) status × (c ≡ b) × (new ≡ old))
+-- why these changes are not numbered: they are no message set; or they are one, which is not numbered
+abbrev pub IsNotProposed : History → List RawChange → List RawCondition → ProposalError → Type 0
+IsNotProposed log changes conditions e =
+    IsRefusedFor (changes_refusal (length log.start) changes) e
+    ⊎ ((changes_refusal (length log.start) changes ≡ None) × IsNotNumberedUnder log (map change_of changes) conditions e)
+
+-- just this set was numbered, the state after it meets the conditions, and a turn was made after it
+pub record IsProposed (b c : BookState) (changes : List RawChange) (conditions : List RawCondition) (given : ℕ) (turn : Result ℕ Refusal) : Type 0 where
+  pub set : changes_refusal (length b.primary.log.start) changes ≡ None
+  pub bounds : conditions_refusal (length b.primary.log.start) conditions ≡ None
+  pub allowed : append_refusal b.primary.log (map change_of changes) ≡ None
+  pub number : given ≡ length b.primary.log.sets + 1
+  pub turned : IsTurn (with_numbered b (map change_of changes)) c turn
+  pub met : AreMet (serial c.primary.log given) (map condition_of conditions)
+
+-- what is told of a proposal that was not numbered
+abbrev pub TellsError : ProposalError → Told → Told → ℕ → Type 0
+TellsError (Refused r) old new status = (status ≡ status_of r) × (new ≡ old)
+TellsError (Unmet index) old new status = (status ≡ UNMET) × (new ≡ record old { unmet = index })
+
+-- a set was numbered; or it was not, and nothing changed
+abbrev pub Proposes : OpenBook → OpenBook → List RawChange → List RawCondition → Told → Told → ℕ → Type 0
+Proposes b c changes conditions old new status =
+    ((status ≡ DONE) × (turn : Result ℕ Refusal)
+        × StepsBook b c (λ x y. IsProposed x y changes conditions new.number turn) × TellsOf c.book.primary new.number turn new)
+    ⊎ ((e : ProposalError) × IsNotProposed b.book.primary.log changes conditions e × (c ≡ b) × TellsError e old new status)
 
 -- why a change of a limit is refused, if it is
 abbrev pub relimit_refusal : PrimaryState → ℕ → ℕ → ℕ → ℕ → Option Refusal

@@ -1,8 +1,7 @@
 -- The statuses of refusals.
-use Rattle.std.specs.Prelude.{◌≡◌, ◌⊎◌, ℕ, ◌+◌, Option, Some, None}
+use Rattle.std.specs.Prelude.{◌≡◌, ℕ, ◌+◌, Option, Some, None}
 use Rattle.ordup_objects.specs.declared.refusal.Refusal.{Refusal}
 use Rattle.ordup_objects.specs.Refusals.{refusal_number}
-use Rattle.ordup_objects.specs.declared.refusal.Refusal.TheVariants.{NoMemory}
 use Rattle.ordup_shared.specs.declared.status.TheConstants.{REFUSED, NO_MEMORY}
 
 -- the status of a refusal
@@ -13,11 +12,3 @@ status_of r = REFUSED + refusal_number r
 abbrev pub IsRefused : Option Refusal → ℕ → Type 0
 IsRefused None status = status ≡ NO_MEMORY
 IsRefused (Some r) status = status ≡ status_of r
-
--- the error of a call that is refused for this reason, if there is one, or for want of memory
-abbrev pub MayRefuse : Option Refusal → Refusal → Type 0
-MayRefuse refusal e = (refusal ≡ Some e) ⊎ (e ≡ NoMemory)
-
--- its status
-abbrev pub MayBeRefused : Option Refusal → ℕ → Type 0
-MayBeRefused refusal status = ((e : Refusal) × (refusal ≡ Some e) × (status ≡ status_of e)) ⊎ (status ≡ NO_MEMORY)

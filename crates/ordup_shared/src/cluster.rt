@@ -3,6 +3,7 @@ ghost use Rattle.std.specs.Prelude.{◌≡◌, None, IfOk, IfErr, ⊤};
 ghost use Rattle.ordup_objects.specs.Refusals.{IsRefusal};
 ghost use Rattle.ordup_primary.specs.Declarations.{start_refusal};
 ghost use Rattle.ordup_primary.specs.Successors.{successor_refusal};
+ghost use Rattle.ordup_holds.specs.Opening.{AreOpened};
 ghost use Rattle.ordup_shared.specs.Books.{Compares, IsFirstBook, IsSuccessor, OpensBook, OpensSite, OpensSiteOf, OpensSuccessor};
 ghost use Rattle.ordup_shared.specs.Statuses.{IsRefused};
 ghost use Rattle.ordup_shared.specs.Things.{AtHandle, AtKind, OnKind, Opened, book_of, setup_of, site_of};
@@ -67,7 +68,9 @@ fn open_book(alloc: Global, setup: &Setup, cluster: u64, book: &mut Handle) -> u
 
 /// The book of what is declared.
 fn first_book(alloc: Global, setup: &Setup, cluster: u64) -> Result<OpenBook, Refusal>
-    ensures first { IfOk result (IsFirstBook setup.now cluster) }
+    ensures opened { IfOk result (λ b. AreOpened setup.now b.book b.cells.items) }
+    ensures cluster { IfOk result (λ b. b.cluster ≡ cluster) }
+    ensures allowed { IfOk result (λ _. start_refusal setup.now ≡ None) }
     ensures refused { IfErr result (λ e. IsRefusal (start_refusal setup.now) e) }
 {
     // For the proof: there are few sites.

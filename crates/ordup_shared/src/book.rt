@@ -10,6 +10,7 @@ ghost use Rattle.ordup_holds.specs.Relimiting.{with_changed_limit};
 ghost use Rattle.ordup_shapes.specs.Conditions.{condition_of, conditions_refusal};
 ghost use Rattle.ordup_shapes.specs.Scopes.{code_refusal, scope_of};
 ghost use Rattle.ordup_shared.specs.Books.{IsNotNumberedUnder, IsNotProposed, IsProposed, Proposes, Relimits, TellsError, TellsLag, TellsProgress, Turns, relimit_refusal};
+ghost use Rattle.ordup_shared.specs.Statuses.{IsRefused};
 ghost use Rattle.ordup_shared.specs.Things.{AtHandle, AtKind, OnHandle, OnKind, book_of};
 
 use crate::handle::Handle;
@@ -202,7 +203,6 @@ pub extern "C" fn ordup_book_relimit(
     status
 }
 
-#[tactic(auto, using(crate::proofs::StatusLemmas::is_refused))]
 fn relimit_in(
     thing: &mut Kind,
     site: u32,
@@ -214,14 +214,48 @@ fn relimit_in(
     ensures { OnKind book_of thing.old thing.new result (place.new ≡ place.old) (λ b c. Relimits b c site kind id amount place.old place.new result) }
 {
     match thing {
-        Kind::OfBook(book) => match change_limit(&mut book.book, site, kind, id, amount) {
-            Ok(head) => {
-                *place = head;
-                DONE
-            }
-            Err(refusal) => status_of(&refusal),
-        },
+        Kind::OfBook(book) => relimit_book(book, site, kind, id, amount, place),
         Kind::OfSetup(_) | Kind::OfSite(_) | Kind::OfQuery(_) => OTHER,
+    }
+}
+
+fn relimit_book(
+    book: &mut OpenBook,
+    site: u32,
+    kind: u32,
+    id: u32,
+    amount: u64,
+    place: &mut u64,
+) -> u32
+    ensures { Relimits book.old book.new site kind id amount place.old place.new result }
+{
+    match change_or_status(&mut book.book, site, kind, id, amount) {
+        Ok(head) => {
+            *place = head;
+            DONE
+        }
+        Err(status) => status,
+    }
+}
+
+/// Changes a limit, or answers the status that says why not.
+#[tactic(auto, using(crate::proofs::StatusLemmas::is_refused))]
+fn change_or_status(
+    book: &mut Book<RingSendEnd>,
+    site: u32,
+    kind: u32,
+    id: u32,
+    amount: u64,
+) -> Result<u64, u32>
+    ensures place { IfOk result (λ k. k ≡ book.old.primary.acked + 1) }
+    ensures changed { IfOk result (λ _. book.new ≡ with_changed_limit book.old site (scope_of kind id) amount) }
+    ensures allowed { IfOk result (λ _. relimit_refusal book.old.primary site kind id amount ≡ None) }
+    ensures refused { IfErr result (IsRefused (relimit_refusal book.old.primary site kind id amount)) }
+    ensures err { OnErr result (book.new ≡ book.old) }
+{
+    match change_limit(book, site, kind, id, amount) {
+        Ok(place) => Ok(place),
+        Err(refusal) => Err(status_of(&refusal)),
     }
 }
 

@@ -1,0 +1,3 @@
+pub mod AsBox
+pub mod StatusLemmas
+pub mod PrimaryLemmas

@@ -1,0 +1,9 @@
+pub mod Owned
+pub mod Statuses
+pub mod Handles
+pub mod Things
+pub mod Setups
+pub mod Books
+pub mod Sites
+pub mod Queries
+pub mod Records

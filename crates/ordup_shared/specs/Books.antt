@@ -168,13 +168,13 @@ pub record OpensLast (b c : OpenBook) (site : OpenSite) : Type 0 where
   pub belongs : (site.cluster ≡ b.cluster) × (c.cluster ≡ b.cluster)
 
 -- why no site is opened, if none is: each has a handle
-abbrev pub site_refusal : OpenBook → Option Refusal
-site_refusal b = if length b.cells.items == 0 then Some UnknownSite else None
+abbrev pub last_site_refusal : OpenBook → Option Refusal
+last_site_refusal b = if length b.cells.items == 0 then Some UnknownSite else None
 
 -- A site was opened, and its index told. Where that is refused the book keeps its cell.
 abbrev pub OpensSite : OpenBook → OpenBook → Option Thing → ℕ → ℕ → ℕ → Type 0
 OpensSite b c new old_index new_index status =
-    Opened site_of new status (IsRefused (site_refusal b) status × (c ≡ b) × (new_index ≡ old_index))
+    Opened site_of new status (IsRefused (last_site_refusal b) status × (c ≡ b) × (new_index ≡ old_index))
     (λ site. OpensLast b c site × (new_index ≡ site.index))
 
 -- a site of a book was opened; a handle that is open, or a book that is none, changes nothing

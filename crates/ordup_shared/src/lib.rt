@@ -22,4 +22,3 @@ mod site;
 mod status;
 mod thing;
 
-pub use handle::handles_may_be_sent;

@@ -1,5 +1,5 @@
 -- What the changes that cross from C stand for.
-use Rattle.std.specs.Prelude.{ℕ, ℤ, ◌==◌, ◌&&◌, ◌||◌, not, if◌then◌else◌, Option, Some, None, Bool, List, map, nat_lt, nat_le, unsigned_abs}
+use Rattle.std.specs.Prelude.{ℕ, ℤ, ◌==◌, ◌&&◌, ◌||◌, not, if◌then◌else◌, Option, Some, Bool, List, map, nat_le, unsigned_abs}
 use Rattle.std.specs.Int.{is_negative}
 use Rattle.std.specs.List.{list_all}
 use Rattle.ordup_objects.specs.declared.change.Change.{Change}

@@ -1,5 +1,5 @@
 -- What the conditions that cross from C stand for.
-use Rattle.std.specs.Prelude.{ℕ, ◌==◌, min, not, if◌then◌else◌, Option, Some, None, Bool, List, map, nat_le}
+use Rattle.std.specs.Prelude.{ℕ, ◌==◌, min, not, if◌then◌else◌, Option, Some, Bool, List, map, nat_le}
 use Rattle.std.specs.List.{list_all}
 use Rattle.ordup_conditions.specs.Conditions.{condition_refusal}
 use Rattle.ordup_conditions.specs.declared.condition.Condition.{Condition}

@@ -1,6 +1,5 @@
 -- What the scopes that cross to C and from it stand for.
-use Rattle.std.specs.Prelude.{ℕ, ◌==◌, if◌then◌else◌, Option, Some, None, nat_lt}
-use Rattle.std.specs.Option.{option_or}
+use Rattle.std.specs.Prelude.{ℕ, ◌==◌, if◌then◌else◌, Option, Some, nat_lt}
 use Rattle.ordup_objects.specs.declared.refusal.Refusal.{Refusal}
 use Rattle.ordup_objects.specs.declared.refusal.Refusal.TheVariants.{Syntax}
 use Rattle.ordup_log.specs.Groups.{GroupList}

@@ -117,7 +117,7 @@ TellsError (Unmet index) old new status = (status ≡ UNMET) × (new ≡ record 
 abbrev pub Proposes : OpenBook → OpenBook → List RawChange → List RawCondition → Told → Told → ℕ → Type 0
 Proposes b c changes conditions old new status =
     ((status ≡ DONE) × (turn : Result ℕ Refusal)
-        × StepsBook b c (λ x y. IsProposed x y changes conditions new.number turn) × TellsOf c.book.primary new.number turn new)
+    × StepsBook b c (λ x y. IsProposed x y changes conditions new.number turn) × TellsOf c.book.primary new.number turn new)
     ⊎ ((e : ProposalError) × IsNotProposed b.book.primary.log changes conditions e × (c ≡ b) × TellsError e old new status)
 
 -- why a change of a limit is refused, if it is
@@ -129,7 +129,7 @@ relimit_refusal p site kind id amount =
 abbrev pub Relimits : OpenBook → OpenBook → ℕ → ℕ → ℕ → ℕ → ℕ → ℕ → ℕ → Type 0
 Relimits b c site kind id amount old_place new_place status =
     ((status ≡ DONE) × (relimit_refusal b.book.primary site kind id amount ≡ None)
-        × StepsBook b c (λ x y. y ≡ with_changed_limit x site (scope_of kind id) amount) × (new_place ≡ b.book.primary.acked + 1))
+    × StepsBook b c (λ x y. y ≡ with_changed_limit x site (scope_of kind id) amount) × (new_place ≡ b.book.primary.acked + 1))
     ⊎ (IsRefused (relimit_refusal b.book.primary site kind id amount) status × (c ≡ b) × (new_place ≡ old_place))
 
 -- ---- what the primary knows
@@ -138,7 +138,7 @@ Relimits b c site kind id amount old_place new_place status =
 abbrev pub TellsProgress : PrimaryState → ℕ → Progress → Progress → ℕ → Type 0
 TellsProgress p site old new status =
     ((site < length p.sites) × (status ≡ DONE)
-        × (new ≡ record { sent = (progress_at p site).sent; reported = (progress_at p site).reported; rounds = length (progress_at p site).rounds }))
+    × (new ≡ record { sent = (progress_at p site).sent; reported = (progress_at p site).reported; rounds = length (progress_at p site).rounds }))
     ⊎ ((length p.sites ≤ site) × (status ≡ status_of UnknownSite) × (new ≡ old))
 
 -- a limit as it is now, and what the acknowledged updates weigh on its scope that the site has not reported
@@ -155,7 +155,7 @@ abbrev pub TellsLag : PrimaryState → ℕ → ℕ → Lag → Lag → ℕ → T
 TellsLag p site index old new status =
     MatchBool (nat_lt site (length p.sites))
     (MatchOption (slice_get (latest (limits_at p site)) index) ((status ≡ status_of OutOfRange) × (new ≡ old))
-        (λ limit. (status ≡ DONE) × (new ≡ lag_of p site limit)))
+    (λ limit. (status ≡ DONE) × (new ≡ lag_of p site limit)))
     ((status ≡ status_of UnknownSite) × (new ≡ old))
 
 -- ---- a book and its sites
@@ -189,9 +189,9 @@ abbrev pub Compares : OpenBook → OpenSite → ℕ → Type 0
 Compares b site status =
     MatchBool (site.cluster == b.cluster)
     (MatchBool (nat_lt site.index (length b.book.primary.sites))
-        (((status ≡ DONE) × Agrees b.book.primary site.index site.cell.site)
-            ⊎ (((status ≡ MIXED) × (Agrees b.book.primary site.index site.cell.site → ⊥)) ⊎ (status ≡ NO_MEMORY)))
-        (status ≡ status_of UnknownSite))
+    (((status ≡ DONE) × Agrees b.book.primary site.index site.cell.site)
+    ⊎ (((status ≡ MIXED) × (Agrees b.book.primary site.index site.cell.site → ⊥)) ⊎ (status ≡ NO_MEMORY)))
+    (status ≡ status_of UnknownSite))
     (status ≡ FOREIGN)
 
 -- ---- a successor

@@ -61,5 +61,5 @@ abbrev pub Ends : Option Thing → Option Thing → Ended → Ended → ℕ → 
 Ends old new old_out new_out status =
     MatchResult (of_kind query_of old)
     (λ q. (status ≡ DONE) × (new ≡ None)
-        × (new_out ≡ record { place = q.query.place; sum = q.query.sum; total = q.query.total; reads = q.query.reads }))
+    × (new_out ≡ record { place = q.query.place; sum = q.query.sum; total = q.query.total; reads = q.query.reads }))
     (λ why. (status ≡ why) × (new ≡ old) × (new_out ≡ old_out))

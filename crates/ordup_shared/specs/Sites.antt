@@ -51,7 +51,7 @@ abbrev pub ReadsMany : CellState → List ℕ → ℕ → ManyValues → ManyVal
 ReadsMany c objects seen old new status =
     MatchBool (list_all (has_object c) objects)
     (MatchBool (nat_lt (length old.values) (length objects))
-        ((status ≡ MORE) × (new ≡ old))
-        ((status ≡ level_status c seen)
-            × (new ≡ record { values = map (value_of c) objects ++ drop (length objects) old.values; applied = applied_of c })))
+    ((status ≡ MORE) × (new ≡ old))
+    ((status ≡ level_status c seen)
+    × (new ≡ record { values = map (value_of c) objects ++ drop (length objects) old.values; applied = applied_of c })))
     ((status ≡ UNKNOWN_OBJECT) × (new ≡ old))

@@ -203,14 +203,7 @@ pub extern "C" fn ordup_book_relimit(
     status
 }
 
-fn relimit_in(
-    thing: &mut Kind,
-    site: u32,
-    kind: u32,
-    id: u32,
-    amount: u64,
-    place: &mut u64,
-) -> u32
+fn relimit_in(thing: &mut Kind, site: u32, kind: u32, id: u32, amount: u64, place: &mut u64) -> u32
     ensures { OnKind book_of thing.old thing.new result (place.new ≡ place.old) (λ b c. Relimits b c site kind id amount place.old place.new result) }
 {
     match thing {

@@ -206,7 +206,12 @@ fn compare(alloc: Global, book: &OpenBook, site: &OpenSite) -> u32
     let Ok(values) = Values::initial(alloc, primary.setup().objects()) else {
         return NO_MEMORY;
     };
-    if agree(primary, SiteId::new(site.index as u8), site.cell.site(), values) {
+    if agree(
+        primary,
+        SiteId::new(site.index as u8),
+        site.cell.site(),
+        values,
+    ) {
         DONE
     } else {
         MIXED
@@ -217,11 +222,7 @@ fn compare(alloc: Global, book: &OpenBook, site: &OpenSite) -> u32
 // promise opened: the successor is declared as the primary's, or refused where an update waits
 /// Opens the declarations of the successor, which begins with what this book ended with.
 #[unsafe(no_mangle)]
-pub extern "C" fn ordup_book_successor(
-    alloc: Global,
-    book: &mut Handle,
-    setup: &mut Handle,
-) -> u32
+pub extern "C" fn ordup_book_successor(alloc: Global, book: &mut Handle, setup: &mut Handle) -> u32
     ensures stays { book.new.held.thing ≡ book.old.held.thing }
     ensures opened { OpensSuccessor book.old.held.thing setup.old.held.thing setup.new.held.thing result }
 {

@@ -42,11 +42,7 @@ fn work(primary: &Primary) -> u32
     ensures none { (result ≡ 0) ↔ IsAtRest primary.now }
     ensures flag { result < 2 }
 {
-    if has_work(primary) {
-        1
-    } else {
-        0
-    }
+    if has_work(primary) { 1 } else { 0 }
 }
 
 /// How many updates were sent, over all sites.
@@ -124,5 +120,7 @@ fn weight_of(primary: &Primary, site: SiteId, scope: Scope) -> u64
     if reported >= acked {
         return 0;
     }
-    primary.log().span(*scope, primary.setup().groups(), reported, acked)
+    primary
+        .log()
+        .span(*scope, primary.setup().groups(), reported, acked)
 }

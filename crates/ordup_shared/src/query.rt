@@ -99,13 +99,7 @@ pub extern "C" fn ordup_query_read(
     status
 }
 
-fn read_in(
-    alloc: Global,
-    kind: &mut Kind,
-    site: &mut Handle,
-    object: u32,
-    out: &mut Charged,
-) -> u32
+fn read_in(alloc: Global, kind: &mut Kind, site: &mut Handle, object: u32, out: &mut Charged) -> u32
     ensures stays { site.new.held.thing ≡ site.old.held.thing }
     ensures read { OnKind query_of kind.old kind.new result (out.new ≡ out.old) (λ q r. AtHandle site_of site.old.held.thing result ((r ≡ q) × (out.new ≡ out.old)) (λ s. ReadsFor q r s object out.old out.new result)) }
 {
@@ -151,7 +145,10 @@ fn read(query: &mut OpenQuery, site: &OpenSite, object: u32, out: &mut Charged) 
     if !has_mark(query, site, object) {
         return status_of(&Refusal::UnknownObject);
     }
-    match query.query.read(site.cell.site(), ObjectId::new(object as u16)) {
+    match query
+        .query
+        .read(site.cell.site(), ObjectId::new(object as u16))
+    {
         Ok(answer) => {
             *out = charged(query, answer);
             DONE

@@ -1,14 +1,10 @@
 -- A limit that there is has a scope that is known, so what the updates weigh on it may be asked.
-use Rattle.std.proofs.Common.{◌≡◌, ◌∙◌, ◌<◌, ◌≤◌, ℕ, true, subst, sym, refl, ap, length, arith}
-use Rattle.std.specs.Prelude.{Some, slice_get, nat_lt}
+use Rattle.std.proofs.Common.{◌<◌, subst, ap, length, arith}
 use Rattle.std.proofs.lemmas.Option.{get_or_from_slice_get, slice_get_within}
-use Rattle.std.proofs.lemmas.Bool.{lt-ltb}
 use Rattle.ordup_log.specs.Spans.{IsScopeKnown}
 use Rattle.ordup_limits.specs.Entries.{latest}
 use Rattle.ordup_limits.specs.declared.limit.Limit.{Limit}
 use Rattle.ordup_limits.proofs.EntryLemmas.{latest-known}
-use Rattle.ordup_primary.specs.Primaries.{PrimaryState, limits_at}
-use Rattle.ordup_shared.specs.Books.{TellsLag, lag_of}
 use Rattle.ordup_shared.proofs.PrimaryLemmas.{tells-lag}
 use Rattle.ordup_shared.proofs.primary.tell_lag.Goals as goal
 

@@ -47,11 +47,11 @@ mod closed;
 mod error;
 mod query;
 
-pub use crate::sys::cluster::{Change, Condition, Ended, Numbers, ObjectId, Seen, Session, SiteNumbers};
+pub use crate::sys::cluster::{Change, Charged, Condition, Ended, Numbers, ObjectId, Seen, Session, SiteNumbers};
 pub use builder::{Builder, GroupId, Scope, SiteId};
 pub use closed::{Closed, Unclosed};
 pub use error::{Error, Refusal};
-pub use query::{Charged, Query};
+pub use query::Query;
 
 use crate::sys::cluster::{self as sys, RawLag, DONE, MORE, UNMET};
 use error::{done, fault, BEHIND, NOT_YET};

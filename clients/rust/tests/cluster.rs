@@ -176,8 +176,8 @@ fn a_query_is_charged_for_what_its_site_misses() {
     assert_eq!(cluster.query(shop, u64::MAX).err(), Some(Error::Refused(Refusal::OutOfRange)));
     assert_eq!(cluster.propose(&mut Session::default(), &[tea.add(-3)], FOREVER), Ok(1));
     let mut query = cluster.query(shop, 5).unwrap();
-    assert_eq!(query.read(tea), Ok(Charged { value: 40, import: 3, total: 3 }));
-    assert_eq!(query.read(rye), Ok(Charged { value: 7, import: 0, total: 3 }));
+    assert_eq!(query.read(tea), Ok(Charged { value: 40, import: 3, total: 3, place: 1, reads: 1 }));
+    assert_eq!(query.read(rye), Ok(Charged { value: 7, import: 0, total: 3, place: 1, reads: 2 }));
     assert_eq!(query.read(tea), refused(Refusal::OverImport));
     let query = thread::scope(|scope| scope.spawn(move || query).join().unwrap());
     assert_eq!(query.end(), Ok(Ended { place: 1, sum: 47, total: 3, reads: 2 }));

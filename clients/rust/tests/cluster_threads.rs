@@ -98,7 +98,7 @@ impl Plan {
         let reads: Vec<_> = (0..3).map(|_| query.read(self.total)).take_while(|read| *read != over_import()).map(Result::unwrap).collect();
         let ended = query.end().unwrap();
         for read in &reads {
-            assert!(read.value.abs_diff(ended.place as i64) <= read.import && read.total <= 30);
+            assert!(read.value.abs_diff(ended.place as i64) <= read.import && read.total <= 30 && read.place == ended.place);
         }
         assert_eq!(ended.total, reads.iter().map(|read| read.import).sum::<u64>());
         assert_eq!((ended.sum, ended.reads), (reads.iter().map(|read| read.value).sum(), reads.len() as u64));

@@ -1,17 +1,7 @@
 //! Queries at a site.
 
 use super::error::{done, Error};
-use crate::sys::cluster::{self as sys, Ended, ObjectId, RawCharged};
-
-/// What a read of a query tells.
-#[derive(Clone, Copy, Debug, PartialEq, Eq)]
-pub struct Charged {
-    pub value: i64,
-    /// What this read imports: how far the value is from that after all updates which were acknowledged as the query began, at most.
-    pub import: u64,
-    /// What all reads of the query import.
-    pub total: u64,
-}
+use crate::sys::cluster::{self as sys, Charged, Ended, ObjectId};
 
 /// A query at a site, which imports at most so much. It reads while the site goes on. It ends when it is dropped.
 ///
@@ -36,9 +26,9 @@ impl Query<'_> {
     /// The refusals are `OverImport` where the total would pass the limit, `UnknownObject`, and `TooMany` after 256 reads. The query goes on
     /// after them.
     pub fn read(&mut self, object: ObjectId) -> Result<Charged, Error> {
-        let mut out = RawCharged::default();
+        let mut out = Charged::default();
         done(self.0.read(object, &mut out))?;
-        Ok(Charged { value: out.value, import: out.import, total: out.total })
+        Ok(out)
     }
 
     /// Ends the query, and sums up its reads.

@@ -52,6 +52,21 @@ pub struct Seen {
     pub applied: u64,
 }
 
+/// A value that was read for a query.
+#[repr(C)]
+#[derive(Clone, Copy, Debug, Default, PartialEq, Eq)]
+pub struct Charged {
+    pub value: i64,
+    /// What this read imports: how far the value is at most from that after all updates which were acknowledged as the query began.
+    pub import: u64,
+    /// What all reads of the query import.
+    pub total: u64,
+    /// How many updates were acknowledged as the query began.
+    pub place: u64,
+    /// How many reads there were.
+    pub reads: u64,
+}
+
 /// What a query told as it ended.
 #[repr(C)]
 #[derive(Clone, Copy, Debug, Default, PartialEq, Eq)]
@@ -97,17 +112,6 @@ pub struct RawLag {
     pub id: u32,
     pub amount: u64,
     pub weight: u64,
-}
-
-/// `ordup_charged`.
-#[repr(C)]
-#[derive(Default)]
-pub struct RawCharged {
-    pub value: i64,
-    pub import: u64,
-    pub total: u64,
-    place: u64,
-    reads: u64,
 }
 
 /// `ordup_handle`: none where it is all zero.
@@ -186,7 +190,7 @@ extern "C" {
         applied: *mut u64,
     ) -> u32;
     fn ordup_cluster_begin(cluster: *mut RawCluster, site: u32, import_limit: u64, query: *mut RawQuery) -> u32;
-    fn ordup_cluster_query_read(query: *mut RawQuery, object: ObjectId, out: *mut RawCharged) -> u32;
+    fn ordup_cluster_query_read(query: *mut RawQuery, object: ObjectId, out: *mut Charged) -> u32;
     fn ordup_cluster_query_end(query: *mut RawQuery, out: *mut Ended) -> u32;
 
     fn ordup_cluster_relimit(cluster: *mut RawCluster, site: u32, kind: u32, id: u32, amount: u64, place: *mut u64) -> u32;
@@ -412,7 +416,7 @@ pub struct Query<'a> {
 unsafe impl Send for Query<'_> {}
 
 impl Query<'_> {
-    pub fn read(&mut self, object: ObjectId, out: &mut RawCharged) -> u32 {
+    pub fn read(&mut self, object: ObjectId, out: &mut Charged) -> u32 {
         // SAFETY: it is as the last call left it, its cluster is borrowed, and `out` is a reference.
         unsafe { ordup_cluster_query_read(&mut self.raw, object, out) }
     }

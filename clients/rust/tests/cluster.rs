@@ -262,8 +262,6 @@ fn things_are_dropped_in_any_order() {
     drop(first);
     drop(query);
     assert_eq!(one.read(&mut Session::default(), shop, tea).unwrap().value, 42);
-    let forgotten = one.query(shop, 3).unwrap();
-    std::mem::forget(forgotten);
 }
 
 #[test]

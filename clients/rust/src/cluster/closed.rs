@@ -2,6 +2,7 @@
 
 use super::error::{fault, Error};
 use super::Cluster;
+use crate::sys::cluster::DONE;
 use std::fmt;
 use std::ops::Deref;
 
@@ -98,7 +99,7 @@ impl Cluster {
     /// ```
     pub fn close(mut self) -> Result<Closed, Unclosed> {
         match self.sys.close() {
-            0 => Ok(Closed(self)),
+            DONE => Ok(Closed(self)),
             status => Err(Unclosed { cluster: self, why: fault(status) }),
         }
     }

@@ -1,8 +1,11 @@
 //! Measures a cluster of a program in Rust beside what its users would take: `RwLock<HashMap>` of the standard library.
 //!
-//! A row has the kind, how many threads, what one of them is of ordup, and of the plain program, and the ratio. Each number is the shortest
-//! of five runs, and each run of ordup stands beside one of the plain program. There are four sites and 64 objects. Beside a writer one more
-//! thread makes updates without a limit, one after another, as fast as it can; the plain writer inserts under the lock.
+//! It is the src/main.rs of a crate that depends on clients/rust, as bench/clients/run makes one of measure.rs.
+//!
+//! A row has the kind, how many threads, how long a call of one of them takes in ordup, and in the plain program, how many calls all of them
+//! make, and the ratio of the times. Each is that of the fastest of five runs, and each run of ordup stands beside one of the plain program.
+//! There are four sites and 64 objects. Beside a writer one more thread makes updates without a limit, one after another, as fast as it can;
+//! the plain writer inserts under the lock.
 //!
 //! - reads-own: a read, each thread at a site of its own. All threads of the plain program read one map.
 //! - reads-one: a read, all threads at one site.

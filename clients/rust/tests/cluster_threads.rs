@@ -26,7 +26,7 @@ struct Plan {
 
 impl Plan {
     fn open() -> (Plan, Cluster) {
-        let updates = env::var("ORDUP_UPDATES").map_or(100, |text| text.parse().unwrap());
+        let updates = env::var("ORDUP_UPDATES").map_or(500, |text| text.parse().unwrap());
         let mut builder = Builder::new().unwrap();
         let own: Vec<_> = (0..CALLERS).map(|me| builder.object(&format!("own{me}"), 0).unwrap()).collect();
         let (total, stock) = (builder.object("total", 0).unwrap(), builder.object("stock", updates as i64).unwrap());

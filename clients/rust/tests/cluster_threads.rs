@@ -257,3 +257,35 @@ fn a_panic_of_a_caller_leaves_the_others() {
         assert!(matches!(check(closed.record(*site).unwrap().as_bytes()), Ok(Verdict::Yes { .. })));
     }
 }
+
+#[test]
+fn a_stop_at_any_time_ends_all_waits() {
+    for round in 0..60 {
+        let (plan, cluster) = Plan::open();
+        thread::scope(|scope| {
+            for own in &plan.own {
+                let (plan, cluster) = (&plan, &cluster);
+                scope.spawn(move || {
+                    let mut session = Session::default();
+                    let why = loop {
+                        let changes = [own.add(1), plan.total.add(1)];
+                        let made = cluster.propose(&mut session, &changes, FOREVER);
+                        let read = cluster.read_when_level(&mut session, plan.sites[3], *own, FOREVER);
+                        if let Some(why) = made.err().or(read.err()) {
+                            break why;
+                        }
+                    };
+                    assert!(matches!(why, Error::Stopped | Error::NotYet { .. } | Error::Behind { .. }), "{why}");
+                });
+            }
+            let late = scope.spawn(|| cluster.read_when_level(&mut Session { seen: u64::MAX }, plan.sites[1], plan.total, FOREVER));
+            thread::sleep(Duration::from_micros(round * 50));
+            cluster.stop();
+            assert!(matches!(late.join().unwrap(), Err(Error::Behind { .. })));
+        });
+        let closed = cluster.close().unwrap();
+        for site in &plan.sites {
+            assert!(matches!(check(closed.record(*site).unwrap().as_bytes()), Ok(Verdict::Yes { .. })));
+        }
+    }
+}

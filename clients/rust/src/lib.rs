@@ -1,9 +1,13 @@
-//! A replicated store with a proved bound on its lag, in this process: a binding of `libordup`.
+//! A replicated store with a proved bound on its lag, in this process: a binding of `libordup`. The crate has no dependencies.
 //!
-//! The crate has no dependencies. A [`Store`] has a method for each command of docs/FORMATS.md, and [`Store::run`] for the lines of many.
-//! Threads share a [`SharedStore`]. docs/EMBEDDING.md says what is proved of the library. This crate keeps to what `ordup.h` asks of a
-//! caller, but for the stack, of which a call wants 128 KB, and for the allocator and the processor, which are the program's. A store takes
-//! memory by `malloc`, and [`Error::NoMemory`] says that this has none left.
+//! - A [`Cluster`] is for the threads of a program: each site has an applier of its own, proposals wait, and readers do not.
+//!   [`cluster`] has it and an example.
+//! - A [`Store`] is for scripts: it has a method for each command of docs/FORMATS.md, and [`Store::run`] for the lines of many. The program
+//!   moves updates by `send`, `apply` and `report`. Threads share a [`SharedStore`].
+//!
+//! docs/EMBEDDING.md says what is proved of the library. This crate keeps to what `ordup.h` and `ordup_cluster.h` ask of a caller, but for
+//! the stack, of which a call wants 128 KB, and for the allocator and the processor, which are the program's. The library takes memory by
+//! `malloc`, and [`Error::NoMemory`] says that this has none left.
 //!
 //! ```
 //! use ordup::{Change, Scope, Settled, Store};
@@ -19,13 +23,18 @@
 //! # Ok::<(), ordup::Error>(())
 //! ```
 
+#![deny(unsafe_code, unsafe_op_in_unsafe_fn)]
+
 mod answer;
+pub mod cluster;
 mod commands;
 mod error;
-mod raw;
 mod store;
+#[allow(unsafe_code)]
+mod sys;
 
 pub use answer::{Answer, Certified, Ended, Read, SeriesVerdict, Settled, Shown, Verdict};
+pub use cluster::Cluster;
 pub use commands::{Change, Scope};
 pub use error::{Error, Refused};
 pub use store::{check, check_series, Outcome, SharedStore, Store};

@@ -2,8 +2,7 @@
 
 use crate::answer::{Answer, SeriesVerdict, Verdict};
 use crate::error::{Error, Refused};
-use crate::raw::*;
-use std::ptr;
+use crate::sys::script::{self, Script, DONE, MALFORMED, MORE, NOT_STARTED, NOT_YET, NO_MEMORY, TOO_LONG, UNKNOWN_SITE, VERSION};
 use std::sync::{Mutex, MutexGuard, PoisonError};
 
 /// How many bytes an answer may have at first. There is more room where one is longer.
@@ -21,25 +20,19 @@ pub type Outcome = Result<Answer, Refused>;
 /// A store in this process. It is closed when it is dropped.
 ///
 /// It may go from thread to thread. Where several threads call one store, they share a [`SharedStore`].
-pub struct Store(RawStore);
-
-// SAFETY: a store has all of its memory to itself, and the library has no state of its own. A call takes `&mut`, so one thread at a
-// time is in it.
-unsafe impl Send for Store {}
+pub struct Store(Script);
 
 impl Store {
     /// A store before its first line. The error is `NoMemory`, or `Unknown` if the library has another version than this
     /// crate.
     pub fn new() -> Result<Store, Error> {
-        let mut store = Store(RawStore { held: ptr::null_mut(), mark: 0 });
-        // SAFETY: it has no arguments.
-        match unsafe { ordup_version() } {
+        let mut store = Script::none();
+        match script::version() {
             VERSION => {}
             version => return Err(Error::Unknown(version)),
         }
-        // SAFETY: all zero is no store.
-        match unsafe { ordup_open(&mut store.0) } {
-            DONE => Ok(store),
+        match store.open() {
+            DONE => Ok(Store(store)),
             status => Err(fault(status)),
         }
     }
@@ -62,16 +55,8 @@ impl Store {
             if answers.try_reserve(ROOM).is_err() {
                 return outcome.and(Err(Error::NoMemory { taken: text.len() - rest.len() }));
             }
-            let (start, room) = (answers.len(), answers.capacity() - answers.len());
-            let (mut taken, mut written) = (0, 0);
-            // SAFETY: the store is as the last call left it. The text is a slice, and the room is the vector's own. The library
-            // reads no byte of the room, and writes the first `written`, which are at most `room`.
-            let status = unsafe {
-                let at = answers.as_mut_ptr().add(start);
-                let status = ordup_run(&mut self.0, rest.as_ptr(), rest.len(), &mut taken, at, room, &mut written);
-                answers.set_len(start + written);
-                status
-            };
+            let mut taken = 0;
+            let status = self.0.run(rest, &mut taken, answers);
             rest = &rest[taken..];
             match status {
                 DONE => return outcome,
@@ -129,10 +114,7 @@ impl Store {
     ///
     /// The error is `NotStarted`, `UnknownSite` or `NoMemory`.
     pub fn record(&mut self, site: &str) -> Result<String, Error> {
-        // SAFETY: as in `run`.
-        given(65_536, |room, size, written| unsafe {
-            ordup_record(&mut self.0, site.as_ptr(), site.len(), room, size, written)
-        })
+        given(65_536, |room, written| self.0.record(site, room, written))
     }
 
     /// The declarations of the successor, which begins with what this store ends with, once all updates are acknowledged: as
@@ -140,15 +122,7 @@ impl Store {
     ///
     /// The error is `NotStarted`, `NotYet` or `NoMemory`.
     pub fn next_declarations(&mut self) -> Result<String, Error> {
-        // SAFETY: as in `run`.
-        given(65_536, |room, size, written| unsafe { ordup_next(&mut self.0, room, size, written) })
-    }
-}
-
-impl Drop for Store {
-    fn drop(&mut self) {
-        // SAFETY: the store is as the last call left it.
-        unsafe { ordup_close(&mut self.0) }
+        given(65_536, |room, written| self.0.next(room, written))
     }
 }
 
@@ -162,10 +136,7 @@ impl Drop for Store {
 /// # Ok::<(), ordup::Error>(())
 /// ```
 pub fn check(record: &[u8]) -> Result<Verdict, Error> {
-    // SAFETY: as in `Store::run`.
-    let text = given(VERDICT, |room, size, written| unsafe {
-        ordup_check(record.as_ptr(), record.len(), room, size, written)
-    })?;
+    let text = given(VERDICT, |room, written| script::check(record, room, written))?;
     Verdict::parse(text.trim_end()).ok_or(Error::BadAnswer(text))
 }
 
@@ -182,20 +153,17 @@ pub fn check(record: &[u8]) -> Result<Verdict, Error> {
 /// # Ok::<(), ordup::Error>(())
 /// ```
 pub fn check_series(records: &[u8]) -> Result<SeriesVerdict, Error> {
-    // SAFETY: as in `Store::run`.
-    let text = given(VERDICT, |room, size, written| unsafe {
-        ordup_check_series(records.as_ptr(), records.len(), room, size, written)
-    })?;
+    let text = given(VERDICT, |room, written| script::check_series(records, room, written))?;
     SeriesVerdict::parse(text.trim_end()).ok_or(Error::BadAnswer(text))
 }
 
 /// What a call writes, which says how much room it needs.
-fn given(room: usize, mut call: impl FnMut(*mut u8, usize, *mut usize) -> u32) -> Result<String, Error> {
+fn given(room: usize, mut call: impl FnMut(&mut [u8], &mut usize) -> u32) -> Result<String, Error> {
     let (mut text, mut written) = (Vec::new(), room);
     loop {
         text.try_reserve_exact(written).map_err(|_| Error::NoMemory { taken: 0 })?;
         text.resize(written, 0);
-        match call(text.as_mut_ptr(), text.len(), &mut written) {
+        match call(&mut text, &mut written) {
             DONE | MALFORMED => break,
             MORE => text.clear(),
             status => return Err(fault(status)),

@@ -22,6 +22,8 @@ import (
 	"strings"
 	"sync"
 	"unsafe"
+
+	"ordup.dev/ordup/answer"
 )
 
 // firstRoom and mostRoom are how many bytes of answers the library may write at once: at first, and where there were more answers.
@@ -146,7 +148,7 @@ func (store *Store) Commands(lines ...string) ([]Answer, error) {
 	outcomes := make([]Answer, taken)
 	for index := range outcomes {
 		var bad error
-		if outcomes[index], bad = parse(texts[index], lines[index]); bad != nil {
+		if outcomes[index], bad = answer.Parse(texts[index], lines[index]); bad != nil {
 			return nil, bad
 		}
 	}
@@ -188,7 +190,7 @@ func Check(record []byte) (Verdict, error) {
 	if err != nil {
 		return Verdict{}, err
 	}
-	return parseVerdict(strings.TrimSuffix(text, "\n"))
+	return answer.ParseVerdict(strings.TrimSuffix(text, "\n"))
 }
 
 // CheckSeries checks the records of a site, one after another, of a store and of those that go on from it, as `ordup check --series`
@@ -200,7 +202,7 @@ func CheckSeries(records []byte) (SeriesVerdict, error) {
 	if err != nil {
 		return SeriesVerdict{}, err
 	}
-	return parseSeriesVerdict(strings.TrimSuffix(text, "\n"))
+	return answer.ParseSeriesVerdict(strings.TrimSuffix(text, "\n"))
 }
 
 // given is what a call writes, which says how much room it needs.

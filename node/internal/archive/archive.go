@@ -17,9 +17,9 @@ import (
 	"sync/atomic"
 	"time"
 
-	"ordup-node/internal/engine"
-	"ordup-node/internal/logs"
-	"ordup-node/internal/script"
+	"ordup.dev/node/internal/engine"
+	"ordup.dev/node/internal/logs"
+	"ordup.dev/node/internal/script"
 )
 
 // sync has a file on the disk, or the names of a folder.

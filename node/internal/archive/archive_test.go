@@ -9,10 +9,10 @@ import (
 	"strings"
 	"testing"
 
-	"ordup-node/internal/archive"
-	"ordup-node/internal/engine"
-	"ordup-node/internal/etcdtest"
-	"ordup-node/internal/script"
+	"ordup.dev/node/internal/archive"
+	"ordup.dev/node/internal/engine"
+	"ordup.dev/node/internal/etcdtest"
+	"ordup.dev/node/internal/script"
 )
 
 // write writes a script of some epochs, with entries of two steps.

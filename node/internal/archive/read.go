@@ -8,7 +8,7 @@ import (
 	"strconv"
 	"strings"
 
-	"ordup-node/internal/script"
+	"ordup.dev/node/internal/script"
 )
 
 // header begins the first line of an entry in an archive.

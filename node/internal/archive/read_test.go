@@ -7,8 +7,8 @@ import (
 	"strings"
 	"testing"
 
-	"ordup-node/internal/archive"
-	"ordup-node/internal/script"
+	"ordup.dev/node/internal/archive"
+	"ordup.dev/node/internal/script"
 )
 
 func TestAnArchiveIsReadAsItWasWritten(t *testing.T) {

@@ -10,8 +10,8 @@ import (
 	"strings"
 	"time"
 
-	"ordup-node/internal/epoch"
-	"ordup-node/internal/wire"
+	"ordup.dev/node/internal/epoch"
+	"ordup.dev/node/internal/wire"
 )
 
 // Update asks for an update until there is an answer, or the context ends. What the store refuses is a *wire.Error.

@@ -18,8 +18,8 @@ import (
 	"sync"
 	"time"
 
-	"ordup-node/internal/exit"
-	"ordup-node/internal/wire"
+	"ordup.dev/node/internal/exit"
+	"ordup.dev/node/internal/wire"
 )
 
 const (

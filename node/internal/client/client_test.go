@@ -9,10 +9,10 @@ import (
 	"testing"
 	"time"
 
-	"ordup-node/internal/client"
-	"ordup-node/internal/epoch"
-	"ordup-node/internal/exit"
-	"ordup-node/internal/wire"
+	"ordup.dev/node/internal/client"
+	"ordup.dev/node/internal/epoch"
+	"ordup.dev/node/internal/exit"
+	"ordup.dev/node/internal/wire"
 )
 
 // A server answers each request by the next of some functions, and by the last one from then on.

@@ -10,14 +10,14 @@ import (
 	"strings"
 	"time"
 
-	"ordup-node/internal/client"
-	"ordup-node/internal/engine"
-	"ordup-node/internal/exit"
-	"ordup-node/internal/logs"
-	"ordup-node/internal/reload"
-	"ordup-node/internal/serve"
-	"ordup-node/internal/settings"
-	"ordup-node/internal/wire"
+	"ordup.dev/node/internal/client"
+	"ordup.dev/node/internal/engine"
+	"ordup.dev/node/internal/exit"
+	"ordup.dev/node/internal/logs"
+	"ordup.dev/node/internal/reload"
+	"ordup.dev/node/internal/serve"
+	"ordup.dev/node/internal/settings"
+	"ordup.dev/node/internal/wire"
 )
 
 // askingSettings say who is asked, and how.

@@ -8,17 +8,19 @@ import (
 	"fmt"
 	"io"
 
-	"ordup-node/internal/exit"
-	"ordup-node/internal/logs"
-	"ordup-node/internal/settings"
-	"ordup-node/internal/store"
+	"ordup.dev/node/internal/exit"
+	"ordup.dev/node/internal/logs"
+	"ordup.dev/node/internal/settings"
+	"ordup.dev/node/internal/store"
 )
 
 // A Program is what the commands share.
 type Program struct {
 	// Versions are the versions of ordup whose answers the stores give. The first one is that of the program.
 	Versions []string
-	Open     store.Open
+	// Open gives stores, and Checker checks their records.
+	Open    store.Open
+	Checker store.Checker
 	// Out is for what was asked for, and Err for help. Events go to Log.
 	Out, Err io.Writer
 	Log      *logs.Log

@@ -19,11 +19,18 @@ import (
 	"testing"
 	"time"
 
-	"ordup-node/internal/command"
-	"ordup-node/internal/etcdtest"
-	"ordup-node/internal/exit"
-	"ordup-node/internal/library"
-	"ordup-node/internal/logs"
+	"ordup.dev/node/internal/command"
+	"ordup.dev/node/internal/etcdtest"
+	"ordup.dev/node/internal/exit"
+	"ordup.dev/node/internal/logs"
+	"ordup.dev/node/internal/modelstore"
+	"ordup.dev/node/internal/store"
+)
+
+// openStore and checker are those of the tests. With the tag library they are those of the program.
+var (
+	openStore store.Open    = modelstore.Open
+	checker   store.Checker = modelstore.Checker{}
 )
 
 // A text may be written by several goroutines.
@@ -52,7 +59,7 @@ func run(ctx context.Context, words ...string) (exit.Status, string, string) {
 // runAs does a command by a program of these versions.
 func runAs(ctx context.Context, versions []string, words ...string) (exit.Status, string, string) {
 	out, log := &text{}, &text{}
-	program := &command.Program{Versions: versions, Open: library.Open, Out: out, Err: log, Log: logs.New(log)}
+	program := &command.Program{Versions: versions, Open: openStore, Checker: checker, Out: out, Err: log, Log: logs.New(log)}
 	status := program.Run(ctx, words)
 	return status, out.String(), log.String()
 }

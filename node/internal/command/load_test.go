@@ -16,9 +16,9 @@ import (
 	"testing"
 	"time"
 
-	"ordup-node/internal/client"
-	"ordup-node/internal/etcdtest"
-	"ordup-node/internal/wire"
+	"ordup.dev/node/internal/client"
+	"ordup.dev/node/internal/etcdtest"
+	"ordup.dev/node/internal/wire"
 )
 
 // NODE_LOAD=1,10,100,1000 measures so many clients over HTTP, at processes of the program NODE_PROGRAM, for NODE_SECONDS each: the answers a

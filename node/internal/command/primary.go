@@ -5,13 +5,13 @@ import (
 	"errors"
 	"os"
 
-	"ordup-node/internal/archive"
-	"ordup-node/internal/engine"
-	"ordup-node/internal/epoch"
-	"ordup-node/internal/numbers"
-	"ordup-node/internal/primary"
-	"ordup-node/internal/serve"
-	"ordup-node/internal/settings"
+	"ordup.dev/node/internal/archive"
+	"ordup.dev/node/internal/engine"
+	"ordup.dev/node/internal/epoch"
+	"ordup.dev/node/internal/numbers"
+	"ordup.dev/node/internal/primary"
+	"ordup.dev/node/internal/serve"
+	"ordup.dev/node/internal/settings"
 )
 
 // primaryOwn are the settings of a primary.

@@ -10,8 +10,8 @@ import (
 	"testing"
 	"time"
 
-	"ordup-node/internal/etcdtest"
-	"ordup-node/internal/exit"
+	"ordup.dev/node/internal/etcdtest"
+	"ordup.dev/node/internal/exit"
 )
 
 // A process that goes on takes another certificate and other tokens from its files. With a broken file it keeps what it has.

@@ -13,13 +13,13 @@ import (
 
 	"golang.org/x/sys/unix"
 
-	"ordup-node/internal/client"
-	"ordup-node/internal/exit"
-	"ordup-node/internal/listen"
-	"ordup-node/internal/logs"
-	"ordup-node/internal/reload"
-	"ordup-node/internal/serve"
-	"ordup-node/internal/settings"
+	"ordup.dev/node/internal/client"
+	"ordup.dev/node/internal/exit"
+	"ordup.dev/node/internal/listen"
+	"ordup.dev/node/internal/logs"
+	"ordup.dev/node/internal/reload"
+	"ordup.dev/node/internal/serve"
+	"ordup.dev/node/internal/settings"
 )
 
 const (

@@ -4,12 +4,12 @@ import (
 	"context"
 	"errors"
 
-	"ordup-node/internal/fleet"
-	"ordup-node/internal/numbers"
-	"ordup-node/internal/script"
-	"ordup-node/internal/serve"
-	"ordup-node/internal/settings"
-	"ordup-node/internal/site"
+	"ordup.dev/node/internal/fleet"
+	"ordup.dev/node/internal/numbers"
+	"ordup.dev/node/internal/script"
+	"ordup.dev/node/internal/serve"
+	"ordup.dev/node/internal/settings"
+	"ordup.dev/node/internal/site"
 )
 
 // siteOwn are the settings of a site.

@@ -9,9 +9,9 @@ import (
 	"testing"
 	"time"
 
-	"ordup-node/internal/archive"
-	"ordup-node/internal/etcdtest"
-	"ordup-node/internal/exit"
+	"ordup.dev/node/internal/archive"
+	"ordup.dev/node/internal/etcdtest"
+	"ordup.dev/node/internal/exit"
 )
 
 var older, newer = []string{"1.0"}, []string{"1.1~dev", "1.0"}

@@ -9,8 +9,8 @@ import (
 	"testing"
 	"time"
 
-	"ordup-node/internal/engine"
-	"ordup-node/internal/etcdtest"
+	"ordup.dev/node/internal/engine"
+	"ordup.dev/node/internal/etcdtest"
 )
 
 func within(t *testing.T, most time.Duration) context.Context {

@@ -6,7 +6,7 @@ import (
 
 	"go.etcd.io/etcd/etcdserver/api/v3rpc/rpctypes"
 
-	"ordup-node/internal/exit"
+	"ordup.dev/node/internal/exit"
 )
 
 // An AwayError says that a member could not be reached, was too slow, or has no majority. Whether a write was taken is not known. The

@@ -8,8 +8,8 @@ import (
 	"testing"
 	"time"
 
-	"ordup-node/internal/engine"
-	"ordup-node/internal/etcdtest"
+	"ordup.dev/node/internal/engine"
+	"ordup.dev/node/internal/etcdtest"
 )
 
 // silence has a watch tell nothing any more, on a link that carries all else. If it began, it has told that it did.

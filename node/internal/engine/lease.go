@@ -10,8 +10,8 @@ import (
 	"go.etcd.io/etcd/clientv3"
 	pb "go.etcd.io/etcd/etcdserver/etcdserverpb"
 
-	"ordup-node/internal/clock"
-	"ordup-node/internal/logs"
+	"ordup.dev/node/internal/clock"
+	"ordup.dev/node/internal/logs"
 )
 
 const (

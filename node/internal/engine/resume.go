@@ -7,7 +7,7 @@ import (
 	"errors"
 	"fmt"
 
-	"ordup-node/internal/exit"
+	"ordup.dev/node/internal/exit"
 )
 
 // ErrLaterEpoch says that the script begins with a later epoch than the one that was run: that one is archived. Whoever ran it begins

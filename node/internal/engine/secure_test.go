@@ -15,8 +15,8 @@ import (
 	"testing"
 	"time"
 
-	"ordup-node/internal/engine"
-	"ordup-node/internal/etcdtest"
+	"ordup.dev/node/internal/engine"
+	"ordup.dev/node/internal/etcdtest"
 )
 
 // certificate makes files of a certificate that signs itself, for this computer, and its key.

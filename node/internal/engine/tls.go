@@ -6,8 +6,8 @@ import (
 	"fmt"
 	"os"
 
-	"ordup-node/internal/logs"
-	"ordup-node/internal/reload"
+	"ordup.dev/node/internal/logs"
+	"ordup.dev/node/internal/reload"
 )
 
 // TLSOf gives the TLS of a Config by files in PEM: the authority that the certificates of the members are of, and the certificate and

@@ -5,7 +5,7 @@ import (
 	"testing"
 	"time"
 
-	"ordup-node/internal/script"
+	"ordup.dev/node/internal/script"
 )
 
 // passEpoch ends the epoch.

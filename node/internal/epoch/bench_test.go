@@ -7,8 +7,8 @@ import (
 	"testing"
 	"time"
 
-	"ordup-node/internal/script"
-	"ordup-node/internal/store"
+	"ordup.dev/node/internal/script"
+	"ordup.dev/node/internal/store"
 )
 
 // A plain store answers as one without limits does, and computes nothing: what is measured is the core.
@@ -60,6 +60,7 @@ func (plain *plain) answer(line []byte) {
 }
 
 func (plain *plain) NextDeclarations() (string, error) { return "", nil }
+func (plain *plain) Record(string) (string, error)     { return "", nil }
 func (plain *plain) Close() error                      { return nil }
 
 // written gives the entries of so many updates, a thousand a turn, with four sites.

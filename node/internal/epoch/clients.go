@@ -4,7 +4,7 @@ import (
 	"fmt"
 	"strings"
 
-	"ordup-node/internal/script"
+	"ordup.dev/node/internal/script"
 )
 
 // An asker is a request without its changes.

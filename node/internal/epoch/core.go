@@ -5,9 +5,9 @@ import (
 	"fmt"
 	"time"
 
-	"ordup-node/internal/exit"
-	"ordup-node/internal/script"
-	"ordup-node/internal/store"
+	"ordup.dev/node/internal/exit"
+	"ordup.dev/node/internal/script"
+	"ordup.dev/node/internal/store"
 )
 
 // A Config is what a core is made with.

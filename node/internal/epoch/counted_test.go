@@ -5,10 +5,10 @@ import (
 	"testing"
 	"time"
 
-	"ordup-node/internal/exit"
-	"ordup-node/internal/modelstore"
-	"ordup-node/internal/script"
-	"ordup-node/internal/store"
+	"ordup.dev/node/internal/exit"
+	"ordup.dev/node/internal/modelstore"
+	"ordup.dev/node/internal/script"
+	"ordup.dev/node/internal/store"
 )
 
 // grown is a script with so many updates, of sites without limits, over a store that computes nothing.

@@ -7,8 +7,8 @@ import (
 	"strings"
 	"time"
 
-	"ordup-node/internal/script"
-	"ordup-node/internal/store"
+	"ordup.dev/node/internal/script"
+	"ordup.dev/node/internal/store"
 )
 
 // MostDeclarationsBytes is how many bytes declarations may have, and their lines that many as steps of an entry.

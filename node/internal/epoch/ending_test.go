@@ -7,9 +7,9 @@ import (
 	"testing"
 	"time"
 
-	"ordup-node/internal/exit"
-	"ordup-node/internal/modelstore"
-	"ordup-node/internal/script"
+	"ordup.dev/node/internal/exit"
+	"ordup.dev/node/internal/modelstore"
+	"ordup.dev/node/internal/script"
 )
 
 func (world *world) next(declarations ...string) {

@@ -7,9 +7,9 @@ import (
 	"testing"
 	"time"
 
-	"ordup-node/internal/modelstore"
-	"ordup-node/internal/script"
-	"ordup-node/internal/store"
+	"ordup.dev/node/internal/modelstore"
+	"ordup.dev/node/internal/script"
+	"ordup.dev/node/internal/store"
 )
 
 var shop = []string{"object tea 100", "object till 0", "site north 1", "site south 1", "limit north count 1", "start"}

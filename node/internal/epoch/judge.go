@@ -4,7 +4,7 @@ import (
 	"fmt"
 	"strings"
 
-	"ordup-node/internal/script"
+	"ordup.dev/node/internal/script"
 )
 
 // A Judge refuses entries that no right primary writes, by what stands in them alone. It is for a process that has no core, as a site.

@@ -3,7 +3,7 @@ package epoch
 import (
 	"fmt"
 
-	"ordup-node/internal/script"
+	"ordup.dev/node/internal/script"
 )
 
 // A state is what an epoch came to by its entries. Before the first one the epoch is 0.

@@ -6,7 +6,7 @@ import (
 	"strings"
 	"testing"
 
-	"ordup-node/internal/script"
+	"ordup.dev/node/internal/script"
 )
 
 // begun are the settings of an epoch of a script that began with those of the tests.

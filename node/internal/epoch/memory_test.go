@@ -6,7 +6,7 @@ import (
 	"strings"
 	"testing"
 
-	"ordup-node/internal/script"
+	"ordup.dev/node/internal/script"
 )
 
 // A process that runs the script keeps who asked, and not the entries: neither by a name that asks again, nor by one that is carried over.

@@ -7,7 +7,7 @@ import (
 	"testing"
 	"time"
 
-	"ordup-node/internal/script"
+	"ordup.dev/node/internal/script"
 )
 
 // A random run: clients that ask again, sites that apply what is in the script, turns that are lost, writers that take over.

@@ -6,7 +6,7 @@ import (
 	"strconv"
 	"strings"
 
-	"ordup-node/internal/script"
+	"ordup.dev/node/internal/script"
 )
 
 // run runs steps, and notes what comes of them. After an error the core is of no more use.

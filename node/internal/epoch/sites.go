@@ -5,7 +5,7 @@ import (
 	"fmt"
 	"time"
 
-	"ordup-node/internal/exit"
+	"ordup.dev/node/internal/exit"
 )
 
 // Near is how many updates a site may lack at the end of an epoch and still be here.

@@ -4,7 +4,7 @@ import (
 	"fmt"
 	"time"
 
-	"ordup-node/internal/script"
+	"ordup.dev/node/internal/script"
 )
 
 const (

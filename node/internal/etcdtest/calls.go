@@ -14,7 +14,7 @@ import (
 	"google.golang.org/grpc/metadata"
 	"google.golang.org/grpc/status"
 
-	"ordup-node/internal/engine"
+	"ordup.dev/node/internal/engine"
 )
 
 // A Call is a message of a process to a member: the method, as `/etcdserverpb.KV/Range`, and what is asked.

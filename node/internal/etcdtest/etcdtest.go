@@ -13,7 +13,7 @@ import (
 	"testing"
 	"time"
 
-	"ordup-node/internal/engine"
+	"ordup.dev/node/internal/engine"
 )
 
 // Members are the members of an engine.

@@ -8,7 +8,7 @@ import (
 	"testing"
 	"time"
 
-	"ordup-node/internal/engine"
+	"ordup.dev/node/internal/engine"
 )
 
 // A Link carries what a process and the members say to each other, and can be cut: then it carries nothing, and tells nobody.

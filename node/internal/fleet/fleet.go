@@ -13,11 +13,11 @@ import (
 	"sync"
 	"time"
 
-	"ordup-node/internal/clock"
-	"ordup-node/internal/engine"
-	"ordup-node/internal/epoch"
-	"ordup-node/internal/logs"
-	"ordup-node/internal/site"
+	"ordup.dev/node/internal/clock"
+	"ordup.dev/node/internal/engine"
+	"ordup.dev/node/internal/epoch"
+	"ordup.dev/node/internal/logs"
+	"ordup.dev/node/internal/site"
 )
 
 // lookAfter is after how long it is looked again for keys of the fleet.

@@ -7,9 +7,9 @@ import (
 	"strings"
 	"testing"
 
-	"ordup-node/internal/engine"
-	"ordup-node/internal/epoch"
-	"ordup-node/internal/exit"
+	"ordup.dev/node/internal/engine"
+	"ordup.dev/node/internal/epoch"
+	"ordup.dev/node/internal/exit"
 )
 
 // A teller keeps what it is told, and answers with its error.

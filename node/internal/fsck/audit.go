@@ -10,11 +10,11 @@ import (
 	"sort"
 	"strings"
 
-	"ordup"
+	"ordup.dev/ordup/answer"
 
-	"ordup-node/internal/epoch"
-	"ordup-node/internal/script"
-	"ordup-node/internal/store"
+	"ordup.dev/node/internal/epoch"
+	"ordup.dev/node/internal/script"
+	"ordup.dev/node/internal/store"
 )
 
 // An Epoch says what an epoch had that was found right.
@@ -43,29 +43,27 @@ func (checked Epoch) String() string {
 
 // An Audit checks entries one after another. It keeps one epoch, and the records of the one before.
 type Audit struct {
+	config Config
 	core   *epoch.Core
-	store  *ordup.Store
-	tell   func(Epoch)
+	// The store of the core.
+	store  store.Store
 	before map[string]string
 	// The last entry, and the last one of the epoch that is not carried over to the next one.
 	last, lastOf int64
 }
 
 // New gives an audit that begins with the entry of this number, and tells each epoch that was found right.
-func New(versions []string, first int64, tell func(Epoch)) *Audit {
-	audit := &Audit{tell: tell, last: first - 1}
-	audit.core = epoch.New(epoch.Config{Open: audit.open, Writer: "fsck", Versions: versions}, first)
+func New(config Config, first int64) *Audit {
+	audit := &Audit{config: config, last: first - 1}
+	audit.core = epoch.New(epoch.Config{Open: audit.open, Writer: "fsck", Versions: config.Versions}, first)
 	return audit
 }
 
 // open gives the core a store, which the audit asks too.
 func (audit *Audit) open() (store.Store, error) {
-	opened, err := ordup.Open()
-	if err != nil {
-		return nil, err
-	}
+	opened, err := audit.config.Open()
 	audit.store = opened
-	return opened, nil
+	return opened, err
 }
 
 // Close gives back what the audit has.
@@ -152,28 +150,28 @@ func (audit *Audit) endEpoch(goesOn bool) error {
 	if goesOn {
 		audit.before = records
 	}
-	audit.tell(checked)
+	audit.config.Tell(checked)
 	return nil
 }
 
 // check has a record checked, alone and behind that of the epoch before.
 func (audit *Audit) check(number int64, site, record string) (uint64, error) {
-	verdict, err := ordup.Check([]byte(record))
+	verdict, err := audit.config.Checker.Check([]byte(record))
 	if err != nil {
 		return 0, err
 	}
-	if verdict.Kind != ordup.Yes {
+	if verdict.Kind != answer.Yes {
 		return 0, &RecordError{number, site, fmt.Sprintf("%s %d %s", verdict.Kind, verdict.Row, verdict.Reason)}
 	}
 	before, isThere := audit.before[site]
 	if !isThere {
 		return verdict.Rounds, nil
 	}
-	series, err := ordup.CheckSeries([]byte(before + record))
+	series, err := audit.config.Checker.CheckSeries([]byte(before + record))
 	if err != nil {
 		return 0, err
 	}
-	if series.Kind != ordup.Yes {
+	if series.Kind != answer.Yes {
 		return 0, &RecordError{number, site, fmt.Sprintf("with the one before: %s %d %d %s", series.Kind, series.Record, series.Row, series.Reason)}
 	}
 	return verdict.Rounds, nil

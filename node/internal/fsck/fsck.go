@@ -9,11 +9,12 @@ import (
 	"os"
 	"path/filepath"
 
-	"ordup-node/internal/archive"
-	"ordup-node/internal/engine"
-	"ordup-node/internal/epoch"
-	"ordup-node/internal/exit"
-	"ordup-node/internal/script"
+	"ordup.dev/node/internal/archive"
+	"ordup.dev/node/internal/engine"
+	"ordup.dev/node/internal/epoch"
+	"ordup.dev/node/internal/exit"
+	"ordup.dev/node/internal/script"
+	"ordup.dev/node/internal/store"
 )
 
 // A RecordError says that the record of a site is not `yes`.
@@ -45,6 +46,9 @@ type Config struct {
 	// Engine has the script that is not archived yet, or is nil.
 	Engine   *engine.Engine
 	Versions []string
+	// Open gives the stores that run the script again, and Checker checks their records.
+	Open    store.Open
+	Checker store.Checker
 	// Tell is told of each epoch that was found right.
 	Tell func(Epoch)
 }
@@ -83,7 +87,7 @@ func (reader *reader) take(ctx context.Context, number int64, entry *script.Entr
 		return ctx.Err()
 	}
 	if reader.audit == nil {
-		reader.audit = New(reader.Versions, number, reader.Tell)
+		reader.audit = New(reader.Config, number)
 	}
 	reader.entries++
 	return reader.audit.Take(number, entry)

@@ -8,14 +8,21 @@ import (
 	"strings"
 	"testing"
 
-	"ordup-node/internal/archive"
-	"ordup-node/internal/engine"
-	"ordup-node/internal/epoch"
-	"ordup-node/internal/etcdtest"
-	"ordup-node/internal/exit"
-	"ordup-node/internal/fsck"
-	"ordup-node/internal/library"
-	"ordup-node/internal/script"
+	"ordup.dev/node/internal/archive"
+	"ordup.dev/node/internal/engine"
+	"ordup.dev/node/internal/epoch"
+	"ordup.dev/node/internal/etcdtest"
+	"ordup.dev/node/internal/exit"
+	"ordup.dev/node/internal/fsck"
+	"ordup.dev/node/internal/modelstore"
+	"ordup.dev/node/internal/script"
+	"ordup.dev/node/internal/store"
+)
+
+// openStore and checker are those of the tests. With the tag library they are those of the program.
+var (
+	openStore store.Open    = modelstore.Open
+	checker   store.Checker = modelstore.Checker{}
 )
 
 var declarations = []string{"object tea 1000", "object till 0", "site north 1", "site south 1", "limit north count 2", "start"}
@@ -30,7 +37,7 @@ func scriptOf(t *testing.T, epochs int64) []*script.Entry {
 func redeclared(t *testing.T, epochs int64, second []string) []*script.Entry {
 	t.Helper()
 	wishes := map[int64][]string{1: second}
-	config := epoch.Config{Open: library.Open, Writer: "p1", Versions: []string{"1"}}
+	config := epoch.Config{Open: openStore, Writer: "p1", Versions: []string{"1"}}
 	settings := script.Settings{Every: 1000, Remembers: 2, Origin: epoch.DigestOf(declarations), Ordup: "1"}
 	turn, err := epoch.FirstTurn(config, settings, declarations)
 	core, entries := epoch.New(config, 1), []*script.Entry{}
@@ -97,7 +104,7 @@ func write(t *testing.T, entries []*script.Entry, change func(name, text string)
 
 func run(folders []string, opened *engine.Engine) (string, error) {
 	text := ""
-	_, _, err := fsck.Run(context.Background(), fsck.Config{Folders: folders, From: 1, Engine: opened, Versions: []string{"1"},
+	_, _, err := fsck.Run(context.Background(), fsck.Config{Folders: folders, From: 1, Engine: opened, Versions: []string{"1"}, Open: openStore, Checker: checker,
 		Tell: func(checked fsck.Epoch) { text += checked.String() + "\n" }})
 	return text, err
 }

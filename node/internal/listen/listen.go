@@ -15,7 +15,7 @@ import (
 	"net/http"
 	"time"
 
-	"ordup-node/internal/logs"
+	"ordup.dev/node/internal/logs"
 )
 
 const (

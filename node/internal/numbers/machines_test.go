@@ -9,14 +9,14 @@ import (
 	"testing"
 	"time"
 
-	"ordup-node/internal/engine"
-	"ordup-node/internal/epoch"
-	"ordup-node/internal/exit"
-	"ordup-node/internal/fleet"
-	"ordup-node/internal/primary"
-	"ordup-node/internal/script"
-	"ordup-node/internal/site"
-	"ordup-node/internal/wire"
+	"ordup.dev/node/internal/engine"
+	"ordup.dev/node/internal/epoch"
+	"ordup.dev/node/internal/exit"
+	"ordup.dev/node/internal/fleet"
+	"ordup.dev/node/internal/primary"
+	"ordup.dev/node/internal/script"
+	"ordup.dev/node/internal/site"
+	"ordup.dev/node/internal/wire"
 )
 
 // machines is the page for operators.

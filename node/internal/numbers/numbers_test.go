@@ -10,10 +10,10 @@ import (
 
 	"github.com/prometheus/client_golang/prometheus/testutil"
 
-	"ordup-node/internal/epoch"
-	"ordup-node/internal/fleet"
-	"ordup-node/internal/primary"
-	"ordup-node/internal/site"
+	"ordup.dev/node/internal/epoch"
+	"ordup.dev/node/internal/fleet"
+	"ordup.dev/node/internal/primary"
+	"ordup.dev/node/internal/site"
 )
 
 func zero() int { return 7 }

@@ -5,7 +5,7 @@ import (
 
 	"github.com/prometheus/client_golang/prometheus"
 
-	"ordup-node/internal/primary"
+	"ordup.dev/node/internal/primary"
 )
 
 // A PrimaryNumbers is those of a primary.

@@ -7,8 +7,8 @@ import (
 	"strings"
 	"sync/atomic"
 
-	"ordup-node/internal/clock"
-	"ordup-node/internal/epoch"
+	"ordup.dev/node/internal/clock"
+	"ordup.dev/node/internal/epoch"
 )
 
 // Why a request has no answer. Each but the last three may be asked again under the same number, here or at another primary: it is done

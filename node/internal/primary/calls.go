@@ -4,8 +4,8 @@ import (
 	"errors"
 	"sync"
 
-	"ordup-node/internal/epoch"
-	"ordup-node/internal/script"
+	"ordup.dev/node/internal/epoch"
+	"ordup.dev/node/internal/script"
 )
 
 // MostQueued is how many requests wait to be taken at most, and MostWaiting how many of those that were taken wait for an answer.

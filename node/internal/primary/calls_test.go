@@ -3,8 +3,8 @@ package primary
 import (
 	"testing"
 
-	"ordup-node/internal/epoch"
-	"ordup-node/internal/script"
+	"ordup.dev/node/internal/epoch"
+	"ordup.dev/node/internal/script"
 )
 
 func newCalls() *calls {

@@ -1,8 +1,8 @@
 package primary
 
 import (
-	"ordup-node/internal/engine"
-	"ordup-node/internal/epoch"
+	"ordup.dev/node/internal/engine"
+	"ordup.dev/node/internal/epoch"
 )
 
 // digests are those of the entries of an epoch, which this process has read or sealed. By them the place of a site that ran another script

@@ -4,9 +4,9 @@ import (
 	"context"
 	"time"
 
-	"ordup-node/internal/clock"
-	"ordup-node/internal/engine"
-	"ordup-node/internal/epoch"
+	"ordup.dev/node/internal/clock"
+	"ordup.dev/node/internal/engine"
+	"ordup.dev/node/internal/epoch"
 )
 
 // A Held says by how many keys in the engine a site is held that is taken out, and how many of them have no lease.

@@ -8,10 +8,10 @@ import (
 
 	"go.etcd.io/etcd/clientv3"
 
-	"ordup-node/internal/engine"
-	"ordup-node/internal/epoch"
-	"ordup-node/internal/primary"
-	"ordup-node/internal/site"
+	"ordup.dev/node/internal/engine"
+	"ordup.dev/node/internal/epoch"
+	"ordup.dev/node/internal/primary"
+	"ordup.dev/node/internal/site"
 )
 
 var withoutNorth = []string{"object tea 1", "site south 1", "start"}

@@ -5,9 +5,9 @@ import (
 	"testing"
 	"time"
 
-	"ordup-node/internal/epoch"
-	"ordup-node/internal/exit"
-	"ordup-node/internal/site"
+	"ordup.dev/node/internal/epoch"
+	"ordup.dev/node/internal/exit"
+	"ordup.dev/node/internal/site"
 )
 
 // A site that follows the script of one deployment and tells the primaries of another has run as many updates, and is of no use there.

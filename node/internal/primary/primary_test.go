@@ -12,15 +12,15 @@ import (
 	"testing"
 	"time"
 
-	"ordup-node/internal/archive"
-	"ordup-node/internal/epoch"
-	"ordup-node/internal/etcdtest"
-	"ordup-node/internal/exit"
-	"ordup-node/internal/logs"
-	"ordup-node/internal/modelstore"
-	"ordup-node/internal/primary"
-	"ordup-node/internal/site"
-	"ordup-node/internal/store"
+	"ordup.dev/node/internal/archive"
+	"ordup.dev/node/internal/epoch"
+	"ordup.dev/node/internal/etcdtest"
+	"ordup.dev/node/internal/exit"
+	"ordup.dev/node/internal/logs"
+	"ordup.dev/node/internal/modelstore"
+	"ordup.dev/node/internal/primary"
+	"ordup.dev/node/internal/site"
+	"ordup.dev/node/internal/store"
 )
 
 var shop = []string{"object tea 1000000", "object till 0", "site north 1", "site south 1", "limit north count 3", "start"}

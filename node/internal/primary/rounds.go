@@ -1,6 +1,6 @@
 package primary
 
-import "ordup-node/internal/epoch"
+import "ordup.dev/node/internal/epoch"
 
 // rounds counts the forced rounds of sites over epochs. A core that runs an epoch again finds the same ones, so they are counted once.
 type rounds struct {

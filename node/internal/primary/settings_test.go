@@ -4,10 +4,10 @@ import (
 	"strings"
 	"testing"
 
-	"ordup-node/internal/epoch"
-	"ordup-node/internal/exit"
-	"ordup-node/internal/primary"
-	"ordup-node/internal/script"
+	"ordup.dev/node/internal/epoch"
+	"ordup.dev/node/internal/exit"
+	"ordup.dev/node/internal/primary"
+	"ordup.dev/node/internal/script"
 )
 
 // A primary comes back with the settings with which the script began, after any wish of an operator. With others it does not.

@@ -6,11 +6,11 @@ import (
 	"fmt"
 	"strings"
 
-	"ordup-node/internal/clock"
-	"ordup-node/internal/engine"
-	"ordup-node/internal/epoch"
-	"ordup-node/internal/exit"
-	"ordup-node/internal/script"
+	"ordup.dev/node/internal/clock"
+	"ordup.dev/node/internal/engine"
+	"ordup.dev/node/internal/epoch"
+	"ordup.dev/node/internal/exit"
+	"ordup.dev/node/internal/script"
 )
 
 // standBy runs the script as it comes, until the lease names this process and the script was taken over. A process that slept may have

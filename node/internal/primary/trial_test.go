@@ -13,11 +13,11 @@ import (
 	"testing"
 	"time"
 
-	"ordup-node/internal/archive"
-	"ordup-node/internal/epoch"
-	"ordup-node/internal/etcdtest"
-	"ordup-node/internal/script"
-	"ordup-node/internal/site"
+	"ordup.dev/node/internal/archive"
+	"ordup.dev/node/internal/epoch"
+	"ordup.dev/node/internal/etcdtest"
+	"ordup.dev/node/internal/script"
+	"ordup.dev/node/internal/site"
 )
 
 // A trial has clients, readers and faults for NODE_TRIAL seconds, and judges what they saw: by default for a few.

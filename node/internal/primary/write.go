@@ -5,9 +5,9 @@ import (
 	"sync/atomic"
 	"time"
 
-	"ordup-node/internal/clock"
-	"ordup-node/internal/engine"
-	"ordup-node/internal/epoch"
+	"ordup.dev/node/internal/clock"
+	"ordup.dev/node/internal/engine"
+	"ordup.dev/node/internal/epoch"
 )
 
 // A writing is what one time as the writer needs: from a take-over to its end.

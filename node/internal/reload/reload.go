@@ -7,7 +7,7 @@ import (
 	"sync"
 	"time"
 
-	"ordup-node/internal/logs"
+	"ordup.dev/node/internal/logs"
 )
 
 // lookAfter is how often it is looked at most whether a file has changed.

@@ -20,7 +20,7 @@ import (
 	"strconv"
 	"strings"
 
-	"ordup-node/internal/exit"
+	"ordup.dev/node/internal/exit"
 )
 
 // Format is the version of the format of entries that this package writes, and the only one that it reads.

@@ -13,7 +13,7 @@ import (
 	"testing"
 	"time"
 
-	"ordup-node/internal/serve"
+	"ordup.dev/node/internal/serve"
 )
 
 // sent is what a client reads that sends all first, and then reads. Most clients look at no answer where they cannot send.

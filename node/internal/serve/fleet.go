@@ -6,9 +6,9 @@ import (
 	"fmt"
 	"net/http"
 
-	"ordup-node/internal/epoch"
-	"ordup-node/internal/site"
-	"ordup-node/internal/wire"
+	"ordup.dev/node/internal/epoch"
+	"ordup.dev/node/internal/site"
+	"ordup.dev/node/internal/wire"
 )
 
 // A Fleet answers for a fleet.

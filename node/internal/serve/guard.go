@@ -10,10 +10,10 @@ import (
 	"os"
 	"strings"
 
-	"ordup-node/internal/logs"
-	"ordup-node/internal/reload"
-	"ordup-node/internal/script"
-	"ordup-node/internal/wire"
+	"ordup.dev/node/internal/logs"
+	"ordup.dev/node/internal/reload"
+	"ordup.dev/node/internal/script"
+	"ordup.dev/node/internal/wire"
 )
 
 // A Role is who may ask something.

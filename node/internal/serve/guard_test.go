@@ -10,10 +10,10 @@ import (
 	"strings"
 	"testing"
 
-	"ordup-node/internal/client"
-	"ordup-node/internal/fleet"
-	"ordup-node/internal/logs"
-	"ordup-node/internal/serve"
+	"ordup.dev/node/internal/client"
+	"ordup.dev/node/internal/fleet"
+	"ordup.dev/node/internal/logs"
+	"ordup.dev/node/internal/serve"
 )
 
 func tokens(t *testing.T, text string) string {

@@ -9,8 +9,8 @@ import (
 	"strings"
 	"time"
 
-	"ordup-node/internal/client"
-	"ordup-node/internal/wire"
+	"ordup.dev/node/internal/client"
+	"ordup.dev/node/internal/wire"
 )
 
 // A Passer passes requests on to another primary.

@@ -8,10 +8,10 @@ import (
 	"strings"
 	"time"
 
-	"ordup-node/internal/epoch"
-	"ordup-node/internal/primary"
-	"ordup-node/internal/script"
-	"ordup-node/internal/wire"
+	"ordup.dev/node/internal/epoch"
+	"ordup.dev/node/internal/primary"
+	"ordup.dev/node/internal/script"
+	"ordup.dev/node/internal/wire"
 )
 
 // A Writer is what is asked of a primary.

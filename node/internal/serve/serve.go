@@ -13,8 +13,8 @@ import (
 	"sync/atomic"
 	"time"
 
-	"ordup-node/internal/listen"
-	"ordup-node/internal/wire"
+	"ordup.dev/node/internal/listen"
+	"ordup.dev/node/internal/wire"
 )
 
 const (

@@ -13,15 +13,15 @@ import (
 	"testing"
 	"time"
 
-	"ordup-node/internal/client"
-	"ordup-node/internal/engine"
-	"ordup-node/internal/epoch"
-	"ordup-node/internal/fleet"
-	"ordup-node/internal/listen"
-	"ordup-node/internal/primary"
-	"ordup-node/internal/serve"
-	"ordup-node/internal/site"
-	"ordup-node/internal/wire"
+	"ordup.dev/node/internal/client"
+	"ordup.dev/node/internal/engine"
+	"ordup.dev/node/internal/epoch"
+	"ordup.dev/node/internal/fleet"
+	"ordup.dev/node/internal/listen"
+	"ordup.dev/node/internal/primary"
+	"ordup.dev/node/internal/serve"
+	"ordup.dev/node/internal/site"
+	"ordup.dev/node/internal/wire"
 )
 
 // A writer stands in for a primary.

@@ -6,8 +6,8 @@ import (
 	"net/http"
 	"strings"
 
-	"ordup-node/internal/site"
-	"ordup-node/internal/wire"
+	"ordup.dev/node/internal/site"
+	"ordup.dev/node/internal/wire"
 )
 
 // A Reader is what is asked of a site.

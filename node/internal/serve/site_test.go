@@ -10,8 +10,8 @@ import (
 	"testing"
 	"time"
 
-	"ordup-node/internal/serve"
-	"ordup-node/internal/site"
+	"ordup.dev/node/internal/serve"
+	"ordup.dev/node/internal/site"
 )
 
 func TestReadersThatWaitKeepNobodyOut(t *testing.T) {

@@ -9,7 +9,7 @@ import (
 	"strings"
 	"testing"
 
-	"ordup-node/internal/wire"
+	"ordup.dev/node/internal/wire"
 )
 
 // The table of package wire has the errors that are of this package alone, and each name in it is one of some error.

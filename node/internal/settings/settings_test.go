@@ -10,7 +10,7 @@ import (
 	"testing"
 	"time"
 
-	"ordup-node/internal/settings"
+	"ordup.dev/node/internal/settings"
 )
 
 type values struct {

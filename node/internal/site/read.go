@@ -7,8 +7,8 @@ import (
 	"sync/atomic"
 	"time"
 
-	"ordup-node/internal/clock"
-	"ordup-node/internal/engine"
+	"ordup.dev/node/internal/clock"
+	"ordup.dev/node/internal/engine"
 )
 
 // ErrNotServing says that this process serves no reader: it has no lease, has not reached the end that the script had when it got it, or

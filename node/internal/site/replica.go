@@ -10,10 +10,10 @@ import (
 	"strconv"
 	"strings"
 
-	"ordup-node/internal/epoch"
-	"ordup-node/internal/exit"
-	"ordup-node/internal/script"
-	"ordup-node/internal/store"
+	"ordup.dev/node/internal/epoch"
+	"ordup.dev/node/internal/exit"
+	"ordup.dev/node/internal/script"
+	"ordup.dev/node/internal/store"
 )
 
 // feed is how many updates the own store of a site has under way: the capacity that it declares.

@@ -7,10 +7,10 @@ import (
 	"testing"
 	"time"
 
-	"ordup-node/internal/epoch"
-	"ordup-node/internal/modelstore"
-	"ordup-node/internal/script"
-	"ordup-node/internal/store"
+	"ordup.dev/node/internal/epoch"
+	"ordup.dev/node/internal/modelstore"
+	"ordup.dev/node/internal/script"
+	"ordup.dev/node/internal/store"
 )
 
 // openStore gives the stores of the tests. With the tag library it is that of the program.

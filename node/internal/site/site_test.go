@@ -9,10 +9,10 @@ import (
 	"testing"
 	"time"
 
-	"ordup-node/internal/clock"
-	"ordup-node/internal/engine"
-	"ordup-node/internal/epoch"
-	"ordup-node/internal/etcdtest"
+	"ordup.dev/node/internal/clock"
+	"ordup.dev/node/internal/engine"
+	"ordup.dev/node/internal/epoch"
+	"ordup.dev/node/internal/etcdtest"
 )
 
 type nowhere struct{}

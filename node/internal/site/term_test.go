@@ -10,10 +10,10 @@ import (
 	"testing"
 	"time"
 
-	"ordup-node/internal/engine"
-	"ordup-node/internal/epoch"
-	"ordup-node/internal/etcdtest"
-	"ordup-node/internal/exit"
+	"ordup.dev/node/internal/engine"
+	"ordup.dev/node/internal/epoch"
+	"ordup.dev/node/internal/etcdtest"
+	"ordup.dev/node/internal/exit"
 )
 
 // A shop is a script in an engine, and how it is written on.

@@ -6,9 +6,9 @@ import (
 	"fmt"
 	"net/http"
 
-	"ordup-node/internal/epoch"
-	"ordup-node/internal/primary"
-	"ordup-node/internal/site"
+	"ordup.dev/node/internal/epoch"
+	"ordup.dev/node/internal/primary"
+	"ordup.dev/node/internal/site"
 )
 
 // plain are the errors that have nothing but their name.

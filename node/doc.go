@@ -121,7 +121,7 @@
 //	fleet        the place of several sites
 //	archive      the files of past epochs
 //	fsck         checks them and the script from the first epoch on
-//	wire         what travels by HTTP, with its table of statuses
+//	wire         what travels by HTTP, with its table of errors. It knows none of the others but exit
 //	listen       a server of HTTP for whoever comes
 //	serve        the paths of a primary, a site and a fleet, and who may ask at them
 //	client       asks them

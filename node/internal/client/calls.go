@@ -7,7 +7,6 @@ import (
 	"fmt"
 	"net/http"
 	"net/url"
-	"strings"
 	"time"
 
 	"ordup.dev/node/internal/epoch"
@@ -69,6 +68,15 @@ func (client *Client) Tell(ctx context.Context, place epoch.Place) error {
 // tellTime is how long one address may take for a place.
 const tellTime = time.Second
 
+// A refusal of a place says what the primary said, and is the error that it had there.
+type refusal struct {
+	told *wire.Error
+	is   error
+}
+
+func (r *refusal) Error() string { return r.told.Message }
+func (r *refusal) Unwrap() error { return r.is }
+
 // refusalOf gives the errors of a place the types that they had at the primary.
 func refusalOf(err error, place epoch.Place) error {
 	var told *wire.Error
@@ -76,12 +84,12 @@ func refusalOf(err error, place epoch.Place) error {
 		return err
 	}
 	switch told.Name {
-	case "CannotBe":
+	case wire.CannotBe:
 		return &epoch.CannotBeError{Place: place, Updates: told.Updates}
-	case "OtherScript":
-		return epoch.ErrOtherScript
-	case "NoSite":
-		return fmt.Errorf("%w%s", epoch.ErrNoSite, strings.TrimPrefix(told.Message, epoch.ErrNoSite.Error()))
+	case wire.OtherScript:
+		return &refusal{told, epoch.ErrOtherScript}
+	case wire.NoSite:
+		return &refusal{told, epoch.ErrNoSite}
 	}
 	return err
 }

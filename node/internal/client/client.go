@@ -111,14 +111,7 @@ func answer(by *http.Client, request *http.Request, to interface{}) (writer stri
 // isForGood is whether an error is the same wherever and whenever it is asked again.
 func isForGood(err error) bool {
 	var told *wire.Error
-	if !errors.As(err, &told) {
-		return false
-	}
-	switch told.Name {
-	case "NotWriter", "NotServing", "NotYet", "Busy", "NoAnswer", "TooSlow", "Failed", "Full":
-		return false
-	}
-	return true
+	return errors.As(err, &told) && told.Name.Again() == wire.Never
 }
 
 // address is who is asked now.
@@ -172,12 +165,12 @@ func (client *Client) try(ctx context.Context, address, method, path string, bod
 	}
 	isNamed := writer != address && mayBeAsked(address, writer)
 	switch {
-	case isNamed && (err == nil || isForGood(err) || told != nil && told.Name == "NotWriter"):
+	case isNamed && (err == nil || isForGood(err) || told != nil && told.Name == wire.NotWriter):
 		client.learn(writer)
 	case err == nil || isForGood(err):
 		client.learn(address)
-	case told != nil && (told.Name == "Busy" || told.Name == "NotYet" || told.Name == "Full"):
-		// It is the right one, and has an answer later.
+	case told != nil && told.Name.Again() == wire.Here:
+		// It has an answer later.
 	default:
 		client.fail(address)
 	}

@@ -33,13 +33,13 @@ func acked(to http.ResponseWriter) {
 	wire.Write(to, 200, wire.Acked{Client: "ann", Number: 1, Epoch: 1, Place: 3, Seen: "1.3"})
 }
 
-func failing(status int, name string) func(http.ResponseWriter) {
-	return func(to http.ResponseWriter) { wire.Write(to, status, wire.Error{Name: name, Message: name}) }
+func failing(status int, name wire.Name) func(http.ResponseWriter) {
+	return func(to http.ResponseWriter) { wire.Write(to, status, wire.Error{Name: name, Message: string(name)}) }
 }
 
 // naming says that another primary writes.
 func naming(writer string) func(http.ResponseWriter) {
-	return func(to http.ResponseWriter) { wire.Write(to, 503, wire.Error{Name: "NotWriter", Writer: writer}) }
+	return func(to http.ResponseWriter) { wire.Write(to, 503, wire.Error{Name: wire.NotWriter, Writer: writer}) }
 }
 
 // passed is the answer of a primary that passed a request on to one that does not write any more.
@@ -150,7 +150,7 @@ func TestItDoesNotStayWhereThereIsNoAnswer(t *testing.T) {
 }
 
 func TestWhatIsForGoodIsNotAskedAgain(t *testing.T) {
-	for name, status := range map[string]int{"Refused": 422, "Passed": 409, "Differs": 409, "Malformed": 400, "NoToken": 401, "Closed": 403} {
+	for name, status := range map[wire.Name]int{"Refused": 422, "Passed": 409, "Differs": 409, "Malformed": 400, "NoToken": 401, "Closed": 403} {
 		var count int64
 		_, err := update(t, 10*time.Second, server(t, &count, failing(status, name)))
 		var told *wire.Error

@@ -68,22 +68,8 @@ func (own *askingSettings) asks(log *logs.Log, ask func(context.Context, *client
 		}
 		limited, cancel := context.WithTimeout(ctx, own.patience)
 		defer cancel()
-		return endingOf(ask(limited, asker, words))
+		return ask(limited, asker, words)
 	}
-}
-
-// endingOf gives an answer that is an error its status: 2 where the request can never be done as it is.
-func endingOf(err error) error {
-	var told *wire.Error
-	var none *client.NoAnswerError
-	if err == nil || errors.As(err, &none) || !errors.As(err, &told) {
-		return err
-	}
-	switch told.Name {
-	case "Malformed", "NoToken", "Closed", "NoSuchPath", "NoSuchObject", "NoSuchMethod", "Passed", "Differs", "TooLarge", "NoWish":
-		return exit.With(exit.Words, err)
-	}
-	return err
 }
 
 func updateSettings(program *Program, set *settings.Set) func(context.Context, []string) error {
@@ -102,7 +88,7 @@ func updateSettings(program *Program, set *settings.Set) func(context.Context, [
 		acked, err := asker.Update(ctx, wire.Update{Client: words[0], Number: number, Changes: changes})
 		var told *wire.Error
 		switch {
-		case errors.As(err, &told) && told.Name == "Refused":
+		case errors.As(err, &told) && told.Name == wire.Refused:
 			fmt.Fprintf(program.Out, "refused %d %s\n", told.Refused, told.Refusal)
 			return nil
 		case err != nil:

@@ -39,7 +39,7 @@ func (served *Fleet) place(ctx context.Context, asked *request) (interface{}, er
 // the fleet's.
 func inFleet(err error) error {
 	var told *wire.Error
-	if errors.As(err, &told) && told.Name == "NotWriter" {
+	if errors.As(err, &told) && told.Name == wire.NotWriter {
 		return fmt.Errorf("%w: %s", epoch.ErrBehind, told.Message)
 	}
 	return err

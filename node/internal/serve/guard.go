@@ -185,15 +185,13 @@ func isLook(asked *http.Request) bool {
 }
 
 var (
-	errNoToken = &wire.Error{Status: http.StatusUnauthorized, Name: "NoToken",
-		Message: "the token is missing, or not one of those who may ask this"}
-	errClosed = &wire.Error{Status: http.StatusForbidden, Name: "Closed",
-		Message: "this process has tokens of others, and none of those who may ask this"}
-	errOtherOrigin = &wire.Error{Status: http.StatusForbidden, Name: "OtherOrigin", Message: "this is not for pages in a browser"}
-	errNotJSON     = &wire.Error{Status: http.StatusUnsupportedMediaType, Name: "NotJSON", Message: "the header Content-Type is not application/json"}
+	errNoToken     = wire.NewError(wire.NoToken, "the token is missing, or not one of those who may ask this")
+	errClosed      = wire.NewError(wire.Closed, "this process has tokens of others, and none of those who may ask this")
+	errOtherOrigin = wire.NewError(wire.OtherOrigin, "this is not for pages in a browser")
+	errNotJSON     = wire.NewError(wire.NotJSON, "the header Content-Type is not application/json")
 )
 
 // otherSite is the error of a token that tells for another site.
 func otherSite(own string) error {
-	return &wire.Error{Status: http.StatusForbidden, Name: "OtherSite", Message: "the token is of the site " + own + " alone"}
+	return wire.NewError(wire.OtherSite, "the token is of the site "+own+" alone")
 }

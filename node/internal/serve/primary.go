@@ -63,7 +63,7 @@ func (served *Primary) update(ctx context.Context, asked *request) (interface{},
 		return served.orPassed(ctx, asked, err, &acked)
 	}
 	served.waited(time.Since(began))
-	return wire.AckedOf(request, answer.Text)
+	return ackedOf(request, answer.Text)
 }
 
 func (served *Primary) place(ctx context.Context, asked *request) (interface{}, error) {
@@ -109,7 +109,7 @@ func (served *Primary) next(ctx context.Context, asked *request) (interface{}, e
 	if err != nil {
 		value, err := served.orPassed(ctx, asked, err, &wire.Begun{})
 		if err != nil {
-			err = wire.ErrorOf(err, "NoWish", http.StatusUnprocessableEntity)
+			err = ErrorOf(err, wire.NoWish)
 		}
 		return value, err
 	}

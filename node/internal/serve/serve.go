@@ -91,10 +91,10 @@ func newServer(config Config) *server {
 	server := &server{Config: config, paths: http.NewServeMux()}
 	// Nobody takes the room of health, so there is no limit, and that of readiness is its own.
 	health, looks := &room{most: math.MaxInt64}, &room{most: mostLooks}
-	server.plain("/healthz", Anybody, health, http.HandlerFunc(func(to http.ResponseWriter, _ *http.Request) { to.Write([]byte("ok\n")) }))
-	server.plain("/readyz", Anybody, &room{most: mostLooks}, http.HandlerFunc(server.ready))
-	server.plain("/metrics", Operators, looks, config.Numbers)
-	server.plain("/", Operators, looks, exactly("/", config.Page))
+	server.plain(wire.HealthPath, Anybody, health, http.HandlerFunc(func(to http.ResponseWriter, _ *http.Request) { to.Write([]byte("ok\n")) }))
+	server.plain(wire.ReadyPath, Anybody, &room{most: mostLooks}, http.HandlerFunc(server.ready))
+	server.plain(wire.NumbersPath, Operators, looks, config.Numbers)
+	server.plain(wire.PagePath, Operators, looks, exactly(wire.PagePath, config.Page))
 	return server
 }
 
@@ -128,7 +128,7 @@ var errEnds = errors.New("the process ends")
 func exactly(path string, handler http.Handler) http.Handler {
 	return http.HandlerFunc(func(to http.ResponseWriter, asked *http.Request) {
 		if asked.URL.Path != path || handler == nil {
-			fail(to, asked, &wire.Error{Status: http.StatusNotFound, Name: "NoSuchPath", Message: "there is no such path"})
+			fail(to, asked, wire.NewError(wire.NoSuchPath, "there is no such path"))
 			return
 		}
 		handler.ServeHTTP(to, asked)
@@ -154,7 +154,7 @@ func (server *server) plain(path string, role Role, room *room, handler http.Han
 	})
 }
 
-var errBusy = &wire.Error{Status: http.StatusServiceUnavailable, Name: "Busy", Message: "too many requests are under way"}
+var errBusy = wire.NewError(wire.Busy, "too many requests are under way")
 
 // answers answers a path by a route.
 func (server *server) answers(path string, route route) {
@@ -221,18 +221,16 @@ func bodyOf(asked *http.Request, most int) ([]byte, error) {
 	body, err := listen.Body(asked, most)
 	switch {
 	case errors.Is(err, listen.ErrTooLarge):
-		return nil, &wire.Error{Status: http.StatusRequestEntityTooLarge, Name: "TooLarge", Message: err.Error()}
+		return nil, wire.NewError(wire.TooLarge, err.Error())
 	case errors.Is(err, listen.ErrTooSlow):
-		return nil, &wire.Error{Status: http.StatusRequestTimeout, Name: "TooSlow", Message: err.Error()}
+		return nil, wire.NewError(wire.TooSlow, err.Error())
 	case err != nil:
 		return nil, malformed(err)
 	}
 	return body, nil
 }
 
-func malformed(err error) error {
-	return &wire.Error{Status: http.StatusBadRequest, Name: "Malformed", Message: err.Error()}
-}
+func malformed(err error) error { return wire.NewError(wire.Malformed, err.Error()) }
 
 // read reads the JSON of a body.
 func (request *request) read(to interface{}) error {
@@ -276,11 +274,11 @@ func waitOf(words url.Values) (time.Duration, error) {
 	return time.Duration(seconds * float64(time.Second)), nil
 }
 
-var errMethod = &wire.Error{Status: http.StatusMethodNotAllowed, Name: "NoSuchMethod", Message: "the path takes another method"}
+var errMethod = wire.NewError(wire.NoSuchMethod, "the path takes another method")
 
 // fail writes an error.
 func fail(to http.ResponseWriter, asked *http.Request, err error) {
-	told := wire.ErrorOf(err, "Failed", http.StatusInternalServerError)
+	told := ErrorOf(err, wire.Failed)
 	switch told.Status {
 	case http.StatusUnauthorized:
 		to.Header().Set("WWW-Authenticate", "Bearer")

@@ -425,11 +425,11 @@ func TestTheTableHasEachError(t *testing.T) {
 	for _, err := range []error{primary.ErrBusy, primary.ErrFull, primary.ErrDiffers, primary.ErrMalformed, epoch.ErrNoSite, epoch.ErrOtherScript, epoch.ErrBehind,
 		epoch.ErrOtherWish, epoch.ErrNotYet, site.ErrNotServing, context.DeadlineExceeded, &primary.PassedError{}, &primary.NotWriterError{},
 		&site.BehindError{}, &epoch.CannotBeError{}} {
-		told := wire.ErrorOf(err, "Failed", 500)
+		told := serve.ErrorOf(err, wire.Failed)
 		if !strings.Contains(string(source), fmt.Sprintf("//\t%d %s ", told.Status, told.Name)) {
 			t.Errorf("the table has no %d %s", told.Status, told.Name)
 		}
-		if text, err := json.Marshal(told); err != nil || !strings.Contains(string(text), told.Name) {
+		if text, err := json.Marshal(told); err != nil || !strings.Contains(string(text), string(told.Name)) {
 			t.Error(string(text), err)
 		}
 	}

@@ -41,7 +41,7 @@ func (served *Site) value(ctx context.Context, asked *request) (interface{}, err
 	name := strings.TrimPrefix(asked.URL.Path, wire.ValuePath)
 	value, isThere := reading.ValueOf(name)
 	if !isThere {
-		return nil, &wire.Error{Status: http.StatusNotFound, Name: "NoSuchObject", Message: "the site has no such object"}
+		return nil, wire.NewError(wire.NoSuchObject, "the site has no such object")
 	}
 	return wire.Value{Object: name, Value: value, Showing: showing}, nil
 }

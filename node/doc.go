@@ -113,7 +113,7 @@
 //
 // # The parts
 //
-//	script       the form of an entry
+//	script       the form of an entry, and of an answer
 //	epoch        the core: what the script comes to, and the next entry. Pure
 //	engine       etcd: transactions, pages, watches, leases. No other package knows it
 //	primary      the process that writes or stands by

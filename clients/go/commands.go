@@ -57,7 +57,7 @@ var (
 var isName = regexp.MustCompile(`^[a-z][a-z0-9_]{0,15}$`).MatchString
 
 // ask answers a command. A text that has not the form of a name, among those that must, is a *BadLine: it could be another command.
-func ask[A Answer](store *Store, names []string, format string, words ...interface{}) (answer A, err error) {
+func ask[A Answer](store *Store, names []string, format string, words ...any) (answer A, err error) {
 	for _, name := range names {
 		if !isName(name) {
 			return answer, &BadLine{name}

@@ -134,25 +134,32 @@ func (store *Store) Commands(lines ...string) ([]Answer, error) {
 		text.WriteString(line)
 		text.WriteByte('\n')
 	}
-	answers, err := store.Run(text.Bytes())
+	outcomes, err := store.Answers(text.Bytes())
 	taken := len(lines)
 	if short, isShort := err.(*NoMemory); isShort {
 		taken = bytes.Count(text.Bytes()[:short.Taken], []byte{'\n'})
 	} else if err != nil {
 		return nil, err
 	}
-	texts := strings.Split(string(answers), "\n")
-	if len(texts)-1 != taken {
-		return nil, fmt.Errorf("ordup: there are %d answers to %d lines", len(texts)-1, taken)
-	}
-	outcomes := make([]Answer, taken)
-	for index := range outcomes {
-		var bad error
-		if outcomes[index], bad = answer.Parse(texts[index], lines[index]); bad != nil {
-			return nil, bad
-		}
+	if len(outcomes) != taken {
+		return nil, fmt.Errorf("ordup: there are %d answers to %d lines", len(outcomes), taken)
 	}
 	return outcomes, err
+}
+
+// Answers answers the lines of a text, as Run does. A refusal is one of the answers, a *Refused.
+//
+// Where memory is refused the answers to the lines that were taken are returned with the error, a *NoMemory.
+func (store *Store) Answers(text []byte) ([]Answer, error) {
+	given, err := store.Run(text)
+	if err != nil && given == nil {
+		return nil, err
+	}
+	answers, bad := answer.ParseAll(string(given), text)
+	if bad != nil {
+		return nil, bad
+	}
+	return answers, err
 }
 
 // Record gives the record of a site, for an auditor: as `ordup record` prints it. The store is as it was. The error is ErrNotStarted,
@@ -238,7 +245,7 @@ func isCommand(line string) bool {
 			return false
 		}
 	}
-	return len(line) <= mostBytes && !strings.HasPrefix(line, "#") && strings.Trim(line, " ") != ""
+	return len(line) <= mostBytes && answer.HasAnswer(line)
 }
 
 // fault is the error that a status says.

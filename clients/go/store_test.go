@@ -34,7 +34,7 @@ func shop(t *testing.T) *Store {
 }
 
 // is fails the test where a call gave something else, or an error.
-func is(t *testing.T, wanted interface{}, given interface{}, err error) {
+func is(t *testing.T, wanted any, given any, err error) {
 	t.Helper()
 	if err != nil || !reflect.DeepEqual(given, wanted) {
 		t.Errorf("%#v, %v instead of %#v", given, err, wanted)

@@ -2,6 +2,7 @@
 package answer
 
 import (
+	"bytes"
 	"fmt"
 	"strconv"
 	"strings"
@@ -164,20 +165,22 @@ const (
 	Malformed VerdictKind = "malformed"
 )
 
-// words reads the words of an answer, and keeps whether one was not what it should be.
+// words reads the words of an answer, and keeps whether it is over, and whether a word was not what it should be.
 type words struct {
-	rest []string
-	bad  bool
+	rest      string
+	over, bad bool
 }
 
+// next is the next word, up to one space or the end.
 func (w *words) next() string {
-	if len(w.rest) == 0 {
-		w.bad = true
-		return ""
+	w.bad = w.bad || w.over
+	word, end := w.rest, strings.IndexByte(w.rest, ' ')
+	if end < 0 {
+		w.rest, w.over = "", true
+		return word
 	}
-	word := w.rest[0]
-	w.rest = w.rest[1:]
-	return word
+	w.rest = word[end+1:]
+	return word[:end]
 }
 
 func (w *words) number() uint64 { return w.numberOf(w.next()) }
@@ -204,9 +207,12 @@ func (w *words) numberAfter(word string) uint64 {
 
 func (w *words) skip(word string) { w.bad = w.next() != word || w.bad }
 
+// all are the words that are left.
 func (w *words) all() []string {
-	all := w.rest
-	w.rest = nil
+	all := []string{}
+	for !w.over {
+		all = append(all, w.next())
+	}
 	return all
 }
 
@@ -216,14 +222,72 @@ func (w *words) pair(sign string) (string, string) {
 	return first, second
 }
 
-// Parse is what an answer says, which came for a line.
+// An UnknownError says that a store answered what is no answer: it is of another version than this package.
+type UnknownError struct{ Text, Line string }
+
+func (e *UnknownError) Error() string {
+	return fmt.Sprintf("ordup: %.80q is no answer to %.80q", e.Text, e.Line)
+}
+
+// Parse is what an answer says, which came for a line. Where it says nothing that is one, the error is an *UnknownError.
 func Parse(text, line string) (Answer, error) {
-	w := &words{rest: strings.Split(text, " ")}
+	w := &words{rest: text}
 	answer := parseWords(w, line)
-	if w.bad || len(w.rest) > 0 {
-		return nil, fmt.Errorf("ordup: %q is no answer to %q", text, line)
+	if w.bad || !w.over {
+		return nil, &UnknownError{text, line}
 	}
 	return answer, nil
+}
+
+// ParseAll is what the answers to the lines of a text say. A line that is a comment, or blank, has none. There may be fewer answers than
+// lines, where the store took no more.
+func ParseAll(text string, lines []byte) ([]Answer, error) {
+	answers := make([]Answer, 0, strings.Count(text, "\n"))
+	asked := asked{rest: lines}
+	for text != "" {
+		one := text
+		text = ""
+		if end := strings.IndexByte(one, '\n'); end >= 0 {
+			one, text = one[:end], one[end+1:]
+		}
+		answer, err := Parse(one, "")
+		if err != nil {
+			return answers, &UnknownError{one, asked.line(len(answers))}
+		}
+		if refused, isRefused := answer.(*Refused); isRefused {
+			refused.Line = asked.line(len(answers))
+		}
+		answers = append(answers, answer)
+	}
+	return answers, nil
+}
+
+// asked gives lines of a text, each of which comes after those that it gave before.
+type asked struct {
+	rest []byte
+	// Given is how many of those that have an answer are no more in the rest.
+	given int
+}
+
+// line is the one with as many before it that have an answer.
+func (a *asked) line(before int) string {
+	for len(a.rest) > 0 {
+		var line []byte
+		line, a.rest, _ = bytes.Cut(a.rest, []byte{'\n'})
+		if !HasAnswer(string(line)) {
+			continue
+		}
+		a.given++
+		if a.given > before {
+			return string(line)
+		}
+	}
+	return ""
+}
+
+// HasAnswer is whether a line has an answer: it is no comment, and not blank.
+func HasAnswer(line string) bool {
+	return !strings.HasPrefix(line, "#") && strings.Trim(line, " ") != ""
 }
 
 func parseWords(w *words, line string) Answer {
@@ -266,7 +330,7 @@ func parseWords(w *words, line string) Answer {
 		return parseShown(w)
 	case "certified":
 		certified := Certified{Site: w.next(), Rounds: w.number()}
-		for len(w.rest) > 0 {
+		for !w.over {
 			a, b := w.pair("-")
 			certified.Windows = append(certified.Windows, [2]uint64{w.numberOf(a), w.numberOf(b)})
 		}
@@ -281,8 +345,8 @@ func parseWords(w *words, line string) Answer {
 func parseShown(w *words) Shown {
 	shown := Shown{Site: w.next(), Sent: w.numberAfter("sent"), Applied: w.numberAfter("applied")}
 	shown.Reported, shown.Rounds = w.numberAfter("reported"), w.numberAfter("rounds")
-	shown.Values = make(map[string]int64, len(w.rest))
-	for len(w.rest) > 0 {
+	shown.Values = make(map[string]int64, strings.Count(w.rest, "="))
+	for !w.over {
 		name, value := w.pair("=")
 		shown.Values[name] = w.valueOf(value)
 	}
@@ -291,7 +355,7 @@ func parseShown(w *words) Shown {
 
 // ParseVerdict reads a verdict on a record.
 func ParseVerdict(text string) (Verdict, error) {
-	w := &words{rest: strings.Split(text, " ")}
+	w := &words{rest: text}
 	verdict := Verdict{Kind: VerdictKind(w.next())}
 	switch verdict.Kind {
 	case Yes:
@@ -303,7 +367,7 @@ func ParseVerdict(text string) (Verdict, error) {
 	default:
 		w.bad = true
 	}
-	if w.bad || len(w.rest) > 0 {
+	if w.bad || !w.over {
 		return Verdict{}, fmt.Errorf("ordup: %q is no verdict", text)
 	}
 	return verdict, nil
@@ -311,7 +375,7 @@ func ParseVerdict(text string) (Verdict, error) {
 
 // ParseSeriesVerdict reads a verdict on a series.
 func ParseSeriesVerdict(text string) (SeriesVerdict, error) {
-	w := &words{rest: strings.Split(text, " ")}
+	w := &words{rest: text}
 	verdict := SeriesVerdict{Kind: VerdictKind(w.next())}
 	switch verdict.Kind {
 	case Yes:
@@ -323,7 +387,7 @@ func ParseSeriesVerdict(text string) (SeriesVerdict, error) {
 	default:
 		w.bad = true
 	}
-	if w.bad || len(w.rest) > 0 {
+	if w.bad || !w.over {
 		return SeriesVerdict{}, fmt.Errorf("ordup: %q is no verdict on a series", text)
 	}
 	return verdict, nil

@@ -18,10 +18,10 @@ MISTAKES: Mistakes = {
     "answers_before_it_settles": [
         (
             "internal/epoch/run.go",
-            "		core.waiting.push(asked)\n",
-            "		core.waiting.push(asked)\n		core.decide(asked, ackedText(place, core.epoch))\n",
+            "			core.waiting.push(asked)\n",
+            "			core.waiting.push(asked)\n			core.decide(asked, script.Answer{Place: core.updates, Epoch: core.epoch})\n",
         ),
-        ("internal/epoch/run.go", "		core.decide(core.waiting.pop(), ackedText(place, core.epoch))\n", "		core.waiting.pop()\n"),
+        ("internal/epoch/run.go", "	core.decide(core.waiting.pop(), script.Answer{Place: place, Epoch: core.epoch})\n", "	core.waiting.pop()\n"),
     ],
     # Each page that is read of the engine has all that is left, and no more time after a failure.
     "reads_all_at_once": [
@@ -52,7 +52,7 @@ MISTAKES: Mistakes = {
     # The next epoch begins with the values that the last one began with.
     "begins_again_with_the_first_values": [
         ("internal/epoch/core.go", "	failure error\n", "	failure error\n	firsts string\n"),
-        ("internal/epoch/run.go", "	case script.Declare:\n", "	case script.Declare:\n		core.firsts += step.Text + \"\\n\"\n"),
+        ("internal/epoch/run.go", "	case script.Declare:\n", "	case script.Declare:\n		core.firsts += step.Words + \"\\n\"\n"),
         ("internal/epoch/ending.go", "	core.Close()\n", "	core.Close()\n	core.firsts = \"\"\n"),
         ("internal/epoch/ending.go", "	text, err := core.store.NextDeclarations()\n", "	text, err := core.firsts, error(nil)\n"),
     ],
@@ -111,7 +111,7 @@ MISTAKES: Mistakes = {
     # A site that is taken out goes on, whatever the script and the primary say.
     "serves_after_it_was_taken_out": [
         ("internal/site/site.go", " || errors.Is(err, epoch.ErrNoSite)\n", "\n"),
-        ("internal/site/replica.go", "			delete(replica.sites, step.Name)\n", ""),
+        ("internal/site/replica.go", "			delete(replica.sites, step.Site)\n", ""),
         (
             "internal/site/replica.go",
             "	replica.epoch, replica.place, replica.told, replica.sites, replica.limits = entry.Epoch, 0, 0, map[string]bool{}, []string{}\n",

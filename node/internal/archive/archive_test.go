@@ -20,7 +20,7 @@ func write(t *testing.T, to *engine.Engine, epochs ...int64) {
 	for at, epoch := range epochs {
 		number := int64(at + 1)
 		entry := script.Entry{Epoch: epoch, Ordup: "1", Writer: "p1", Steps: []script.Step{
-			{Kind: script.Ask, Name: "ann", Number: number, Text: "add:tea:1"}, {Kind: script.Settle, Count: 1}}}
+			{Kind: script.Ask, Client: "ann", Number: number, Words: "add:tea:1"}, {Kind: script.Settle, Count: 1}}}
 		write := &engine.Write{Number: number, Text: entry.Text()}
 		if at == 0 || epochs[at-1] != epoch {
 			write.Epoch, write.First = epoch, number

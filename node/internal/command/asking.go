@@ -15,6 +15,7 @@ import (
 	"ordup.dev/node/internal/exit"
 	"ordup.dev/node/internal/logs"
 	"ordup.dev/node/internal/reload"
+	"ordup.dev/node/internal/script"
 	"ordup.dev/node/internal/serve"
 	"ordup.dev/node/internal/settings"
 	"ordup.dev/node/internal/wire"
@@ -89,12 +90,12 @@ func updateSettings(program *Program, set *settings.Set) func(context.Context, [
 		var told *wire.Error
 		switch {
 		case errors.As(err, &told) && told.Name == wire.Refused:
-			fmt.Fprintf(program.Out, "refused %d %s\n", told.Refused, told.Refusal)
+			fmt.Fprintln(program.Out, script.Refusal{Number: told.Refused, Name: told.Refusal})
 			return nil
 		case err != nil:
 			return err
 		}
-		fmt.Fprintf(program.Out, "ok acked %d epoch %d\n", acked.Place, acked.Epoch)
+		fmt.Fprintln(program.Out, script.Answer{Place: acked.Place, Epoch: acked.Epoch})
 		return nil
 	})
 }

@@ -7,6 +7,8 @@ import (
 	"testing"
 	"time"
 
+	"ordup.dev/ordup/answer"
+
 	"ordup.dev/node/internal/script"
 	"ordup.dev/node/internal/store"
 )
@@ -18,14 +20,14 @@ type plain struct {
 	answers         []byte
 }
 
-func (plain *plain) Run(lines []byte) ([]byte, error) {
+func (plain *plain) Answers(lines []byte) ([]answer.Answer, error) {
 	plain.answers = plain.answers[:0]
-	for len(lines) > 0 {
-		end := bytes.IndexByte(lines, '\n')
-		plain.answer(lines[:end])
-		lines = lines[end+1:]
+	for left := lines; len(left) > 0; {
+		end := bytes.IndexByte(left, '\n')
+		plain.answer(left[:end])
+		left = left[end+1:]
 	}
-	return plain.answers, nil
+	return answer.ParseAll(string(plain.answers), lines)
 }
 
 func (plain *plain) answer(line []byte) {
@@ -139,7 +141,7 @@ func BenchmarkCarry(b *testing.B) {
 	}
 	for at := 0; at < b.N; at++ {
 		core.clients.take(client{name: fmt.Sprintf("client-%d", at), number: 1, digest: script.DigestOf("add:tea:-1"), epoch: 1, asked: 1})
-		core.clients.answer(asker{fmt.Sprintf("client-%d", at), 1, ""}, ackedText(int64(at+1), 1), 1)
+		core.clients.answer(asker{fmt.Sprintf("client-%d", at), 1, ""}, script.Answer{Place: int64(at + 1), Epoch: 1}, 1)
 	}
 	core.startCarry(2)
 	b.ReportAllocs()

@@ -22,7 +22,7 @@ type client struct {
 	number             int64
 	digest             string
 	epoch, asked, time int64
-	text               string
+	answer             script.Answer
 	entry              int64
 }
 
@@ -42,15 +42,16 @@ func (clients clients) take(last client) string {
 
 // carry notes what an entry carries over.
 func (clients clients) carry(known *script.Step, entry int64) {
-	name := strings.Clone(known.Name)
-	clients[name] = client{name: name, number: known.Number, digest: strings.Clone(known.Digest), epoch: known.Count, asked: entry,
-		time: -known.Age, text: strings.Clone(known.Text), entry: entry}
+	name, decided := strings.Clone(known.Client), known.Answer
+	decided.Refusal.Name = strings.Clone(decided.Refusal.Name)
+	clients[name] = client{name: name, number: known.Number, digest: strings.Clone(known.Digest), epoch: known.Epoch, asked: entry,
+		time: -known.Age, answer: decided, entry: entry}
 }
 
 // answer notes the answer to a request. Where the client has asked under a later number since, nobody may ask for it.
-func (clients clients) answer(asked asker, text string, entry int64) {
+func (clients clients) answer(asked asker, decided script.Answer, entry int64) {
 	if last := clients[asked.name]; last.number == asked.number {
-		last.text, last.entry = text, entry
+		last.answer, last.entry = decided, entry
 		clients[last.name] = last
 	}
 }
@@ -68,12 +69,12 @@ func (core *Core) checkCarried(number int64, entry *script.Entry) error {
 		if step.Kind != script.Known {
 			continue
 		}
-		last, isKnown := core.clients[step.Name]
+		last, isKnown := core.clients[step.Client]
 		carried := last
-		carried.number, carried.digest, carried.epoch, carried.text = step.Number, step.Digest, step.Count, step.Text
+		carried.number, carried.digest, carried.epoch, carried.answer = step.Number, step.Digest, step.Epoch, step.Answer
 		carried.time = core.clock - step.Age
 		if !isKnown || carried != last || !core.remembers(&last) {
-			return &BrokenError{number, fmt.Sprintf("it does not carry over the last request of %s", step.Name)}
+			return &BrokenError{number, fmt.Sprintf("it does not carry over the last request of %s", step.Client)}
 		}
 	}
 	if !entry.Begins() {

@@ -210,16 +210,16 @@ func (core *Core) takeAgain(number int64, entry *script.Entry) error {
 	for at := range entry.Steps {
 		step := &entry.Steps[at]
 		if step.Kind == script.Elapsed {
-			clock += step.Count
+			clock += step.Seconds
 		}
 		if step.Kind != script.Ask {
 			continue
 		}
-		if last := core.clients[step.Name].number; step.Number <= last {
+		if last := core.clients[step.Client].number; step.Number <= last {
 			return &BrokenError{number, asksAgain(step, last)}
 		}
-		step.Digest = script.DigestOf(step.Text)
-		step.Name = core.clients.take(client{name: step.Name, number: step.Number, digest: step.Digest, epoch: core.epoch, asked: number, time: clock})
+		step.Digest = script.DigestOf(step.Words)
+		step.Client = core.clients.take(client{name: step.Client, number: step.Number, digest: step.Digest, epoch: core.epoch, asked: number, time: clock})
 	}
 	return nil
 }

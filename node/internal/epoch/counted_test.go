@@ -42,7 +42,7 @@ func grown(t *testing.T, updates int, sites ...string) *world {
 func (world *world) leave(sites ...string) {
 	steps := []script.Step{}
 	for _, site := range sites {
-		steps = append(steps, script.Step{Kind: script.Leave, Name: site})
+		steps = append(steps, script.Step{Kind: script.Leave, Site: site})
 	}
 	if err := world.core.add(steps); err != nil {
 		world.t.Fatal(err)
@@ -129,14 +129,14 @@ func TestAWishWaitsForRoom(t *testing.T) {
 func TestWhatNobodyReadsIsNotWritten(t *testing.T) {
 	for name, steps := range map[string][]script.Step{
 		"it counts too much": {{Kind: script.Settle, Count: 1_000_001}},
-		"it is no step":      {{Kind: script.Leave, Name: "North"}},
+		"it is no step":      {{Kind: script.Leave, Site: "North"}},
 		"it is too large":    make([]script.Step, 1<<18),
 	} {
 		t.Run(name, func(t *testing.T) {
 			world := newWorld(t, settings, shop)
 			for at := range steps {
 				if steps[at].Kind == 0 {
-					steps[at] = script.Step{Kind: script.Leave, Name: "x"}
+					steps[at] = script.Step{Kind: script.Leave, Site: "x"}
 				}
 			}
 			world.core.turn.steps = steps

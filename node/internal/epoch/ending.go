@@ -7,6 +7,8 @@ import (
 	"strings"
 	"time"
 
+	"ordup.dev/ordup/answer"
+
 	"ordup.dev/node/internal/script"
 	"ordup.dev/node/internal/store"
 )
@@ -73,17 +75,16 @@ func Check(open store.Open, settings *script.Settings, declarations []string) er
 		return err
 	}
 	defer trial.Close()
-	given, err := trial.Run([]byte(text))
+	answers, err := trial.Answers([]byte(text))
 	if err != nil {
-		return err
+		return fmt.Errorf("try the declarations: %w", err)
 	}
-	answers := strings.Split(strings.TrimSuffix(string(given), "\n"), "\n")
-	for at, answer := range answers {
-		if !strings.HasPrefix(answer, "ok ") && at < len(declarations) {
-			return fmt.Errorf("%s: %s", declarations[at], answer)
+	for _, given := range answers {
+		if refused, isRefused := given.(*answer.Refused); isRefused {
+			return refused
 		}
 	}
-	if len(answers) != len(declarations) || answers[len(answers)-1] != "ok start" {
+	if len(answers) != len(declarations) || len(answers) == 0 || answers[len(answers)-1] != (answer.Started{}) {
 		return errors.New("the last declaration does not start the store")
 	}
 	return nil
@@ -129,7 +130,7 @@ func (turn *Turn) Entry() *script.Entry { return turn.entry }
 func beginning(settings script.Settings, declarations []string) []script.Step {
 	steps := []script.Step{{Kind: script.Begin, Settings: &settings}}
 	for _, line := range declarations {
-		steps = append(steps, script.Step{Kind: script.Declare, Text: line})
+		steps = append(steps, script.Step{Kind: script.Declare, Words: line})
 	}
 	return steps
 }
@@ -153,11 +154,11 @@ func (core *Core) AskNext(wish Wish) error {
 	}
 	steps := []script.Step{{Kind: script.Wish, Settings: &wish.Settings}}
 	for _, line := range wish.Declarations {
-		steps = append(steps, script.Step{Kind: script.Want, Text: line})
+		steps = append(steps, script.Step{Kind: script.Want, Words: line})
 	}
 	for _, site := range core.sites.all {
 		if len(wish.Declarations) > 0 && !site.leaves && !declares(wish.Declarations, site.name) {
-			steps = append(steps, script.Step{Kind: script.Leave, Name: site.name})
+			steps = append(steps, script.Step{Kind: script.Leave, Site: site.name})
 		}
 	}
 	return core.add(steps)
@@ -234,7 +235,7 @@ func (core *Core) Gone(name string) error {
 		return nil
 	}
 	core.turn.absent = append(core.turn.absent, name)
-	return core.add([]script.Step{{Kind: script.Gone, Name: name, Count: core.turn.most(core.updates - site.applied)}})
+	return core.add([]script.Step{{Kind: script.Gone, Site: name, Count: core.turn.most(core.updates - site.applied)}})
 }
 
 // ends is whether no more requests are taken. While a site is away, which would hold all up, the epoch goes on.
@@ -314,8 +315,8 @@ func (core *Core) carried() []script.Step {
 	for len(carry.left) > 0 && bytes < carryBytes {
 		name := carry.left[0]
 		last := core.clients[name]
-		step := script.Step{Kind: script.Known, Name: name, Number: last.number, Digest: last.digest, Count: last.epoch,
-			Age: core.clock - last.time, Text: last.text}
+		step := script.Step{Kind: script.Known, Client: name, Number: last.number, Digest: last.digest, Epoch: last.epoch,
+			Age: core.clock - last.time, Answer: last.answer}
 		core.lines = step.Append(core.lines[:0])
 		steps, bytes, carry.left = append(steps, step), bytes+len(core.lines), carry.left[1:]
 	}

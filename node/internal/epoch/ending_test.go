@@ -50,7 +50,7 @@ func TestAnEpochEndsOnceAllSitesAreThere(t *testing.T) {
 	world.tell("south", 2)
 	world.write()
 	is(t, Verdict{Kind: NotNow}, world.ask("dan", 1, "add:tea:-1"))
-	is(t, Verdict{Kind: Answered, Text: "ok acked 1 epoch 1"}, world.ask("ann", 1, "add:tea:-1"))
+	is(t, Verdict{Kind: Answered, Answer: script.Answer{Place: 1, Epoch: 1}}, world.ask("ann", 1, "add:tea:-1"))
 	world.now += Away // Nobody is here any more, so it goes on.
 	is(t, Verdict{Kind: Waits}, world.ask("dan", 1, "add:coffee:-1"))
 	world.write()
@@ -60,13 +60,13 @@ func TestAnEpochEndsOnceAllSitesAreThere(t *testing.T) {
 	is(t, "cec 1 ok acked 3 epoch 1", world.answer())
 	entry, err := script.Parse(world.script[len(world.script)-1])
 	is(t, nil, err)
-	is(t, "object tea 97", entry.Steps[1].Text)
+	is(t, "object tea 97", entry.Steps[1].Words)
 	is(t, int64(2), entry.Epoch)
 	other := world.replay(config("p2"))
 	is(t, len(world.script)-1, other.First())
 	is(t, fmt.Sprint(world.core.clients), fmt.Sprint(other.clients))
-	is(t, Verdict{Kind: Answered, Text: "ok acked 1 epoch 1"}, world.ask("ann", 1, "add:tea:-1"))
-	is(t, Verdict{Kind: Answered, Text: "refused 6 UnknownObject"}, world.ask("dan", 1, "add:coffee:-1"))
+	is(t, Verdict{Kind: Answered, Answer: script.Answer{Place: 1, Epoch: 1}}, world.ask("ann", 1, "add:tea:-1"))
+	is(t, Verdict{Kind: Answered, Answer: script.Answer{Refusal: script.Refusal{Number: 6, Name: "UnknownObject"}}}, world.ask("dan", 1, "add:coffee:-1"))
 	is(t, Verdict{Kind: Differs}, world.ask("ann", 1, "add:tea:-2"))
 }
 
@@ -241,8 +241,8 @@ func TestASiteLeavesOnceItHasNoLease(t *testing.T) {
 	is(t, []string{"north"}, world.absent)
 	is(t, int64(2), world.core.Epoch())
 	entry, _ := script.Parse(world.script[len(world.script)-1])
-	is(t, "object tea 98", entry.Steps[1].Text)
-	is(t, "object milk 7", entry.Steps[2].Text)
+	is(t, "object tea 98", entry.Steps[1].Words)
+	is(t, "object milk 7", entry.Steps[2].Words)
 	is(t, DigestOf(without), world.core.Settings().Origin)
 }
 
@@ -318,7 +318,7 @@ func TestClientsAreCarriedOverByManyEntries(t *testing.T) {
 	is(t, entries+2, world.core.First())
 	is(t, 9000, len(world.replay(config("p3")).clients))
 	is(t, 9000, world.count("known"))
-	is(t, Verdict{Kind: Answered, Text: "refused 1 Syntax"}, world.ask("client-77-"+strings.Repeat("x", 40), 1, "x"))
+	is(t, Verdict{Kind: Answered, Answer: script.Answer{Refusal: script.Refusal{Number: 1, Name: "Syntax"}}}, world.ask("client-77-"+strings.Repeat("x", 40), 1, "x"))
 }
 
 // A program that has two versions runs the old one until an operator wishes for the new one. Who has the old one alone ends there.

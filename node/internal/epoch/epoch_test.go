@@ -89,7 +89,7 @@ func (world *world) keep(turn *Turn) {
 		world.first = turn.First
 	}
 	for _, answer := range turn.Answers {
-		world.told = append(world.told, fmt.Sprintf("%s %d %s", answer.Name, answer.Number, answer.Text))
+		world.told = append(world.told, fmt.Sprintf("%s %d %s", answer.Client, answer.Number, answer.Answer))
 	}
 }
 
@@ -148,14 +148,14 @@ func TestEachNumberIsAnsweredOnce(t *testing.T) {
 	is(t, Verdict{Kind: NotNow}, world.ask("ann", 5, "add:tea:-2"))
 	is(t, 1, world.write())
 	is(t, "ann 5 ok acked 1 epoch 1", world.answer())
-	is(t, Verdict{Kind: Answered, Text: "ok acked 1 epoch 1"}, world.ask("ann", 5, "add:tea:-1"))
+	is(t, Verdict{Kind: Answered, Answer: script.Answer{Place: 1, Epoch: 1}}, world.ask("ann", 5, "add:tea:-1"))
 	is(t, Verdict{Kind: Differs}, world.ask("ann", 5, "add:tea:-2"))
 	is(t, Verdict{Kind: Passed, Last: 5}, world.ask("ann", 4, "add:tea:-1"))
 	is(t, 0, world.write())
 	is(t, Verdict{Kind: Waits}, world.ask("bob", 1, "add:coffee:1"))
 	is(t, 1, world.write())
 	is(t, "bob 1 refused 6 UnknownObject", world.answer())
-	is(t, Verdict{Kind: Answered, Text: "refused 6 UnknownObject"}, world.ask("bob", 1, "add:coffee:1"))
+	is(t, Verdict{Kind: Answered, Answer: script.Answer{Refusal: script.Refusal{Number: 6, Name: "UnknownObject"}}}, world.ask("bob", 1, "add:coffee:1"))
 	for _, request := range []Request{{"Ann", 1, "x"}, {"", 1, "x"}, {"ann", 0, "x"}, {"ann", -1, "x"}, {"ann", 7, "\xff"},
 		{"ann", 7, "add:tea:1\nsettle"}, {"\xff/1", 7, "x"}, {"ann", 7, strings.Repeat("x", 4001)}} {
 		is(t, Verdict{Kind: Malformed}, world.ask(request.Client, request.Number, request.Changes))
@@ -186,7 +186,7 @@ func TestAClientThatDoesNotWait(t *testing.T) {
 	world.tell("north", 4)
 	world.write()
 	is(t, "ann 4 ok acked 4 epoch 1", world.answer())
-	is(t, Verdict{Kind: Answered, Text: "refused 6 UnknownObject"}, world.ask("ann", 5, "add:milk:-1"))
+	is(t, Verdict{Kind: Answered, Answer: script.Answer{Refusal: script.Refusal{Number: 6, Name: "UnknownObject"}}}, world.ask("ann", 5, "add:milk:-1"))
 }
 
 func TestAnAnswerIsToldOnceItsEntryIsWritten(t *testing.T) {
@@ -199,7 +199,7 @@ func TestAnAnswerIsToldOnceItsEntryIsWritten(t *testing.T) {
 	world.tell("south", 0)
 	is(t, Verdict{Kind: Waits}, world.ask("bob", 1, "add:tea:-1"))
 	world.keep(first)
-	is(t, Verdict{Kind: Answered, Text: "ok acked 1 epoch 1"}, world.ask("ann", 1, "add:tea:-1"))
+	is(t, Verdict{Kind: Answered, Answer: script.Answer{Place: 1, Epoch: 1}}, world.ask("ann", 1, "add:tea:-1"))
 	is(t, Verdict{Kind: Waits}, world.ask("bob", 1, "add:tea:-1"))
 	second := world.seal()
 	is(t, 0, len(second.Answers)) // The limit of north is 1, and it told nothing.
@@ -315,7 +315,7 @@ func TestWhatIsNoScript(t *testing.T) {
 	}
 	wrong := *entry(1)
 	wrong.Steps = append([]script.Step{}, wrong.Steps...)
-	wrong.Steps[len(wrong.Steps)-1].Text = "ok acked 2 epoch 1"
+	wrong.Steps[len(wrong.Steps)-1].Answer = script.Answer{Place: 2, Epoch: 1}
 	core = New(config("p2"), 1)
 	is(t, nil, core.Replay(1, entry(0)))
 	if _, isBroken := core.Replay(2, &wrong).(*BrokenError); !isBroken {

@@ -78,19 +78,19 @@ func (judge *Judge) enter(entry *script.Entry) string {
 func (judge *Judge) note(number int64, step *script.Step) string {
 	switch step.Kind {
 	case script.Declare:
-		if words := strings.Fields(step.Text); len(words) > 1 && words[0] == "site" {
+		if words := strings.Fields(step.Words); len(words) > 1 && words[0] == "site" {
 			judge.sites.add(strings.Clone(words[1]))
 		}
 	case script.Known:
-		numberOf(judge.carried, step.Name, step.Number)
+		numberOf(judge.carried, step.Client, step.Number)
 	case script.Ask:
-		last := numberOf(judge.numbers, step.Name, 0)
+		last := numberOf(judge.numbers, step.Client, 0)
 		if step.Number <= *last {
 			return asksAgain(step, *last)
 		}
 		*last, judge.asks, judge.updates = step.Number, judge.asks+1, judge.updates+1
-	case script.Answer:
-		if strings.HasPrefix(step.Text, "refused ") {
+	case script.Answered:
+		if step.Answer.IsRefused() {
 			judge.updates--
 		} else {
 			judge.acknowledged++
@@ -98,9 +98,9 @@ func (judge *Judge) note(number int64, step *script.Step) string {
 	case script.Wish:
 		judge.noteWish(step, number)
 	case script.Leave:
-		judge.sites.leave(step.Name, number)
+		judge.sites.leave(step.Site, number)
 	case script.Tell, script.Gone:
-		site := judge.sites.of(step.Name)
+		site := judge.sites.of(step.Site)
 		site.applied, site.gone = site.applied+step.Count, site.gone || step.Kind == script.Gone
 	}
 	return ""

@@ -47,7 +47,7 @@ func belongs(kind script.Kind, ended, begins bool) bool {
 
 // asksAgain tells why a client cannot ask under a number.
 func asksAgain(step *script.Step, last int64) string {
-	return fmt.Sprintf("%s asks under %d after %d", step.Name, step.Number, last)
+	return fmt.Sprintf("%s asks under %d after %d", step.Client, step.Number, last)
 }
 
 // lawless tells why a step cannot come now, whatever the store answers, or "".
@@ -55,13 +55,13 @@ func (state *state) lawless(step *script.Step) string {
 	if step.Kind != script.Tell && step.Kind != script.Gone {
 		return ""
 	}
-	switch site := state.sites.of(step.Name); {
+	switch site := state.sites.of(step.Site); {
 	case site == nil:
-		return fmt.Sprintf("there is no site %s", step.Name)
+		return fmt.Sprintf("there is no site %s", step.Site)
 	case step.Count > state.updates-site.applied:
-		return fmt.Sprintf("the site %s tells %d updates after %d, and there are %d", step.Name, step.Count, site.applied, state.updates)
+		return fmt.Sprintf("the site %s tells %d updates after %d, and there are %d", step.Site, step.Count, site.applied, state.updates)
 	case step.Kind == script.Gone && !site.leaves:
-		return fmt.Sprintf("the site %s is gone, and was not taken out", step.Name)
+		return fmt.Sprintf("the site %s is gone, and was not taken out", step.Site)
 	}
 	return ""
 }
@@ -105,7 +105,7 @@ func (core *Core) checkBeginning(number int64, entry *script.Entry) error {
 	}
 	begins := entry.Steps[1:]
 	for at := 0; at < len(begins) || at < len(declarations); at++ {
-		if at == len(begins) || at == len(declarations) || begins[at].Text != declarations[at] {
+		if at == len(begins) || at == len(declarations) || begins[at].Words != declarations[at] {
 			return &BrokenError{number, fmt.Sprintf("its declarations differ at line %d from those that come after the epoch %d", at+1, core.epoch)}
 		}
 	}

@@ -93,7 +93,7 @@ func (run *randomRun) askSome(client string) {
 	verdict := run.ask(client, run.numbers[client], run.changes[client])
 	switch verdict.Kind {
 	case Answered:
-		run.hear(client, run.numbers[client], verdict.Text)
+		run.hear(client, run.numbers[client], verdict.Answer.String())
 	case Waits, NotNow:
 	default:
 		run.t.Errorf("%s has the verdict %v", client, verdict)
@@ -122,7 +122,7 @@ func (run *randomRun) land() {
 		return
 	}
 	for _, answer := range run.flying.Answers {
-		run.hear(answer.Name, answer.Number, answer.Text)
+		run.hear(answer.Client, answer.Number, answer.Answer.String())
 	}
 	run.keep(run.flying)
 	run.flying = nil
@@ -156,25 +156,25 @@ func (run *randomRun) judge() {
 		run.keepsToRoom(entry)
 		is(run.t, nil, judge.Take(int64(at+1), entry))
 		if entry.Begins() {
-			if epoch++; entry.Epoch != epoch || entry.Steps[1].Text != fmt.Sprintf("object tea %d", tea) {
-				run.t.Errorf("epoch %d begins with %s, and not %d", entry.Epoch, entry.Steps[1].Text, tea)
+			if epoch++; entry.Epoch != epoch || entry.Steps[1].Words != fmt.Sprintf("object tea %d", tea) {
+				run.t.Errorf("epoch %d begins with %s, and not %d", entry.Epoch, entry.Steps[1].Words, tea)
 			}
 		}
 		for _, step := range entry.Steps {
-			switch name := key(step.Name, step.Number); step.Kind {
+			switch name := key(step.Client, step.Number); step.Kind {
 			case script.Ask:
 				if asked[name] {
 					run.t.Errorf("%s is asked twice", name)
 				}
 				asked[name] = true
-				if strings.HasPrefix(step.Text, "add:tea:") {
-					tea += map[bool]int64{true: -1, false: 2}[step.Text == "add:tea:-1"]
+				if strings.HasPrefix(step.Words, "add:tea:") {
+					tea += map[bool]int64{true: -1, false: 2}[step.Words == "add:tea:-1"]
 				}
-			case script.Answer:
+			case script.Answered:
 				if answered[name] != "" {
 					run.t.Errorf("%s is answered twice", name)
 				}
-				answered[name] = step.Text
+				answered[name] = step.Answer.String()
 			}
 		}
 	}

@@ -13,6 +13,8 @@ const (
 	askBytes, turnBytes = 256 << 10, 512 << 10
 	// carryBytes is how large an entry is that carries over clients. No request is taken until all have come, so they are few.
 	carryBytes = 896 << 10
+	// answerBytes is as much as an answer has, or more, beside what is counted for any step.
+	answerBytes = 32
 	// turnCounts is what the steps of a turn count at most: less than script.MostCounted, since who reads it runs it at once.
 	turnCounts = 200_000
 	// mostTold is how many updates that sites told are added by one call of Work.
@@ -31,9 +33,9 @@ type Request struct {
 // A Verdict is what becomes of a request.
 type Verdict struct {
 	Kind VerdictKind
-	// Of Answered: the answer of the store. Last is, of Passed, the number under which the client asked last.
-	Text string
-	Last int64
+	// Of Answered: what was decided. Last is, of Passed, the number under which the client asked last.
+	Answer script.Answer
+	Last   int64
 }
 
 // A VerdictKind is one of what may become of a request.
@@ -75,7 +77,7 @@ func (core *Core) Ask(requests []Request, now time.Duration) ([]Verdict, error) 
 	steps := core.elapsed(make([]script.Step, 0, len(requests)+1), now)
 	clock, none := core.clock, len(steps)
 	for at := range steps {
-		clock += steps[at].Count
+		clock += steps[at].Seconds
 	}
 	ends, bytes := core.ends(now), core.turn.bytes
 	for at := range requests {
@@ -85,9 +87,9 @@ func (core *Core) Ask(requests []Request, now time.Duration) ([]Verdict, error) 
 		case ends || bytes >= askBytes:
 			verdict.Kind = NotNow
 		default:
-			step := script.Step{Kind: script.Ask, Name: requests[at].Client, Number: requests[at].Number,
-				Digest: script.DigestOf(requests[at].Changes), Text: requests[at].Changes}
-			step.Name = core.clients.take(client{name: step.Name, number: step.Number, digest: step.Digest, epoch: core.epoch,
+			step := script.Step{Kind: script.Ask, Client: requests[at].Client, Number: requests[at].Number,
+				Digest: script.DigestOf(requests[at].Changes), Words: requests[at].Changes}
+			step.Client = core.clients.take(client{name: step.Client, number: step.Number, digest: step.Digest, epoch: core.epoch,
 				asked: core.Next(), time: clock})
 			steps = append(steps, step)
 			bytes += sizeOf(&step)
@@ -111,7 +113,7 @@ func (core *Core) elapsed(steps []script.Step, now time.Duration) []script.Step 
 		seconds = script.MostCounted
 	}
 	if seconds > 0 {
-		steps = append(steps, script.Step{Kind: script.Elapsed, Count: seconds})
+		steps = append(steps, script.Step{Kind: script.Elapsed, Seconds: seconds})
 	}
 	return steps
 }
@@ -134,7 +136,7 @@ func (core *Core) verdict(request *Request) Verdict {
 	case last.entry == 0 || last.entry > core.written:
 		return Verdict{Kind: Waits}
 	}
-	return Verdict{Kind: Answered, Text: last.text}
+	return Verdict{Kind: Answered, Answer: last.answer}
 }
 
 // add runs steps in the open turn.
@@ -152,7 +154,7 @@ func (core *Core) add(steps []script.Step) error {
 		core.turn.bytes += sizeOf(&steps[at])
 		core.turn.room.Take(&steps[at])
 		if steps[at].Kind == script.Elapsed {
-			core.timed += time.Duration(steps[at].Count) * time.Second
+			core.timed += time.Duration(steps[at].Seconds) * time.Second
 		}
 	}
 	for at := decided; at < len(core.decided); at++ {
@@ -162,7 +164,13 @@ func (core *Core) add(steps []script.Step) error {
 }
 
 // sizeOf is at least how many bytes the line of a step has.
-func sizeOf(step *script.Step) int { return 64 + len(step.Name) + len(step.Digest) + len(step.Text) }
+func sizeOf(step *script.Step) int {
+	size := 64 + len(step.Client) + len(step.Site) + len(step.Digest) + len(step.Words)
+	if step.Kind == script.Answered {
+		size += answerBytes
+	}
+	return size
+}
 
 // Work adds to the open turn what sites told, and asks for acknowledgements. It returns after how long it has more to do though
 // nothing comes, or 0.
@@ -206,7 +214,7 @@ func (core *Core) addTold(now time.Duration) (time.Duration, error) {
 				count = left
 			}
 			left -= count
-			steps = append(steps, script.Step{Kind: script.Tell, Name: site.name, Count: count})
+			steps = append(steps, script.Step{Kind: script.Tell, Site: site.name, Count: count})
 		}
 	}
 	if len(steps) == 0 {

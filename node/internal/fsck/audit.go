@@ -116,11 +116,11 @@ func (audit *Audit) follows(number int64, entry *script.Entry) error {
 		if step.Kind != script.Declare {
 			continue
 		}
-		begins = append(begins, step.Text)
-		words := strings.Fields(step.Text)
-		if len(words) == 3 && words[0] == "object" && values[words[1]] != "" && values[words[1]] != step.Text {
+		begins = append(begins, step.Words)
+		words := strings.Fields(step.Words)
+		if len(words) == 3 && words[0] == "object" && values[words[1]] != "" && values[words[1]] != step.Words {
 			return &epoch.BrokenError{Number: number,
-				Why: fmt.Sprintf("it begins with `%s`, and the epoch before ended with `%s`", step.Text, values[words[1]])}
+				Why: fmt.Sprintf("it begins with `%s`, and the epoch before ended with `%s`", step.Words, values[words[1]])}
 		}
 	}
 	if isSame(audit.core, entry) && strings.Join(begins, "\n") != strings.Join(ends, "\n") {

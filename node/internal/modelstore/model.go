@@ -4,7 +4,6 @@
 package modelstore
 
 import (
-	"bytes"
 	"errors"
 	"fmt"
 	"strconv"
@@ -28,8 +27,8 @@ type Model struct {
 	log     []string
 	acked   int
 	round   []string
-	// Answers, where it is not nil, changes the answer to a line: a store that is wrong.
-	Answers func(line, answer string) string
+	// Wrong, where it is not nil, changes the answer to a line: a store that is wrong.
+	Wrong func(line, answer string) string
 }
 
 type site struct {
@@ -47,20 +46,20 @@ func Open() (store.Store, error) {
 // Close does nothing.
 func (model *Model) Close() error { return nil }
 
-// Run answers the lines of a text.
-func (model *Model) Run(lines []byte) ([]byte, error) {
-	var answers bytes.Buffer
+// Answers answers the lines of a text.
+func (model *Model) Answers(lines []byte) ([]answer.Answer, error) {
+	var answers strings.Builder
 	for _, line := range strings.Split(strings.TrimSuffix(string(lines), "\n"), "\n") {
-		if line == "" || line[0] == '#' {
+		if !answer.HasAnswer(line) {
 			continue
 		}
-		answer := model.answer(strings.Fields(line))
-		if model.Answers != nil {
-			answer = model.Answers(line, answer)
+		says := model.answer(strings.Fields(line))
+		if model.Wrong != nil {
+			says = model.Wrong(line, says)
 		}
-		answers.WriteString(answer + "\n")
+		answers.WriteString(says + "\n")
 	}
-	return answers.Bytes(), nil
+	return answer.ParseAll(answers.String(), lines)
 }
 
 // NextDeclarations gives the declarations of the successor.
@@ -252,10 +251,10 @@ func (model *Model) move(kind, name string, site *site) string {
 }
 
 // OpenWrong opens models that change their answers.
-func OpenWrong(answers func(line, answer string) string) store.Open {
+func OpenWrong(wrong func(line, answer string) string) store.Open {
 	return func() (store.Store, error) {
 		opened, err := Open()
-		opened.(*Model).Answers = answers
+		opened.(*Model).Wrong = wrong
 		return opened, err
 	}
 }

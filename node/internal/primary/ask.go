@@ -9,6 +9,7 @@ import (
 
 	"ordup.dev/node/internal/clock"
 	"ordup.dev/node/internal/epoch"
+	"ordup.dev/node/internal/script"
 )
 
 // Why a request has no answer. Each but the last three may be asked again under the same number, here or at another primary: it is done
@@ -41,9 +42,6 @@ func (err *PassedError) Error() string {
 	return fmt.Sprintf("the client asked under %d before", err.Last)
 }
 
-// An Answer is what the store answered to a request: `ok acked K epoch E`, or `refused N NAME`.
-type Answer struct{ Text string }
-
 // mayTake tells why this process takes nothing now, or nil. Once it may not rely on its lease another process may write. Whoever asks has
 // the lock of the calls.
 func (primary *Primary) mayTake() error {
@@ -58,17 +56,17 @@ func (primary *Primary) mayTake() error {
 
 // Submit asks for an update, and waits for its answer. While this process may not write it fails at once with a NotWriterError. After
 // any error but a PassedError, ErrDiffers and ErrMalformed, also that of the context, the request may be done or not: ask again.
-func (primary *Primary) Submit(ctx context.Context, request epoch.Request) (Answer, error) {
+func (primary *Primary) Submit(ctx context.Context, request epoch.Request) (script.Answer, error) {
 	call := &call{request: request, done: make(chan outcome, 1)}
 	if err := primary.queue(call); err != nil {
-		return Answer{}, err
+		return script.Answer{}, err
 	}
 	select {
 	case done := <-call.done:
-		return Answer{done.text}, done.err
+		return done.answer, done.err
 	case <-ctx.Done():
 		primary.calls.drop(call)
-		return Answer{}, primary.noAnswer(ctx.Err(), "the update", func(site *epoch.SiteStatus) bool { return site.Waited })
+		return script.Answer{}, primary.noAnswer(ctx.Err(), "the update", func(site *epoch.SiteStatus) bool { return site.Waited })
 	}
 }
 

@@ -21,8 +21,8 @@ type call struct {
 }
 
 type outcome struct {
-	text string
-	err  error
+	answer script.Answer
+	err    error
 }
 
 // A nextCall waits until a wish has come true.
@@ -139,7 +139,7 @@ func (calls *calls) sort(came []*call, verdicts []epoch.Verdict) int {
 		case epoch.NotNow:
 			later = append(later, call)
 		case epoch.Answered:
-			call.done <- outcome{text: verdict.Text}
+			call.done <- outcome{answer: verdict.Answer}
 		case epoch.Passed:
 			call.done <- outcome{err: &PassedError{verdict.Last}}
 		case epoch.Differs:
@@ -159,9 +159,9 @@ func (calls *calls) tell(answers []script.Step) {
 	calls.lock.Lock()
 	defer calls.lock.Unlock()
 	for at := range answers {
-		key := asked{answers[at].Name, answers[at].Number}
+		key := asked{answers[at].Client, answers[at].Number}
 		for _, call := range calls.waiting[key] {
-			call.done <- outcome{text: answers[at].Text}
+			call.done <- outcome{answer: answers[at].Answer}
 			calls.waiters--
 		}
 		delete(calls.waiting, key)

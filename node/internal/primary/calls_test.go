@@ -18,8 +18,8 @@ func ask(client string) *call {
 }
 
 // answer is that to a request of ask.
-func answer(client, text string) []script.Step {
-	return []script.Step{{Kind: script.Answer, Name: client, Number: 1, Text: text}}
+func answer(client string, decided script.Answer) []script.Step {
+	return []script.Step{{Kind: script.Answered, Client: client, Number: 1, Answer: decided}}
 }
 
 // Who gives up while the core looks at the request is forgotten too.
@@ -56,10 +56,10 @@ func TestWhoIsAnsweredWaitsNoMore(t *testing.T) {
 		if waiting, _ := calls.sizes(); waiting != count-2 {
 			t.Error(first, waiting)
 		}
-		calls.tell(answer("bob", "refused 10 Overlap"))
-		calls.tell(answer("ann", "ok acked 7 epoch 1"))
+		calls.tell(answer("bob", script.Answer{Refusal: script.Refusal{Number: 9, Name: "OutOfRange"}}))
+		calls.tell(answer("ann", script.Answer{Place: 7, Epoch: 1}))
 		for at, call := range all {
-			if isGone := at == first || at == second; len(call.done) == 0 != isGone || !isGone && (<-call.done).text != "ok acked 7 epoch 1" {
+			if isGone := at == first || at == second; len(call.done) == 0 != isGone || !isGone && (<-call.done).answer.String() != "ok acked 7 epoch 1" {
 				t.Error(first, at)
 			}
 		}

@@ -89,7 +89,7 @@ func TestAWriterThatIsCutOff(t *testing.T) {
 	until(t, 9*time.Second, "p2 does not write", func() bool { return two.Status().Writes })
 	t.Logf("another one writes after %v", time.Since(cut))
 	answer, err := two.Submit(context.Background(), epoch.Request{Client: "ann", Number: 2, Changes: "add:tea:-1"})
-	is(t, []interface{}{"ok acked 2 epoch 1", nil}, []interface{}{answer.Text, err})
+	is(t, []interface{}{"ok acked 2 epoch 1", nil}, []interface{}{answer.String(), err})
 	link.Mend()
 	var other *primary.NotWriterError
 	select {

@@ -19,6 +19,7 @@ import (
 	"ordup.dev/node/internal/logs"
 	"ordup.dev/node/internal/modelstore"
 	"ordup.dev/node/internal/primary"
+	"ordup.dev/node/internal/script"
 	"ordup.dev/node/internal/site"
 	"ordup.dev/node/internal/store"
 )
@@ -145,7 +146,7 @@ func (deployment *deployment) ask(client string, number int64, changes string) s
 	ctx, cancel := context.WithTimeout(context.Background(), 30*time.Second)
 	defer cancel()
 	for ctx.Err() == nil {
-		var answer primary.Answer
+		var answer script.Answer
 		err := deployment.toWriter(func(primary *primary.Primary) (err error) {
 			answer, err = primary.Submit(ctx, epoch.Request{Client: client, Number: number, Changes: changes})
 			return err
@@ -155,7 +156,7 @@ func (deployment *deployment) ask(client string, number int64, changes string) s
 			return err.Error()
 		}
 		if err == nil {
-			return answer.Text
+			return answer.String()
 		}
 		time.Sleep(10 * time.Millisecond)
 	}
@@ -186,7 +187,7 @@ func (deployment *deployment) read(at *site.Site, seen site.Seen) string {
 		if err != nil {
 			return err.Error()
 		}
-		tea, _ := reading.ValueOf("tea")
+		tea := reading.Values["tea"]
 		return fmt.Sprintf("epoch %d place %d tea=%d", reading.Epoch, reading.Place, tea)
 	}
 	return "nobody serves"

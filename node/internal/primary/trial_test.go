@@ -172,8 +172,8 @@ func (trial *trial) weigh(name string, known site.Seen, reading site.Reading, li
 	if missing > limit || reading.Epoch < known.Epoch-1 {
 		trial.t.Errorf("%s shows %d of epoch %d, and %d of epoch %d was acknowledged", name, reading.Place, reading.Epoch, known.Place, known.Epoch)
 	}
-	tea, _ := reading.ValueOf("tea")
-	till, _ := reading.ValueOf("till")
+	tea := reading.Values["tea"]
+	till := reading.Values["till"]
 	if till != 2*(1_000_000-tea) {
 		trial.t.Errorf("%s shows %v", name, reading.Values)
 	}

@@ -90,7 +90,7 @@ func (entry *Entry) AppendArchive(to []byte, number int64) []byte {
 // Answers are the steps of the entry that are answers.
 func (entry *Entry) Answers() []Step {
 	for at := range entry.Steps {
-		if entry.Steps[at].Kind == Answer {
+		if entry.Steps[at].Kind == Answered {
 			return entry.Steps[at:]
 		}
 	}

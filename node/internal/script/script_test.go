@@ -13,17 +13,17 @@ func whole() *Entry {
 	settings := &Settings{Every: 100, Remembers: 2, Seconds: 60, Origin: "00ff", Ordup: "0.2.0", Began: Began{1000, 10, 0, "00aa"}}
 	return &Entry{Epoch: 2, Ordup: "0.2.0", Writer: "p1-17", Steps: []Step{
 		{Kind: Begin, Settings: settings},
-		{Kind: Declare, Text: "object tea 5"},
-		{Kind: Known, Name: "ann", Number: 3, Digest: "ab", Count: 1, Age: 17, Text: "ok acked 7 epoch 1"},
-		{Kind: Tell, Name: "south", Count: 2},
-		{Kind: Ask, Name: "ann", Number: 4, Text: "add:tea:-1 set:till:3"},
+		{Kind: Declare, Words: "object tea 5"},
+		{Kind: Known, Client: "ann", Number: 3, Digest: "ab", Epoch: 1, Age: 17, Answer: Answer{Place: 7, Epoch: 1}},
+		{Kind: Tell, Site: "south", Count: 2},
+		{Kind: Ask, Client: "ann", Number: 4, Words: "add:tea:-1 set:till:3"},
 		{Kind: Settle, Count: 2},
 		{Kind: Wish, Settings: settings},
-		{Kind: Want, Text: "start"},
-		{Kind: Leave, Name: "south"},
-		{Kind: Gone, Name: "south", Count: 0},
-		{Kind: Elapsed, Count: 5},
-		{Kind: Answer, Name: "ann", Number: 4, Digest: "cd", Text: "refused 9 OutOfRange"},
+		{Kind: Want, Words: "start"},
+		{Kind: Leave, Site: "south"},
+		{Kind: Gone, Site: "south", Count: 0},
+		{Kind: Elapsed, Seconds: 5},
+		{Kind: Answered, Client: "ann", Number: 4, Digest: "cd", Answer: Answer{Refusal: Refusal{9, "OutOfRange"}}},
 	}}
 }
 
@@ -50,7 +50,7 @@ func TestAnEntryIsItsText(t *testing.T) {
 	if err != nil || !reflect.DeepEqual(entry, whole()) {
 		t.Errorf("%v, %v", entry, err)
 	}
-	if answers := entry.Answers(); len(answers) != 1 || answers[0].Text != "refused 9 OutOfRange" {
+	if answers := entry.Answers(); len(answers) != 1 || answers[0].Answer.String() != "refused 9 OutOfRange" {
 		t.Errorf("the answers are %v", answers)
 	}
 }
@@ -63,7 +63,7 @@ func TestAnEntryWithoutSeconds(t *testing.T) {
 		t.Fatal(err)
 	}
 	settings, known := entry.Steps[0].Settings, entry.Steps[1]
-	if settings.Seconds != 0 || settings.Began != (Began{1000, 10, 0, "00aa"}) || known.Age != 0 || known.Text != "ok acked 7 epoch 1" {
+	if settings.Seconds != 0 || settings.Began != (Began{1000, 10, 0, "00aa"}) || known.Age != 0 || known.Answer != (Answer{Place: 7, Epoch: 1}) {
 		t.Errorf("%v, %v", settings, known)
 	}
 	if string(entry.Text()) != text {
@@ -73,7 +73,7 @@ func TestAnEntryWithoutSeconds(t *testing.T) {
 
 func TestAnArchiveHasTheLinesOfOrdup(t *testing.T) {
 	entry := &Entry{Epoch: 1, Ordup: "0.2.0", Writer: "p1", Steps: []Step{
-		{Kind: Tell, Name: "south", Count: 2}, {Kind: Ask, Name: "ann", Number: 1, Text: "add:tea:1"}, {Kind: Settle, Count: 2},
+		{Kind: Tell, Site: "south", Count: 2}, {Kind: Ask, Client: "ann", Number: 1, Words: "add:tea:1"}, {Kind: Settle, Count: 2},
 	}}
 	wants := strings.Join([]string{
 		"# entry 17", "# ordup-node 1 epoch 1 ordup 0.2.0 writer p1",
@@ -96,7 +96,9 @@ func TestWhatIsNoEntry(t *testing.T) {
 		header + "declare start\n", header + "want start\n", header + "settle 1\nbegin 1 1 a b 1 1 a\n", header + "begin 1 1 a b\n", header + "begin 1 1 a b 1 0 a\n",
 		header + "begin 1 1 a b 1 1 a 0 0\n", header + "begin 1 1 a b 1 1 a 5\n", header + "begin 1 1 a b 1 1 a 5 1000001\n",
 		header + "elapsed 0\n", header + "elapsed 1000001\n", header + "elapsed\n", header + "known ann 3 ab 1\n", header + "settle 1\ndeclare start\n",
-		header + "answer ann 1 ab ok\nsettle 1\n", header + "leave \xff\n", header + "leave south north\n",
+		header + "answer ann 1 ab ok acked 1 epoch 1\nsettle 1\n", header + "answer ann 1 ab ok\n", header + "answer ann 1 ab ok acked 0 epoch 1\n",
+		header + "answer ann 1 ab ok acked 01 epoch 1\n", header + "answer ann 1 ab ok acked 1 epoch 1 2\n", header + "answer ann 1 ab refused 9\n",
+		header + "answer ann 1 ab refused x Syntax\n", header + "answer ann 1 ab refused 9 OutOfRange \n", header + "known ann 3 ab 1 refused\n", header + "leave \xff\n", header + "leave south north\n",
 		strings.Repeat("x", 2*MostEntryBytes+1),
 	} {
 		if entry, err := Parse([]byte(text)); err == nil {

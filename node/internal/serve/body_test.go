@@ -13,6 +13,7 @@ import (
 	"testing"
 	"time"
 
+	"ordup.dev/node/internal/script"
 	"ordup.dev/node/internal/serve"
 )
 
@@ -50,7 +51,7 @@ func startWithTokens(t *testing.T, writer *writer) string {
 const large, isJSON = 2_000_000, "Content-Type: application/json\r\n"
 
 func TestWhoSendsALargeBodyReadsWhyItIsRefused(t *testing.T) {
-	writer := &writer{text: "ok acked 1 epoch 1"}
+	writer := &writer{answer: script.Answer{Place: 1, Epoch: 1}}
 	address := startWithTokens(t, writer)
 	body := strings.Repeat("x", large)
 	whole := func(line string) func(net.Conn) error {
@@ -132,7 +133,7 @@ func TestWhoAsksBeforeTheBodyIsToldBefore(t *testing.T) {
 
 // A body that has no end is read no longer than two seconds, and one that is slow or cut has its answer.
 func TestABodyWithoutAnEnd(t *testing.T) {
-	writer := &writer{text: "ok acked 1 epoch 1"}
+	writer := &writer{answer: script.Answer{Place: 1, Epoch: 1}}
 	address := startPrimary(t, nil, writer)
 	for _, pause := range []time.Duration{0, 10 * time.Millisecond} {
 		pause := pause

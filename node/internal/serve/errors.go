@@ -3,10 +3,10 @@ package serve
 import (
 	"context"
 	"errors"
-	"fmt"
 
 	"ordup.dev/node/internal/epoch"
 	"ordup.dev/node/internal/primary"
+	"ordup.dev/node/internal/script"
 	"ordup.dev/node/internal/site"
 	"ordup.dev/node/internal/wire"
 )
@@ -65,15 +65,13 @@ func ErrorOf(err error, otherwise wire.Name) *wire.Error {
 	return wire.NewError(otherwise, err.Error())
 }
 
-// ackedOf reads the answer of the store to an update: `ok acked K epoch E`, or `refused N NAME`, which is an error.
-func ackedOf(request epoch.Request, text string) (*wire.Acked, error) {
-	acked, refused := wire.Acked{Client: request.Client, Number: request.Number}, wire.NewError(wire.Refused, text)
-	if count, _ := fmt.Sscanf(text, "ok acked %d epoch %d", &acked.Place, &acked.Epoch); count == 2 {
-		acked.Seen = wire.SeenText(acked.Epoch, acked.Place)
-		return &acked, nil
-	}
-	if count, _ := fmt.Sscanf(text, "refused %d %s", &refused.Refused, &refused.Refusal); count == 2 {
+// ackedOf is how an answer travels. A refusal is an error.
+func ackedOf(request epoch.Request, answer script.Answer) (*wire.Acked, error) {
+	if answer.IsRefused() {
+		refused := wire.NewError(wire.Refused, answer.String())
+		refused.Refused, refused.Refusal = answer.Refusal.Number, answer.Refusal.Name
 		return nil, refused
 	}
-	return nil, fmt.Errorf("the store answers %.80q", text)
+	return &wire.Acked{Client: request.Client, Number: request.Number, Epoch: answer.Epoch, Place: answer.Place,
+		Seen: wire.SeenText(answer.Epoch, answer.Place)}, nil
 }

@@ -13,6 +13,7 @@ import (
 	"ordup.dev/node/internal/client"
 	"ordup.dev/node/internal/fleet"
 	"ordup.dev/node/internal/logs"
+	"ordup.dev/node/internal/script"
 	"ordup.dev/node/internal/serve"
 )
 
@@ -26,7 +27,7 @@ func tokens(t *testing.T, text string) string {
 }
 
 func TestEachRoleHasItsTokens(t *testing.T) {
-	guard, writer := &serve.Guard{}, &writer{text: "ok acked 1 epoch 1"}
+	guard, writer := &serve.Guard{}, &writer{answer: script.Answer{Place: 1, Epoch: 1}}
 	for role, text := range map[serve.Role]string{serve.Clients: "client-token-0001\n", serve.Sites: "site-token-00001\n",
 		serve.Operators: "# old and new\noperator-token-1\noperator-token-2\n"} {
 		if err := guard.Load(role, tokens(t, text)); err != nil {
@@ -85,7 +86,7 @@ func TestAFileOfTokensThatAllReadIsTold(t *testing.T) {
 
 // A browser keeps a password, and sends it for any page. So it is for what is read.
 func TestAPasswordIsForWhatIsRead(t *testing.T) {
-	guard, writer := &serve.Guard{}, &writer{text: "ok acked 1 epoch 1"}
+	guard, writer := &serve.Guard{}, &writer{answer: script.Answer{Place: 1, Epoch: 1}}
 	if err := guard.Load(serve.Operators, tokens(t, "operator-token-1\n")); err != nil {
 		t.Fatal(err)
 	}
@@ -104,7 +105,7 @@ func TestAPasswordIsForWhatIsRead(t *testing.T) {
 
 // A page of any origin may have a browser send what needs no header of its own. None of that changes something, with tokens or without.
 func TestNoPageInABrowserChangesSomething(t *testing.T) {
-	writer := &writer{text: "ok acked 1 epoch 1"}
+	writer := &writer{answer: script.Answer{Place: 1, Epoch: 1}}
 	address := startPrimary(t, nil, writer)
 	place := `{"site":"north","member":"north","epoch":1,"applied":1,"entry":1}`
 	for path, body := range map[string]string{"/update": good, "/next": `{"from":1}`, "/place": place} {
@@ -153,7 +154,7 @@ func TestARoleWithoutTokensIsClosed(t *testing.T) {
 				t.Fatal(err)
 			}
 		}
-		address := startPrimary(t, guard, &writer{text: "ok acked 1 epoch 1"})
+		address := startPrimary(t, guard, &writer{answer: script.Answer{Place: 1, Epoch: 1}})
 		for _, call := range []struct {
 			method, path, body string
 			want               int

@@ -16,7 +16,7 @@ import (
 
 // A Writer is what is asked of a primary.
 type Writer interface {
-	Submit(ctx context.Context, request epoch.Request) (primary.Answer, error)
+	Submit(ctx context.Context, request epoch.Request) (script.Answer, error)
 	Tell(ctx context.Context, place epoch.Place) error
 	Next(ctx context.Context, wish epoch.Wish) (int64, error)
 	Status() primary.Status
@@ -63,7 +63,7 @@ func (served *Primary) update(ctx context.Context, asked *request) (interface{},
 		return served.orPassed(ctx, asked, err, &acked)
 	}
 	served.waited(time.Since(began))
-	return ackedOf(request, answer.Text)
+	return ackedOf(request, answer)
 }
 
 func (served *Primary) place(ctx context.Context, asked *request) (interface{}, error) {

@@ -19,6 +19,7 @@ import (
 	"ordup.dev/node/internal/fleet"
 	"ordup.dev/node/internal/listen"
 	"ordup.dev/node/internal/primary"
+	"ordup.dev/node/internal/script"
 	"ordup.dev/node/internal/serve"
 	"ordup.dev/node/internal/site"
 	"ordup.dev/node/internal/wire"
@@ -28,24 +29,24 @@ import (
 type writer struct {
 	lock   sync.Mutex
 	err    error
-	text   string
+	answer script.Answer
 	asked  []epoch.Request
 	places []epoch.Place
 	wishes []epoch.Wish
 	status primary.Status
 }
 
-func (writer *writer) Submit(ctx context.Context, request epoch.Request) (primary.Answer, error) {
+func (writer *writer) Submit(ctx context.Context, request epoch.Request) (script.Answer, error) {
 	writer.lock.Lock()
 	defer writer.lock.Unlock()
 	writer.asked = append(writer.asked, request)
-	if writer.text == "" && writer.err == nil {
+	if writer.answer == (script.Answer{}) && writer.err == nil {
 		writer.lock.Unlock()
 		<-ctx.Done()
 		writer.lock.Lock()
-		return primary.Answer{}, fmt.Errorf("the update waits for north: %w", ctx.Err())
+		return script.Answer{}, fmt.Errorf("the update waits for north: %w", ctx.Err())
 	}
-	return primary.Answer{Text: writer.text}, writer.err
+	return writer.answer, writer.err
 }
 
 func (writer *writer) Tell(_ context.Context, place epoch.Place) error {
@@ -68,10 +69,10 @@ func (writer *writer) Status() primary.Status {
 	return writer.status
 }
 
-func (writer *writer) set(text string, err error) {
+func (writer *writer) set(answer script.Answer, err error) {
 	writer.lock.Lock()
 	defer writer.lock.Unlock()
-	writer.text, writer.err = text, err
+	writer.answer, writer.err = answer, err
 }
 
 // A handler may be given once the address is known.
@@ -133,24 +134,24 @@ func TestAnUpdateIsAnswered(t *testing.T) {
 	writer := &writer{}
 	address := startPrimary(t, nil, writer)
 	for _, row := range []struct {
-		text   string
+		answer script.Answer
 		err    error
 		status int
 		want   string
 	}{
-		{"ok acked 3 epoch 2", nil, 200, `{"client":"ann","number":7,"epoch":2,"place":3,"seen":"2.3"}`},
-		{"refused 13 LogFull", nil, 422, `"refused":13,"refusal":"LogFull"`},
-		{"", nil, 504, `"error":"NoAnswer"`},
-		{"", &primary.PassedError{Last: 9}, 409, `"error":"Passed","message":"the client asked under 9 before","last":9`},
-		{"", primary.ErrDiffers, 409, `"error":"Differs"`},
-		{"", primary.ErrMalformed, 400, `"error":"Malformed"`},
-		{"", primary.ErrBusy, 503, `"error":"Busy"`},
-		{"", primary.ErrFull, 507, `"error":"Full"`},
-		{"", &primary.NotWriterError{}, 503, `"error":"NotWriter"`},
-		{"", errors.New("something"), 500, `"error":"Failed"`},
-		{"what", nil, 500, `"error":"Failed"`},
+		{script.Answer{Place: 3, Epoch: 2}, nil, 200, `{"client":"ann","number":7,"epoch":2,"place":3,"seen":"2.3"}`},
+		{script.Answer{Refusal: script.Refusal{Number: 13, Name: "LogFull"}}, nil, 422,
+			`"message":"refused 13 LogFull","refused":13,"refusal":"LogFull"`},
+		{script.Answer{}, nil, 504, `"error":"NoAnswer"`},
+		{script.Answer{}, &primary.PassedError{Last: 9}, 409, `"error":"Passed","message":"the client asked under 9 before","last":9`},
+		{script.Answer{}, primary.ErrDiffers, 409, `"error":"Differs"`},
+		{script.Answer{}, primary.ErrMalformed, 400, `"error":"Malformed"`},
+		{script.Answer{}, primary.ErrBusy, 503, `"error":"Busy"`},
+		{script.Answer{}, primary.ErrFull, 507, `"error":"Full"`},
+		{script.Answer{}, &primary.NotWriterError{}, 503, `"error":"NotWriter"`},
+		{script.Answer{}, errors.New("something"), 500, `"error":"Failed"`},
 	} {
-		writer.set(row.text, row.err)
+		writer.set(row.answer, row.err)
 		status, text := ask(t, "POST", address+"/update?wait=0.1", good)
 		is(t, row.want, status, text, row.status, row.want)
 	}
@@ -160,7 +161,7 @@ func TestAnUpdateIsAnswered(t *testing.T) {
 }
 
 func TestWhatIsNoRequestIsRefused(t *testing.T) {
-	writer := &writer{text: "ok acked 1 epoch 1"}
+	writer := &writer{answer: script.Answer{Place: 1, Epoch: 1}}
 	address := startPrimary(t, nil, writer)
 	for _, row := range []struct {
 		method, path, body string
@@ -214,10 +215,10 @@ func TestWhatIsNoRequestIsRefused(t *testing.T) {
 }
 
 func TestAnotherPrimaryPassesOn(t *testing.T) {
-	first, second := &writer{text: "ok acked 3 epoch 2"}, &writer{}
+	first, second := &writer{answer: script.Answer{Place: 3, Epoch: 2}}, &writer{}
 	one := startPrimary(t, nil, first)
 	other := startPrimary(t, nil, second)
-	second.set("", &primary.NotWriterError{Address: one})
+	second.set(script.Answer{}, &primary.NotWriterError{Address: one})
 	second.status.Writer, first.status.Writes, first.status.Core.Epoch = one, true, 2
 	status, text := ask(t, "GET", one+"/epoch", ``)
 	is(t, "without a lease", status, text, 503, `"error":"NotWriter"`)
@@ -241,20 +242,20 @@ func TestAnotherPrimaryPassesOn(t *testing.T) {
 		t.Error(first.places, second.places)
 	}
 	// So do the sites for which there is no answer in time.
-	first.set("", nil)
+	first.set(script.Answer{}, nil)
 	status, text = ask(t, "POST", other+"/update?wait=0.4", good)
 	is(t, "no answer in time", status, text, 504, "the update waits for north")
 	// A refusal comes through, and what was passed on goes no further.
-	first.set("", primary.ErrDiffers)
+	first.set(script.Answer{}, primary.ErrDiffers)
 	status, text = ask(t, "POST", other+"/update", good)
 	is(t, "differs", status, text, 409, "Differs")
-	first.set("", &primary.NotWriterError{Address: other})
+	first.set(script.Answer{}, &primary.NotWriterError{Address: other})
 	status, text = ask(t, "POST", other+"/update", good)
 	is(t, "around", status, text, 503, `"writer":"`+other)
-	second.set("", &primary.NotWriterError{Address: "http://127.0.0.1:1"})
+	second.set(script.Answer{}, &primary.NotWriterError{Address: "http://127.0.0.1:1"})
 	status, text = ask(t, "POST", other+"/update", good)
 	is(t, "nobody there", status, text, 503, `"writer":"http://127.0.0.1:1"`)
-	second.set("", &primary.NotWriterError{Address: "https://127.0.0.1:1"})
+	second.set(script.Answer{}, &primary.NotWriterError{Address: "https://127.0.0.1:1"})
 	status, text = ask(t, "POST", other+"/update", good)
 	is(t, "another scheme", status, text, 503, `"error":"NotWriter"`)
 }
@@ -291,11 +292,11 @@ func TestAPlaceThatCannotBeComesBack(t *testing.T) {
 	if err := asker.Tell(context.Background(), place); !errors.As(err, &cannotBe) || cannotBe.Updates != 5 {
 		t.Error(err)
 	}
-	writer.set("", epoch.ErrOtherScript)
+	writer.set(script.Answer{}, epoch.ErrOtherScript)
 	if err := asker.Tell(context.Background(), place); !errors.Is(err, epoch.ErrOtherScript) {
 		t.Error(err)
 	}
-	writer.set("", epoch.ErrNoSite)
+	writer.set(script.Answer{}, epoch.ErrNoSite)
 	if err := asker.Tell(context.Background(), place); !errors.Is(err, epoch.ErrNoSite) {
 		t.Error(err)
 	}
@@ -306,7 +307,7 @@ func TestAPlaceThatCannotBeComesBack(t *testing.T) {
 	if err := upper.Tell(context.Background(), place); !errors.Is(err, epoch.ErrNoSite) || !strings.Contains(err.Error(), "the process of the fleet") {
 		t.Error("a site of a fleet told a primary", err)
 	}
-	writer.set("", epoch.ErrBehind)
+	writer.set(script.Answer{}, epoch.ErrBehind)
 	place.Member = "east"
 	var told *wire.Error
 	if err := asker.Tell(context.Background(), place); !errors.As(err, &told) || told.Name != "NotYet" {
@@ -318,16 +319,16 @@ func TestASiteOfAFleetStaysAtTheFleet(t *testing.T) {
 	first, second := &writer{}, &writer{}
 	one, other := startPrimary(t, nil, first), startPrimary(t, nil, second)
 	// While one takes over, each names the other one.
-	first.set("", &primary.NotWriterError{Address: other})
-	second.set("", &primary.NotWriterError{Address: one})
+	first.set(script.Answer{}, &primary.NotWriterError{Address: other})
+	second.set(script.Answer{}, &primary.NotWriterError{Address: one})
 	asker, _ := startFleet(t, one)
 	place := epoch.Place{Site: "far", Member: "east", Epoch: 1, Applied: 7, Entry: 3}
 	var told *wire.Error
 	if err := asker.Tell(context.Background(), place); !errors.As(err, &told) || told.Name != "NotYet" || told.Writer != "" {
 		t.Error("the site is told", err)
 	}
-	first.set("", nil)
-	second.set("", nil)
+	first.set(script.Answer{}, nil)
+	second.set(script.Answer{}, nil)
 	if err := asker.Tell(context.Background(), place); err != nil {
 		t.Error(err)
 	}
@@ -353,7 +354,7 @@ func (reader *reader) Read(ctx context.Context, seen site.Seen) (site.Reading, e
 		<-ctx.Done()
 		return site.Reading{}, &site.BehindError{Has: site.Seen{Epoch: 1, Place: reader.place}}
 	}
-	return site.Reading{Shown: &site.Shown{Entry: 9, Epoch: 1, Place: reader.place, Values: []site.Value{{Name: "tea", Value: 995}}, Limits: []string{"count 3"}},
+	return site.Reading{Shown: &site.Shown{Entry: 9, Epoch: 1, Place: reader.place, Values: map[string]int64{"tea": 995}, Limits: []string{"count 3"}},
 		Lease: 2 * time.Second}, nil
 }
 

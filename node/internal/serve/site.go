@@ -39,7 +39,7 @@ func (served *Site) value(ctx context.Context, asked *request) (interface{}, err
 		return nil, err
 	}
 	name := strings.TrimPrefix(asked.URL.Path, wire.ValuePath)
-	value, isThere := reading.ValueOf(name)
+	value, isThere := reading.Values[name]
 	if !isThere {
 		return nil, wire.NewError(wire.NoSuchObject, "the site has no such object")
 	}
@@ -51,11 +51,7 @@ func (served *Site) values(ctx context.Context, asked *request) (interface{}, er
 	if err != nil {
 		return nil, err
 	}
-	values := make(map[string]int64, len(reading.Values))
-	for _, each := range reading.Values {
-		values[each.Name] = each.Value
-	}
-	return wire.Values{Values: values, Showing: showing}, nil
+	return wire.Values{Values: reading.Values, Showing: showing}, nil
 }
 
 func (served *Site) read(ctx context.Context, asked *request) (reading site.Reading, showing wire.Showing, err error) {

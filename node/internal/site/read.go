@@ -105,16 +105,6 @@ func (shown *Shown) covers(seen Seen) bool {
 	return shown.Epoch > seen.Epoch || shown.Epoch == seen.Epoch && shown.Place >= seen.Place
 }
 
-// ValueOf is the value of an object, and whether there is one of this name.
-func (shown *Shown) ValueOf(name string) (int64, bool) {
-	for _, value := range shown.Values {
-		if value.Name == name {
-			return value.Value, true
-		}
-	}
-	return 0, false
-}
-
 // isFar is whether what the script does not have as told is at most a quarter of what the limits of the site allow. A limit that is not of
 // a count may be reached by one update.
 func (shown *Shown) isFar() bool {

@@ -6,9 +6,12 @@ package site
 
 import (
 	"bytes"
+	"errors"
 	"fmt"
 	"strconv"
 	"strings"
+
+	"ordup.dev/ordup/answer"
 
 	"ordup.dev/node/internal/epoch"
 	"ordup.dev/node/internal/exit"
@@ -19,20 +22,14 @@ import (
 // feed is how many updates the own store of a site has under way: the capacity that it declares.
 const feed = 1024
 
-// A Value is an object with its value.
-type Value struct {
-	Name  string
-	Value int64
-}
-
 // Shown is what a site shows after so many entries. Nobody changes it.
 type Shown struct {
 	// Entry is the last entry that was run, Epoch its epoch, and Place how many updates of the epoch are applied.
 	Entry, Epoch, Place int64
 	// Told is how many updates the script says that the site has told.
 	Told int64
-	// Values are in the order of their declarations.
-	Values []Value
+	// Values are those of all objects.
+	Values map[string]int64
 	// Limits are those of the site, as `count 3`.
 	Limits []string
 	// Digest is that of the entry, as the engine has it.
@@ -137,47 +134,62 @@ func (replica *Replica) begin(number int64, entry *script.Entry) error {
 	replica.epoch, replica.place, replica.told, replica.sites, replica.limits = entry.Epoch, 0, 0, map[string]bool{}, []string{}
 	lines := []byte{}
 	for at := range entry.Steps {
-		words := strings.Fields(entry.Steps[at].Text)
+		step := &entry.Steps[at]
+		words := strings.Fields(step.Words)
 		switch {
-		case entry.Steps[at].Kind != script.Declare || len(words) < 3:
+		case step.Kind != script.Declare || len(words) < 3:
 		case words[0] == "site":
 			replica.sites[words[1]] = true
 		case words[0] == "limit" && words[1] == replica.name:
 			replica.limits = append(replica.limits, strings.Join(words[2:], " "))
 		case words[0] == "object":
-			lines = append(append(lines, entry.Steps[at].Text...), '\n')
-			for _, value := range before {
-				if value.Name == words[1] && strconv.FormatInt(value.Value, 10) != words[2] {
-					return &epoch.BrokenError{Number: number, Why: fmt.Sprintf("%s begins with %s, and had %d here", words[1], words[2], value.Value)}
-				}
+			lines = step.AppendLines(lines)
+			if value, isThere := before[words[1]]; isThere && strconv.FormatInt(value, 10) != words[2] {
+				return &epoch.BrokenError{Number: number, Why: fmt.Sprintf("%s begins with %s, and had %d here", words[1], words[2], value)}
 			}
 		}
 	}
 	lines = append(lines, fmt.Sprintf("site %s %d\nstart\n", replica.name, feed)...)
-	return replica.run(lines, func(answer []byte) bool { return bytes.HasPrefix(answer, []byte("ok ")) })
+	return replica.run(lines, isDone)
+}
+
+// isDone is whether an answer is no refusal.
+func isDone(given answer.Answer) bool {
+	_, isRefused := given.(*answer.Refused)
+	return !isRefused
 }
 
 // run runs lines, each of whose answers must be as it is looked for.
-func (replica *Replica) run(lines []byte, isRight func([]byte) bool) error {
+func (replica *Replica) run(lines []byte, isRight func(answer.Answer) bool) error {
 	if replica.store == nil {
 		return &epoch.BrokenError{Number: replica.entry, Why: "it comes before the beginning of its epoch"}
 	}
-	answers, err := replica.store.Run(lines)
+	answers, err := replica.answers(lines)
 	if err != nil {
 		return err
 	}
-	count := 0
-	for len(answers) > 0 {
-		end := bytes.IndexByte(answers, '\n')
-		if end < 0 || !isRight(answers[:end]) {
-			return &epoch.BrokenError{Number: replica.entry, Why: fmt.Sprintf("the store of this site answers %.80q", answers)}
+	for _, given := range answers {
+		if !isRight(given) {
+			return &epoch.BrokenError{Number: replica.entry, Why: fmt.Sprintf("the store of this site answers %T %+v", given, given)}
 		}
-		answers, count = answers[end+1:], count+1
 	}
-	if count != bytes.Count(lines, []byte{'\n'}) {
-		return &epoch.BrokenError{Number: replica.entry, Why: fmt.Sprintf("the store of this site gives %d answers", count)}
+	if len(answers) != bytes.Count(lines, []byte{'\n'}) {
+		return &epoch.BrokenError{Number: replica.entry, Why: fmt.Sprintf("the store of this site gives %d answers", len(answers))}
 	}
 	return nil
+}
+
+// answers asks the store. What is none of its answers is not of this script.
+func (replica *Replica) answers(lines []byte) ([]answer.Answer, error) {
+	answers, err := replica.store.Answers(lines)
+	var unknown *answer.UnknownError
+	switch {
+	case err == nil:
+		return answers, nil
+	case errors.As(err, &unknown):
+		return nil, &epoch.BrokenError{Number: replica.entry, Why: unknown.Error()}
+	}
+	return nil, fmt.Errorf("run the lines of the entry %d: %w", replica.entry, err)
 }
 
 // propose runs the requests of an entry. Those that the primary refused are refused here, since the values are the same.
@@ -193,19 +205,22 @@ func (replica *Replica) propose(entry *script.Entry) error {
 	}
 	refused := refusals(entry.Answers())
 	updates := int64(0)
-	err := replica.run(replica.text, func(answer []byte) bool {
-		if bytes.HasPrefix(answer, []byte("ok proposed ")) {
+	err := replica.run(replica.text, func(given answer.Answer) bool {
+		switch given := given.(type) {
+		case answer.Proposed:
 			updates++
 			return true
+		case *answer.Refused:
+			isSame := len(refused) > 0 && refused[0] == epoch.RefusalOf(given)
+			if isSame {
+				refused = refused[1:]
+			}
+			return isSame
 		}
-		isSame := len(refused) > 0 && refused[0] == string(answer)
-		if isSame {
-			refused = refused[1:]
-		}
-		return isSame
+		return false
 	})
 	if err == nil && len(refused) > 0 {
-		err = &epoch.BrokenError{Number: replica.entry, Why: fmt.Sprintf("the store of this site does not answer %.80q", refused[0])}
+		err = &epoch.BrokenError{Number: replica.entry, Why: fmt.Sprintf("the store of this site does not refuse as %s", refused[0].Name)}
 	}
 	if err != nil {
 		return err
@@ -213,11 +228,12 @@ func (replica *Replica) propose(entry *script.Entry) error {
 	return replica.apply(updates)
 }
 
-func refusals(answers []script.Step) []string {
-	refused := []string{}
+// refusals are those among the answers of an entry.
+func refusals(answers []script.Step) []script.Refusal {
+	refused := []script.Refusal{}
 	for at := range answers {
-		if strings.HasPrefix(answers[at].Text, "refused ") {
-			refused = append(refused, answers[at].Text)
+		if answers[at].Answer.IsRefused() {
+			refused = append(refused, answers[at].Answer.Refusal)
 		}
 	}
 	return refused
@@ -236,7 +252,7 @@ func (replica *Replica) apply(updates int64) error {
 				replica.text = append(append(append(replica.text, kind...), replica.name...), '\n')
 			}
 		}
-		if err := replica.run(replica.text, func(answer []byte) bool { return bytes.HasPrefix(answer, []byte("ok ")) }); err != nil {
+		if err := replica.run(replica.text, isDone); err != nil {
 			return err
 		}
 		replica.place, updates = replica.place+some, updates-some
@@ -250,8 +266,8 @@ func (replica *Replica) heed(entry *script.Entry) error {
 		step := &entry.Steps[at]
 		switch {
 		case step.Kind == script.Leave:
-			delete(replica.sites, step.Name)
-		case step.Kind == script.Tell && step.Name == replica.name:
+			delete(replica.sites, step.Site)
+		case step.Kind == script.Tell && step.Site == replica.name:
 			replica.told += step.Count
 		}
 	}
@@ -270,28 +286,19 @@ func (replica *Replica) Show() (*Shown, error) {
 	return &Shown{Entry: replica.entry, Epoch: replica.epoch, Place: replica.place, Told: replica.told, Values: values, Limits: replica.limits}, nil
 }
 
-// values reads what the store shows: `ok show SITE sent A applied B reported C rounds D X=V ..`.
-func (replica *Replica) values() ([]Value, error) {
+// values are those that the store shows.
+func (replica *Replica) values() (map[string]int64, error) {
 	if replica.store == nil {
 		return nil, nil
 	}
-	answer, err := replica.store.Run([]byte("show " + replica.name + "\n"))
+	answers, err := replica.answers([]byte("show " + replica.name + "\n"))
 	if err != nil {
 		return nil, err
 	}
-	const before = 11
-	words := strings.Fields(string(answer))
-	if len(words) < before || words[0] != "ok" || words[6] != strconv.FormatInt(replica.place, 10) {
-		return nil, &epoch.BrokenError{Number: replica.entry, Why: fmt.Sprintf("the store of this site shows %.80q", answer)}
-	}
-	values := make([]Value, 0, len(words)-before)
-	for _, word := range words[before:] {
-		name, text, _ := strings.Cut(word, "=")
-		value, err := strconv.ParseInt(text, 10, 64)
-		if err != nil {
-			return nil, &epoch.BrokenError{Number: replica.entry, Why: fmt.Sprintf("the store of this site shows %.80q", word)}
+	if len(answers) == 1 {
+		if shown, isShown := answers[0].(answer.Shown); isShown && int64(shown.Applied) == replica.place {
+			return shown.Values, nil
 		}
-		values = append(values, Value{name, value})
 	}
-	return values, nil
+	return nil, &epoch.BrokenError{Number: replica.entry, Why: fmt.Sprintf("the store of this site shows %+v", answers)}
 }

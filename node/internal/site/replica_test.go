@@ -94,14 +94,10 @@ func TestASiteShowsWhatTheScriptComesTo(t *testing.T) {
 	script.write()
 	shown, err := script.replay(at("south"))
 	is(t, nil, err)
-	is(t, "{3 1 2 1 [{tea 95} {till 7}] [] }", *shown)
+	is(t, "{3 1 2 1 map[tea:95 till:7] [] }", *shown)
 	shown, err = script.replay(at("north"))
 	is(t, nil, err)
 	is(t, int64(0), shown.Told)
-	value, isThere := shown.ValueOf("till")
-	is(t, []interface{}{7, true}, []interface{}{value, isThere})
-	_, isThere = shown.ValueOf("\xff")
-	is(t, false, isThere)
 }
 
 func TestMoreUpdatesThanTheFeedHas(t *testing.T) {
@@ -112,7 +108,7 @@ func TestMoreUpdatesThanTheFeedHas(t *testing.T) {
 	script.write()
 	shown, err := script.replay(at("south"))
 	is(t, nil, err)
-	is(t, fmt.Sprintf("[{tea %d} {till 0}]", 100+2*feed+7), shown.Values)
+	is(t, fmt.Sprintf("map[tea:%d till:0]", 100+2*feed+7), shown.Values)
 }
 
 func TestASiteAcrossEpochs(t *testing.T) {
@@ -126,12 +122,12 @@ func TestASiteAcrossEpochs(t *testing.T) {
 	shown, err := script.replay(at("south"))
 	is(t, nil, err)
 	is(t, []int64{2, 0, 0}, []int64{shown.Epoch, shown.Place, shown.Told})
-	is(t, "[{tea 95} {till 0}]", shown.Values)
+	is(t, "map[tea:95 till:0]", shown.Values)
 	// A site with another update notices it as the next epoch begins, and one that lacks it as more is told than it has.
 	wrong := *script.entries[1]
 	script.entries[1] = &wrong
 	wrong.Steps = append(wrong.Steps[:0:0], wrong.Steps...)
-	wrong.Steps[0].Text = "add:tea:-4"
+	wrong.Steps[0].Words = "add:tea:-4"
 	_, err = script.replay(at("south"))
 	is(t, true, strings.Contains(fmt.Sprint(err), "tea begins with 95, and had 96 here"))
 	wrong.Steps = nil

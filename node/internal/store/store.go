@@ -7,8 +7,8 @@ import "ordup.dev/ordup/answer"
 
 // A Store takes lines of ordup and gives their answers.
 type Store interface {
-	// Run answers the lines of a text, as `ordup run` does. With an error the store is of no more use.
-	Run(lines []byte) (answers []byte, err error)
+	// Answers answers the lines of a text, each but comments and blank ones. With an error the store is of no more use.
+	Answers(lines []byte) ([]answer.Answer, error)
 	// NextDeclarations gives the declarations of the store that goes on from this one, all of whose updates are acknowledged.
 	NextDeclarations() (string, error)
 	// Record gives the record of a site, for a Checker.

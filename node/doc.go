@@ -118,6 +118,7 @@
 //	engine       etcd: transactions, pages, watches, leases. No other package knows it
 //	primary      the process that writes or stands by
 //	site         the process that serves readers
+//	follower     how a primary that stands by and a site follow the script
 //	fleet        the place of several sites
 //	archive      the files of past epochs
 //	fsck         checks them and the script from the first epoch on

@@ -104,8 +104,9 @@ MISTAKES: Mistakes = {
     "skips_what_came_while_it_was_away": [
         (
             "internal/site/site.go",
-            '		site.config.Log.Warn("engine-away", "why", err)\n',
-            "		if site.replica != nil {\n			site.replica.entry++\n		}\n",
+            "		if err = site.follower.Heed(following, err, site.forget); err != nil {\n",
+            "		if engine.IsAway(err) && site.replica != nil {\n			site.replica.entry++\n		}\n"
+            "		if err = site.follower.Heed(following, err, site.forget); err != nil {\n",
         ),
     ],
     # A site that is taken out goes on, whatever the script and the primary say.

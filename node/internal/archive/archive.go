@@ -42,11 +42,11 @@ type Keeper struct {
 	Ended <-chan struct{}
 	// looked are the archives whose files this process has written or read, of epochs that are still in the engine.
 	looked  map[engine.Archive]bool
-	waiting int64
+	waiting atomic.Int64
 }
 
 // Waiting is how many epochs have ended and are still in the engine, as of the last look.
-func (keeper *Keeper) Waiting() int64 { return atomic.LoadInt64(&keeper.waiting) }
+func (keeper *Keeper) Waiting() int64 { return keeper.waiting.Load() }
 
 // NameOf is the name of the file of an epoch.
 func NameOf(epoch int64) string { return fmt.Sprintf("epoch-%d.ordup", epoch) }
@@ -96,15 +96,16 @@ func (keeper *Keeper) Pass(ctx context.Context) (waits bool, err error) {
 		before, removed, err := keeper.passOne(ctx, from, end)
 		if err != nil {
 			if !engine.IsAway(err) {
-				atomic.StoreInt64(&keeper.waiting, left+keeper.stuck(ctx, from, last))
+				keeper.waiting.Store(left + keeper.stuck(ctx, from, last))
 			}
 			return false, err
 		}
-		if from = before; !removed {
+		from = before
+		if !removed {
 			left++
 		}
 	}
-	atomic.StoreInt64(&keeper.waiting, left)
+	keeper.waiting.Store(left)
 	return left > 0, nil
 }
 
@@ -126,7 +127,8 @@ func (keeper *Keeper) passOne(ctx context.Context, from, end int64) (before int6
 func (keeper *Keeper) stuck(ctx context.Context, from, last int64) int64 {
 	epoch := int64(0)
 	text, _, _ := keeper.Engine.Entry(ctx, from)
-	if fmt.Sscanf(string(text), "ordup-node 1 epoch %d ", &epoch); epoch < 1 || epoch >= last {
+	count, _ := fmt.Sscanf(string(text), "ordup-node 1 epoch %d ", &epoch)
+	if count != 1 || epoch < 1 || epoch >= last {
 		return 1
 	}
 	return last - epoch
@@ -234,7 +236,8 @@ func (keeper *Keeper) copy(ctx context.Context, to io.Writer, from, end int64) (
 	lines := bufio.NewWriterSize(io.MultiWriter(to, sum), 1<<16)
 	var raws []engine.Raw
 	for isSame := true; isSame && next < end; {
-		if raws, _, revision, err = keeper.Engine.Entries(ctx, next, revision); err != nil {
+		raws, _, revision, err = keeper.Engine.Entries(ctx, next, revision)
+		if err != nil {
 			return 0, own, err
 		}
 		if len(raws) == 0 {
@@ -250,10 +253,12 @@ func (keeper *Keeper) copy(ctx context.Context, to io.Writer, from, end int64) (
 			case epoch == 0:
 				epoch = entry.Epoch
 			}
-			if isSame = entry.Epoch == epoch && next < end; !isSame {
+			isSame = entry.Epoch == epoch && next < end
+			if !isSame {
 				break
 			}
-			if _, err = lines.Write(entry.AppendArchive(nil, next)); err != nil {
+			_, err = lines.Write(entry.AppendArchive(nil, next))
+			if err != nil {
 				return 0, own, err
 			}
 			next++

@@ -113,7 +113,8 @@ func TestAnArchiveIsOnTheDiskFirst(t *testing.T) {
 			what += " of an archive"
 		}
 		archives, err := own.Archives(context.Background())
-		if synced = append(synced, what); err != nil || len(archives) > 0 || what == fails {
+		synced = append(synced, what)
+		if err != nil || len(archives) > 0 || what == fails {
 			return errors.New("the disk fails")
 		}
 		return nil

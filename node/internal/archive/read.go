@@ -35,7 +35,8 @@ func Read(from io.Reader, take func(int64, *script.Entry) error) error {
 			}
 			text = text[:0]
 		}
-		if text = append(text, line...); isEnd {
+		text = append(text, line...)
+		if isEnd {
 			if len(line) > 0 {
 				return fmt.Errorf("line %d is not whole", number)
 			}

@@ -94,7 +94,7 @@ func refusalOf(err error, place epoch.Place) error {
 	return err
 }
 
-func (client *Client) post(ctx context.Context, path string, value, to interface{}) error {
+func (client *Client) post(ctx context.Context, path string, value, to any) error {
 	body, err := json.Marshal(value)
 	if err != nil {
 		return err

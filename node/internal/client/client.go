@@ -44,7 +44,9 @@ type Config struct {
 type Client struct {
 	config Config
 	http   *http.Client
-	lock   sync.Mutex
+
+	// What stands below lock is under it.
+	lock sync.Mutex
 	// Who is asked first: one of the addresses, or the one that an answer named.
 	at    int
 	named string
@@ -81,12 +83,12 @@ func HTTP(secure *tls.Config) *http.Client {
 }
 
 // Answer asks, and reads the answer. One that is an error is a *wire.Error.
-func Answer(by *http.Client, request *http.Request, to interface{}) error {
+func Answer(by *http.Client, request *http.Request, to any) error {
 	_, err := answer(by, request, to)
 	return err
 }
 
-func answer(by *http.Client, request *http.Request, to interface{}) (writer string, err error) {
+func answer(by *http.Client, request *http.Request, to any) (writer string, err error) {
 	answer, err := by.Do(request)
 	if err != nil {
 		return "", err
@@ -147,7 +149,7 @@ func (client *Client) fail(address string) {
 }
 
 // try asks one address.
-func (client *Client) try(ctx context.Context, address, method, path string, body []byte, to interface{}) error {
+func (client *Client) try(ctx context.Context, address, method, path string, body []byte, to any) error {
 	request, err := http.NewRequestWithContext(ctx, method, address+path, bytes.NewReader(body))
 	if err != nil {
 		return err
@@ -178,7 +180,7 @@ func (client *Client) try(ctx context.Context, address, method, path string, bod
 }
 
 // ask asks until there is an answer for good, or the context ends. Then the error has the last reason.
-func (client *Client) ask(ctx context.Context, method, path string, body []byte, to interface{}) error {
+func (client *Client) ask(ctx context.Context, method, path string, body []byte, to any) error {
 	pause, last := leastPause, error(nil)
 	for try := 0; ; try++ {
 		limited, cancel := context.WithTimeout(ctx, tryTime)
@@ -195,7 +197,8 @@ func (client *Client) ask(ctx context.Context, method, path string, body []byte,
 			case <-time.After(pause):
 			case <-ctx.Done():
 			}
-			if pause *= 2; pause > mostPause {
+			pause *= 2
+			if pause > mostPause {
 				pause = mostPause
 			}
 		}

@@ -106,7 +106,8 @@ func TestAnAddressOfAnotherSchemeIsNotAsked(t *testing.T) {
 		}
 		ctx, cancel := context.WithTimeout(context.Background(), time.Second)
 		defer cancel()
-		if _, err = asker.Update(ctx, wire.Update{Client: "ann", Number: 1}); err == nil || plain != 0 || atomic.SwapInt64(&next, 0) == 0 {
+		_, err = asker.Update(ctx, wire.Update{Client: "ann", Number: 1})
+		if err == nil || plain != 0 || atomic.SwapInt64(&next, 0) == 0 {
 			t.Error(err, plain)
 		}
 	}
@@ -125,7 +126,8 @@ func TestABodySaysThatItIsJSON(t *testing.T) {
 		t.Fatal(err)
 	}
 	ctx := context.Background()
-	if _, err = asker.Update(ctx, wire.Update{}); err == nil {
+	_, err = asker.Update(ctx, wire.Update{})
+	if err == nil {
 		_, err = asker.Next(ctx, wire.Next{})
 	}
 	if err == nil {
@@ -168,7 +170,8 @@ func TestItTellsTheLastReason(t *testing.T) {
 		t.Error(err, count)
 	}
 	hangs := server(t, &count, func(http.ResponseWriter) { time.Sleep(300 * time.Millisecond) })
-	if _, err = update(t, 100*time.Millisecond, hangs); !errors.As(err, &none) {
+	_, err = update(t, 100*time.Millisecond, hangs)
+	if !errors.As(err, &none) {
 		t.Error(err)
 	}
 }

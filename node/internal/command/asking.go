@@ -47,7 +47,8 @@ func (own *askingSettings) client(log *logs.Log) (*client.Client, error) {
 	if len(own.addresses) == 0 {
 		return nil, wrong("%s: the addresses are missing", own.key)
 	}
-	if config.TLS, err = engine.TLSOf(own.authority, "", "", log); err != nil {
+	config.TLS, err = engine.TLSOf(own.authority, "", "", log)
+	if err != nil {
 		return nil, err
 	}
 	if own.token != "" {

@@ -113,6 +113,6 @@ func (program *Program) help(to io.Writer) {
 }
 
 // wrong is an error of words or settings.
-func wrong(format string, words ...interface{}) error {
+func wrong(format string, words ...any) error {
 	return exit.With(exit.Words, fmt.Errorf(format, words...))
 }

@@ -54,7 +54,8 @@ func (own *engineSettings) open(log *logs.Log) (*engine.Engine, error) {
 		if err != nil {
 			return nil, err
 		}
-		if config.Password = strings.TrimSpace(string(text)); config.Password == "" {
+		config.Password = strings.TrimSpace(string(text))
+		if config.Password == "" {
 			return nil, wrong("engine-password: %s is empty", own.password)
 		}
 	}

@@ -139,7 +139,8 @@ func read(by *http.Client, site string) error {
 		return err
 	}
 	defer answer.Body.Close()
-	if _, err = io.Copy(io.Discard, answer.Body); err == nil && answer.StatusCode != http.StatusOK {
+	_, err = io.Copy(io.Discard, answer.Body)
+	if err == nil && answer.StatusCode != http.StatusOK {
 		err = fmt.Errorf("the status is %d", answer.StatusCode)
 	}
 	return err

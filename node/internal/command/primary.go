@@ -48,7 +48,8 @@ func (own *primaryOwn) config(program *Program) (config primary.Config, err erro
 	}
 	config = primary.Config{Open: program.Open, Host: own.serving.host, Versions: program.Versions, Every: own.every,
 		Remembers: own.remembers, Seconds: own.seconds, Folder: own.archive, Copies: int(own.copies), Log: program.Log}
-	if config.Address, err = own.serving.address(own.address); err != nil {
+	config.Address, err = own.serving.address(own.address)
+	if err != nil {
 		return config, err
 	}
 	if own.declarations != "" {
@@ -94,7 +95,7 @@ func (own *primaryOwn) run(ctx context.Context, program *Program) error {
 // isReady is why a primary takes no requests now, or nil.
 func isReady(status primary.Status) error {
 	switch {
-	case status.Counts.Full > 0:
+	case status.Counts.Full:
 		return primary.ErrFull
 	case status.Writes && status.Lease == 0:
 		return errors.New("the lease of this primary is over: the engine does not answer")

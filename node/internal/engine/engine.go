@@ -40,12 +40,15 @@ type Config struct {
 // for that has one of its own.
 type Engine struct {
 	config   Config
-	failures int64
-	lock     sync.Mutex
-	at       int
-	client   *clientv3.Client
-	closed   bool
-	pages    pages
+	failures atomic.Int64
+	// Under a lock of their own.
+	pages pages
+
+	// What stands below lock is under it: the member that is asked now, and its client.
+	lock   sync.Mutex
+	at     int
+	client *clientv3.Client
+	closed bool
 }
 
 // Open gives an engine, which connects when it is asked.
@@ -61,7 +64,7 @@ func (engine *Engine) Apart() *Engine {
 }
 
 // Failures is how many calls members have failed.
-func (engine *Engine) Failures() int64 { return atomic.LoadInt64(&engine.failures) }
+func (engine *Engine) Failures() int64 { return engine.failures.Load() }
 
 // Close ends the connection, and with it all calls.
 func (engine *Engine) Close() {
@@ -96,7 +99,7 @@ func (engine *Engine) connected() (*clientv3.Client, string, error) {
 func (engine *Engine) settings(member string) clientv3.Config {
 	quiet := zap.NewProductionConfig()
 	quiet.Level, quiet.OutputPaths, quiet.ErrorOutputPaths = zap.NewAtomicLevelAt(zap.FatalLevel), nil, nil
-	once := func(ctx context.Context, method string, asked, reply interface{}, to *grpc.ClientConn, ask grpc.UnaryInvoker,
+	once := func(ctx context.Context, method string, asked, reply any, to *grpc.ClientConn, ask grpc.UnaryInvoker,
 		options ...grpc.CallOption) error {
 		return ask(ctx, method, asked, reply, to, options...)
 	}
@@ -131,7 +134,7 @@ func (engine *Engine) call(ctx context.Context, most time.Duration, ask func(con
 
 // leave goes on to the next member, if nobody did so since this client was asked.
 func (engine *Engine) leave(client *clientv3.Client) {
-	atomic.AddInt64(&engine.failures, 1)
+	engine.failures.Add(1)
 	engine.lock.Lock()
 	defer engine.lock.Unlock()
 	if engine.client != client || engine.closed {

@@ -77,7 +77,8 @@ func (engine *Engine) watch(ctx context.Context, next *int64, revision int64, ta
 			if err != nil {
 				return err
 			}
-			if looks++; last < *next {
+			looks++
+			if last < *next {
 				looks = 0
 			}
 		}

@@ -34,12 +34,17 @@ type Lease struct {
 	from, to string
 	whenHeld func(context.Context, Term) error
 	log      *logs.Log
-	lock     sync.Mutex
-	until    time.Duration
-	term     Term
-	id       clientv3.LeaseID
-	changed  chan struct{}
-	// The last lease that was given back, of Run alone. The engine may hear of that at any time, so it is never taken up again.
+
+	// What stands below lock up to the blank line is under it. Until is the moment, by package clock, up to which the process relies on the
+	// lease, and id is 0 where it has none.
+	lock    sync.Mutex
+	until   time.Duration
+	term    Term
+	id      clientv3.LeaseID
+	changed chan struct{}
+
+	// The last lease that was given back, of the goroutine of Run alone. The engine may hear of that at any time, so it is never taken up
+	// again.
 	given clientv3.LeaseID
 }
 
@@ -56,7 +61,8 @@ func (engine *Engine) NewLease(key, value string, log *logs.Log, whenHeld func(c
 // name in the script there are only the sites of a fleet at a time or only the one site, which tells for that name alone.
 func (engine *Engine) NewSiteLease(fleet, site, value string, log *logs.Log, whenHeld func(context.Context, Term) error) *Lease {
 	lease := engine.NewLease(SiteKey(fleet, site), value, log, whenHeld)
-	if lease.from, lease.to = keysOf(fleet); fleet != site {
+	lease.from, lease.to = keysOf(fleet)
+	if fleet != site {
 		lease.from, lease.to = SiteKey(fleet, fleet), SiteKey(fleet, fleet)+"\x00"
 	}
 	return lease
@@ -201,7 +207,8 @@ func (lease *Lease) acquire(ctx context.Context) error {
 // find looks for the key, and where it is not there for one that excludes it.
 func (lease *Lease) find(ctx context.Context) (found *clientv3.GetResponse, excludes string, err error) {
 	err = lease.engine.call(ctx, leaseCall, func(ctx context.Context, client *clientv3.Client) (err error) {
-		if found, err = client.Get(ctx, lease.key); err != nil || len(found.Kvs) > 0 || lease.from == "" {
+		found, err = client.Get(ctx, lease.key)
+		if err != nil || len(found.Kvs) > 0 || lease.from == "" {
 			return err
 		}
 		others, err := client.Get(ctx, lease.from, clientv3.WithRange(lease.to), clientv3.WithKeysOnly(), clientv3.WithLimit(1))
@@ -286,6 +293,7 @@ func (lease *Lease) giveUp() {
 func (lease *Lease) revoke(id clientv3.LeaseID) {
 	lease.given = id
 	for range lease.engine.config.Members {
+		// The context of Run has ended where the process ends, and the lease is given back all the same.
 		err := lease.engine.call(context.Background(), leaseCall, func(ctx context.Context, client *clientv3.Client) error {
 			_, err := client.Revoke(ctx, id)
 			return err

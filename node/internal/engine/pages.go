@@ -64,7 +64,8 @@ func (pages *pages) failed() {
 	if pages.bytes > leastPage {
 		pages.bytes /= 4
 	}
-	if pages.time *= 2; pages.time > mostTime {
+	pages.time *= 2
+	if pages.time > mostTime {
 		pages.time = mostTime
 	}
 }

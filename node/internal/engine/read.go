@@ -54,7 +54,8 @@ func (engine *Engine) Entries(ctx context.Context, from, revision int64) (entrie
 		if err != nil {
 			return nil, false, 0, err
 		}
-		if entries = entriesOf(found.Kvs); revision == 0 {
+		entries = entriesOf(found.Kvs)
+		if revision == 0 {
 			revision = found.Header.Revision
 		}
 		if len(entries) > 0 || !found.More {

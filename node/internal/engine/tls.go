@@ -22,7 +22,8 @@ func TLSOf(authority, certificate, key string, log *logs.Log) (*tls.Config, erro
 		if err != nil {
 			return nil, err
 		}
-		if config.RootCAs = x509.NewCertPool(); !config.RootCAs.AppendCertsFromPEM(text) {
+		config.RootCAs = x509.NewCertPool()
+		if !config.RootCAs.AppendCertsFromPEM(text) {
 			return nil, fmt.Errorf("%s has no certificate", authority)
 		}
 	}

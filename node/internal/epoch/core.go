@@ -250,8 +250,11 @@ func (core *Core) entryVersion() string {
 	return core.settings.Ordup
 }
 
-func (core *Core) runs(version string) bool {
-	for _, own := range core.config.Versions {
+func (core *Core) runs(version string) bool { return Runs(core.config.Versions, version) }
+
+// Runs is whether a program of these versions of ordup runs what is of one.
+func Runs(versions []string, version string) bool {
+	for _, own := range versions {
 		if version == own {
 			return true
 		}

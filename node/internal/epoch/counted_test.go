@@ -141,7 +141,7 @@ func TestWhatNobodyReadsIsNotWritten(t *testing.T) {
 			}
 			world.core.turn.steps = steps
 			turn, err := world.core.Seal(world.now)
-			is(t, []interface{}{true, exit.Gap}, []interface{}{turn == nil, exit.Of(err)})
+			is(t, []any{true, exit.Gap}, []any{turn == nil, exit.Of(err)})
 			is(t, err, world.core.Failure())
 		})
 	}

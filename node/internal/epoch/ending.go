@@ -48,7 +48,8 @@ var (
 func Declarations(text string) []string {
 	lines := []string{}
 	for _, line := range strings.Split(text, "\n") {
-		if line = strings.Join(strings.Fields(line), " "); line != "" && line[0] != '#' {
+		line = strings.Join(strings.Fields(line), " ")
+		if line != "" && line[0] != '#' {
 			lines = append(lines, line)
 		}
 	}

@@ -149,7 +149,7 @@ func TestAWishIsMetOnce(t *testing.T) {
 	is(t, true, world.core.Status(world.now).Due)
 	world.keep(world.seal()) // the beginning
 	for _, core := range []*Core{world.core, world.replay(config("p2"))} {
-		is(t, []interface{}{int64(2), false}, []interface{}{core.Epoch(), core.Status(world.now).Due})
+		is(t, []any{int64(2), false}, []any{core.Epoch(), core.Status(world.now).Due})
 		if turn, err := core.Seal(world.now); turn != nil || err != nil {
 			t.Errorf("%s is written, %v", turn.Text, err)
 		}
@@ -339,20 +339,20 @@ func TestAnotherVersionOfOrdup(t *testing.T) {
 	// The old one may take over with this wish in the script. It begins no epoch that it cannot run, unless another wish replaces this one.
 	old := world.replay(config("p1"))
 	turn, err := old.Seal(world.now)
-	is(t, []interface{}{(*Turn)(nil), true, exit.Words}, []interface{}{turn, errors.As(err, &version), exit.Of(err)})
+	is(t, []any{(*Turn)(nil), true, exit.Words}, []any{turn, errors.As(err, &version), exit.Of(err)})
 	is(t, nil, old.AskNext(Wish{From: 2, Settings: script.Settings{Every: 7, Ordup: "1"}, Replaces: true}))
 	for turn == nil || turn.First == 0 {
 		turn, err = old.Seal(world.now)
 		is(t, nil, err)
 	}
-	is(t, []interface{}{"1", 3, 3}, []interface{}{turn.Entry().Ordup, turn.Epoch, old.Epoch()})
+	is(t, []any{"1", 3, 3}, []any{turn.Entry().Ordup, turn.Epoch, old.Epoch()})
 	world.write()
-	is(t, []interface{}{"2", 3}, []interface{}{world.core.Settings().Ordup, world.core.Epoch()})
+	is(t, []any{"2", 3}, []any{world.core.Settings().Ordup, world.core.Epoch()})
 	// All entries of an epoch have its version, also those that carry clients over.
 	is(t, int64(len(world.script)-1), world.first)
 	for number := world.first; number <= int64(len(world.script)); number++ {
 		entry, err := script.Parse(world.script[number-1])
-		is(t, []interface{}{"2", nil}, []interface{}{entry.Ordup, err})
+		is(t, []any{"2", nil}, []any{entry.Ordup, err})
 		err = New(config("p1"), number).Replay(number, entry)
 		is(t, true, errors.As(err, &version))
 		is(t, exit.Words, exit.Of(err))

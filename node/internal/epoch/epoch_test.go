@@ -134,7 +134,7 @@ func (world *world) answer() string {
 	return world.told[len(world.told)-1]
 }
 
-func is(t *testing.T, wants, has interface{}) {
+func is(t *testing.T, wants, has any) {
 	t.Helper()
 	if fmt.Sprint(wants) != fmt.Sprint(has) {
 		t.Errorf("%v instead of %v", has, wants)
@@ -262,7 +262,7 @@ func TestWhatNobodyWaitsForIsWrittenLater(t *testing.T) {
 	world.write()
 	world.tell("south", 1)
 	again, err := world.core.Work(world.now)
-	is(t, []interface{}{Later, nil}, []interface{}{again, err})
+	is(t, []any{Later, nil}, []any{again, err})
 	is(t, 0, world.write())
 	world.now += Later
 	is(t, 1, world.write())

@@ -156,7 +156,8 @@ func (run *randomRun) judge() {
 		run.keepsToRoom(entry)
 		is(run.t, nil, judge.Take(int64(at+1), entry))
 		if entry.Begins() {
-			if epoch++; entry.Epoch != epoch || entry.Steps[1].Words != fmt.Sprintf("object tea %d", tea) {
+			epoch++
+			if entry.Epoch != epoch || entry.Steps[1].Words != fmt.Sprintf("object tea %d", tea) {
 				run.t.Errorf("epoch %d begins with %s, and not %d", entry.Epoch, entry.Steps[1].Words, tea)
 			}
 		}

@@ -297,7 +297,8 @@ func (core *Core) Seal(now time.Duration) (*Turn, error) {
 	steps, epoch := core.turn.steps, core.entryEpoch()
 	if len(steps) == 0 && core.isOver(now) {
 		var err error
-		if steps, epoch, err = core.closing(turn); err != nil {
+		steps, epoch, err = core.closing(turn)
+		if err != nil {
 			return nil, err
 		}
 	}

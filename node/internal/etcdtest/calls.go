@@ -113,7 +113,7 @@ func (calls *Calls) fate(call Call, arrive func()) Fate {
 }
 
 // carry carries one stream of calls, which has one call where the method has one answer.
-func (calls *Calls) carry(_ interface{}, near grpc.ServerStream) error {
+func (calls *Calls) carry(_ any, near grpc.ServerStream) error {
 	method, _ := grpc.MethodFromServerStream(near)
 	asked, _ := metadata.FromIncomingContext(near.Context())
 	ctx, cancel := context.WithCancel(metadata.NewOutgoingContext(near.Context(), asked))
@@ -194,9 +194,9 @@ func (calls *Calls) answer(method string, near grpc.ServerStream, far grpc.Clien
 // raw has messages as they travel.
 type raw struct{}
 
-func (raw) Marshal(message interface{}) ([]byte, error) { return *message.(*[]byte), nil }
+func (raw) Marshal(message any) ([]byte, error) { return *message.(*[]byte), nil }
 
-func (raw) Unmarshal(text []byte, message interface{}) error {
+func (raw) Unmarshal(text []byte, message any) error {
 	*message.(*[]byte) = append([]byte{}, text...)
 	return nil
 }

@@ -119,7 +119,8 @@ func (link *Link) carry(from, to net.Conn) {
 			return
 		}
 		link.pass(count)
-		if _, err = to.Write(room[:count]); err != nil {
+		_, err = to.Write(room[:count])
+		if err != nil {
 			return
 		}
 	}

@@ -33,6 +33,8 @@ type Fleet struct {
 	name   string
 	teller site.Teller
 	names  []string
+
+	// What stands below lock is under it.
 	lock   sync.Mutex
 	places map[string]epoch.Place
 	told   map[string]time.Duration

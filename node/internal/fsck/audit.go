@@ -88,7 +88,8 @@ func (audit *Audit) Take(number int64, entry *script.Entry) error {
 	if err := audit.core.Replay(number, entry); err != nil {
 		return err
 	}
-	if audit.last = number; entry.Epoch == audit.core.Epoch() {
+	audit.last = number
+	if entry.Epoch == audit.core.Epoch() {
 		audit.lastOf = number
 	}
 	return nil

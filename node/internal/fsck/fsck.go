@@ -200,7 +200,8 @@ func (reader *reader) readEngine(ctx context.Context) error {
 		return err
 	}
 	takeAll := func(raws []engine.Raw) error { return reader.takeAll(ctx, raws) }
-	if _, err = reader.Engine.ReadAll(ctx, next, takeAll); err != nil || reader.audit == nil {
+	_, err = reader.Engine.ReadAll(ctx, next, takeAll)
+	if err != nil || reader.audit == nil {
 		return err
 	}
 	if core := reader.audit.Core(); core.Epoch() < named || core.Epoch() == named && core.First() != first {

@@ -64,10 +64,12 @@ func redeclared(t *testing.T, epochs int64, second []string) []*script.Entry {
 			for _, site := range status.Sites {
 				core.Tell(epoch.Place{Site: site.Name, Member: site.Name, Epoch: core.Epoch(), Applied: status.Updates, Entry: status.Entries}, 0)
 			}
-			if _, err = core.Work(1e9 * 100); err != nil {
+			_, err = core.Work(1e9 * 100)
+			if err != nil {
 				break
 			}
-			if turn, err = core.Seal(1e9 * 100); err != nil || turn == nil {
+			turn, err = core.Seal(1e9 * 100)
+			if err != nil || turn == nil {
 				break
 			}
 			keep(turn)

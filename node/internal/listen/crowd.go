@@ -10,7 +10,9 @@ import (
 // under way since the longest time: it is new, keeps still, or sends its request slowly. So they keep nobody out.
 type crowd struct {
 	net.Listener
-	most  int
+	most int
+
+	// What stands below lock is under it, also of each member, but for its body.
 	lock  sync.Mutex
 	count int
 	// The connections on which nothing is under way, the one that is so since the longest time first.
@@ -21,11 +23,13 @@ type crowd struct {
 type member struct {
 	net.Conn
 	crowd *crowd
-	// Its place among those that are still, if it is. Busy counts the requests that are under way.
+
+	// Under the lock of the crowd. Its place among those that are still, if it is. Busy counts the requests that are under way.
 	at     *list.Element
 	busy   int
 	closed bool
-	// What became of the body of the request that is under way, in its handler.
+
+	// What became of the body of the request that is under way, of its handler alone.
 	body bodyState
 }
 
@@ -50,7 +54,8 @@ func (crowd *crowd) Accept() (net.Conn, error) {
 	crowd.count++
 	var gone *member
 	if crowd.count > crowd.most {
-		if gone = came; crowd.still.Len() > 0 {
+		gone = came
+		if crowd.still.Len() > 0 {
 			gone = crowd.still.Front().Value.(*member)
 		}
 	}
@@ -101,7 +106,8 @@ func (member *member) begin() {
 func (member *member) end() {
 	member.crowd.lock.Lock()
 	defer member.crowd.lock.Unlock()
-	if member.busy--; member.busy == 0 && !member.closed {
+	member.busy--
+	if member.busy == 0 && !member.closed {
 		member.at = member.crowd.still.PushBack(member)
 	}
 }

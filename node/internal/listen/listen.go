@@ -52,6 +52,7 @@ func Start(address string, secure *tls.Config, most int, handler http.Handler, e
 	if err != nil {
 		return nil, err
 	}
+	// Requests go on while the process ends, until Stop hastens them.
 	all, cancel := context.WithCancel(context.Background())
 	server := &Server{crowd: &crowd{Listener: listener, most: most}, ended: make(chan error, 1), hasten: cancel}
 	server.server = &http.Server{
@@ -89,6 +90,7 @@ func (server *Server) Ended() <-chan error { return server.ended }
 // Stop takes no more requests, and waits so long for the answers of those that are under way. After half of that their contexts end, so
 // that they answer that there is no answer yet.
 func (server *Server) Stop(most time.Duration) {
+	// It is called once the process ends, so no context of a caller is left.
 	ctx, cancel := context.WithTimeout(context.Background(), most)
 	defer cancel()
 	defer server.hasten()

@@ -27,15 +27,15 @@ type Log struct {
 func New(to io.Writer) *Log { return &Log{to: to, now: time.Now, said: map[string]time.Time{}} }
 
 // Info tells what happens in good order. The words are names, each with a value behind it.
-func (log *Log) Info(what string, words ...interface{}) { log.write("info", what, words, false) }
+func (log *Log) Info(what string, words ...any) { log.write("info", what, words, false) }
 
 // Warn tells what an operator should look at. It tells the same thing seldom.
-func (log *Log) Warn(what string, words ...interface{}) { log.write("warn", what, words, true) }
+func (log *Log) Warn(what string, words ...any) { log.write("warn", what, words, true) }
 
 // Error tells why a process ends.
-func (log *Log) Error(what string, words ...interface{}) { log.write("error", what, words, false) }
+func (log *Log) Error(what string, words ...any) { log.write("error", what, words, false) }
 
-func (log *Log) write(level, what string, words []interface{}, seldom bool) {
+func (log *Log) write(level, what string, words []any, seldom bool) {
 	if log == nil {
 		return
 	}

@@ -84,7 +84,7 @@ func TestThePageOfAPrimary(t *testing.T) {
 	other := status
 	other.Lease = 0
 	has(t, get(t, PageOfPrimary("p1", lag, func() primary.Status { return other })), "the engine does not answer")
-	other.Writes, other.Writer, other.Counts.Full = false, "", 1
+	other.Writes, other.Writer, other.Counts.Full = false, "", true
 	has(t, get(t, PageOfPrimary("p1", lag, func() primary.Status { return other })), "knows of no primary that writes", "The engine is full")
 }
 

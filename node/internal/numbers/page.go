@@ -128,7 +128,7 @@ func saysOf(status *primary.Status) []cell {
 		says = append(says, cell{Bad: true, Text: fmt.Sprintf("The next epoch has been due for %s, and waits for %s.", ago(core.DueSince),
 			strings.Join(join, ", "))})
 	}
-	if status.Counts.Full > 0 {
+	if status.Counts.Full {
 		says = append(says, cell{Text: "The engine is full, and takes no write.", Bad: true})
 	}
 	return says

@@ -46,7 +46,7 @@ func ofPrimary(status *primary.Status) []sample {
 		gauge("join_due", "whether the next epoch is due", truth(core.Due)),
 		gauge("join_due_seconds", "since when the next epoch is due", core.DueSince.Seconds()),
 		gauge("archives_waiting", "epochs that have ended and are still in the engine", float64(status.Archives)),
-		gauge("engine_full", "whether the engine took no write for want of space", float64(status.Counts.Full)),
+		gauge("engine_full", "whether the engine took no write for want of space", truth(status.Counts.Full)),
 		counter("requests_total", "requests that this process took", status.Counts.Requests),
 		counter("answers_total", "answers that this process told", status.Counts.Answers),
 		counter("entries_written_total", "entries that this process wrote", status.Counts.Entries),

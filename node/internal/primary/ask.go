@@ -5,7 +5,6 @@ import (
 	"errors"
 	"fmt"
 	"strings"
-	"sync/atomic"
 
 	"ordup.dev/node/internal/clock"
 	"ordup.dev/node/internal/epoch"
@@ -42,9 +41,9 @@ func (err *PassedError) Error() string {
 	return fmt.Sprintf("the client asked under %d before", err.Last)
 }
 
-// mayTake tells why this process takes nothing now, or nil. Once it may not rely on its lease another process may write. Whoever asks has
-// the lock of the calls.
-func (primary *Primary) mayTake() error {
+// mayTakeLocked tells why this process takes nothing now, or nil. Once it may not rely on its lease another process may write. Whoever
+// calls it has the lock of the calls.
+func (primary *Primary) mayTakeLocked() error {
 	switch {
 	case !primary.calls.open:
 		return &NotWriterError{primary.calls.address}
@@ -96,11 +95,11 @@ func (primary *Primary) queue(call *call) error {
 	calls := &primary.calls
 	calls.lock.Lock()
 	defer calls.lock.Unlock()
-	if err := primary.mayTake(); err != nil {
+	if err := primary.mayTakeLocked(); err != nil {
 		return err
 	}
 	switch {
-	case atomic.LoadInt64(&primary.counts.Full) > 0:
+	case primary.counts.full.Load():
 		return ErrFull
 	case len(calls.queue) >= MostQueued || calls.waiters >= MostWaiting:
 		return ErrBusy
@@ -114,7 +113,7 @@ func (primary *Primary) queue(call *call) error {
 // epoch.ErrNoSite, epoch.ErrOtherScript and an epoch.CannotBeError.
 func (primary *Primary) Tell(_ context.Context, place epoch.Place) error {
 	primary.calls.lock.Lock()
-	err := primary.mayTake()
+	err := primary.mayTakeLocked()
 	primary.calls.lock.Unlock()
 	if err != nil {
 		return err
@@ -153,7 +152,7 @@ func (primary *Primary) queueNext(next *nextCall) error {
 	calls := &primary.calls
 	calls.lock.Lock()
 	defer calls.lock.Unlock()
-	if err := primary.mayTake(); err != nil {
+	if err := primary.mayTakeLocked(); err != nil {
 		return err
 	}
 	calls.nexts = append(calls.nexts, next)

@@ -39,18 +39,20 @@ type asked struct {
 
 // calls are those of other goroutines, which Run takes.
 type calls struct {
+	own  string
+	wake chan struct{}
+
+	// What stands below lock is under it.
 	lock sync.Mutex
 	// Whether this process writes, and else who does. Over is set once the process ends.
 	open, over bool
 	address    string
-	own        string
 	// What is not taken yet, who waits for a turn, and who for an epoch.
 	queue   []*call
 	waiting map[asked][]*call
 	waiters int
 	nexts   []*nextCall
 	wishes  []*nextCall
-	wake    chan struct{}
 }
 
 func (calls *calls) init(own string) {
@@ -93,7 +95,7 @@ func (calls *calls) set(open bool, address string) {
 	}
 	calls.open, calls.address = open && !calls.over, address
 	if !calls.open {
-		calls.failAll(&NotWriterError{address})
+		calls.failAllLocked(&NotWriterError{address})
 	}
 }
 
@@ -102,10 +104,11 @@ func (calls *calls) end() {
 	calls.lock.Lock()
 	defer calls.lock.Unlock()
 	calls.open, calls.over = false, true
-	calls.failAll(&NotWriterError{})
+	calls.failAllLocked(&NotWriterError{})
 }
 
-func (calls *calls) failAll(err error) {
+// failAllLocked tells all who wait why they have no answer. Whoever calls it has the lock.
+func (calls *calls) failAllLocked(err error) {
 	for _, call := range calls.queue {
 		call.done <- outcome{err: err}
 	}
@@ -214,7 +217,8 @@ func (calls *calls) drop(gone *call) {
 	last := len(waiters) - 1
 	waiters[at], waiters[last].at = waiters[last], at
 	waiters[last] = nil
-	if calls.waiting[key] = waiters[:last]; last == 0 {
+	calls.waiting[key] = waiters[:last]
+	if last == 0 {
 		delete(calls.waiting, key)
 	}
 	calls.waiters--
@@ -227,8 +231,8 @@ func (calls *calls) dropNext(gone *nextCall) {
 	gone.isGone = true
 }
 
-// take empties the queue, and gives those of it for which somebody waits.
-func (calls *calls) take() []*call {
+// takeLocked empties the queue, and gives those of it for which somebody waits. Whoever calls it has the lock.
+func (calls *calls) takeLocked() []*call {
 	came := calls.queue[:0]
 	for _, call := range calls.queue {
 		if !call.isGone {

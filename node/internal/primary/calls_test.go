@@ -32,7 +32,7 @@ func TestWhoGivesUpIsForgotten(t *testing.T) {
 		calls.drop(gone)
 	}
 	count := calls.sort([]*call{taken, later}, []epoch.Verdict{{Kind: epoch.Waits}, {Kind: epoch.NotNow}})
-	if came := calls.take(); len(came) != 0 {
+	if came := calls.takeLocked(); len(came) != 0 {
 		t.Error(came)
 	}
 	if waiting, left := calls.sizes(); waiting != 0 || left != 0 || count != 0 || len(calls.waiting) != 0 {

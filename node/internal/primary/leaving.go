@@ -29,7 +29,7 @@ func newLeaving(primary *Primary) *leaving {
 // start begins a look, if there is a site to look for and none is under way.
 func (leaving *leaving) start(ctx context.Context) {
 	var sites []string
-	leaving.with(func(core *epoch.Core) error { sites = core.Leaving(); return nil })
+	leaving.see(func(core *epoch.Core) { sites = core.Leaving() })
 	if len(sites) > 0 && !leaving.isUnder {
 		leaving.isUnder = true
 		go leaving.look(ctx, sites)
@@ -47,7 +47,8 @@ func (leaving *leaving) look(ctx context.Context, sites []string) {
 			leaving.config.Log.Warn("leaving-site-not-seen", "site", site, "why", err)
 			continue
 		}
-		if leaving.hold(ctx, site, holds, before); len(holds) == 0 {
+		leaving.hold(ctx, site, holds, before)
+		if len(holds) == 0 {
 			leaving.gone <- site
 		}
 	}
@@ -80,11 +81,10 @@ func (leaving *leaving) hold(ctx context.Context, site string, holds []engine.Ho
 	if len(holds) > 0 {
 		leaving.config.Log.Warn("leaving-site-has-keys", "site", site, "keys", held.Keys, "without-lease", held.WithoutLease, "key", holds[0].Key)
 	}
-	leaving.with(func(*epoch.Core) error {
+	leaving.see(func(*epoch.Core) {
 		if leaving.held == nil {
 			leaving.held = map[string]Held{}
 		}
 		leaving.held[site] = held
-		return nil
 	})
 }

@@ -19,6 +19,7 @@ import (
 	"ordup.dev/node/internal/engine"
 	"ordup.dev/node/internal/epoch"
 	"ordup.dev/node/internal/exit"
+	"ordup.dev/node/internal/follower"
 	"ordup.dev/node/internal/logs"
 	"ordup.dev/node/internal/script"
 	"ordup.dev/node/internal/store"
@@ -60,32 +61,47 @@ type Config struct {
 type Primary struct {
 	config Config
 	// The name of this process, as it stands in the entries and at the key of the lease.
-	own   string
-	lease *engine.Lease
-	ended chan struct{}
-	// The core, of Run, which others only look at.
+	own    string
+	lease  *engine.Lease
+	keeper *archive.Keeper
+	ended  chan struct{}
+	counts counters
+	// What other goroutines ask, under a lock of its own.
+	calls calls
+
+	// What stands below coreLock up to the blank line is under it. Others than Run hand the core places, and look.
 	coreLock sync.Mutex
 	core     *epoch.Core
-	// Whether the settings were found to be those with which the script began, when this process saw it first.
-	agreed bool
-	calls  calls
-	counts Counts
-	// The last entry of the core that is in the script, and when it came.
-	mark   engine.Mark
+	// When the last entry of the core came that is in the script.
 	markAt time.Duration
 	// The digests of what the core has run or sealed.
 	digests digests
 	rounds  rounds
 	// What holds sites that are taken out, by the last look of this process.
-	held   map[string]Held
-	keeper *archive.Keeper
+	held map[string]Held
+
+	// Of the goroutine of Run alone: the last entry of the core that is in the script, and whether the settings were found to be those with
+	// which the script began, when this process saw it first.
+	follower follower.Follower
+	agreed   bool
 }
 
-// Counts are what this process did. They are read by atomic loads.
+// Counts are what this process did.
 type Counts struct {
 	Requests, Answers, Entries, Bytes int64
-	// Full is 1 where the engine is full.
-	Full int64
+	// Full is whether the engine is full.
+	Full bool
+}
+
+// counters count it. Any goroutine reads them.
+type counters struct {
+	requests, answers, entries, bytes atomic.Int64
+	full                              atomic.Bool
+}
+
+func (counters *counters) now() Counts {
+	return Counts{Requests: counters.requests.Load(), Answers: counters.answers.Load(), Entries: counters.entries.Load(),
+		Bytes: counters.bytes.Load(), Full: counters.full.Load()}
 }
 
 // New gives a primary, which Run runs.
@@ -98,6 +114,7 @@ func New(config Config) (*Primary, error) {
 		return nil, exit.With(exit.Words, fmt.Errorf("archives lie at one host or more, and not at %d", config.Copies))
 	}
 	primary := &Primary{config: config, own: own, ended: make(chan struct{}, 1)}
+	primary.follower = follower.Follower{Engine: config.Engine, Log: config.Log, Pause: afterFailure}
 	primary.calls.init(config.Address)
 	primary.keeper = &archive.Keeper{Engine: config.Engine.Apart(), Folder: config.Folder, Host: config.Host, Copies: config.Copies,
 		Log: config.Log, Ended: primary.ended}
@@ -107,6 +124,7 @@ func New(config Config) (*Primary, error) {
 
 // Run stands by and writes, until the context ends or an error ends the process. Then the lease is given back.
 func (primary *Primary) Run(ctx context.Context) error {
+	// It goes on until all is written, so that the lease is given back last.
 	beside, cancel := context.WithCancel(context.Background())
 	var others sync.WaitGroup
 	defer others.Wait()
@@ -136,16 +154,12 @@ func (primary *Primary) heed(ctx context.Context, err error) error {
 	switch {
 	case err == nil || ctx.Err() != nil:
 		return nil
-	case errors.As(err, &taken) || errors.As(err, &served) || errors.Is(err, engine.ErrLaterEpoch):
+	case errors.As(err, &taken) || errors.As(err, &served):
 		primary.config.Log.Info("runs-again", "why", err)
 		primary.forget()
 		return nil
-	case engine.IsAway(err):
-		primary.config.Log.Warn("engine-away", "why", err)
-		clock.Pause(ctx, afterFailure)
-		return nil
 	}
-	return err
+	return primary.follower.Heed(ctx, err, primary.forget)
 }
 
 // forget drops what was run.
@@ -156,14 +170,21 @@ func (primary *Primary) forget() {
 		primary.core.Close()
 		primary.core = nil
 	}
-	primary.mark, primary.digests = engine.Mark{}, digests{}
+	primary.follower.Mark, primary.digests = engine.Mark{}, digests{}
 }
 
-// with has the core looked at, or worked on, by one goroutine at a time.
+// with has the core worked on, by one goroutine at a time.
 func (primary *Primary) with(do func(*epoch.Core) error) error {
 	primary.coreLock.Lock()
 	defer primary.coreLock.Unlock()
 	return do(primary.core)
+}
+
+// see has the core looked at, or told something that cannot fail.
+func (primary *Primary) see(do func(*epoch.Core)) {
+	primary.coreLock.Lock()
+	defer primary.coreLock.Unlock()
+	do(primary.core)
 }
 
 // A Status is what an operator may see of a primary.
@@ -192,13 +213,14 @@ type Status struct {
 
 // Status tells what there is.
 func (primary *Primary) Status() Status {
-	status := Status{Writes: primary.calls.isOpen(), Writer: primary.calls.writer(), EngineFailures: primary.config.Engine.Failures()}
+	status := Status{Writes: primary.calls.isOpen(), Writer: primary.calls.writer(), EngineFailures: primary.config.Engine.Failures(),
+		Counts: primary.counts.now()}
 	if left := primary.lease.Until() - clock.Now(); left > 0 {
 		status.Lease = left
 	}
 	status.Waiting, status.Queued = primary.calls.sizes()
 	status.Archives = primary.keeper.Waiting()
-	primary.with(func(core *epoch.Core) error {
+	primary.see(func(core *epoch.Core) {
 		if core != nil {
 			status.Core = core.Status(clock.Now())
 		}
@@ -211,14 +233,6 @@ func (primary *Primary) Status() Status {
 				status.Held[site.Name] = held
 			}
 		}
-		return nil
 	})
-	for _, count := range []struct{ to, from *int64 }{
-		{&status.Counts.Requests, &primary.counts.Requests}, {&status.Counts.Answers, &primary.counts.Answers},
-		{&status.Counts.Entries, &primary.counts.Entries}, {&status.Counts.Bytes, &primary.counts.Bytes},
-		{&status.Counts.Full, &primary.counts.Full},
-	} {
-		*count.to = atomic.LoadInt64(count.from)
-	}
 	return status
 }

@@ -193,7 +193,7 @@ func (deployment *deployment) read(at *site.Site, seen site.Seen) string {
 	return "nobody serves"
 }
 
-func is(t *testing.T, wants, has interface{}) {
+func is(t *testing.T, wants, has any) {
 	t.Helper()
 	if fmt.Sprint(wants) != fmt.Sprint(has) {
 		t.Errorf("%v instead of %v", has, wants)
@@ -259,16 +259,16 @@ func TestEpochsAndArchives(t *testing.T) {
 		deployment.ask("ann", number, "add:tea:-1")
 	}
 	begun, err := deployment.next(epoch.Wish{From: 1})
-	is(t, []interface{}{2, nil}, []interface{}{begun, err})
+	is(t, []any{2, nil}, []any{begun, err})
 	begun, err = deployment.next(epoch.Wish{From: 1})
-	is(t, []interface{}{2, nil}, []interface{}{begun, err})
+	is(t, []any{2, nil}, []any{begun, err})
 	is(t, "ok acked 20 epoch 1", deployment.ask("ann", 20, "add:tea:-1"))
 	is(t, "epoch 2 place 0 tea=999980", deployment.read(south, site.Seen{Epoch: 2}))
 	is(t, "ok acked 1 epoch 2", deployment.ask("ann", 21, "add:tea:-1"))
 	// One host has the archive, and two should.
 	own := deployment.members.Engine()
 	first, err := own.First(context.Background())
-	is(t, []interface{}{1, nil}, []interface{}{first, err})
+	is(t, []any{1, nil}, []any{first, err})
 	config := deployment.config("p2")
 	two, _ := deployment.primary(config)
 	until(t, 10*time.Second, "the epoch stays in the engine", func() bool {
@@ -285,7 +285,7 @@ func TestEpochsAndArchives(t *testing.T) {
 	until(t, 5*time.Second, "the fresh process does not follow", func() bool { return fresh.Status().Place == 1 })
 	is(t, nil, process.end())
 	begun, err = deployment.next(epoch.Wish{From: 2})
-	is(t, []interface{}{3, nil}, []interface{}{begun, err})
+	is(t, []any{3, nil}, []any{begun, err})
 	is(t, "ok acked 1 epoch 3", deployment.ask("ann", 22, "add:tea:-1"))
 }
 
@@ -298,7 +298,7 @@ func TestASiteIsTakenOut(t *testing.T) {
 	is(t, "epoch 1 place 1 tea=999999", deployment.read(north, site.Seen{Epoch: 1, Place: 1}))
 	without := []string{"object tea 5", "site south 1", "start"}
 	begun, err := deployment.next(epoch.Wish{From: 1, Declarations: without})
-	is(t, []interface{}{2, nil}, []interface{}{begun, err})
+	is(t, []any{2, nil}, []any{begun, err})
 	_, err = north.Read(context.Background(), site.Seen{})
 	is(t, site.ErrNotServing, err)
 	is(t, exit.NotInScript, exit.Of(<-processNorth.done))
@@ -381,6 +381,6 @@ func TestManyClients(t *testing.T) {
 	deployment.members.Begin(0)
 	clients.Wait()
 	begun, err := deployment.next(epoch.Wish{From: 1})
-	is(t, []interface{}{2, nil}, []interface{}{begun, err})
+	is(t, []any{2, nil}, []any{begun, err})
 	is(t, fmt.Sprintf("epoch 2 place 0 tea=%d", 1_000_000-count*each), deployment.read(south, site.Seen{Epoch: 2}))
 }

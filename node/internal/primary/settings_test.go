@@ -21,7 +21,7 @@ func TestAPrimaryComesBackAfterAnyWish(t *testing.T) {
 	for at, wish := range []epoch.Wish{{Declarations: other}, {Settings: script.Settings{Every: 500, Remembers: 7, Seconds: 30}}, {}} {
 		wish.From = int64(at + 1)
 		begun, err := deployment.next(wish)
-		is(t, []interface{}{at + 2, nil}, []interface{}{begun, err})
+		is(t, []any{at + 2, nil}, []any{begun, err})
 	}
 	is(t, nil, process.end())
 	_, process = deployment.primary(deployment.config("p1"))

@@ -42,12 +42,12 @@ func (primary *Primary) follow(ctx context.Context) error {
 	err := primary.start(following)
 	if err == nil {
 		primary.calls.set(false, primary.address(following))
-		err = primary.config.Engine.Follow(following, primary.next(), primary.replay)
+		err = primary.follower.Follow(following, primary.next(), primary.replay)
 	}
 	if following.Err() != nil && ctx.Err() == nil {
 		return nil
 	}
-	return primary.gap(ctx, err)
+	return err
 }
 
 // address is where the process is that writes, or "".
@@ -66,22 +66,22 @@ func addressOf(writer string) string {
 }
 
 func (primary *Primary) next() (next int64) {
-	primary.with(func(core *epoch.Core) error { next = core.Next(); return nil })
+	primary.see(func(core *epoch.Core) { next = core.Next() })
 	return next
 }
 
 // start gives a core before the last epoch, where there is none. Else it looks whether the script still has what the core has run.
 func (primary *Primary) start(ctx context.Context) error {
-	first, err := primary.config.Engine.Resume(ctx, &primary.mark)
+	first, err := primary.follower.Start(ctx)
 	if err != nil {
 		return err
 	}
-	return primary.with(func(core *epoch.Core) error {
+	primary.see(func(core *epoch.Core) {
 		if core == nil {
 			primary.core = primary.newCore(first)
 		}
-		return nil
 	})
+	return nil
 }
 
 func (primary *Primary) newCore(first int64) *epoch.Core {
@@ -93,16 +93,12 @@ func (primary *Primary) newCore(first int64) *epoch.Core {
 func (primary *Primary) replay(entries []engine.Raw) error {
 	return primary.with(func(core *epoch.Core) error {
 		for _, raw := range entries {
-			entry, err := epoch.Parse(raw.Number, raw.Text)
+			entry, err := primary.follower.Run(core, raw)
 			if err != nil {
 				return err
 			}
-			if err = core.Replay(raw.Number, entry); err != nil {
-				return err
-			}
-			primary.mark.Set(raw.Number, raw.Text)
 			primary.markAt = clock.Now()
-			primary.digests.add(&primary.mark, entry.Begins())
+			primary.digests.add(&primary.follower.Mark, entry.Begins())
 			if address := addressOf(entry.Writer); address != primary.calls.writer() {
 				primary.calls.set(false, address)
 			}
@@ -146,17 +142,8 @@ func (primary *Primary) agrees(core *epoch.Core) error {
 	return nil
 }
 
-func differs(format string, own, began interface{}) error {
+func differs(format string, own, began any) error {
 	return exit.With(exit.Words, fmt.Errorf("the script did not begin with these settings, "+format, own, began))
-}
-
-// gap tells what it means that an entry came out of order: that an epoch ended meanwhile and is archived, or a fault.
-func (primary *Primary) gap(ctx context.Context, err error) error {
-	var gap *epoch.GapError
-	if errors.As(err, &gap) {
-		return primary.config.Engine.WhyGap(ctx, gap.Number, err)
-	}
-	return err
 }
 
 // catchUp runs all that the script has.
@@ -164,8 +151,7 @@ func (primary *Primary) catchUp(ctx context.Context) error {
 	if err := primary.start(ctx); err != nil {
 		return err
 	}
-	_, err := primary.config.Engine.ReadAll(ctx, primary.next(), primary.replay)
-	return primary.gap(ctx, err)
+	return primary.follower.CatchUp(ctx, primary.next(), primary.replay)
 }
 
 // takeOver writes an entry after the last one. From then on no other primary that runs can write.
@@ -176,7 +162,8 @@ func (primary *Primary) takeOver(ctx context.Context) error {
 		}
 		var turn *epoch.Turn
 		err := primary.with(func(core *epoch.Core) (err error) {
-			if turn = core.TakeOver(); core.Epoch() == 0 {
+			turn = core.TakeOver()
+			if core.Epoch() == 0 {
 				turn, err = primary.firstTurn()
 			}
 			return err
@@ -193,9 +180,9 @@ func (primary *Primary) takeOver(ctx context.Context) error {
 			return err
 		}
 		primary.config.Log.Info("took-over", "entry", turn.Number, "writer", primary.own)
-		primary.mark.Set(turn.Number, turn.Text)
+		primary.follower.Mark.Set(turn.Number, turn.Text)
 		return primary.with(func(core *epoch.Core) error {
-			primary.digests.add(&primary.mark, turn.First > 0)
+			primary.digests.add(&primary.follower.Mark, turn.First > 0)
 			return core.Replay(turn.Number, turn.Entry())
 		})
 	}

@@ -131,7 +131,8 @@ func (trial *trial) client(client int) {
 		changes := []string{"add:tea:-1 add:till:2", "add:tea:-1 add:till:2", "nonsense"}[chance.Intn(3)]
 		answer := trial.ask(name, number, changes)
 		if again := ""; chance.Intn(4) == 0 {
-			if again = trial.ask(name, number, changes); again != answer {
+			again = trial.ask(name, number, changes)
+			if again != answer {
 				trial.t.Errorf("%s %d is told %s, and then %s", name, number, answer, again)
 			}
 		}

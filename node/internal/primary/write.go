@@ -2,7 +2,6 @@ package primary
 
 import (
 	"context"
-	"sync/atomic"
 	"time"
 
 	"ordup.dev/node/internal/clock"
@@ -41,14 +40,12 @@ func (primary *Primary) writeAll(ctx context.Context) error {
 
 // isIdle is whether all that was run is written.
 func (writing *writing) isIdle() (isIdle bool) {
-	writing.with(func(core *epoch.Core) error {
-		isIdle = writing.flying == nil && core.IsIdle()
-		return nil
-	})
+	writing.see(func(core *epoch.Core) { isIdle = writing.flying == nil && core.IsIdle() })
 	return isIdle
 }
 
 func (writing *writing) run(ctx context.Context) error {
+	// What is on its way is waited for some time after the context has ended.
 	sending, cancel := context.WithCancel(context.Background())
 	defer cancel()
 	ends, ended := ctx.Done(), time.Duration(0)
@@ -73,7 +70,8 @@ func (writing *writing) run(ctx context.Context) error {
 		case <-ends:
 			ends, ended = nil, clock.Now()+endTime
 		}
-		if timer.Stop(); err != nil {
+		timer.Stop()
+		if err != nil {
 			return err
 		}
 	}
@@ -113,7 +111,7 @@ func (writing *writing) take() error {
 	var came []*call
 	calls.lock.Lock()
 	if now >= writing.retry {
-		came, writing.retry = calls.take(), 0
+		came, writing.retry = calls.takeLocked(), 0
 	}
 	nexts := calls.nexts
 	calls.nexts = nil
@@ -151,7 +149,7 @@ func (writing *writing) ask(core *epoch.Core, came []*call, now time.Duration) e
 		return err
 	}
 	later := writing.calls.sort(came, verdicts)
-	atomic.AddInt64(&writing.counts.Requests, int64(len(came)-later))
+	writing.counts.requests.Add(int64(len(came) - later))
 	if later > 0 {
 		writing.retry = now + retryAfter
 	}
@@ -186,11 +184,11 @@ func (primary *Primary) send(ctx context.Context, turn *epoch.Turn) error {
 	for {
 		err := primary.config.Engine.Write(ctx, write)
 		if !engine.IsAway(err) {
-			atomic.StoreInt64(&primary.counts.Full, 0)
+			primary.counts.full.Store(false)
 			return err
 		}
 		if engine.IsFull(err) {
-			atomic.StoreInt64(&primary.counts.Full, 1)
+			primary.counts.full.Store(true)
 		}
 		primary.config.Log.Warn("engine-away", "why", err)
 		clock.Pause(ctx, afterFailure)
@@ -207,20 +205,19 @@ func (writing *writing) land(err error) error {
 		return err
 	}
 	writing.flying = nil
-	writing.mark = writing.sealed
-	atomic.AddInt64(&writing.counts.Entries, 1)
-	atomic.AddInt64(&writing.counts.Bytes, int64(len(turn.Text)))
-	writing.with(func(core *epoch.Core) error {
+	writing.follower.Mark = writing.sealed
+	writing.counts.entries.Add(1)
+	writing.counts.bytes.Add(int64(len(turn.Text)))
+	writing.see(func(core *epoch.Core) {
 		core.Written(turn.Number)
 		writing.markAt = clock.Now()
-		return nil
 	})
 	if turn.First > 0 {
 		writing.noteEpoch()
 		writing.config.Log.Info("epoch", "epoch", turn.Epoch, "entry", turn.Number)
 	}
 	writing.calls.tell(turn.Answers)
-	atomic.AddInt64(&writing.counts.Answers, int64(len(turn.Answers)))
+	writing.counts.answers.Add(int64(len(turn.Answers)))
 	return nil
 }
 

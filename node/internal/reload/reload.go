@@ -15,9 +15,11 @@ const lookAfter = 2 * time.Second
 
 // A Value is what some files have. Goroutines may share it.
 type Value[T any] struct {
-	files  []string
-	read   func() (T, error)
-	log    *logs.Log
+	files []string
+	read  func() (T, error)
+	log   *logs.Log
+
+	// What stands below lock is under it.
 	lock   sync.Mutex
 	value  T
 	was    []os.FileInfo
@@ -28,7 +30,8 @@ type Value[T any] struct {
 func New[T any](log *logs.Log, read func() (T, error), files ...string) (*Value[T], error) {
 	value := &Value[T]{files: files, read: read, log: log, was: infosOf(files), looked: time.Now()}
 	var err error
-	if value.value, err = read(); err != nil {
+	value.value, err = read()
+	if err != nil {
 		return nil, err
 	}
 	return value, nil

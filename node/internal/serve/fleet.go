@@ -24,7 +24,7 @@ func NewFleet(config Config, teller site.Teller) *Fleet {
 	return served
 }
 
-func (served *Fleet) place(ctx context.Context, asked *request) (interface{}, error) {
+func (served *Fleet) place(ctx context.Context, asked *request) (any, error) {
 	place, err := placeOf(asked)
 	if err != nil {
 		return nil, err

@@ -132,7 +132,8 @@ func TokensOf(file string) ([]Token, error) {
 // admit is why a request is not taken, or nil. Site is the one for whose places alone its token is, if it names one.
 func (guard *Guard) admit(role Role, asked *http.Request) (site string, err error) {
 	if role != Anybody {
-		if site, err = guard.find(role, asked); err != nil {
+		site, err = guard.find(role, asked)
+		if err != nil {
 			return "", err
 		}
 	}

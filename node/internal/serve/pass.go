@@ -25,7 +25,7 @@ func NewPasser(own string, secure *tls.Config) *Passer {
 }
 
 // on passes a request on, and reads the answer. An answer that is an error is a *wire.Error.
-func (pass *Passer) on(ctx context.Context, asked *request, address string, to interface{}) error {
+func (pass *Passer) on(ctx context.Context, asked *request, address string, to any) error {
 	if address == pass.own || !strings.HasPrefix(address, schemeOf(pass.own)) {
 		return fmt.Errorf("nothing is passed on to %s", address)
 	}

@@ -45,7 +45,7 @@ func NewPrimary(config Config, writer Writer, pass *Passer, waited func(time.Dur
 	return served
 }
 
-func (served *Primary) update(ctx context.Context, asked *request) (interface{}, error) {
+func (served *Primary) update(ctx context.Context, asked *request) (any, error) {
 	var update wire.Update
 	if err := asked.read(&update); err != nil {
 		return nil, err
@@ -66,7 +66,7 @@ func (served *Primary) update(ctx context.Context, asked *request) (interface{},
 	return ackedOf(request, answer)
 }
 
-func (served *Primary) place(ctx context.Context, asked *request) (interface{}, error) {
+func (served *Primary) place(ctx context.Context, asked *request) (any, error) {
 	place, err := placeOf(asked)
 	if err != nil {
 		return nil, err
@@ -95,7 +95,7 @@ func placeOf(asked *request) (epoch.Place, error) {
 	return epoch.Place(place), nil
 }
 
-func (served *Primary) next(ctx context.Context, asked *request) (interface{}, error) {
+func (served *Primary) next(ctx context.Context, asked *request) (any, error) {
 	var next wire.Next
 	if err := asked.read(&next); err != nil {
 		return nil, err
@@ -116,7 +116,7 @@ func (served *Primary) next(ctx context.Context, asked *request) (interface{}, e
 	return wire.Begun{Epoch: begun}, nil
 }
 
-func (served *Primary) epoch(ctx context.Context, asked *request) (interface{}, error) {
+func (served *Primary) epoch(ctx context.Context, asked *request) (any, error) {
 	status := served.writer.Status()
 	switch {
 	case !status.Writes:
@@ -128,7 +128,7 @@ func (served *Primary) epoch(ctx context.Context, asked *request) (interface{}, 
 }
 
 // orPassed passes a request on to the primary that writes, where this one does not. Else, and where that cannot be, it gives the error.
-func (served *Primary) orPassed(ctx context.Context, asked *request, err error, to interface{}) (interface{}, error) {
+func (served *Primary) orPassed(ctx context.Context, asked *request, err error, to any) (any, error) {
 	var other *primary.NotWriterError
 	if !errors.As(err, &other) || other.Address == "" {
 		return nil, err

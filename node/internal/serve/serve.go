@@ -60,7 +60,7 @@ type route struct {
 	// Words are those that may stand behind the `?`.
 	words []string
 	// Answer gives what is written as JSON.
-	answer func(ctx context.Context, asked *request) (interface{}, error)
+	answer func(ctx context.Context, asked *request) (any, error)
 }
 
 // A request is one that was read.
@@ -75,17 +75,20 @@ type request struct {
 }
 
 // A room counts what is under way, up to a limit.
-type room struct{ most, count int64 }
+type room struct {
+	most  int64
+	count atomic.Int64
+}
 
 func (room *room) enter() bool {
-	if atomic.AddInt64(&room.count, 1) <= room.most {
+	if room.count.Add(1) <= room.most {
 		return true
 	}
 	room.leave()
 	return false
 }
 
-func (room *room) leave() { atomic.AddInt64(&room.count, -1) }
+func (room *room) leave() { room.count.Add(-1) }
 
 func newServer(config Config) *server {
 	server := &server{Config: config, paths: http.NewServeMux()}
@@ -168,7 +171,7 @@ func (server *server) answers(path string, route route) {
 	})
 }
 
-func (server *server) answer(to http.ResponseWriter, asked *http.Request, route *route) (interface{}, error) {
+func (server *server) answer(to http.ResponseWriter, asked *http.Request, route *route) (any, error) {
 	end := func() {}
 	defer func() { end() }()
 	listen.Hurry(asked)
@@ -208,7 +211,8 @@ func (server *server) headOf(to http.ResponseWriter, asked *http.Request, route 
 		return nil, 0, errMethod
 	}
 	read = &request{Request: asked, header: to.Header()}
-	if read.site, err = server.Guard.admit(route.role, asked); err == nil {
+	read.site, err = server.Guard.admit(route.role, asked)
+	if err == nil {
 		read.words, err = wordsOf(asked, route.words)
 	}
 	if err == nil {
@@ -233,7 +237,7 @@ func bodyOf(asked *http.Request, most int) ([]byte, error) {
 func malformed(err error) error { return wire.NewError(wire.Malformed, err.Error()) }
 
 // read reads the JSON of a body.
-func (request *request) read(to interface{}) error {
+func (request *request) read(to any) error {
 	if err := wire.Read(bytes.NewReader(request.body), to); err != nil {
 		return malformed(err)
 	}

@@ -33,7 +33,7 @@ func NewSite(config Config, name string, reader Reader) *Site {
 	return served
 }
 
-func (served *Site) value(ctx context.Context, asked *request) (interface{}, error) {
+func (served *Site) value(ctx context.Context, asked *request) (any, error) {
 	reading, showing, err := served.read(ctx, asked)
 	if err != nil {
 		return nil, err
@@ -46,7 +46,7 @@ func (served *Site) value(ctx context.Context, asked *request) (interface{}, err
 	return wire.Value{Object: name, Value: value, Showing: showing}, nil
 }
 
-func (served *Site) values(ctx context.Context, asked *request) (interface{}, error) {
+func (served *Site) values(ctx context.Context, asked *request) (any, error) {
 	reading, showing, err := served.read(ctx, asked)
 	if err != nil {
 		return nil, err
@@ -57,11 +57,13 @@ func (served *Site) values(ctx context.Context, asked *request) (interface{}, er
 func (served *Site) read(ctx context.Context, asked *request) (reading site.Reading, showing wire.Showing, err error) {
 	seen := site.Seen{}
 	if text := asked.words.Get("seen"); text != "" {
-		if seen.Epoch, seen.Place, err = wire.ParseSeen(text); err != nil {
+		seen.Epoch, seen.Place, err = wire.ParseSeen(text)
+		if err != nil {
 			return reading, showing, malformed(err)
 		}
 	}
-	if reading, err = served.readOrWait(ctx, seen); err != nil {
+	reading, err = served.readOrWait(ctx, seen)
+	if err != nil {
 		return reading, showing, err
 	}
 	return reading, wire.Showing{Site: served.name, Epoch: reading.Epoch, Place: reading.Place, Seen: wire.SeenText(reading.Epoch, reading.Place),

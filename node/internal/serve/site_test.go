@@ -69,7 +69,8 @@ func (crowd *crowd) Read(ctx context.Context, seen site.Seen) (site.Reading, err
 	}
 	crowd.lock.Lock()
 	all := crowd.all
-	if crowd.count++; crowd.count == crowd.most {
+	crowd.count++
+	if crowd.count == crowd.most {
 		close(all)
 		crowd.count, crowd.all = 0, make(chan struct{})
 	}

@@ -70,7 +70,8 @@ func (set *Set) List(to *[]string, key, help string) {
 	set.flags.Func(key, help, func(text string) error {
 		*to = nil
 		for _, word := range strings.Split(text, ",") {
-			if word = strings.TrimSpace(word); word == "" {
+			word = strings.TrimSpace(word)
+			if word == "" {
 				return errors.New("it is a list of words with commas between them")
 			}
 			*to = append(*to, word)

@@ -4,7 +4,6 @@ import (
 	"context"
 	"errors"
 	"fmt"
-	"sync/atomic"
 	"time"
 
 	"ordup.dev/node/internal/clock"
@@ -72,7 +71,7 @@ func (site *Site) Read(ctx context.Context, seen Seen) (Reading, error) {
 		case shown == nil:
 			return Reading{}, ErrNotServing
 		case shown.covers(seen):
-			atomic.AddInt64(&site.readers, 1)
+			site.readers.Add(1)
 			return Reading{shown, site.lease.Until() - clock.Now()}, nil
 		case seen.Epoch > shown.Epoch+1 || ctx.Err() != nil:
 			return Reading{}, &BehindError{Seen{shown.Epoch, shown.Place}}
@@ -136,14 +135,14 @@ type Status struct {
 
 // Status tells what there is.
 func (site *Site) Status() Status {
-	status := Status{Serves: site.served() != nil, Readers: atomic.LoadInt64(&site.readers), EngineFailures: site.config.Engine.Failures()}
+	status := Status{Serves: site.served() != nil, Readers: site.readers.Load(), EngineFailures: site.config.Engine.Failures()}
 	site.lock.Lock()
 	if shown := site.shown; shown != nil {
 		status.Since, status.HasSeen = clock.Now()-site.shownAt, true
 		status.Entry, status.Epoch, status.Place, status.Told = shown.Entry, shown.Epoch, shown.Place, shown.Told
 	}
 	site.lock.Unlock()
-	if told := atomic.LoadInt64(&site.toldAt); told > 0 {
+	if told := site.toldAt.Load(); told > 0 {
 		status.ToldSince, status.HasTold = clock.Now()-time.Duration(told), true
 	}
 	if left := site.lease.Until() - clock.Now(); left > 0 {

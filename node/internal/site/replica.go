@@ -91,7 +91,7 @@ func (replica *Replica) Replay(number int64, entry *script.Entry) error {
 	if number != replica.entry+1 {
 		return &epoch.GapError{Number: replica.entry + 1, Instead: number}
 	}
-	if !isIn(entry.Ordup, replica.versions) {
+	if !epoch.Runs(replica.versions, entry.Ordup) {
 		return &epoch.VersionError{Number: number, Version: entry.Ordup, Supported: replica.versions}
 	}
 	if entry.Epoch != replica.epoch && entry.Epoch != replica.epoch+1 && replica.epoch > 0 {
@@ -112,15 +112,6 @@ func (replica *Replica) Replay(number int64, entry *script.Entry) error {
 	return replica.heed(entry)
 }
 
-func isIn(word string, words []string) bool {
-	for _, other := range words {
-		if word == other {
-			return true
-		}
-	}
-	return false
-}
-
 // begin begins an epoch. Its values must be those that the epoch before ended with here.
 func (replica *Replica) begin(number int64, entry *script.Entry) error {
 	before, err := replica.values()
@@ -128,7 +119,8 @@ func (replica *Replica) begin(number int64, entry *script.Entry) error {
 		return err
 	}
 	replica.Close()
-	if replica.store, err = replica.open(); err != nil {
+	replica.store, err = replica.open()
+	if err != nil {
 		return err
 	}
 	replica.epoch, replica.place, replica.told, replica.sites, replica.limits = entry.Epoch, 0, 0, map[string]bool{}, []string{}

@@ -18,7 +18,7 @@ var openStore store.Open = modelstore.Open
 
 var declared = []string{"object tea 100", "object till 0", "site north 1", "site south 1", "limit north count 1000", "start"}
 
-func is(t *testing.T, wants, has interface{}) {
+func is(t *testing.T, wants, has any) {
 	t.Helper()
 	if fmt.Sprint(wants) != fmt.Sprint(has) {
 		t.Errorf("%v instead of %v", has, wants)

@@ -13,6 +13,7 @@ import (
 	"ordup.dev/node/internal/engine"
 	"ordup.dev/node/internal/epoch"
 	"ordup.dev/node/internal/exit"
+	"ordup.dev/node/internal/follower"
 	"ordup.dev/node/internal/logs"
 	"ordup.dev/node/internal/script"
 	"ordup.dev/node/internal/store"
@@ -54,28 +55,34 @@ type Site struct {
 	config Config
 	inName string
 	lease  *engine.Lease
-	// What is shown, and from which entry on it may be told in which term of the lease. Changed is closed with each change. Taken is the last
-	// term in which a place was taken: from then on it is served.
-	lock    sync.Mutex
+	// How many readers were served, and when a place was taken last.
+	readers atomic.Int64
+	toldAt  atomic.Int64
+
+	// What stands below lock up to the blank line is under it.
+	lock sync.Mutex
+	// What is shown, and since when. Changed is closed with each change.
 	shown   *Shown
 	shownAt time.Duration
 	changed chan struct{}
 	// The readers that wait, with what they have seen.
 	waiting map[chan struct{}]Seen
-	first   int64
-	term    engine.Term
-	taken   engine.Term
-	readers int64
-	toldAt  int64
-	replica *Replica
-	mark    engine.Mark
-	// The last entry that there was when the process first asked. From there on it wants the lease.
-	end int64
+	// From which entry on it may be told in which term of the lease, and the last term in which a place was taken: from then on it is served.
+	first int64
+	term  engine.Term
+	taken engine.Term
+
+	// Of the goroutine of Run alone: what was run, and the last entry that there was when the process first asked. From there on it wants
+	// the lease.
+	follower follower.Follower
+	replica  *Replica
+	end      int64
 }
 
 // New gives a site, which Run runs.
 func New(config Config) (*Site, error) {
 	site := &Site{config: config, inName: config.Fleet, changed: make(chan struct{}), waiting: map[chan struct{}]Seen{}}
+	site.follower = follower.Follower{Engine: config.Engine, Log: config.Log, Pause: afterFailure}
 	if site.inName == "" {
 		site.inName = config.Name
 	}
@@ -109,6 +116,7 @@ func (site *Site) mayServe(ctx context.Context, term engine.Term) error {
 
 // Run follows the script and serves, until the context ends or an error ends the process. Then the lease is given back.
 func (site *Site) Run(ctx context.Context) error {
+	// It ends once nothing is shown any more, so that the lease is given back last.
 	beside, cancel := context.WithCancel(context.Background())
 	var others sync.WaitGroup
 	defer others.Wait()
@@ -136,7 +144,7 @@ func (site *Site) Run(ctx context.Context) error {
 			others.Add(1)
 			go func() { defer others.Done(); site.lease.Run(beside) }()
 		})
-		if err = site.heed(following, err); err != nil {
+		if err = site.follower.Heed(following, err, site.forget); err != nil {
 			return err
 		}
 	}
@@ -148,29 +156,12 @@ func (site *Site) Run(ctx context.Context) error {
 	}
 }
 
-// heed is whether an error ends the process.
-func (site *Site) heed(ctx context.Context, err error) error {
-	switch {
-	case err == nil || ctx.Err() != nil:
-		return nil
-	case engine.IsAway(err):
-		site.config.Log.Warn("engine-away", "why", err)
-		clock.Pause(ctx, afterFailure)
-		return nil
-	case errors.Is(err, engine.ErrLaterEpoch):
-		site.config.Log.Info("runs-again", "why", err)
-		site.forget()
-		return nil
-	}
-	return err
-}
-
 // forget drops what was run.
 func (site *Site) forget() {
 	if site.replica != nil {
 		site.replica.Close()
 	}
-	site.replica, site.mark = nil, engine.Mark{}
+	site.replica, site.follower.Mark = nil, engine.Mark{}
 }
 
 // follow runs and shows the script as it comes. It says once that the site has reached the end that there was at first.
@@ -178,7 +169,7 @@ func (site *Site) follow(ctx context.Context, reached func()) error {
 	if err := site.start(ctx); err != nil {
 		return err
 	}
-	err := site.config.Engine.Follow(ctx, site.replica.Next(), func(entries []engine.Raw) error {
+	return site.follower.Follow(ctx, site.replica.Next(), func(entries []engine.Raw) error {
 		for _, raw := range entries {
 			if err := site.run(raw); err != nil {
 				return err
@@ -189,7 +180,7 @@ func (site *Site) follow(ctx context.Context, reached func()) error {
 			return err
 		}
 		if shown != nil {
-			shown.Digest = site.mark.Digest().String()
+			shown.Digest = site.follower.Mark.Digest().String()
 		}
 		site.show(shown)
 		if shown != nil && shown.Entry >= site.end {
@@ -197,23 +188,13 @@ func (site *Site) follow(ctx context.Context, reached func()) error {
 		}
 		return nil
 	})
-	var gap *epoch.GapError
-	if errors.As(err, &gap) {
-		return site.config.Engine.WhyGap(ctx, gap.Number, err)
-	}
-	return err
 }
 
 func (site *Site) run(raw engine.Raw) error {
-	entry, err := epoch.Parse(raw.Number, raw.Text)
-	if err != nil {
-		return err
-	}
 	begun := site.replica.Epoch()
-	if err = site.replica.Replay(raw.Number, entry); err != nil {
+	if _, err := site.follower.Run(site.replica, raw); err != nil {
 		return err
 	}
-	site.mark.Set(raw.Number, raw.Text)
 	if site.replica.Epoch() > begun {
 		site.config.Log.Info("epoch", "epoch", site.replica.Epoch(), "entry", raw.Number)
 	}
@@ -222,11 +203,12 @@ func (site *Site) run(raw engine.Raw) error {
 
 // start gives a replica before the last epoch, where there is none. Else it looks whether the script still has what was run.
 func (site *Site) start(ctx context.Context) error {
-	first, err := site.config.Engine.Resume(ctx, &site.mark)
+	first, err := site.follower.Start(ctx)
 	if err != nil || site.replica != nil {
 		return err
 	}
-	if site.end, err = site.config.Engine.Last(ctx, first); err == nil {
+	site.end, err = site.config.Engine.Last(ctx, first)
+	if err == nil {
 		site.replica = NewReplica(site.config.Open, site.config.Versions, site.inName, first)
 	}
 	return err
@@ -293,7 +275,7 @@ func isRefused(err error) bool {
 
 // wasTaken notes that a place was taken which was told in a term.
 func (site *Site) wasTaken(term engine.Term) {
-	atomic.StoreInt64(&site.toldAt, int64(clock.Now()))
+	site.toldAt.Store(int64(clock.Now()))
 	site.lock.Lock()
 	defer site.lock.Unlock()
 	site.taken = term
@@ -304,7 +286,7 @@ func (site *Site) isDue(shown *Shown, told *epoch.Place) (isDue bool, again time
 	if shown == nil {
 		return false, tellAgain
 	}
-	since := clock.Now() - time.Duration(atomic.LoadInt64(&site.toldAt))
+	since := clock.Now() - time.Duration(site.toldAt.Load())
 	isNew := shown.Epoch > told.Epoch || shown.Epoch == told.Epoch && shown.Place > told.Applied
 	switch {
 	case isNew && shown.isFar():

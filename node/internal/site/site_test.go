@@ -137,14 +137,14 @@ func TestWhenAPlaceIsTold(t *testing.T) {
 		if row.isNew {
 			told.Applied--
 		}
-		site.toldAt = int64(clock.Now() - row.since)
+		site.toldAt.Store(int64(clock.Now() - row.since))
 		isDue, again := site.isDue(shown, told)
 		if isDue != row.isDue || !isDue && (again > row.again-row.since || again < row.again-row.since-time.Second/50) {
 			t.Errorf("%v: %v, %v", row, isDue, again)
 		}
 	}
 	isDue, again := site.isDue(nil, &epoch.Place{})
-	is(t, []interface{}{false, tellAgain}, []interface{}{isDue, again})
+	is(t, []any{false, tellAgain}, []any{isDue, again})
 }
 
 // While many entries come, a site without limits tells some places, and the last one soon.
@@ -190,7 +190,7 @@ func TestAReaderSeesNoLessThanBefore(t *testing.T) {
 	site.wasTaken(1)
 	for _, seen := range []Seen{{}, {1, 99}, {2, 5}} {
 		reading, err := site.Read(ctx, seen)
-		is(t, []interface{}{5, nil}, []interface{}{reading.Place, err})
+		is(t, []any{5, nil}, []any{reading.Place, err})
 	}
 	short, cancelShort := context.WithTimeout(ctx, 20*time.Millisecond)
 	defer cancelShort()
@@ -201,7 +201,7 @@ func TestAReaderSeesNoLessThanBefore(t *testing.T) {
 	is(t, true, errors.As(err, &behind) && behind.Has == Seen{2, 5})
 	_, err = site.Read(short, Seen{3, 0})
 	is(t, true, errors.As(err, &behind) && behind.Has == Seen{2, 5})
-	read := make(chan interface{}, 2)
+	read := make(chan any, 2)
 	ask := func(seen Seen) {
 		waits := func() int { site.lock.Lock(); defer site.lock.Unlock(); return len(site.waiting) }
 		before := waits()
